@@ -1,0 +1,10 @@
+use Rattle.std.proofs.Common.{◌≡◌, ℕ, ◌≤◌, arith, rules, eq-eqb}
+use Rattle.std.specs.Prelude.{max, IsTrue}
+use Rattle.std.proofs.lemmas.Grind.{common_steps}
+use Rattle.tt_span.proofs.spans.Span.meets.Goals as goal
+
+pub returns-then-self-other : goal.returns-then-self-other
+returns-then-self-other c = (
+  λ h. (max c.self.inside.lo c.other.inside.lo, (grind (arith, common_steps), grind (arith, common_steps)), (grind (arith, common_steps), grind (arith, common_steps))),
+  λ w. grind (arith, common_steps),
+)

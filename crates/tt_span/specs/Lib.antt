@@ -1,0 +1,4 @@
+pub mod Fault
+pub mod Time
+pub mod Interval
+pub mod Drift
