@@ -1,8 +1,7 @@
 -- Each end of an aged statement is the true time of some run, so no narrower answer is right.
-use Rattle.std.proofs.Common.{◌≡◌, ℕ, ◌+◌, ◌-◌, ◌≤◌, List, [], ◌∷◌, subst, sym, ap, arith}
+use Rattle.std.proofs.Common.{◌≡◌, ℕ, ◌+◌, ◌-◌, ◌≤◌, subst, sym, arith}
 use Rattle.tt_span.specs.Time.{max_time}
-use Rattle.tt_span.specs.Interval.{Interval, Holds}
-use Rattle.tt_span.specs.Drift.{widening, distance, Moment, AgreesWith, KeepsDrift, max_drift}
+use Rattle.tt_span.specs.Drift.{widening, distance, AgreesWith}
 use Rattle.tt_source.specs.Statement.{Statement, IsPossibleNow, uncut_low, uncut_high}
 
 -- what the two proofs need of the widening, where the receipt lies d back

@@ -1,8 +1,8 @@
 -- What a source stated, and what it tells of the true time at a later clock reading.
-use Rattle.std.specs.Prelude.{ℕ, ◌+◌, ◌-◌, ◌≤◌, List, [], ◌∷◌}
+use Rattle.std.specs.Prelude.{ℕ, ◌+◌, ◌-◌, ◌≤◌, [], ◌∷◌}
 use Rattle.tt_span.specs.Time.{max_time}
 use Rattle.tt_span.specs.Interval.{Interval, IsInterval, Holds}
-use Rattle.tt_span.specs.Drift.{Moment, KeepsDrift, widening, aged_low, aged_high}
+use Rattle.tt_span.specs.Drift.{KeepsDrift, widening, aged_low, aged_high}
 
 -- an accepted answer: its span, and the clock readings at which its poll was sent and the answer came
 pub record Statement : Type 0 where

@@ -1,8 +1,44 @@
 //! Values worked out by hand.
 
-use crate::{SourceFault, Statement};
+use crate::{SourceFault, Statement, Table};
 use std::test::Fail;
 use tt_span::{Drift, MAX_TIME, Span};
+
+/// The request of machine 0 to source 1 under nonce 1.
+const REQUEST: [u8; 16] = [
+    0x54, 0x54, 0x50, 0x31, 0x01, 0x00, 0x01, 0x00, 0x00, 0x00, 0x00, 0x00, 0x00, 0x00, 0x00, 0x01,
+];
+
+/// The answer of source 1 to it: from 1000000000 to 1000001000.
+const ANSWER: [u8; 32] = [
+    0x54, 0x54, 0x50, 0x31, 0x02, 0x00, 0x01, 0x00, 0x00, 0x00, 0x00, 0x00, 0x00, 0x00, 0x00, 0x01,
+    0x00, 0x00, 0x00, 0x00, 0x3b, 0x9a, 0xca, 0x00, 0x00, 0x00, 0x00, 0x00, 0x3b, 0x9a, 0xcd, 0xe8,
+];
+
+/// The same request under another nonce.
+fn request(nonce: u8) -> [u8; 16] {
+    let mut bytes = REQUEST;
+    bytes[15] = nonce;
+    bytes
+}
+
+/// The same answer to another machine, under another nonce.
+fn answer(machine: u8, nonce: u8) -> [u8; 32] {
+    let mut bytes = ANSWER;
+    bytes[5] = machine;
+    bytes[15] = nonce;
+    bytes
+}
+
+/// A table of machine 0 with three sources.
+fn three_sources() -> Table {
+    Table::new(0, 3, Drift::new(200).unwrap())
+}
+
+/// The number of the refusal, if it is one.
+fn refusal<T: Drop>(answer: Result<T, SourceFault>) -> Option<u16> {
+    answer.map_err(|fault| fault.number()).err()
+}
 
 #[test]
 fn ages_the_ends_from_receipt_and_sending(rt: HostRuntime) -> Result<(), Fail> {
@@ -50,5 +86,68 @@ fn refuses_a_receipt_before_the_sending(rt: HostRuntime) -> Result<(), Fail> {
     ] {
         assert_eq!(rt; fault.number(), number);
     }
+    Ok(())
+}
+
+#[test]
+fn takes_the_answer_to_the_last_poll(rt: HostRuntime) -> Result<(), Fail> {
+    let mut table = three_sources();
+    assert_eq!(rt; table.poll(1, 500)?, request(1));
+    assert_eq!(rt; table.poll(1, 600)?, request(2));
+    assert_eq!(rt; refusal(table.take(1, 900, &answer(0, 1))), Some(406));
+    assert_eq!(rt; table.known(), 0);
+    table.take(1, 900, &answer(0, 2))?;
+    let aged = table.aged(1, 900)?;
+    assert_eq!(rt; (aged.lo(), aged.hi()), (1_000_000_000, 1_000_001_301));
+    assert_eq!(rt; refusal(table.take(1, 900, &answer(0, 2))), Some(406));
+    assert_eq!(rt; refusal(table.take(1, 899, &answer(0, 2))), Some(402));
+    assert_eq!(rt; refusal(table.take(2, 900, &answer(0, 2))), Some(405));
+    assert_eq!(rt; refusal(table.poll(3, 900)), Some(401));
+    assert_eq!(rt; table.aged(0, 900)?, Span::whole());
+    assert_eq!(rt; table.known(), 1);
+    assert!(rt; table.is_known(1));
+    assert!(rt; !table.is_known(0));
+    assert!(rt; !table.is_known(3));
+    Ok(())
+}
+
+#[test]
+fn refuses_in_order(rt: HostRuntime) -> Result<(), Fail> {
+    let mut table = three_sources();
+    table.poll(1, 500)?;
+    assert_eq!(rt; refusal(table.take(3, 499, &[])), Some(401));
+    assert_eq!(rt; refusal(table.take(1, 499, &[])), Some(402));
+    assert_eq!(rt; refusal(table.take(1, MAX_TIME + 1, &[])), Some(402));
+    assert_eq!(rt; refusal(table.take(1, 900, &[0xff])), Some(404));
+    assert_eq!(rt; refusal(table.take(1, 900, &request(1))), Some(405));
+    assert_eq!(rt; refusal(table.take(1, 900, &answer(1, 1))), Some(405));
+    assert_eq!(rt; refusal(table.take(1, 900, &answer(0, 9))), Some(406));
+    assert_eq!(rt; refusal(table.aged(3, 499)), Some(401));
+    assert_eq!(rt; refusal(table.aged(1, 499)), Some(402));
+    // None of these moved the clock, or ended the wait.
+    table.take(1, 500, &answer(0, 1))?;
+    Ok(())
+}
+
+#[test]
+fn a_new_poll_keeps_the_statement(rt: HostRuntime) -> Result<(), Fail> {
+    let mut table = three_sources();
+    table.poll(1, 500)?;
+    table.take(1, 900, &answer(0, 1))?;
+    assert_eq!(rt; table.poll(1, 900)?, request(2));
+    let aged = table.aged(1, 900)?;
+    assert_eq!(rt; (aged.lo(), aged.hi()), (1_000_000_000, 1_000_001_401));
+    Ok(())
+}
+
+#[test]
+fn nonces_are_used_up(rt: HostRuntime) -> Result<(), Fail> {
+    let drift = Drift::new(200).ok_or("a drift")?;
+    let mut table = Table::resume(7, 16, drift, u64::MAX);
+    assert_eq!(rt; refusal(table.poll(0, 0)), Some(403));
+    assert_eq!(rt; refusal(table.poll(0, MAX_TIME + 1)), Some(402));
+    assert_eq!(rt; refusal(table.poll(16, 0)), Some(401));
+    assert_eq!(rt; (table.machine(), table.sources()), (7, 16));
+    assert_eq!(rt; table.drift().ppm(), 200);
     Ok(())
 }

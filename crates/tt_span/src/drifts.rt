@@ -67,11 +67,13 @@ impl Drift {
     }
 
     /// The least time that `x` may have become when the clock has gone on by `d`: `x + d` less the widening, cut
-    /// at [`MAX_TIME`]. In nanoseconds; the caller sees to it that `d` is at most [`MAX_TIME`].
+    /// at [`MAX_TIME`]. The widening is never above `d`. In nanoseconds; the caller sees to it that `d` is at most
+    /// [`MAX_TIME`].
     pub fn age_low(&self, x: u64, d: u64) -> u64
         requires { d ≤ max_time }
         ensures value { result ≡ aged_low self.now x d }
         ensures in_time { result ≤ max_time }
+        ensures forward { widening self.now d ≤ d }
     {
         x.saturating_add(d - self.widen(d)).min(MAX_TIME)
     }

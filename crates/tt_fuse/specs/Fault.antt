@@ -1,0 +1,11 @@
+-- The numbers of the refusals.
+use Rattle.std.specs.Prelude.{ℕ}
+use Rattle.tt_fuse.specs.declared.fusion.FuseFault.{FuseFault}
+use Rattle.tt_fuse.specs.declared.fusion.FuseFault.TheVariants.{NoSource, TooMany, TooFew, NoPoint}
+
+-- the number of each refusal
+abbrev pub number_of : FuseFault → ℕ
+number_of NoSource = 501
+number_of TooMany = 502
+number_of TooFew = 503
+number_of NoPoint = 504

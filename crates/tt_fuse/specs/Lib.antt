@@ -1,0 +1,5 @@
+pub mod Fault
+pub mod Fusion
+pub mod Depth
+pub mod Pairs
+pub mod Suspect

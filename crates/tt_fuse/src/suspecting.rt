@@ -1,0 +1,32 @@
+//! Which sources the fusion speaks against.
+
+ghost use Rattle.std.specs.Prelude.{◌≡◌, ◌≤◌, ℕ, List, length, slice_index_or};
+ghost use Rattle.tt_span.specs.Interval.{Interval, Holds};
+ghost use Rattle.tt_fuse.specs.Fusion.{IsPossibleTime, IsFusion};
+ghost use Rattle.tt_fuse.specs.Suspect.{IsSuspect, AreSuspects};
+
+use arrayvec::ArrayVec;
+use tt_span::Span;
+
+/// The numbers of the sources whose span does not meet `fused`, ascending. A source's number is its place in
+/// `spans`, from 0. Spans that touch at one point meet. The caller sees to it that there are at most
+/// [`MAX_SOURCES`](crate::MAX_SOURCES) of them.
+pub fn suspects(spans: &[Span], fused: &Span) -> ArrayVec<u8, 16>
+    requires { length spans.now ≤ 16 }
+    ensures { AreSuspects spans.now fused.now result.items }
+{
+    let mut found = ArrayVec::new();
+    for (source, span) in spans.iter().enumerate() {
+        if !span.meets(fused) {
+            found.push(source as u8);
+        }
+    }
+    found
+}
+
+/// The span of a suspect of the fusion holds no possible time. So what it said is false wherever at most as many
+/// sources are wrong as the fusion was told.
+pub fn suspect_laws()
+    ensures { (spans : List Interval) (f : ℕ) (fused : Interval) → IsFusion spans f fused → (k : ℕ) → IsSuspect spans fused k →
+        (span : Interval) → slice_index_or spans k span ≡ span → (x : ℕ) → IsPossibleTime spans f x → Holds span x → ⊥ }
+{}

@@ -1,0 +1,4 @@
+pub mod Bytes
+pub mod Refusing
+pub mod Finding
+pub mod Taking

@@ -1,0 +1,227 @@
+//! What a machine knows of all its sources.
+
+ghost use Rattle.std.specs.Prelude.{◌≡◌, ◌<◌, ◌≤◌, ◌↔◌, length, Some, None, Ok, Err, IsOk, IfOk, IfErr, OnOk, OnErr};
+ghost use Rattle.tt_span.specs.Time.{max_time};
+ghost use Rattle.tt_span.specs.Interval.{Interval, IsInterval};
+ghost use Rattle.tt_poll.specs.Message.{max_machine};
+ghost use Rattle.tt_poll.specs.Spelling.{spelling_of};
+ghost use Rattle.tt_poll.specs.Reading.{read_of};
+ghost use Rattle.tt_poll.specs.declared.messages.Message.TheVariants as message;
+ghost use Rattle.tt_source.specs.Table.{Sending, IsTable, max_sources, new_table, source_at, poll_of, take_of, statement_of_message, aged_of, known_of, is_known_of, CanBeCalled, IsAwaitedAnswer};
+
+use crate::faults::SourceFault;
+use crate::slots::Slot;
+use crate::statements::Statement;
+use arrayvec::ArrayVec;
+use std::marker::Model;
+use tt_poll::{Answer, Message, REQUEST_LEN, Request, decode, encode_request};
+use tt_span::{Drift, MAX_TIME, Span};
+
+/// The greatest count of sources.
+pub const MAX_SOURCES: usize = 16;
+
+/// What one machine knows of its sources, which are numbered from 0: of each at most one poll that waits for its
+/// answer, and one statement, the last answer that was taken. The nonces of all its polls are one count, so an
+/// answer to an earlier poll is known as such (Spanner's time daemons poll their masters so: OSDI 2012, section 3).
+///
+/// Clock readings are in nanoseconds. Each call that takes one refuses by 402 `ClockBack` a reading below that of
+/// the last `poll` or `take` that was not refused, or above [`MAX_TIME`]. A refused call changes nothing, the
+/// clock reading that later ones are compared with included.
+#[derive(Drop)]
+pub struct Table {
+    machine: u8,
+    drift: Drift,
+    last: u64,
+    clock: u64,
+    sources: ArrayVec<Slot, MAX_SOURCES>,
+}
+
+impl Model for Table {
+    ghost use Rattle.tt_source.specs.Table.{TableState, IsTable};
+
+    ghost Value = { TableState };
+
+    ghost view = { λ t. record { machine = t.machine; drift = t.drift; last = t.last; clock = t.clock; sources = t.sources.items } };
+
+    ghost invariant = { λ t. IsTable (record { machine = t.machine; drift = t.drift; last = t.last; clock = t.clock; sources = t.sources.items }) };
+}
+
+impl Table {
+    /// The table of machine `machine`, at most 7, with `n` sources, from 1 to [`MAX_SOURCES`], of which nothing is
+    /// known. Its clock keeps `drift`. The first nonce is 1.
+    pub fn new(machine: u8, n: usize, drift: Drift) -> Table
+        requires machine_in { machine ≤ max_machine }
+        requires some_source { 0 < n }
+        requires sources_in { n ≤ max_sources }
+        ensures { result ≡ new_table machine n drift 0 }
+    {
+        Table::resume(machine, n, drift, 0)
+    }
+
+    /// The same, where nonces up to `last` were used before: the first nonce is the one after `last`.
+    pub fn resume(machine: u8, n: usize, drift: Drift, last: u64) -> Table
+        requires machine_in { machine ≤ max_machine }
+        requires some_source { 0 < n }
+        requires sources_in { n ≤ max_sources }
+        ensures { result ≡ new_table machine n drift last }
+    {
+        let mut sources = ArrayVec::from([Slot::default(); MAX_SOURCES]);
+        sources.truncate(n);
+        Table {
+            machine,
+            drift,
+            last,
+            clock: 0,
+            sources,
+        }
+    }
+
+    /// The machine, at most 7.
+    pub fn machine(&self) -> u8
+        ensures value { result ≡ self.now.machine }
+        ensures valid { IsTable self.now }
+    {
+        self.machine
+    }
+
+    /// The last nonce that was used, 0 before the first.
+    pub fn last(&self) -> u64
+        ensures value { result ≡ self.now.last }
+        ensures valid { IsTable self.now }
+    {
+        self.last
+    }
+
+    /// The drift that the machine's clock keeps.
+    pub fn drift(&self) -> Drift
+        ensures value { result ≡ self.now.drift }
+        ensures valid { IsTable self.now }
+    {
+        self.drift
+    }
+
+    /// How many sources there are, from 1 to [`MAX_SOURCES`].
+    pub fn sources(&self) -> usize
+        ensures value { result ≡ length self.now.sources }
+        ensures valid { IsTable self.now }
+    {
+        self.sources.len()
+    }
+
+    /// The place of source `i`, where it may be called at this clock reading.
+    fn place(&self, i: u8, clock: u64) -> Result<usize, SourceFault>
+        ensures taken { IsOk result ↔ CanBeCalled self.now i clock }
+        ensures value { IfOk result (λ index. index ≡ i) }
+        ensures refused { IfErr result (λ e. aged_of self.now i clock ≡ Err e) }
+        ensures valid { IsTable self.now }
+    {
+        let index = usize::from(i);
+        if index >= self.sources.len() {
+            return Err(SourceFault::NoSource);
+        }
+        if clock < self.clock || clock > MAX_TIME {
+            return Err(SourceFault::ClockBack);
+        }
+        Ok(index)
+    }
+
+    /// Polls source `i` when the clock shows `clock`: the bytes of a request with the nonce after the last one,
+    /// for which the source now waits in place of an earlier one. Its statement stays. Refuses, in this order: 401
+    /// `NoSource` where `i` is no source, 402 `ClockBack`, 403 `NoncesUsedUp` where the last nonce was `u64::MAX`.
+    pub fn poll(&mut self, i: u8, clock: u64) -> Result<[u8; REQUEST_LEN], SourceFault>
+        ensures polled { OnOk result (poll_of self.old i clock ≡ Ok self.new) }
+        ensures request { IfOk result (λ bytes. bytes ≡ spelling_of (message.Request (record { machine = self.new.machine; source = i; nonce = self.new.last }))) }
+        ensures refused { IfErr result (λ e. poll_of self.old i clock ≡ Err e) }
+        ensures unchanged { OnErr result (self.new ≡ self.old) }
+    {
+        let index = self.place(i, clock)?;
+        if self.last == u64::MAX {
+            return Err(SourceFault::NoncesUsedUp);
+        }
+        self.last += 1;
+        self.clock = clock;
+        self.sources[index] = self.sources[index].polled(self.last, clock);
+        let request = Request::new(self.machine, i, self.last).unwrap();
+        Ok(encode_request(&request))
+    }
+
+    /// Takes a packet that came from source `i` when the clock showed `clock`: where it is the answer to the poll
+    /// that waits, it becomes the source's statement, and nothing waits any more. Refuses, in this order: 401
+    /// `NoSource` where `i` is no source, 402 `ClockBack`, 404 `BadMessage` where the bytes spell no message, 405
+    /// `NotMine` where they are a request, or an answer for another machine or of another source, 406
+    /// `NotOutstanding` where no poll of the source with this nonce waits.
+    pub fn take(&mut self, i: u8, clock: u64, bytes: &[u8]) -> Result<(), SourceFault>
+        ensures taken { OnOk result (take_of self.old i clock bytes.now ≡ Ok self.new) }
+        ensures refused { IfErr result (λ e. take_of self.old i clock bytes.now ≡ Err e) }
+        ensures unchanged { OnErr result (self.new ≡ self.old) }
+        // An answer is taken exactly where it is the answer to the poll that waits.
+        ensures takes_the_awaited { IsOk result ↔ (CanBeCalled self.old i clock ×
+            ((sending : Sending) × (span : Interval) × IsAwaitedAnswer self.old i bytes.now sending span)) }
+        // Its span is then the source's statement, from the sending to now, and nothing waits any more.
+        ensures stores_the_awaited { OnOk result ((sending : Sending) (span : Interval) → IsAwaitedAnswer self.old i bytes.now sending span →
+            source_at self.new i ≡ record { waiting = None; statement = Some (record { span = span; sent = sending.clock; got = clock }) }) }
+    {
+        let index = self.place(i, clock)?;
+        let statement = self.statement_in(i, clock, bytes)?;
+        self.clock = clock;
+        self.sources[index] = Slot::stated(statement);
+        Ok(())
+    }
+
+    /// The statement that the packet makes.
+    fn statement_in(&self, i: u8, clock: u64, bytes: &[u8]) -> Result<Statement, SourceFault>
+        requires valid { IsTable self.now }
+        requires can_be_called { CanBeCalled self.now i clock }
+        ensures value { result ≡ statement_of_message self.now.machine i (source_at self.now i).waiting clock (read_of bytes.now) }
+        ensures found { OnOk result ((sending : Sending) × (span : Interval) × IsAwaitedAnswer self.now i bytes.now sending span) }
+        ensures awaited { (sending : Sending) (span : Interval) → IsAwaitedAnswer self.now i bytes.now sending span →
+            result ≡ Ok (record { span = span; sent = sending.clock; got = clock }) }
+    {
+        let message = decode(bytes).map_err(|_| SourceFault::BadMessage)?;
+        match &message {
+            Message::Request(_) => Err(SourceFault::NotMine),
+            Message::Answer(answer) => self.statement_by(i, clock, answer),
+        }
+    }
+
+    /// The statement that the answer makes, where it is one of source `i` to this machine.
+    fn statement_by(&self, i: u8, clock: u64, answer: &Answer) -> Result<Statement, SourceFault>
+        requires { CanBeCalled self.now i clock }
+        ensures { result ≡ statement_of_message self.now.machine i (source_at self.now i).waiting clock (Ok (message.Answer answer.now)) }
+    {
+        if answer.machine() != self.machine || answer.source() != i {
+            return Err(SourceFault::NotMine);
+        }
+        self.sources[usize::from(i)].answered(answer, clock)
+    }
+
+    /// The span of source `i` when the clock shows `clock`: its statement, aged, or the whole of time where it has
+    /// made none. Refuses, in this order: 401 `NoSource` where `i` is no source, 402 `ClockBack`.
+    pub fn aged(&self, i: u8, clock: u64) -> Result<Span, SourceFault>
+        ensures value { result ≡ aged_of self.now i clock }
+        ensures valid { IfOk result (λ span. IsInterval span) }
+    {
+        let index = self.place(i, clock)?;
+        self.sources[index].aged(self.drift, clock)
+    }
+
+    /// How many sources have made a statement.
+    pub fn known(&self) -> usize
+        ensures value { result ≡ known_of self.now }
+        ensures bound { result ≤ length self.now.sources }
+    {
+        self.sources
+            .iter()
+            .filter(|source| source.is_known())
+            .count()
+    }
+
+    /// Whether source `i` has made a statement: not so where there is no such source.
+    pub fn is_known(&self, i: u8) -> bool
+        ensures { result ≡ is_known_of self.now i }
+    {
+        self.sources
+            .get(usize::from(i))
+            .is_some_and(|source| source.is_known())
+    }
+}

@@ -1,0 +1,4 @@
+pub mod Counts
+pub mod Known
+pub mod Counted
+pub mod Memory

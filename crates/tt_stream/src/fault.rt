@@ -1,0 +1,46 @@
+//! What is answered where a device failed, or where an input could not be read whole.
+
+ghost use Rattle.std.specs.Prelude.{◌≡◌};
+ghost use Rattle.tt_stream.specs.declared.fault.ReadFault.TheVariants.{Failed, Memory};
+
+use std::alloc::AllocError;
+use thiserror::Error;
+
+/// A device failed. Its own count of failures says so too.
+#[derive(Clone, Copy, Debug, PartialEq, Eq, Error)]
+#[error("the device failed")]
+pub struct DeviceFault;
+
+/// Why an input could not be read whole. These faults have no numbers of their own: who asked for the input
+/// answers its own numbers for them, and 1 for want of memory.
+#[derive(Clone, Copy, Debug, PartialEq, Eq, Error)]
+pub enum ReadFault {
+    /// The reader failed.
+    #[error("the reader failed")]
+    Failed,
+    /// The input has more bytes than are allowed.
+    #[error("the input is too long")]
+    TooLong,
+    /// None of the allowed reads said that the input has ended.
+    #[error("the reads are used up")]
+    UsedUp,
+    /// Memory for the bytes that came was refused.
+    #[error("out of memory")]
+    Memory,
+}
+
+impl From<DeviceFault> for ReadFault {
+    ghost from_gives = { λ _ fault. fault ≡ Failed };
+
+    fn from(_fault: DeviceFault) -> ReadFault {
+        ReadFault::Failed
+    }
+}
+
+impl From<AllocError> for ReadFault {
+    ghost from_gives = { λ _ fault. fault ≡ Memory };
+
+    fn from(_refused: AllocError) -> ReadFault {
+        ReadFault::Memory
+    }
+}

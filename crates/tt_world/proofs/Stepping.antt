@@ -1,0 +1,262 @@
+-- What one event makes of what a run has left, kind by kind.
+use Rattle.std.proofs.Common.{◌||◌, ◌≡◌, ℕ, ◌-◌, ◌^◌, ◌<◌, ◌≤◌, Bool, true, false, cond, eqb, ltb, ◌&&◌, not, List, [], ◌∷◌, ◌++◌, map, length, slice_get, slice_index, Option, Some, None, inl, inr, refl, sym, ap, ◌∙◌, arith, lt-ltb, le-ltb, ltb-true, ltb-false, ne_eqb}
+use Rattle.std.specs.List.{range_with_len}
+use Rattle.std.specs.Option.{option_map}
+use Rattle.std.proofs.lemmas.Bool.{cases_lt, or_parts, or_from, not-false, and_parts, eqb-false}
+use Rattle.std.proofs.lemmas.List.FromFn.{length-map-range_with_len}
+use Rattle.std.proofs.lemmas.Option.{slice_get-get_or}
+use Rattle.tt_span.specs.Time.{max_time}
+use Rattle.tt_span.specs.Interval.{Interval}
+use Rattle.tt_source.specs.Table.{poll_of}
+use Rattle.tt_world.specs.declared.events.Event.{Event}
+use Rattle.tt_world.specs.declared.events.Action.{Action}
+use Rattle.tt_world.specs.declared.events.Action.TheVariants.{Send, Answer, Forge, Deliver, Fuse, Read}
+use Rattle.tt_world.specs.declared.events.Reply.{Reply}
+use Rattle.tt_world.specs.declared.events.Reply.TheVariants as replies
+use Rattle.tt_world.specs.declared.packets.Packet.{Packet}
+use Rattle.tt_world.specs.declared.packets.Packet.TheVariants.{Asked, Answered, Forged}
+use Rattle.tt_world.specs.Config.{Configuration, config_at}
+use Rattle.tt_world.specs.Packet.{machine_of_packet, source_of_packet, is_asked, answer_to}
+use Rattle.tt_world.specs.Past.{sends_of, put_by, packets_of, clock_reading, clock_of}
+use Rattle.tt_world.specs.Publications.{publications_of, seen_of, publication_at, no_publication}
+use Rattle.tt_world.specs.Bad.{has_machine, names_unknown, is_request, can_be_delivered, lacks_packet, goes_back, is_unreadable, lacks_publication}
+use Rattle.tt_world.specs.Reply.{reply_to_packet, reply_to}
+use Rattle.tt_world.specs.State.{MachineState, WorldState, source_of, machine_of, polled_clock_of, state_of}
+use Rattle.tt_world.specs.Step.{Outcome, Turn, refused, after_turn, after_poll, send_on, after_put, answer_on, forge_on, deliver_to, deliver_on, fuse_on, publish_turn, fusion_on, read_from, read_on, acted}
+use Rattle.tt_world.proofs.Ranges.{get_or-made, slice_get-made, slice_get-made_past, set-made, map-same}
+use Rattle.tt_world.proofs.Waiting.{happens}
+use Rattle.tt_world.proofs.Kept.{machine_of-answer, machine_of-forge}
+use Rattle.tt_world.proofs.Polling.{poll_of-polled, with_table-polled, machine_of-send_other}
+use Rattle.tt_world.proofs.Taking.{take_turn-take_of, machine_of-deliver_other}
+use Rattle.tt_world.proofs.Publishing.{publish_turn-fusion_on, machine_of-fuse_other}
+use Rattle.tt_world.proofs.Seeing.{read_turn-machine_of, machine_of-read_other}
+use Rattle.tt_world.proofs.Lasting.{sends_of-le-packets, HasItsSource, All-slice_get, Lasts}
+
+-- what an event makes of it, by the number of the reason why it is bad
+abbrev pub judged : WorldState → WorldState → Reply → Option ℕ → Outcome
+judged before after reply None = record { world = after; reply = reply }
+judged before after reply (Some number) = refused before number
+
+-- one test more: it is refused, or the rest decides
+pub judged-cond : (before after : WorldState) (reply : Reply) (number : ℕ) (t : Bool) (made : Outcome) (o : Option ℕ)
+    → (t ≡ false → made ≡ judged before after reply o) → cond t (refused before number) made ≡ judged before after reply (cond t (Some number) o)
+judged-cond before after reply number true made o rest = refl
+judged-cond before after reply number false made o rest = rest refl
+
+not-not : (b : Bool) → not (not b) ≡ b
+not-not true = refl
+not-not false = refl
+
+-- a clock reading that a machine does not refuse, its table does not refuse
+in_time_for_table : (c clock polled : ℕ) → polled ≤ clock → (ltb c clock || ltb max_time c) ≡ false → (ltb c polled || ltb max_time c) ≡ false
+in_time_for_table c clock polled rises fresh =
+    let parts = or_parts (ltb c clock) (ltb max_time c) fresh in
+    let after : clock ≤ c = ltb-false c clock parts.0 in
+    or_from _ _ (le-ltb c polled (omega arith)) parts.1
+
+module _ (configs : List Configuration) (past : List Event) where
+  -- what is kept of machine m after the run
+  abbrev machine_at : ℕ → MachineState
+  machine_at m = machine_of (config_at configs m) past m
+
+  -- what is kept of machine m after one more action
+  abbrev machine_then : ℕ → Action → ℕ → MachineState
+  machine_then at action m = machine_of (config_at configs m) (happens at action ∷ past) m
+
+  -- a machine that is there is found, and no other
+  at_machine : (m : ℕ) (f : Option MachineState → Outcome) (g : Bool → Outcome)
+      → (m < length configs → f (Some (machine_at m)) ≡ g true) → f None ≡ g false → f (slice_get (state_of configs past).machines m) ≡ g (has_machine configs m)
+  at_machine m f g found lost = elim (cases_lt m (length configs)) [
+    | inl there ↦ ap f (slice_get-made machine_at (length configs) m there) ∙ found there ∙ ap g (sym (lt-ltb m (length configs) there))
+    | inr beyond ↦ ap f (slice_get-made_past machine_at (length configs) m beyond) ∙ lost ∙ ap g (sym (le-ltb m (length configs) beyond))
+  ]
+
+  -- after a machine's turn the run has one more event
+  after_turn-state_of : (at m : ℕ) (action : Action) (turn : Turn) → turn.machine ≡ machine_then at action m
+      → ((j : ℕ) → (j ≡ m → ⊥) → machine_at j ≡ machine_then at action j)
+      → after_turn (state_of configs past) at m turn (put_by (sends_of past) (packets_of past) action) ≡ record { world = state_of configs (happens at action ∷ past); reply = turn.reply }
+  after_turn-state_of at m action turn here others =
+      ap (λ (machines : List MachineState). record {
+        world = record { time = at; packets = packets_of past ++ put_by (sends_of past) (packets_of past) action; machines = machines };
+        reply = turn.reply;
+      }) (set-made machine_at (machine_then at action) (length configs) m turn.machine here others)
+
+  -- after packets were put the run has one more event
+  after_put-state_of : (at : ℕ) (action : Action) → ((j : ℕ) → machine_then at action j ≡ machine_at j)
+      → after_put (state_of configs past) at (put_by (sends_of past) (packets_of past) action)
+      ≡ record { world = state_of configs (happens at action ∷ past); reply = replies.Put (length (packets_of past)) }
+  after_put-state_of at action same =
+      ap (λ (machines : List MachineState). record {
+        world = record { time = at; packets = packets_of past ++ put_by (sends_of past) (packets_of past) action; machines = machines };
+        reply = replies.Put (length (packets_of past));
+      }) (sym (map-same (machine_then at action) machine_at (length configs) same))
+
+  -- what an action makes, by the reason why it is bad
+  abbrev pub as_judged : ℕ → Action → Option ℕ → Outcome
+  as_judged at action o = judged (state_of configs past) (state_of configs (happens at action ∷ past)) (reply_to configs past action) o
+
+  -- the number of the first reason why an action is bad, apart from its true time
+  abbrev pub bad_action : Action → Option ℕ
+  bad_action action =
+      cond (names_unknown configs action) (Some 1206)
+      (cond (lacks_packet (packets_of past) action) (Some 1203)
+      (cond (goes_back (clock_of past) (clock_reading (packets_of past) action)) (Some 1202)
+      (cond (lacks_publication configs past action) (Some 1204) None)))
+
+  -- one test more of an action
+  test : (at : ℕ) (action : Action) (number : ℕ) (t : Bool) (made : Outcome) (o : Option ℕ)
+      → (t ≡ false → made ≡ as_judged at action o) → cond t (refused (state_of configs past) number) made ≡ as_judged at action (cond t (Some number) o)
+  test at action number t made o rest = judged-cond (state_of configs past) (state_of configs (happens at action ∷ past)) (reply_to configs past action) number t made o rest
+
+  -- ---- a source answers, or makes up bytes
+
+  answer_on-answer_to : (at : ℕ) (span : Interval) (o : Option Packet) (made : Outcome) → after_put (state_of configs past) at (answer_to o span) ≡ made
+      → answer_on (state_of configs past) at (answer_to o span) ≡ cond (not (is_request o)) (refused (state_of configs past) 1203) made
+  answer_on-answer_to at span None made h = refl
+  answer_on-answer_to at span (Some (Asked request)) made h = h
+  answer_on-answer_to at span (Some (Answered answer)) made h = refl
+  answer_on-answer_to at span (Some (Forged machine source payload)) made h = refl
+
+  acted-answer : (at k : ℕ) (span : Interval) → acted (state_of configs past) at (Answer k span) ≡ as_judged at (Answer k span) (bad_action (Answer k span))
+  acted-answer at k span =
+      answer_on-answer_to at span (slice_get (packets_of past) k) _
+      (after_put-state_of at (Answer k span) (λ j. machine_of-answer (config_at configs j) past at k span j))
+      ∙ test at (Answer k span) 1203 (not (is_request (slice_get (packets_of past) k))) _ None (λ found. refl)
+
+  acted-forge : (at m s : ℕ) (payload : List ℕ) → acted (state_of configs past) at (Forge m s payload) ≡ as_judged at (Forge m s payload) (bad_action (Forge m s payload))
+  acted-forge at m s payload =
+      at_machine m (λ o. forge_on (state_of configs past) at m s payload o)
+      (λ b. as_judged at (Forge m s payload) (cond (not (b && ltb s (config_at configs m).sources)) (Some 1206) None))
+      (λ there. test at (Forge m s payload) 1206 (not (ltb s (config_at configs m).sources)) _ None
+      (λ named. after_put-state_of at (Forge m s payload) (λ j. machine_of-forge (config_at configs j) past at m s payload j)))
+      refl
+
+  -- ---- a machine polls
+
+  module _ (few : length (packets_of past) < 2 ^ 64 - 1) (lasts : Lasts configs past) where
+    after_poll-poll_of : (at m s clock : ℕ) → s < (config_at configs m).sources → (ltb clock (clock_of past m) || ltb max_time clock) ≡ false
+        → after_poll (state_of configs past) at m s clock (machine_at m) (poll_of (machine_at m).table s clock)
+        ≡ record { world = state_of configs (happens at (Send m s clock) ∷ past); reply = replies.Sent (length (packets_of past)) }
+    after_poll-poll_of at m s clock there fresh =
+        let config = config_at configs m in
+        let count : length (machine_at m).table.sources ≡ config.sources = length-map-range_with_len (λ i. source_of past m i) 0 config.sources in
+        let unused : eqb (sends_of past m) (2 ^ 64 - 1) ≡ false = ne_eqb _ _ (λ same. omega (arith, sends_of-le-packets past m)) in
+        ap (after_poll (state_of configs past) at m s clock (machine_at m))
+        (poll_of-polled (machine_at m).table s clock (lt-ltb s _ (omega arith)) (in_time_for_table clock (clock_of past m) (polled_clock_of past m) (lasts.rises m) fresh) unused)
+        ∙ after_turn-state_of at m (Send m s clock) _ (with_table-polled config past at m s clock there) (λ j other. machine_of-send_other (config_at configs j) past at m s clock j other)
+
+    acted-send : (at m s clock : ℕ) → acted (state_of configs past) at (Send m s clock) ≡ as_judged at (Send m s clock) (bad_action (Send m s clock))
+    acted-send at m s clock =
+        let back : Bool = ltb clock (clock_of past m) || ltb max_time clock in
+        at_machine m (λ o. send_on (state_of configs past) at m s clock o)
+        (λ b. as_judged at (Send m s clock) (cond (not (b && ltb s (config_at configs m).sources)) (Some 1206) (cond back (Some 1202) None)))
+        (λ there. test at (Send m s clock) 1206 (not (ltb s (config_at configs m).sources)) _ (cond back (Some 1202) None)
+        (λ named. test at (Send m s clock) 1202 back _ None
+        (λ fresh. after_poll-poll_of at m s clock (ltb-true s _ (not-false _ named)) fresh)))
+        refl
+
+    -- ---- a packet reaches its machine
+
+    deliver_to-machine_at : (at k clock : ℕ) (p : Packet) → slice_get (packets_of past) k ≡ Some p
+        → deliver_to (state_of configs past) at clock p (slice_get (state_of configs past).machines (machine_of_packet p))
+        ≡ judged (state_of configs past) (state_of configs (happens at (Deliver k clock) ∷ past)) (reply_to_packet past clock (Some p))
+        (cond (ltb clock (clock_of past (machine_of_packet p)) || ltb max_time clock) (Some 1202) None)
+    deliver_to-machine_at at k clock p is =
+        let m = machine_of_packet p in
+        let named = and_parts _ _ (All-slice_get (HasItsSource configs) (packets_of past) k p lasts.known is) in
+        let there : m < length configs = ltb-true m (length configs) named.0 in
+        let asks : source_of_packet p < (config_at configs m).sources = ltb-true _ _ named.1 in
+        ap (deliver_to (state_of configs past) at clock p) (slice_get-made machine_at (length configs) m there)
+        ∙ judged-cond (state_of configs past) _ (reply_to_packet past clock (Some p)) 1202 (ltb clock (clock_of past m) || ltb max_time clock) _ None
+        (λ fresh.
+        ap (λ (turn : Turn). after_turn (state_of configs past) at m turn [])
+        (take_turn-take_of (config_at configs m) past at k clock p is asks (in_time_for_table clock (clock_of past m) (polled_clock_of past m) (lasts.rises m) fresh))
+        ∙ after_turn-state_of at m (Deliver k clock) _ refl (λ j other. machine_of-deliver_other (config_at configs j) past at k clock p is j other))
+
+    deliver_on-packet : (at k clock : ℕ) (o : Option Packet) → slice_get (packets_of past) k ≡ o
+        → deliver_on (state_of configs past) at clock o
+        ≡ judged (state_of configs past) (state_of configs (happens at (Deliver k clock) ∷ past)) (reply_to_packet past clock o)
+        (cond (not (can_be_delivered o)) (Some 1203) (cond (goes_back (clock_of past) (option_map (λ p. record { machine = machine_of_packet p; clock = clock }) o)) (Some 1202) None))
+    deliver_on-packet at k clock None is = refl
+    deliver_on-packet at k clock (Some p) is =
+        ap (λ (b : Bool). cond b (refused (state_of configs past) 1203) (deliver_to (state_of configs past) at clock p (slice_get (state_of configs past).machines (machine_of_packet p)))) (sym (not-not (is_asked p)))
+        ∙ judged-cond (state_of configs past) _ (reply_to_packet past clock (Some p)) 1203 (not (not (is_asked p))) _ _ (λ kind. deliver_to-machine_at at k clock p is)
+
+    acted-deliver : (at k clock : ℕ) → acted (state_of configs past) at (Deliver k clock) ≡ as_judged at (Deliver k clock) (bad_action (Deliver k clock))
+    acted-deliver at k clock = deliver_on-packet at k clock (slice_get (packets_of past) k) refl
+
+  -- ---- a machine fuses
+
+  after_turn-publish_turn : (at m clock : ℕ)
+      → after_turn (state_of configs past) at m (publish_turn (machine_at m) clock (fusion_on (machine_at m) clock)) []
+      ≡ record { world = state_of configs (happens at (Fuse m clock) ∷ past); reply = reply_to configs past (Fuse m clock) }
+  after_turn-publish_turn at m clock =
+      ap (λ (turn : Turn). after_turn (state_of configs past) at m turn []) (publish_turn-fusion_on (config_at configs m) past at m clock)
+      ∙ after_turn-state_of at m (Fuse m clock) _ refl (λ j other. machine_of-fuse_other (config_at configs j) past at m clock j other)
+
+  acted-fuse : (at m clock : ℕ) → acted (state_of configs past) at (Fuse m clock) ≡ as_judged at (Fuse m clock) (bad_action (Fuse m clock))
+  acted-fuse at m clock =
+      let back : Bool = ltb clock (clock_of past m) || ltb max_time clock in
+      at_machine m (λ o. fuse_on (state_of configs past) at m clock o)
+      (λ b. as_judged at (Fuse m clock) (cond (not b) (Some 1206) (cond back (Some 1202) None)))
+      (λ there. test at (Fuse m clock) 1202 back _ None (λ fresh. after_turn-publish_turn at m clock))
+      refl
+
+  -- ---- a worker reads
+
+  read_from-publication : (at m w clock k : ℕ) → is_unreadable (length (publications_of (config_at configs m) past m)) (seen_of past m w) k ≡ false
+      → read_from (state_of configs past) at m w clock k (machine_at m) (slice_get (publications_of (config_at configs m) past m) (k - 1))
+      ≡ record { world = state_of configs (happens at (Read m w clock k) ∷ past); reply = reply_to configs past (Read m w clock k) }
+  read_from-publication at m w clock k readable =
+      let config = config_at configs m in
+      let publications = publications_of config past m in
+      let newer = or_parts (eqb k 0 || ltb (length publications) k) (ltb k (seen_of past m w)) readable in
+      let within = or_parts (eqb k 0) (ltb (length publications) k) newer.0 in
+      let some : k ≡ 0 → ⊥ = eqb-false k 0 within.0 in
+      let last : k ≤ length publications = ltb-false (length publications) k within.1 in
+      ap (read_from (state_of configs past) at m w clock k (machine_at m)) (slice_get-get_or publications (k - 1) no_publication (omega arith))
+      ∙ ap (λ (turn : Turn). after_turn (state_of configs past) at m turn [])
+      (read_turn-machine_of config past at m w clock k (publication_at publications k) (ltb-false k (seen_of past m w) newer.1))
+      ∙ after_turn-state_of at m (Read m w clock k) _ refl (λ j other. machine_of-read_other (config_at configs j) past at m w clock k j other)
+
+  read_on-machine_at : (at m w clock k : ℕ)
+      → read_on (state_of configs past) at m w clock k (Some (machine_at m))
+      ≡ as_judged at (Read m w clock k) (cond (not (ltb w (config_at configs m).workers)) (Some 1206)
+      (cond (ltb clock (clock_of past m) || ltb max_time clock) (Some 1202)
+      (cond (is_unreadable (length (publications_of (config_at configs m) past m)) (seen_of past m w) k) (Some 1204) None)))
+  read_on-machine_at at m w clock k =
+      let config = config_at configs m in
+      let seen = map (λ v. seen_of past m v) (range_with_len 0 config.workers) in
+      let world = state_of configs past in
+      let back : Bool = ltb clock (clock_of past m) || ltb max_time clock in
+      let publications = publications_of config past m in
+      let unreadable : ℕ → Bool = λ s. is_unreadable (length publications) s k in
+      let made : Outcome = read_from world at m w clock k (machine_at m) (slice_get publications (k - 1)) in
+      ap (λ (n : ℕ). cond (not (ltb w n)) (refused world 1206) (cond back (refused world 1202) (cond (unreadable (slice_index seen w)) (refused world 1204) made)))
+      (length-map-range_with_len (λ v. seen_of past m v) 0 config.workers)
+      ∙ test at (Read m w clock k) 1206 (not (ltb w config.workers)) _ _
+      (λ named.
+      ap (λ (s : ℕ). cond back (refused world 1202) (cond (unreadable s) (refused world 1204) made))
+      (get_or-made (λ v. seen_of past m v) config.workers w 0 (ltb-true w config.workers (not-false _ named)))
+      ∙ test at (Read m w clock k) 1202 back _ _
+      (λ fresh. test at (Read m w clock k) 1204 (unreadable (seen_of past m w)) _ None (λ readable. read_from-publication at m w clock k readable)))
+
+  acted-read : (at m w clock k : ℕ) → acted (state_of configs past) at (Read m w clock k) ≡ as_judged at (Read m w clock k) (bad_action (Read m w clock k))
+  acted-read at m w clock k =
+      at_machine m (λ o. read_on (state_of configs past) at m w clock k o)
+      (λ b. as_judged at (Read m w clock k) (cond (not (b && ltb w (config_at configs m).workers)) (Some 1206)
+      (cond (ltb clock (clock_of past m) || ltb max_time clock) (Some 1202)
+      (cond (is_unreadable (length (publications_of (config_at configs m) past m)) (seen_of past m w) k) (Some 1204) None))))
+      (λ there. read_on-machine_at at m w clock k)
+      refl
+
+  -- ---- any of them
+
+  pub acted-state_of : length (packets_of past) < 2 ^ 64 - 1 → Lasts configs past → (at : ℕ) (action : Action)
+      → acted (state_of configs past) at action ≡ as_judged at action (bad_action action)
+  acted-state_of few lasts at (Send m s clock) = acted-send few lasts at m s clock
+  acted-state_of few lasts at (Answer k span) = acted-answer at k span
+  acted-state_of few lasts at (Forge m s payload) = acted-forge at m s payload
+  acted-state_of few lasts at (Deliver k clock) = acted-deliver few lasts at k clock
+  acted-state_of few lasts at (Fuse m clock) = acted-fuse at m clock
+  acted-state_of few lasts at (Read m w clock k) = acted-read at m w clock k

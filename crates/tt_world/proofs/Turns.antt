@@ -1,0 +1,141 @@
+-- What a call on a machine that is there makes of a run.
+use Rattle.std.proofs.Common.{◌≡◌, ℕ, ◌+◌, ◌<◌, ◌≤◌, Bool, true, false, cond, List, [], ◌∷◌, ◌++◌, length, get_or, slice_get, slice_set, Option, Some, None, ap, subst, sym, ◌∙◌, append-nil, refl, arith}
+use Rattle.std.proofs.lemmas.Option.{slice_get_read}
+use Rattle.std.proofs.lemmas.Bool.{lt-ltb, le-ltb}
+use Rattle.std.proofs.lemmas.List.{get_or_default}
+use Rattle.tt_source.specs.Table.{TableState, poll_of, take_of}
+use Rattle.tt_source.specs.declared.faults.SourceFault.{SourceFault}
+use Rattle.std.specs.Prelude.{nat_lt, slice_index, Result, Ok, Err}
+use Rattle.tt_source.specs.Fault.{number_of}
+use Rattle.tt_world.specs.declared.events.Reply.{Reply}
+use Rattle.tt_world.specs.declared.events.Reply.TheVariants.{Sent, Put, Refused}
+use Rattle.tt_world.specs.declared.packets.Packet.{Packet}
+use Rattle.tt_world.specs.declared.packets.Packet.TheVariants.{Asked, Answered, Forged}
+use Rattle.tt_world.specs.declared.publications.Publication.{Publication}
+use Rattle.tt_world.specs.Packet.{machine_of_packet, source_of_packet, bytes_of, is_asked}
+use Rattle.tt_world.specs.State.{MachineState, WorldState}
+use Rattle.tt_world.specs.Step.{Outcome, Turn, refused, is_back_on, send_on, after_poll, with_table, fuse_on, after_turn, publish_turn, fusion_on, read_on, read_from, read_turn, readable_on, deliver_on, take_turn}
+
+-- what is kept after a turn, by its parts
+abbrev pub outcome : ℕ → List Packet → List MachineState → Reply → Outcome
+outcome at packets machines reply = record { world = record { time = at; packets = packets; machines = machines }; reply = reply }
+
+-- the machine that was looked up is there
+pub there : (world : WorldState) (m : ℕ) (machine : MachineState) → m < length world.machines → machine ≡ get_or world.machines m machine → slice_get world.machines m ≡ Some machine
+there world m machine inside e = slice_get_read world.machines (length world.machines) m machine refl inside e
+
+pub send_on-no_source : (world : WorldState) (at m i clock : ℕ) (machine : MachineState) → slice_get world.machines m ≡ Some machine → machine.config.sources ≤ i →
+    send_on world at m i clock (slice_get world.machines m) ≡ refused world 1206
+send_on-no_source world at m i clock machine e h = let t : nat_lt i machine.config.sources ≡ false = le-ltb _ _ h in rw (e, t) refl
+
+pub send_on-back : (world : WorldState) (at m i clock : ℕ) (machine : MachineState) → slice_get world.machines m ≡ Some machine → i < machine.config.sources → is_back_on machine clock ≡ true →
+    send_on world at m i clock (slice_get world.machines m) ≡ refused world 1202
+send_on-back world at m i clock machine e h b = let t : nat_lt i machine.config.sources ≡ true = lt-ltb _ _ h in rw (e, t, b) refl
+
+pub send_on-polled : (world : WorldState) (at m i clock : ℕ) (machine : MachineState) (r : Result TableState SourceFault) → slice_get world.machines m ≡ Some machine → i < machine.config.sources →
+    is_back_on machine clock ≡ false → poll_of machine.table i clock ≡ r →
+    send_on world at m i clock (slice_get world.machines m) ≡ after_poll world at m i clock machine r
+send_on-polled world at m i clock machine r e h b p = let t : nat_lt i machine.config.sources ≡ true = lt-ltb _ _ h in rw (e, t, b, p) refl
+
+pub fuse_on-fused : (world : WorldState) (at m clock : ℕ) (machine : MachineState) (turn : Turn) → slice_get world.machines m ≡ Some machine → is_back_on machine clock ≡ false →
+    turn ≡ publish_turn machine clock (fusion_on machine clock) →
+    fuse_on world at m clock (slice_get world.machines m) ≡ after_turn world at m turn []
+fuse_on-fused world at m clock machine turn e b p = rw (e, b, p) refl
+
+pub read_on-no_worker : (world : WorldState) (at m w clock k : ℕ) (machine : MachineState) → slice_get world.machines m ≡ Some machine → length machine.seen ≤ w →
+    read_on world at m w clock k (slice_get world.machines m) ≡ refused world 1206
+read_on-no_worker world at m w clock k machine e h = let t : nat_lt w (length machine.seen) ≡ false = le-ltb _ _ h in rw (e, t) refl
+
+pub read_on-back : (world : WorldState) (at m w clock k : ℕ) (machine : MachineState) → slice_get world.machines m ≡ Some machine → w < length machine.seen → is_back_on machine clock ≡ true →
+    read_on world at m w clock k (slice_get world.machines m) ≡ refused world 1202
+read_on-back world at m w clock k machine e h b = let t : nat_lt w (length machine.seen) ≡ true = lt-ltb _ _ h in rw (e, t, b) refl
+
+-- a worker's last tests, taken together
+none_chosen : (b : Bool) (o : Option Publication) (world : WorldState) (at m w clock k : ℕ) (machine : MachineState) → cond b None o ≡ None →
+    cond b (refused world 1204) (read_from world at m w clock k machine o) ≡ refused world 1204
+none_chosen true o world at m w clock k machine h = refl
+none_chosen false None world at m w clock k machine h = refl
+none_chosen false (Some p) world at m w clock k machine h = cc
+
+some_chosen : (b : Bool) (o : Option Publication) (p : Publication) (world : WorldState) (at m w clock k : ℕ) (machine : MachineState) → cond b None o ≡ Some p →
+    cond b (refused world 1204) (read_from world at m w clock k machine o) ≡ read_from world at m w clock k machine (Some p)
+some_chosen true o p world at m w clock k machine h = cc
+some_chosen false o p world at m w clock k machine h = ap (read_from world at m w clock k machine) h
+
+pub read_on-unreadable : (world : WorldState) (at m w clock k : ℕ) (machine : MachineState) → slice_get world.machines m ≡ Some machine → w < length machine.seen → is_back_on machine clock ≡ false →
+    readable_on machine w k ≡ None → read_on world at m w clock k (slice_get world.machines m) ≡ refused world 1204
+read_on-unreadable world at m w clock k machine e h b n =
+    let t : nat_lt w (length machine.seen) ≡ true = lt-ltb w (length machine.seen) h in
+    rw (e, t, b) (none_chosen _ _ world at m w clock k machine n)
+
+pub read_on-read : (world : WorldState) (at m w clock k : ℕ) (machine : MachineState) (p : Publication) → slice_get world.machines m ≡ Some machine → w < length machine.seen → is_back_on machine clock ≡ false →
+    readable_on machine w k ≡ Some p → read_on world at m w clock k (slice_get world.machines m) ≡ after_turn world at m (read_turn machine w clock k p) []
+read_on-read world at m w clock k machine p e h b n =
+    let t : nat_lt w (length machine.seen) ≡ true = lt-ltb w (length machine.seen) h in
+    rw (e, t, b) (some_chosen _ _ p world at m w clock k machine n)
+
+-- two reads of one place give one value
+pub same_item : {A : Type 0} (xs : List A) (p : ℕ) (x y : A) → p < length xs → x ≡ get_or xs p x → y ≡ get_or xs p y → x ≡ y
+same_item xs p x y h e f = e ∙ get_or_default xs p x y h ∙ sym f
+
+-- the machine that was looked up at another spelling of its number
+pub found_at : (machines : List MachineState) (p m : ℕ) (machine : MachineState) → p ≡ m → p < length machines → machine ≡ get_or machines p machine → slice_get machines m ≡ Some machine
+found_at machines p m machine same inside e =
+    subst (λ (q : ℕ). slice_get machines q ≡ Some machine) same (slice_get_read machines (length machines) p machine refl inside e)
+
+-- a turn in which no packet was put
+pub after_turn-nothing : (world : WorldState) (at m p : ℕ) (machine : MachineState) (reply : Reply) → p ≡ m →
+    after_turn world at m (record { machine = machine; reply = reply }) []
+    ≡ record { world = record { time = at; packets = world.packets; machines = slice_set world.machines p machine }; reply = reply }
+after_turn-nothing world at m p machine reply same =
+    ap (λ (packets : List Packet). outcome at packets (slice_set world.machines m machine) reply) (append-nil world.packets)
+    ∙ ap (λ (q : ℕ). outcome at world.packets (slice_set world.machines q machine) reply) (sym same)
+
+-- a turn in which a packet was put
+pub after_turn-put : (world : WorldState) (at m p : ℕ) (machine : MachineState) (reply : Reply) (packets : List Packet) (packet : Packet) → p ≡ m → packets ≡ world.packets ++ packet ∷ [] →
+    after_turn world at m (record { machine = machine; reply = reply }) (packet ∷ [])
+    ≡ record { world = record { time = at; packets = packets; machines = slice_set world.machines p machine }; reply = reply }
+after_turn-put world at m p machine reply packets packet same e =
+    ap (λ (ps : List Packet). outcome at ps (slice_set world.machines m machine) reply) (sym e)
+    ∙ ap (λ (q : ℕ). outcome at packets (slice_set world.machines q machine) reply) (sym same)
+
+-- a poll was sent
+pub send_on-sent : (world : WorldState) (at m p i clock number nonce : ℕ) (machine next : MachineState) (packets : List Packet) → slice_get world.machines m ≡ Some machine → i < machine.config.sources →
+    is_back_on machine clock ≡ false → poll_of machine.table i clock ≡ Ok next.table → next ≡ with_table machine clock next.table → nonce ≡ next.table.last → number ≡ length world.packets →
+    packets ≡ world.packets ++ Asked (record { machine = m; source = i; nonce = nonce }) ∷ [] → p ≡ m →
+    send_on world at m i clock (slice_get world.machines m) ≡ outcome at packets (slice_set world.machines p next) (Sent number)
+send_on-sent world at m p i clock number nonce machine next packets found source forward polled same_next same_nonce count put same =
+    send_on-polled world at m i clock machine (Ok next.table) found source forward polled
+    ∙ ap (λ (x : MachineState). after_turn world at m (record { machine = x; reply = Sent (length world.packets) }) (Asked (record { machine = m; source = i; nonce = next.table.last }) ∷ [])) (sym same_next)
+    ∙ ap (λ (k : ℕ). after_turn world at m (record { machine = next; reply = Sent (length world.packets) }) (Asked (record { machine = m; source = i; nonce = k }) ∷ [])) (sym same_nonce)
+    ∙ ap (λ (k : ℕ). after_turn world at m (record { machine = next; reply = Sent k }) (Asked (record { machine = m; source = i; nonce = nonce }) ∷ [])) (sym count)
+    ∙ after_turn-put world at m p next (Sent number) packets (Asked (record { machine = m; source = i; nonce = nonce })) same put
+
+-- a poll was refused
+pub send_on-refused : (world : WorldState) (at m p i clock number : ℕ) (machine next : MachineState) (fault : SourceFault) → slice_get world.machines m ≡ Some machine → i < machine.config.sources →
+    is_back_on machine clock ≡ false → poll_of machine.table i clock ≡ Err fault → next ≡ record machine { clock = clock } → number ≡ number_of fault → p ≡ m →
+    send_on world at m i clock (slice_get world.machines m) ≡ outcome at world.packets (slice_set world.machines p next) (Refused number)
+send_on-refused world at m p i clock number machine next fault found source forward polled same_next count same =
+    send_on-polled world at m i clock machine (Err fault) found source forward polled
+    ∙ ap (λ (x : MachineState). after_turn world at m (record { machine = x; reply = Refused (number_of fault) }) []) (sym same_next)
+    ∙ ap (λ (k : ℕ). after_turn world at m (record { machine = next; reply = Refused k }) []) (sym count)
+    ∙ after_turn-nothing world at m p next (Refused number) same
+
+-- a packet that is there and no request, on a machine that is not there
+pub deliver_on-no_machine : (world : WorldState) (at clock : ℕ) (packet : Packet) → is_asked packet ≡ false → slice_get world.machines (machine_of_packet packet) ≡ None →
+    deliver_on world at clock (Some packet) ≡ refused world 1203
+deliver_on-no_machine world at clock packet asked e = rw (asked, e) refl
+
+-- a request is not delivered
+pub deliver_on-asked : (world : WorldState) (at clock : ℕ) (packet : Packet) → is_asked packet ≡ true → deliver_on world at clock (Some packet) ≡ refused world 1203
+deliver_on-asked world at clock packet asked = rw asked refl
+
+pub deliver_on-back : (world : WorldState) (at clock : ℕ) (packet : Packet) (machine : MachineState) → is_asked packet ≡ false → slice_get world.machines (machine_of_packet packet) ≡ Some machine →
+    is_back_on machine clock ≡ true → deliver_on world at clock (Some packet) ≡ refused world 1202
+deliver_on-back world at clock packet machine asked e b = rw (asked, e, b) refl
+
+pub deliver_on-taken : (world : WorldState) (at p clock : ℕ) (packet : Packet) (machine next : MachineState) (reply : Reply) → is_asked packet ≡ false → slice_get world.machines (machine_of_packet packet) ≡ Some machine →
+    is_back_on machine clock ≡ false → record { machine = next; reply = reply } ≡ take_turn machine clock (take_of machine.table (source_of_packet packet) clock (bytes_of packet)) → p ≡ machine_of_packet packet →
+    deliver_on world at clock (Some packet) ≡ outcome at world.packets (slice_set world.machines p next) reply
+deliver_on-taken world at p clock packet machine next reply asked e b turn same =
+    rw (asked, e, b) (ap (λ (t : Turn). after_turn world at (machine_of_packet packet) t []) (sym turn) ∙ after_turn-nothing world at (machine_of_packet packet) p next reply same)

@@ -1,0 +1,82 @@
+-- What is assumed of a run: each clock keeps its drift bound, and few statements are false.
+use Rattle.std.specs.Prelude.{ℕ, ◌<◌, ◌≤◌, ◌&&◌, not, nat_lt, nat_le, Bool, true, false, if◌then◌else◌, List, [], ◌∷◌, length, count_by, is_some, Option, Some, None}
+use Rattle.std.specs.List.{range_with_len}
+use Rattle.std.specs.Option.{option_and_then}
+use Rattle.tt_span.specs.Interval.{Interval}
+use Rattle.tt_span.specs.Drift.{KeepsDrift}
+use Rattle.tt_world.specs.declared.events.Event.{Event}
+use Rattle.tt_world.specs.declared.events.Action.{Action}
+use Rattle.tt_world.specs.declared.events.Action.TheVariants.{Send, Answer, Forge, Deliver, Fuse, Read}
+use Rattle.tt_world.specs.Config.{Configuration, config_at}
+use Rattle.tt_world.specs.Past.{packets_of, moments_of}
+use Rattle.tt_world.specs.Sources.{stated_by, outstanding}
+use Rattle.tt_world.specs.Bad.{accepted}
+
+-- the event that put packet p on its way, if it was put
+abbrev pub origin_of : List Event → ℕ → Option Event
+origin_of [] p = None
+origin_of (event ∷ past) p =
+    if nat_lt p (length (packets_of past)) then origin_of past p
+    else if nat_lt p (length (packets_of (event ∷ past))) then Some event
+    else None
+
+-- the packet that an event delivers, if it delivers one
+abbrev pub delivered_by : Action → Option ℕ
+delivered_by (Send machine source clock) = None
+delivered_by (Answer packet span) = None
+delivered_by (Forge machine source payload) = None
+delivered_by (Deliver packet clock) = Some packet
+delivered_by (Fuse machine clock) = None
+delivered_by (Read machine worker clock publication) = None
+
+-- the packet that made the statement of source i on machine m, if there is a statement
+abbrev pub packet_of_statement : List Event → ℕ → ℕ → Option ℕ
+packet_of_statement [] m i = None
+packet_of_statement (event ∷ past) m i =
+    if is_some (stated_by (packets_of past) m i (outstanding past m i) event.action) then delivered_by event.action
+    else packet_of_statement past m i
+
+-- whether an action at a true time puts a lie on its way: bytes that were made up, or an answer whose span does not hold that time
+abbrev pub is_lie : ℕ → Action → Bool
+is_lie at (Send machine source clock) = false
+is_lie at (Answer packet span) = not (nat_le span.lo at && nat_le at span.hi)
+is_lie at (Forge machine source payload) = true
+is_lie at (Deliver packet clock) = false
+is_lie at (Fuse machine clock) = false
+is_lie at (Read machine worker clock publication) = false
+
+-- whether an event, if there is one, puts a lie on its way
+abbrev pub is_lying : Option Event → Bool
+is_lying None = false
+is_lying (Some event) = is_lie event.at event.action
+
+-- whether the statement of source i on machine m is false
+abbrev pub is_false_statement : List Event → ℕ → ℕ → Bool
+is_false_statement past m i = is_lying (option_and_then (origin_of past) (packet_of_statement past m i))
+
+-- how many statements of machine m are false
+abbrev pub false_count : Configuration → List Event → ℕ → ℕ
+false_count config past m = count_by (λ i. is_false_statement past m i) (range_with_len 0 config.sources)
+
+-- where an action fuses, no more statements of that machine are false than may be
+abbrev pub HasFewFalse : List Configuration → List Event → Action → Type 0
+HasFewFalse configs past (Send machine source clock) = Unit {0}
+HasFewFalse configs past (Answer packet span) = Unit {0}
+HasFewFalse configs past (Forge machine source payload) = Unit {0}
+HasFewFalse configs past (Deliver packet clock) = Unit {0}
+HasFewFalse configs past (Fuse machine clock) = false_count (config_at configs machine) past machine ≤ (config_at configs machine).faulty
+HasFewFalse configs past (Read machine worker clock publication) = Unit {0}
+
+-- at every fusion that was not bad few statements were false
+abbrev pub FewLie : List Configuration → List Event → Type 0
+FewLie configs [] = Unit {0}
+FewLie configs (event ∷ past) = HasFewFalse configs past event.action × FewLie configs past
+
+-- the clock of each machine keeps its drift bound over all its moments
+abbrev pub ClocksKeepDrift : List Configuration → List Event → Type 0
+ClocksKeepDrift configs past = (m : ℕ) → m < length configs → KeepsDrift (config_at configs m).drift (moments_of past m)
+
+-- the assumptions, over a list of events, bad ones among them, the newest first
+pub record MeetsAssumptions (configs : List Configuration) (past : List Event) : Type 0 where
+  pub clocks : ClocksKeepDrift configs (accepted configs past)
+  pub sources : FewLie configs (accepted configs past)

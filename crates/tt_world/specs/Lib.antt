@@ -1,0 +1,15 @@
+pub mod Config
+pub mod Packet
+pub mod Past
+pub mod Sources
+pub mod Publications
+pub mod Bad
+pub mod Reply
+pub mod Assumptions
+pub mod State
+pub mod Step
+pub mod Fault
+pub mod Machines
+pub mod Headline
+pub mod Trace
+pub mod Reading

@@ -1,0 +1,39 @@
+-- The packets on their way between machines and sources.
+use Rattle.std.specs.Prelude.{ℕ, Bool, true, false, List, [], ◌∷◌, Option, Some, None}
+use Rattle.tt_span.specs.Interval.{Interval}
+use Rattle.tt_poll.specs.declared.messages.Message.TheVariants.{Request, Answer}
+use Rattle.tt_poll.specs.Spelling.{spelling_of}
+use Rattle.tt_world.specs.declared.packets.Packet.{Packet}
+use Rattle.tt_world.specs.declared.packets.Packet.TheVariants.{Asked, Answered, Forged}
+
+-- the machine that a packet goes to or comes from
+abbrev pub machine_of_packet : Packet → ℕ
+machine_of_packet (Asked request) = request.machine
+machine_of_packet (Answered answer) = answer.machine
+machine_of_packet (Forged machine source payload) = machine
+
+-- the source that a packet goes to or comes from
+abbrev pub source_of_packet : Packet → ℕ
+source_of_packet (Asked request) = request.source
+source_of_packet (Answered answer) = answer.source
+source_of_packet (Forged machine source payload) = source
+
+-- the bytes of a packet
+abbrev pub bytes_of : Packet → List ℕ
+bytes_of (Asked request) = spelling_of (Request request)
+bytes_of (Answered answer) = spelling_of (Answer answer)
+bytes_of (Forged machine source payload) = payload
+
+-- whether a packet is a request
+abbrev pub is_asked : Packet → Bool
+is_asked (Asked request) = true
+is_asked (Answered answer) = false
+is_asked (Forged machine source payload) = false
+
+-- the answer of this span to a packet, if that is there and is a request
+abbrev pub answer_to : Option Packet → Interval → List Packet
+answer_to None span = []
+answer_to (Some (Asked request)) span =
+    Answered (record { machine = request.machine; source = request.source; nonce = request.nonce; span = span }) ∷ []
+answer_to (Some (Answered answer)) span = []
+answer_to (Some (Forged machine source payload)) span = []

@@ -1,0 +1,82 @@
+-- What each machine has published, and what its workers have read from it, searched back.
+use Rattle.std.specs.Prelude.{ℕ, ◌+◌, ◌-◌, ◌==◌, ◌&&◌, Bool, nat_lt, max, if◌then◌else◌, List, [], ◌∷◌, ◌++◌, map, count_by, slice_index_or, is_some, Option, Some, None, Result, Ok, Err}
+use Rattle.std.specs.List.{range_with_len}
+use Rattle.tt_span.specs.Interval.{Interval, whole}
+use Rattle.tt_span.specs.Drift.{aged}
+use Rattle.tt_source.specs.Table.{stated_at}
+use Rattle.tt_fuse.specs.Depth.{slow_fusion}
+use Rattle.tt_world.specs.declared.events.Event.{Event}
+use Rattle.tt_world.specs.declared.events.Action.{Action}
+use Rattle.tt_world.specs.declared.events.Action.TheVariants.{Send, Answer, Forge, Deliver, Fuse, Read}
+use Rattle.tt_world.specs.declared.publications.Publication.{Publication}
+use Rattle.tt_world.specs.Config.{Configuration, config_at}
+use Rattle.tt_world.specs.Sources.{statement_of}
+
+-- the spans of all sources of machine m at a clock reading; a source that has made no statement stands as the whole
+abbrev pub spans_of : Configuration → List Event → ℕ → ℕ → List Interval
+spans_of config past m clock = map (λ i. stated_at config.drift (statement_of past m i) clock) (range_with_len 0 config.sources)
+
+-- how many sources of machine m have made a statement
+abbrev pub known_of : Configuration → List Event → ℕ → ℕ
+known_of config past m = count_by (λ i. is_some (statement_of past m i)) (range_with_len 0 config.sources)
+
+-- a publication of the fusion, or refusal 504 where no time is possible
+abbrev pub published : ℕ → Option Interval → Result Publication ℕ
+published clock None = Err 504
+published clock (Some span) = Ok (record { clock = clock; span = span })
+
+-- what machine m publishes when it fuses at a clock reading, or its refusal: 701 where too few sources are known, 504 where no time is possible
+abbrev pub fusion_of : Configuration → List Event → ℕ → ℕ → Result Publication ℕ
+fusion_of config past m clock =
+    if nat_lt (known_of config past m) (config.sources - config.faulty) then Err 701
+    else published clock (slow_fusion (spans_of config past m clock) config.faulty)
+
+-- the one publication that was made, or none
+abbrev pub one_if_made : Result Publication ℕ → List Publication
+one_if_made (Ok publication) = publication ∷ []
+one_if_made (Err number) = []
+
+-- the clock reading at which an event fuses on machine m, if it does
+abbrev pub fuses_at : ℕ → Action → Option ℕ
+fuses_at m (Send machine source clock) = None
+fuses_at m (Answer packet span) = None
+fuses_at m (Forge machine source payload) = None
+fuses_at m (Deliver packet clock) = None
+fuses_at m (Fuse machine clock) = if machine == m then Some clock else None
+fuses_at m (Read machine worker clock publication) = None
+
+-- what a fusion at this clock reading publishes, if there is one
+abbrev pub published_at : Configuration → List Event → ℕ → Option ℕ → List Publication
+published_at config past m None = []
+published_at config past m (Some clock) = one_if_made (fusion_of config past m clock)
+
+-- the publications of machine m, the oldest first: the first of them has number 1
+abbrev pub publications_of : Configuration → List Event → ℕ → List Publication
+publications_of config [] m = []
+publications_of config (event ∷ past) m = publications_of config past m ++ published_at config past m (fuses_at m event.action)
+
+-- the number of the publication that worker w of machine m reads from in an event, or before if it reads none there
+abbrev pub seen_by : ℕ → ℕ → Action → ℕ → ℕ
+seen_by m w (Send machine source clock) before = before
+seen_by m w (Answer packet span) before = before
+seen_by m w (Forge machine source payload) before = before
+seen_by m w (Deliver packet clock) before = before
+seen_by m w (Fuse machine clock) before = before
+seen_by m w (Read machine worker clock publication) before = if machine == m && worker == w then max publication before else before
+
+-- the greatest number of a publication that worker w of machine m has read from, 0 where it has read from none
+abbrev pub seen_of : List Event → ℕ → ℕ → ℕ
+seen_of [] m w = 0
+seen_of (event ∷ past) m w = seen_by m w event.action (seen_of past m w)
+
+-- no machine has made this publication
+abbrev pub no_publication : Publication
+no_publication = record { clock = 0; span = whole }
+
+-- publication k, the first of which has number 1
+abbrev pub publication_at : List Publication → ℕ → Publication
+publication_at publications k = slice_index_or publications (k - 1) no_publication
+
+-- a reading from a publication: its span, aged by the clock since
+abbrev pub reading_at : ℕ → Publication → ℕ → Interval
+reading_at drift publication clock = aged drift publication.span (clock - publication.clock)

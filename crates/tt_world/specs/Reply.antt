@@ -1,0 +1,66 @@
+-- The reply to each event.
+use Rattle.std.specs.Prelude.{ℕ, ◌+◌, List, [], ◌∷◌, length, slice_get, Option, Some, None, Result, Ok, Err}
+use Rattle.tt_poll.specs.Reading.{read_of}
+use Rattle.tt_source.specs.Fault.{number_of}
+use Rattle.tt_source.specs.Statement.{Statement}
+use Rattle.tt_source.specs.Table.{statement_of_message}
+use Rattle.tt_source.specs.declared.faults.SourceFault.{SourceFault}
+use Rattle.tt_world.specs.declared.events.Event.{Event}
+use Rattle.tt_world.specs.declared.events.Action.{Action}
+use Rattle.tt_world.specs.declared.events.Action.TheVariants as does
+use Rattle.tt_world.specs.declared.events.Reply.{Reply}
+use Rattle.tt_world.specs.declared.events.Reply.TheVariants.{Sent, Put, Taken, Published, Refused}
+use Rattle.tt_world.specs.declared.events.Reply.TheVariants as replies
+use Rattle.tt_world.specs.declared.packets.Packet.{Packet}
+use Rattle.tt_world.specs.declared.publications.Publication.{Publication}
+use Rattle.tt_world.specs.Config.{Configuration, config_at}
+use Rattle.tt_world.specs.Packet.{machine_of_packet, source_of_packet, bytes_of}
+use Rattle.tt_world.specs.Past.{packets_of}
+use Rattle.tt_world.specs.Sources.{outstanding}
+use Rattle.tt_world.specs.Publications.{fusion_of, publications_of, publication_at, reading_at}
+use Rattle.tt_world.specs.Bad.{first_bad, accepted}
+
+-- the reply to a delivery that made a statement, or was refused
+abbrev pub delivery_reply : Result Statement SourceFault → Reply
+delivery_reply (Ok statement) = Taken
+delivery_reply (Err fault) = Refused (number_of fault)
+
+-- the reply to the delivery of a packet at a clock reading, to which no packet is lacking
+abbrev pub reply_to_packet : List Event → ℕ → Option Packet → Reply
+reply_to_packet past clock None = Refused 1203
+reply_to_packet past clock (Some packet) =
+    let m = machine_of_packet packet in
+    let i = source_of_packet packet in
+    delivery_reply (statement_of_message m i (outstanding past m i) clock (read_of (bytes_of packet)))
+
+-- the reply to a fusion, after so many publications
+abbrev pub fusion_reply : ℕ → Result Publication ℕ → Reply
+fusion_reply count (Ok publication) = Published (count + 1) publication.span
+fusion_reply count (Err number) = Refused number
+
+-- the reply to an event that is not bad
+abbrev pub reply_to : List Configuration → List Event → Action → Reply
+reply_to configs past (does.Send machine source clock) = Sent (length (packets_of past))
+reply_to configs past (does.Answer packet span) = Put (length (packets_of past))
+reply_to configs past (does.Forge machine source payload) = Put (length (packets_of past))
+reply_to configs past (does.Deliver packet clock) = reply_to_packet past clock (slice_get (packets_of past) packet)
+reply_to configs past (does.Fuse machine clock) =
+    fusion_reply (length (publications_of (config_at configs machine) past machine)) (fusion_of (config_at configs machine) past machine clock)
+reply_to configs past (does.Read machine worker clock publication) =
+    replies.Read (reading_at (config_at configs machine).drift (publication_at (publications_of (config_at configs machine) past machine) publication) clock)
+
+-- the reply to an event of which it is known whether it is bad
+abbrev pub reply_unless_bad : Option ℕ → Reply → Reply
+reply_unless_bad None reply = reply
+reply_unless_bad (Some number) reply = Refused number
+
+-- the reply to an event after a list of events, bad ones among them, the newest first
+abbrev pub reply_of : List Configuration → List Event → Event → Reply
+reply_of configs past event =
+    let before = accepted configs past in
+    reply_unless_bad (first_bad configs before event) (reply_to configs before event.action)
+
+-- the replies to a list of events, the oldest first, after a past, the newest first
+abbrev pub replies_from : List Configuration → List Event → List Event → List Reply
+replies_from configs past [] = []
+replies_from configs past (event ∷ events) = reply_of configs past event ∷ replies_from configs (event ∷ past) events

@@ -1,0 +1,191 @@
+-- What one event makes of what is kept, and the reply to it.
+use Rattle.std.specs.Prelude.{◌≡◌, ℕ, ◌+◌, ◌-◌, ◌==◌, ◌||◌, not, nat_lt, Bool, if◌then◌else◌, List, [], ◌∷◌, ◌++◌, map, length, slice_get, slice_set, slice_index, Option, Some, None, Result, Ok, Err}
+use Rattle.tt_span.specs.Time.{max_time}
+use Rattle.tt_span.specs.Interval.{Interval}
+use Rattle.tt_source.specs.Fault.{number_of}
+use Rattle.tt_source.specs.Table.{TableState, poll_of, take_of, stated_at, known_of as known_of_table}
+use Rattle.tt_source.specs.declared.faults.SourceFault.{SourceFault}
+use Rattle.tt_fuse.specs.Depth.{slow_fusion}
+use Rattle.tt_world.specs.declared.events.Event.{Event}
+use Rattle.tt_world.specs.declared.events.Action.{Action}
+use Rattle.tt_world.specs.declared.events.Action.TheVariants.{Send, Answer, Forge, Deliver, Fuse, Read}
+use Rattle.tt_world.specs.declared.events.Reply.{Reply}
+use Rattle.tt_world.specs.declared.events.Reply.TheVariants as replies
+use Rattle.tt_world.specs.declared.faults.WorldFault.{WorldFault}
+use Rattle.tt_world.specs.declared.faults.WorldFault.TheVariants as faults
+use Rattle.tt_world.specs.declared.packets.Packet.{Packet}
+use Rattle.tt_world.specs.declared.packets.Packet.TheVariants.{Asked, Answered, Forged}
+use Rattle.tt_world.specs.declared.publications.Publication.{Publication}
+use Rattle.tt_world.specs.Packet.{machine_of_packet, source_of_packet, bytes_of, is_asked, answer_to}
+use Rattle.tt_world.specs.Publications.{published, reading_at}
+use Rattle.tt_world.specs.Bad.{is_unreadable}
+use Rattle.tt_world.specs.State.{MachineState, WorldState}
+
+-- what is kept after an event, and the reply to it
+pub record Outcome : Type 0 where
+  pub world : WorldState
+  pub reply : Reply
+
+-- what is kept of one machine after an event, and the reply to it
+pub record Turn : Type 0 where
+  pub machine : MachineState
+  pub reply : Reply
+
+-- nothing changes
+abbrev pub refused : WorldState → ℕ → Outcome
+refused world number = record { world = world; reply = replies.Refused number }
+
+-- a reading that is refused: the machine's clock went back, or passed the greatest time
+abbrev pub is_back_on : MachineState → ℕ → Bool
+is_back_on machine clock = nat_lt clock machine.clock || nat_lt max_time clock
+
+-- machine m has had its turn at a true time, and these packets were put on their way
+abbrev pub after_turn : WorldState → ℕ → ℕ → Turn → List Packet → Outcome
+after_turn world at m turn put = record {
+  world = record { time = at; packets = world.packets ++ put; machines = slice_set world.machines m turn.machine };
+  reply = turn.reply;
+}
+
+-- the table takes the place of the one that is kept, and the clock shows this
+abbrev pub with_table : MachineState → ℕ → TableState → MachineState
+with_table machine clock table = record machine { table = table; clock = clock }
+
+-- the machine polls source i, or its table refuses to
+abbrev pub after_poll : WorldState → ℕ → ℕ → ℕ → ℕ → MachineState → Result TableState SourceFault → Outcome
+after_poll world at m i clock machine (Ok table) =
+    after_turn world at m (record { machine = with_table machine clock table; reply = replies.Sent (length world.packets) })
+    (Asked (record { machine = m; source = i; nonce = table.last }) ∷ [])
+after_poll world at m i clock machine (Err fault) =
+    after_turn world at m (record { machine = record machine { clock = clock }; reply = replies.Refused (number_of fault) }) []
+
+abbrev pub send_on : WorldState → ℕ → ℕ → ℕ → ℕ → Option MachineState → Outcome
+send_on world at m i clock None = refused world 1206
+send_on world at m i clock (Some machine) =
+    if not (nat_lt i machine.config.sources) then refused world 1206
+    else if is_back_on machine clock then refused world 1202
+    else after_poll world at m i clock machine (poll_of machine.table i clock)
+
+-- packets were put on their way at a true time
+abbrev pub after_put : WorldState → ℕ → List Packet → Outcome
+after_put world at put =
+    record { world = record world { time = at; packets = world.packets ++ put }; reply = replies.Put (length world.packets) }
+
+-- an answer is put on its way, if there is one
+abbrev pub answer_on : WorldState → ℕ → List Packet → Outcome
+answer_on world at [] = refused world 1203
+answer_on world at (packet ∷ packets) = after_put world at (packet ∷ packets)
+
+abbrev pub forge_on : WorldState → ℕ → ℕ → ℕ → List ℕ → Option MachineState → Outcome
+forge_on world at m i payload None = refused world 1206
+forge_on world at m i payload (Some machine) =
+    if not (nat_lt i machine.config.sources) then refused world 1206
+    else after_put world at (Forged m i payload ∷ [])
+
+-- the machine takes what a packet says, or its table refuses to
+abbrev pub take_turn : MachineState → ℕ → Result TableState SourceFault → Turn
+take_turn machine clock (Ok table) = record { machine = with_table machine clock table; reply = replies.Taken }
+take_turn machine clock (Err fault) = record { machine = record machine { clock = clock }; reply = replies.Refused (number_of fault) }
+
+abbrev pub deliver_to : WorldState → ℕ → ℕ → Packet → Option MachineState → Outcome
+deliver_to world at clock packet None = refused world 1203
+deliver_to world at clock packet (Some machine) =
+    if is_back_on machine clock then refused world 1202
+    else after_turn world at (machine_of_packet packet) (take_turn machine clock (take_of machine.table (source_of_packet packet) clock (bytes_of packet))) []
+
+abbrev pub deliver_on : WorldState → ℕ → ℕ → Option Packet → Outcome
+deliver_on world at clock None = refused world 1203
+deliver_on world at clock (Some packet) =
+    if is_asked packet then refused world 1203
+    else deliver_to world at clock packet (slice_get world.machines (machine_of_packet packet))
+
+-- the spans of the sources of a machine at a clock reading
+abbrev pub spans_on : MachineState → ℕ → List Interval
+spans_on machine clock = map (λ source. stated_at machine.config.drift source.statement clock) machine.table.sources
+
+-- what the machine publishes when it fuses at a clock reading, or its refusal
+abbrev pub fusion_on : MachineState → ℕ → Result Publication ℕ
+fusion_on machine clock =
+    if nat_lt (known_of_table machine.table) (machine.config.sources - machine.config.faulty) then Err 701
+    else published clock (slow_fusion (spans_on machine clock) machine.config.faulty)
+
+-- the machine publishes, or refuses to
+abbrev pub publish_turn : MachineState → ℕ → Result Publication ℕ → Turn
+publish_turn machine clock (Ok publication) = record {
+  machine = record machine { clock = clock; publications = machine.publications ++ publication ∷ [] };
+  reply = replies.Published (length machine.publications + 1) publication.span;
+}
+publish_turn machine clock (Err number) = record { machine = record machine { clock = clock }; reply = replies.Refused number }
+
+abbrev pub fuse_on : WorldState → ℕ → ℕ → ℕ → Option MachineState → Outcome
+fuse_on world at m clock None = refused world 1206
+fuse_on world at m clock (Some machine) =
+    if is_back_on machine clock then refused world 1202
+    else after_turn world at m (publish_turn machine clock (fusion_on machine clock)) []
+
+-- publication k, if worker w can read from it
+abbrev pub readable_on : MachineState → ℕ → ℕ → Option Publication
+readable_on machine w k =
+    if is_unreadable (length machine.publications) (slice_index machine.seen w) k then None
+    else slice_get machine.publications (k - 1)
+
+-- the worker reads from a publication
+abbrev pub read_turn : MachineState → ℕ → ℕ → ℕ → Publication → Turn
+read_turn machine w clock k publication = record {
+  machine = record machine { clock = clock; seen = slice_set machine.seen w k };
+  reply = replies.Read (reading_at machine.config.drift publication clock);
+}
+
+abbrev pub read_from : WorldState → ℕ → ℕ → ℕ → ℕ → ℕ → MachineState → Option Publication → Outcome
+read_from world at m w clock k machine None = refused world 1204
+read_from world at m w clock k machine (Some publication) =
+    after_turn world at m (read_turn machine w clock k publication) []
+
+abbrev pub read_on : WorldState → ℕ → ℕ → ℕ → ℕ → ℕ → Option MachineState → Outcome
+read_on world at m w clock k None = refused world 1206
+read_on world at m w clock k (Some machine) =
+    if not (nat_lt w (length machine.seen)) then refused world 1206
+    else if is_back_on machine clock then refused world 1202
+    else if is_unreadable (length machine.publications) (slice_index machine.seen w) k then refused world 1204
+    else read_from world at m w clock k machine (slice_get machine.publications (k - 1))
+
+-- what an action makes at a true time
+abbrev pub acted : WorldState → ℕ → Action → Outcome
+acted world at (Send m i clock) = send_on world at m i clock (slice_get world.machines m)
+acted world at (Answer packet span) = answer_on world at (answer_to (slice_get world.packets packet) span)
+acted world at (Forge m i payload) = forge_on world at m i payload (slice_get world.machines m)
+acted world at (Deliver packet clock) = deliver_on world at clock (slice_get world.packets packet)
+acted world at (Fuse m clock) = fuse_on world at m clock (slice_get world.machines m)
+acted world at (Read m w clock k) = read_on world at m w clock k (slice_get world.machines m)
+
+-- what an event makes
+abbrev pub stepped : WorldState → Event → Outcome
+stepped world event =
+    if nat_lt event.at world.time || nat_lt max_time event.at then refused world 1201
+    else acted world event.at event.action
+
+-- the reason is that of an outcome in which nothing changed
+abbrev pub IsRefusal : WorldFault → WorldState → Outcome → Type 0
+IsRefusal faults.Memory world outcome = Unit {0}
+IsRefusal faults.TimeBack world outcome = outcome ≡ refused world 1201
+IsRefusal faults.ClockBack world outcome = outcome ≡ refused world 1202
+IsRefusal faults.NoPacket world outcome = outcome ≡ refused world 1203
+IsRefusal faults.NoPublication world outcome = outcome ≡ refused world 1204
+IsRefusal faults.NothingThere world outcome = outcome ≡ refused world 1205
+IsRefusal faults.UnknownNumber world outcome = outcome ≡ refused world 1206
+IsRefusal faults.Machines world outcome = outcome ≡ refused world 1207
+
+-- the reply to an event that is bad for a reason; want of memory is no reply
+abbrev pub refusal_reply : WorldFault → Result Reply WorldFault
+refusal_reply faults.TimeBack = Ok (replies.Refused 1201)
+refusal_reply faults.ClockBack = Ok (replies.Refused 1202)
+refusal_reply faults.NoPacket = Ok (replies.Refused 1203)
+refusal_reply faults.NoPublication = Ok (replies.Refused 1204)
+refusal_reply faults.NothingThere = Ok (replies.Refused 1205)
+refusal_reply faults.UnknownNumber = Ok (replies.Refused 1206)
+refusal_reply faults.Machines = Ok (replies.Refused 1207)
+refusal_reply faults.Memory = Err faults.Memory
+
+-- a call that answered this, and left this, did what the outcome says, or changed nothing and gave the reason
+abbrev pub Does : Outcome → WorldState → Result Reply WorldFault → WorldState → Type 0
+Does outcome old (Ok reply) new = outcome ≡ record { world = new; reply = reply }
+Does outcome old (Err fault) new = (new ≡ old) × IsRefusal fault old outcome

@@ -1,0 +1,66 @@
+//! Whole runs.
+
+ghost use Rattle.std.specs.Prelude.{◌≡◌, ℕ, ◌<◌, ◌⊎◌, ◌↔◌, [], length, IfOk, IfErr, IsErrOf};
+ghost use Rattle.tt_world.specs.Headline.{ReadingsHold, FusionsAreShortest, NoFusionRefused};
+ghost use Rattle.tt_world.specs.Reply.{replies_from};
+
+use crate::configs::Config;
+use crate::events::{Event, Reply};
+use crate::faults::WorldFault;
+use crate::world::World;
+use std::alloc::Global;
+use std::marker::Model;
+use tt_fuse::fusion_laws;
+
+/// What a run answers: the reply to each event, in the order of the events.
+#[derive(Drop)]
+pub struct Trace {
+    replies: Vec<Reply>,
+}
+
+impl Model for Trace {
+    ghost use Rattle.tt_world.specs.Trace.{RunTrace};
+
+    ghost Value = { RunTrace };
+
+    ghost view = { λ t. record { replies = t.replies.items } };
+}
+
+impl Trace {
+    /// The replies, one for each event.
+    pub fn replies(&self) -> &[Reply]
+        ensures { result.now ≡ self.now.replies }
+    {
+        self.replies.as_slice()
+    }
+}
+
+/// Runs a list of events on these machines, from the beginning, and answers the replies. Every list is taken; bad
+/// events are replied to with their numbers. Refuses by 1207 `Machines` where there is no machine, or more than
+/// eight, and by 1 `Memory` where memory was refused; there is no trace then.
+pub fn run(alloc: Global, configs: &[Config], events: &[Event]) -> Result<Trace, WorldFault>
+    // The reply to each event is the one that is defined by searching back over the events before it.
+    ensures replies { IfOk result (λ trace. trace.replies ≡ replies_from configs.now [] events.now) }
+
+    // Every reading holds the true time of its event, while at most so many sources of each machine lie as may, and
+    // its clock keeps the drift bound.
+    ensures readings_hold { IfOk result (λ trace. ReadingsHold configs.now events.now trace.replies) }
+
+    // Every fused interval is the shortest that is right whichever sources lie. Nothing is assumed.
+    ensures fusions_are_shortest { IfOk result (λ trace. FusionsAreShortest configs.now events.now trace.replies) }
+
+    // Under the assumptions no fusion is refused at which enough sources are known.
+    ensures no_fusion_refused { IfOk result (λ trace. NoFusionRefused configs.now events.now trace.replies) }
+
+    ensures machines { IsErrOf result WorldFault.Machines ↔ ((length configs.now ≡ 0) ⊎ (8 < length configs.now)) }
+    ensures refused { IfErr result (λ e. (e ≡ WorldFault.Machines) ⊎ (e ≡ WorldFault.Memory)) }
+{
+    let mut world = World::new(alloc, configs)?;
+    let mut replies = Vec::new(alloc);
+    for event in events {
+        event.recall();
+        replies.push(world.step(event)?)?;
+    }
+    fusion_laws();
+    Ok(Trace { replies })
+}

@@ -1,0 +1,258 @@
+//! A whole run, event by event.
+
+ghost use Rattle.std.specs.Prelude.{◌≡◌, ℕ, ◌+◌, ◌<◌, ◌≤◌, slice_get, List, [], ◌∷◌, length, ◌↔◌, ◌⊎◌, IfOk, IfErr, OnErr, IsErrOf};
+ghost use Rattle.tt_world.specs.Config.{Configuration};
+ghost use Rattle.tt_world.specs.declared.events.Event.{Event};
+ghost use Rattle.tt_world.specs.declared.events.Reply.{Reply};
+ghost use Rattle.tt_world.specs.Headline.{AreConfigurations};
+ghost use Rattle.tt_world.specs.Reply.{reply_of};
+ghost use Rattle.tt_world.specs.State.{WorldState, StandsFor};
+ghost use Rattle.tt_world.specs.Packet.{answer_to};
+ghost use Rattle.tt_world.specs.Step.{Does, send_on, answer_on, forge_on, deliver_on, fuse_on, read_on, stepped};
+
+use crate::configs::Config;
+use crate::events::{Action, Event, Payload, Reply};
+use crate::faults::WorldFault;
+use crate::machines::Machine;
+use crate::packets::Packet;
+use std::alloc::Global;
+use std::marker::Model;
+use tt_poll::{Answer, Request};
+use tt_span::{MAX_TIME, Span};
+
+/// How many machines a run has at most.
+pub const MAX_MACHINES: usize = 8;
+
+/// A run of up to eight machines, as far as it has come: the last true time, the packets that were put on their
+/// way, and the machines.
+#[derive(Drop)]
+pub struct World {
+    time: u64,
+    packets: Vec<Packet>,
+    machines: Vec<Machine>,
+}
+
+impl Model for World {
+    ghost use Rattle.tt_world.specs.State.{WorldState, IsWorld};
+
+    ghost Value = { WorldState };
+
+    ghost view = { λ w. record { time = w.time; packets = w.packets.items; machines = w.machines.items } };
+
+    ghost invariant = { λ w. IsWorld (record { time = w.time; packets = w.packets.items; machines = w.machines.items }) };
+}
+
+impl World {
+    /// A machine polls a source.
+    fn send(&mut self, at: u64, machine: u8, source: u8, clock: u64) -> Result<Reply, WorldFault>
+        ensures { Does (send_on self.old at machine source clock (slice_get self.old.machines machine)) self.old result self.new }
+    {
+        let place = usize::from(machine);
+        if place >= self.machines.len() {
+            return Err(WorldFault::UnknownNumber);
+        }
+        if usize::from(source) >= self.machines[place].config().sources() {
+            return Err(WorldFault::UnknownNumber);
+        }
+        if self.machines[place].is_back(clock) {
+            return Err(WorldFault::ClockBack);
+        }
+        self.packets.reserve(1)?;
+        let number = self.packets.len() as u64;
+        let reply = match self.machines[place].poll(source, clock) {
+            Ok(nonce) => {
+                let request = Request::new(machine, source, nonce).unwrap();
+                self.packets.push(Packet::Asked(request)).unwrap();
+                Reply::Sent(number)
+            }
+            Err(fault) => Reply::Refused(fault.number()),
+        };
+        self.time = at;
+        Ok(reply)
+    }
+
+    /// A source puts bytes that it made up on their way.
+    fn forge(
+        &mut self,
+        at: u64,
+        machine: u8,
+        source: u8,
+        payload: &Payload,
+    ) -> Result<Reply, WorldFault>
+        ensures { Does (forge_on self.old at machine source payload.now (slice_get self.old.machines machine)) self.old result self.new }
+    {
+        let place = usize::from(machine);
+        if place >= self.machines.len() {
+            return Err(WorldFault::UnknownNumber);
+        }
+        if usize::from(source) >= self.machines[place].config().sources() {
+            return Err(WorldFault::UnknownNumber);
+        }
+        let number = self.packets.len() as u64;
+        let payload = payload.clone()?;
+        self.packets.push(Packet::Forged {
+            machine,
+            source,
+            payload,
+        })?;
+        self.time = at;
+        Ok(Reply::Put(number))
+    }
+
+    /// A machine fuses what it knows, and publishes it.
+    fn fuse(&mut self, at: u64, machine: u8, clock: u64) -> Result<Reply, WorldFault>
+        ensures { Does (fuse_on self.old at machine clock (slice_get self.old.machines machine)) self.old result self.new }
+    {
+        let place = usize::from(machine);
+        if place >= self.machines.len() {
+            return Err(WorldFault::UnknownNumber);
+        }
+        if self.machines[place].is_back(clock) {
+            return Err(WorldFault::ClockBack);
+        }
+        let reply = self.machines[place].fuse(clock)?;
+        self.time = at;
+        Ok(reply)
+    }
+
+    /// A worker reads from a publication.
+    fn read(
+        &mut self,
+        at: u64,
+        machine: u8,
+        worker: u8,
+        clock: u64,
+        number: u64,
+    ) -> Result<Reply, WorldFault>
+        ensures { Does (read_on self.old at machine worker clock number (slice_get self.old.machines machine)) self.old result self.new }
+    {
+        let place = usize::from(machine);
+        if place >= self.machines.len() {
+            return Err(WorldFault::UnknownNumber);
+        }
+        if usize::from(worker) >= self.machines[place].workers() {
+            return Err(WorldFault::UnknownNumber);
+        }
+        if self.machines[place].is_back(clock) {
+            return Err(WorldFault::ClockBack);
+        }
+        let Some(publication) = self.machines[place].readable(worker, number) else {
+            return Err(WorldFault::NoPublication);
+        };
+        let reply = self.machines[place].read(worker, clock, number, &publication);
+        self.time = at;
+        Ok(reply)
+    }
+
+    /// The source that a request asks answers it.
+    fn answer(&mut self, at: u64, packet: u64, span: Span) -> Result<Reply, WorldFault>
+        ensures { Does (answer_on self.old at (answer_to (slice_get self.old.packets packet) span)) self.old result self.new }
+    {
+        let Some(Packet::Asked(request)) = self.packets.get(packet as usize) else {
+            return Err(WorldFault::NoPacket);
+        };
+        let answer = Answer::new(
+            request.machine(),
+            request.source(),
+            request.nonce(),
+            span,
+        ).unwrap();
+        let number = self.packets.len() as u64;
+        self.packets.push(Packet::Answered(answer))?;
+        self.time = at;
+        Ok(Reply::Put(number))
+    }
+
+    /// A packet that is no request reaches its machine.
+    fn deliver(&mut self, at: u64, packet: u64, clock: u64) -> Result<Reply, WorldFault>
+        ensures { Does (deliver_on self.old at clock (slice_get self.old.packets packet)) self.old result self.new }
+    {
+        let Some(found) = self.packets.get(packet as usize) else {
+            return Err(WorldFault::NoPacket);
+        };
+        if found.is_request() {
+            return Err(WorldFault::NoPacket);
+        }
+        let place = usize::from(found.machine());
+        if place >= self.machines.len() {
+            return Err(WorldFault::NoPacket);
+        }
+        if self.machines[place].is_back(clock) {
+            return Err(WorldFault::ClockBack);
+        }
+        let reply = self.machines[place].take_packet(clock, found);
+        self.time = at;
+        Ok(reply)
+    }
+
+    /// What an event makes, or why it is bad.
+    fn act(&mut self, event: &Event) -> Result<Reply, WorldFault>
+        ensures { Does (stepped self.old event.now) self.old result self.new }
+    {
+        let at = event.at;
+        if at < self.time || at > MAX_TIME {
+            return Err(WorldFault::TimeBack);
+        }
+        match &event.action {
+            Action::Send {
+                machine,
+                source,
+                clock,
+            } => self.send(at, *machine, *source, *clock),
+            Action::Answer { packet, span } => self.answer(at, *packet, *span),
+            Action::Forge {
+                machine,
+                source,
+                payload,
+            } => self.forge(at, *machine, *source, payload),
+            Action::Deliver { packet, clock } => self.deliver(at, *packet, *clock),
+            Action::Fuse { machine, clock } => self.fuse(at, *machine, *clock),
+            Action::Read {
+                machine,
+                worker,
+                clock,
+                publication,
+            } => self.read(at, *machine, *worker, *clock, *publication),
+        }
+    }
+
+    /// The world of these machines, before anything has happened. Refuses by 1207 `Machines` where there is no
+    /// machine, or more than [`MAX_MACHINES`], and by 1 `Memory` where memory was refused.
+    pub fn new(alloc: Global, configs: &[Config]) -> Result<World, WorldFault>
+        ensures stands { IfOk result (λ world. StandsFor configs.now [] world) }
+        ensures valid { IfOk result (λ _. AreConfigurations configs.now) }
+        ensures machines { IsErrOf result WorldFault.Machines ↔ ((length configs.now ≡ 0) ⊎ (8 < length configs.now)) }
+        ensures refused { IfErr result (λ e. (e ≡ WorldFault.Machines) ⊎ (e ≡ WorldFault.Memory)) }
+    {
+        if configs.is_empty() || configs.len() > MAX_MACHINES {
+            return Err(WorldFault::Machines);
+        }
+        let mut machines = Vec::with_capacity(alloc, configs.len())?;
+        for (number, config) in configs.iter().enumerate() {
+            machines.push(Machine::new(alloc, number as u8, *config))?;
+        }
+        Ok(World {
+            time: 0,
+            packets: Vec::new(alloc),
+            machines,
+        })
+    }
+
+    /// What an event makes, and the reply to it. Every event is taken: one that is bad is replied to with its
+    /// number, the first that applies of 1201 `TimeBack`, 1206 `UnknownNumber`, 1203 `NoPacket`, 1202 `ClockBack`
+    /// and 1204 `NoPublication`, and changes nothing. A reply with a number of a lower crate moves the true time
+    /// and the machine's clock alone. Refuses by 1 `Memory` where memory was refused; the world is then as before.
+    pub fn step(&mut self, event: &Event) -> Result<Reply, WorldFault>
+        // Of every run that the world stands for, this is the next reply, and the world stands for the longer run.
+        ensures reply { IfOk result (λ reply. (configs : List Configuration) (past : List Event) → StandsFor configs past self.old →
+            (reply ≡ reply_of configs past event.now) × StandsFor configs (event.now ∷ past) self.new) }
+        ensures memory { IfErr result (λ e. e ≡ WorldFault.Memory) }
+        ensures unchanged { OnErr result (self.new ≡ self.old) }
+    {
+        self.packets.reserve(1)?;
+        match self.act(event) {
+            Ok(reply) => Ok(reply),
+            Err(fault) => fault.as_reply(),
+        }
+    }
+}

@@ -1,0 +1,39 @@
+-- What is replied where the input could not be read whole.
+use Rattle.std.proofs.Common.{◌≡◌, ◌≢◌, ◌<◌, ◌+◌, ℕ, List, Option, None, Some, Result, Err, IfSome, length, replicate, inl, inr, refl, arith}
+use Rattle.std.proofs.lemmas.List.{length-replicate}
+use Rattle.std.proofs.lemmas.Bool.{lt-ltb}
+use Rattle.tt_stream.specs.Counts.{HasFailed}
+use Rattle.ttd_words.specs.declared.words.Asked.{Asked}
+use Rattle.ttd.specs.declared.faults.Fault.{Fault}
+use Rattle.ttd.specs.declared.faults.Fault.TheVariants.{BadInput, ReadFailed}
+use Rattle.ttd.specs.Command.{IsReplyRead, reply_of}
+use Rattle.ttd.specs.Input.{IsInputFault, most_input}
+use Rattle.ttd.specs.Run.{Input}
+
+-- an input that has more bytes than some number has some bytes that are more
+pub longer_input : (left : Option (List ℕ)) (most : ℕ) → IfSome left (λ all. most < length all)
+    → (bytes : List ℕ) × IfSome left (λ all. all ≡ bytes) × (most < length bytes)
+longer_input (Some all) most long = (all, refl, long)
+longer_input None most long = (replicate {A = ℕ} (most + 1) 0, tt, (let zero : ℕ = 0 in omega (arith, length-replicate (most + 1) zero)))
+
+-- what is replied where reading gave a fault
+pub fault_replied : {T : Type 0} (text_of : T → List ℕ) (asked : Asked) (old new : Input) (fault : Fault) (result : Result T Fault)
+    → result ≡ Err fault → IsInputFault fault
+    → (fault ≡ ReadFailed → HasFailed old.failed new.failed)
+    → (fault ≡ BadInput → IfSome old.left (λ all. most_input < length all))
+    → (fault ≢ ReadFailed → new.failed ≡ old.failed)
+    → IsReplyRead text_of (reply_of asked) old new result
+fault_replied text_of asked old new fault result is (inl failed) cause long sound = inr (inl (cc, cause failed))
+fault_replied text_of asked old new fault result is (inr (inl too_long)) cause long sound =
+    let more = longer_input old.left most_input (long too_long) in
+    let refused : result ≡ Err BadInput = cc in
+    inl (
+      more.0,
+      record {
+        whole = more.1;
+        end = inr more.2;
+        sound = sound (λ e. cc);
+      },
+      rw (refused, lt-ltb most_input (length more.0) more.2) refl,
+    )
+fault_replied text_of asked old new fault result is (inr (inr memory)) cause long sound = inr (inr cc)

@@ -1,0 +1,80 @@
+//! The command `age`: the answer to a poll, aged.
+
+ghost use Rattle.std.specs.Prelude.{◌≡◌, ◌≤◌, ◌⊎◌, ◌≢◌, Err, string_bytes};
+ghost use Rattle.hex.specs.Hex.{decode_of};
+ghost use Rattle.tt_poll.specs.Reading.{read_of};
+ghost use Rattle.ttd.specs.Age.{age_of, aged_hex, aged_line, aged_message, without_line_feed as without_line_feed_of};
+ghost use Rattle.ttd.specs.Command.{HasText, IsUnlessMemory};
+
+use crate::faults::Fault;
+use hex::FromHexError;
+use std::alloc::Global;
+use tt_poll::{Message, decode};
+use tt_source::{SourceFault, Statement};
+use tt_span::{Drift, Span};
+
+/// What the words of `age` give.
+#[derive(Clone, Copy, Debug, PartialEq, Eq)]
+pub(crate) struct Ageing {
+    /// What the clock may be wrong by.
+    pub(crate) drift: Drift,
+    /// The clock when the poll was sent, in nanoseconds.
+    pub(crate) sent: u64,
+    /// The clock when the answer came, in nanoseconds.
+    pub(crate) got: u64,
+    /// The clock now, in nanoseconds.
+    pub(crate) clock: u64,
+}
+
+/// A text without the line feed at its end, if there is one.
+fn without_line_feed(text: &[u8]) -> &[u8]
+    ensures { result.now ≡ without_line_feed_of text.now }
+{
+    if text.ends_with(b"\n") {
+        text.split_at(text.len() - 1).0
+    } else {
+        text
+    }
+}
+
+/// The aged span of a message. A request is refused by 405, and clock readings that are out of order by 402.
+fn aged(ageing: &Ageing, message: &Message) -> Result<Span, Fault>
+    ensures value { result ≡ aged_message ageing.now message.now }
+    ensures no_device { result ≢ Err Fault.ReadFailed }
+{
+    let Message::Answer(answer) = message else {
+        return Err(Fault::Source(SourceFault::NotMine));
+    };
+    let statement = Statement::new(answer.span(), ageing.sent, ageing.got).map_err(Fault::Source)?;
+    statement
+        .aged(ageing.drift, ageing.clock)
+        .map_err(Fault::Source)
+}
+
+/// The aged span of the message that the text writes in hex.
+fn aged_from_hex(alloc: Global, ageing: &Ageing, text: &[u8]) -> Result<Span, Fault>
+    ensures value { IsUnlessMemory (aged_hex ageing.now (decode_of text.now)) result }
+    ensures no_device { result ≢ Err Fault.ReadFailed }
+{
+    let bytes = match hex::decode(alloc, text) {
+        Ok(bytes) => bytes,
+        Err(FromHexError::OutOfMemory) => return Err(Fault::Memory),
+        Err(_) => return Err(Fault::BadHex),
+    };
+    let message = decode(bytes.as_slice()).map_err(Fault::Poll)?;
+    aged(ageing, &message)
+}
+
+/// What `age` answers to its input: one poll answer in hex, of either case, with one line feed allowed after it.
+///
+/// Refuses, in this order, with 1602 `BadHex` what is no hex; with the decoder's number what is no poll message; with 405
+/// a request; with 402 clock readings that are out of order or past the greatest time; and with 1 `Memory`.
+pub(crate) fn age_text(alloc: Global, ageing: &Ageing, input: &[u8]) -> Result<String, Fault>
+    ensures value { HasText string_bytes (age_of ageing.now input.now) result }
+    ensures no_device { result ≢ Err Fault.ReadFailed }
+{
+    let span = aged_from_hex(alloc, ageing, without_line_feed(input))?;
+    let low = span.lo();
+    let high = span.hi();
+    format!(in alloc; "aged {low} {high}\n").map_err(|_| Fault::Memory)
+}

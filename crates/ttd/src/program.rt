@@ -1,0 +1,147 @@
+//! The whole program, over any devices.
+
+ghost use Rattle.std.specs.Prelude.{◌≡◌, ◌≢◌, ◌≤◌, ◌⊎◌, ℕ, List, Ok, Err, IsErrOf, IsOk, string_bytes};
+ghost use Rattle.std.specs.Result.{result_map_both};
+ghost use Rattle.clap.specs.Walk.{texts};
+ghost use Rattle.tt_stream.specs.Counts.{HasFailed};
+ghost use Rattle.tt_stream.specs.Known.{ReadsOn};
+ghost use Rattle.tt_span.specs.Drift.{max_drift};
+ghost use Rattle.ttd_words.specs.Reading.{AreForHelp, AreMistaken, AreTaken, HasDriftInRange, asked_of};
+ghost use Rattle.ttd.specs.Answer.{answer_of};
+ghost use Rattle.ttd.specs.Command.{HasText, IsReplyRead, command_of, reply_of, reply_to, words_fault_of};
+ghost use Rattle.ttd.specs.Run.{Answers, Gives, input_at, output_at};
+
+use crate::age::{Ageing, age_text};
+use crate::ending::Status;
+use crate::faults::Fault;
+use crate::input::read_input;
+use crate::later::{check_text, fuse_text};
+use crate::output::give;
+use std::alloc::Global;
+use tt_span::Drift;
+use tt_stream::{ByteReader, ByteWriter};
+use ttd_words::{Asked, WordsFault, help_text, read_words};
+
+impl From<WordsFault> for Fault {
+    ghost from_gives = { λ words fault. fault ≡ words_fault_of words };
+
+    fn from(words: WordsFault) -> Fault {
+        match words {
+            WordsFault::BadWords => Fault::BadWords,
+            WordsFault::Memory => Fault::Memory,
+        }
+    }
+}
+
+/// A drift that the words gave, which is in range.
+fn drift_of(ppm: u64) -> Drift
+    requires { ppm ≤ max_drift }
+    ensures { result ≡ ppm }
+{
+    Drift::new(ppm as u32).unwrap()
+}
+
+/// What a command answers to its input.
+fn command_text(alloc: Global, asked: Asked, input: &[u8]) -> Result<String, Fault>
+    requires { HasDriftInRange asked }
+    ensures value { HasText string_bytes (command_of asked input.now) result }
+    ensures no_device { result ≢ Err Fault.ReadFailed }
+{
+    match asked {
+        Asked::Age {
+            drift,
+            sent,
+            got,
+            clock,
+        } => {
+            let ageing = Ageing {
+                drift: drift_of(drift),
+                sent,
+                got,
+                clock,
+            };
+            age_text(alloc, &ageing, input)
+        }
+        Asked::Fuse => fuse_text(alloc, input),
+        Asked::Check => check_text(alloc, input),
+        Asked::Help => Err(Fault::BadWords),
+    }
+}
+
+/// Reads the input, and answers what the command says of it.
+fn command_reply<R: ByteReader>(alloc: Global, asked: Asked, input: &mut R) -> Result<String, Fault>
+    requires { HasDriftInRange asked }
+    ensures value { IsReplyRead string_bytes (reply_of asked) (input_at (R.left input.old) (R.failed input.old) (R.asked input.old))
+        (input_at (R.left input.new) (R.failed input.new) (R.asked input.new)) result }
+    ensures failed { IsErrOf result Fault.ReadFailed → HasFailed (R.failed input.old) (R.failed input.new) }
+    ensures sound { (result ≢ Err Fault.ReadFailed) → R.failed input.new ≡ R.failed input.old }
+    ensures rest { ReadsOn (R.left input.old) (R.left input.new) }
+{
+    let bytes = read_input(alloc, input)?;
+    command_text(alloc, asked, bytes.as_slice())
+}
+
+/// What the program has to write: the text that the words ask for, or a refusal. The words are judged before the input.
+fn reply<R: ByteReader>(alloc: Global, words: &[&str], input: &mut R) -> Result<String, Fault>
+    ensures taken { AreTaken (texts words.now) → IsReplyRead string_bytes (reply_to (asked_of (texts words.now)))
+        (input_at (R.left input.old) (R.failed input.old) (R.asked input.old))
+        (input_at (R.left input.new) (R.failed input.new) (R.asked input.new)) result }
+    ensures mistaken { AreMistaken (texts words.now) → (input_at (R.left input.new) (R.failed input.new) (R.asked input.new)
+        ≡ input_at (R.left input.old) (R.failed input.old) (R.asked input.old))
+        × ((result ≡ Err Fault.BadWords) ⊎ (result ≡ Err Fault.Memory)) }
+    ensures helped { AreForHelp (texts words.now) → (input_at (R.left input.new) (R.failed input.new) (R.asked input.new)
+        ≡ input_at (R.left input.old) (R.failed input.old) (R.asked input.old))
+        × (IsOk result ⊎ (result ≡ Err Fault.Memory)) }
+    ensures failed { IsErrOf result Fault.ReadFailed → HasFailed (R.failed input.old) (R.failed input.new) }
+    ensures sound { (result ≢ Err Fault.ReadFailed) → R.failed input.new ≡ R.failed input.old }
+    ensures rest { ReadsOn (R.left input.old) (R.left input.new) }
+{
+    match read_words(alloc, words)? {
+        Asked::Help => Ok(help_text(alloc, words)?),
+        asked => command_reply(alloc, asked, input),
+    }
+}
+
+/// Runs the program with the words after its name: reads the input, writes one answer to the output, and says how the program ends.
+///
+/// `age --drift N --sent N --got N --clock N` (the drift in parts per million, 200 where it is left out, the others in nanoseconds)
+/// writes `aged LO HI` for the poll answer that the input gives in hex, and ends with [`Status::Fine`]. `--help` writes the help.
+///
+/// Each refusal is the one line `refused N`, with [`Status::Bad`], of the first number that applies: 1601 bad words, before any read; 1603
+/// more than 1,048,576 bytes of input; 1602 no hex, after which one line feed is allowed; 201 to 207 no poll message; 405 a request; 402 an
+/// answer that came before its poll was sent, a clock reading before that, or one past the greatest time.
+///
+/// [`Status::Device`] comes only where a device failed: the reader, which is told by `refused 1604`, or the writer (1605), which has then
+/// taken a front of the answer. With [`Status::Memory`] nothing was written. Nothing but the answer is ever written.
+pub fn main_with<R: ByteReader, W: ByteWriter>(
+    alloc: Global,
+    words: &[&str],
+    input: &mut R,
+    output: &mut W,
+) -> Status
+    ensures taken { AreTaken (texts words.now) → Answers (reply_to (asked_of (texts words.now)))
+        (input_at (R.left input.old) (R.failed input.old) (R.asked input.old))
+        (input_at (R.left input.new) (R.failed input.new) (R.asked input.new))
+        (output_at (W.taken output.old) (W.failed output.old))
+        (output_at (W.taken output.new) (W.failed output.new)) result }
+    ensures mistaken { AreMistaken (texts words.now) → (input_at (R.left input.new) (R.failed input.new) (R.asked input.new)
+        ≡ input_at (R.left input.old) (R.failed input.old) (R.asked input.old))
+        × Gives (answer_of (Err Fault.BadWords)) (output_at (W.taken output.old) (W.failed output.old))
+        (output_at (W.taken output.new) (W.failed output.new)) result }
+    ensures helped { AreForHelp (texts words.now) → (input_at (R.left input.new) (R.failed input.new) (R.asked input.new)
+        ≡ input_at (R.left input.old) (R.failed input.old) (R.asked input.old))
+        × ((text : List ℕ) × Gives (answer_of (Ok text)) (output_at (W.taken output.old) (W.failed output.old))
+        (output_at (W.taken output.new) (W.failed output.new)) result) }
+
+    // Whatever the words are.
+    ensures device { result ≡ Status.Device → HasFailed (R.failed input.old) (R.failed input.new)
+        ⊎ HasFailed (W.failed output.old) (W.failed output.new) }
+    ensures sound { (result ≡ Status.Fine) ⊎ (result ≡ Status.Bad) → (R.failed input.new ≡ R.failed input.old)
+        × (W.failed output.new ≡ W.failed output.old) }
+    ensures memory { result ≡ Status.Memory → output_at (W.taken output.new) (W.failed output.new)
+        ≡ output_at (W.taken output.old) (W.failed output.old) }
+    ensures rest { ReadsOn (R.left input.old) (R.left input.new) }
+{
+    let reply = reply(alloc, words, input);
+    give(alloc, output, reply)
+}

@@ -1,0 +1,181 @@
+use crate::ending::Status;
+use crate::input::{MOST_INPUT, MOST_READS};
+use crate::program::main_with;
+use std::alloc::Global;
+use std::test::Fail;
+use tt_stream::{MemoryReader, MemoryWriter};
+
+const AGE: [&str; 7] = [
+    "age",
+    "--sent",
+    "500",
+    "--got",
+    "900",
+    "--clock",
+    "30000000900",
+];
+
+// The answer of source 1 to machine 0 under nonce 1: the true time lies from 1000000000 to 1000001000.
+const ANSWER: &str = "54545031020001000000000000000001000000003b9aca00000000003b9acde8";
+
+// Runs the program over memory, and says whether this is how it ends and what it writes.
+fn writes(alloc: Global, words: &[&str], input: &[u8], status: Status, text: &str) -> bool {
+    let mut reader = MemoryReader::new(input, 7, None);
+    let mut writer = MemoryWriter::new(alloc, 5, None);
+    main_with(alloc, words, &mut reader, &mut writer) == status && writer.taken() == text.as_bytes()
+}
+
+fn refuses(alloc: Global, words: &[&str], input: &[u8], text: &str) -> bool {
+    writes(alloc, words, input, Status::Bad, text)
+}
+
+#[test]
+fn ages_an_answer(rt: HostRuntime) {
+    let aged = "aged 30994000000 31006001401\n";
+    assert!(rt; writes(rt.alloc(), &AGE, ANSWER.as_bytes(), Status::Fine, aged));
+    // A line feed after the hex, and digits of the other case.
+    let line = b"54545031020001000000000000000001000000003b9aca00000000003b9acde8\n";
+    assert!(rt; writes(rt.alloc(), &AGE, line, Status::Fine, aged));
+    let upper = b"54545031020001000000000000000001000000003B9ACA00000000003B9ACDE8";
+    assert!(rt; writes(rt.alloc(), &AGE, upper, Status::Fine, aged));
+}
+
+#[test]
+fn refuses_clocks_that_go_back(rt: HostRuntime) {
+    let words = ["age", "--sent", "500", "--got", "900", "--clock", "899"];
+    assert!(rt; refuses(rt.alloc(), &words, ANSWER.as_bytes(), "refused 402\n"));
+    let words = ["age", "--sent", "901", "--got", "900", "--clock", "900"];
+    assert!(rt; refuses(rt.alloc(), &words, ANSWER.as_bytes(), "refused 402\n"));
+    let words = [
+        "age",
+        "--sent",
+        "500",
+        "--got",
+        "900",
+        "--clock",
+        "4000000000000000001",
+    ];
+    assert!(rt; refuses(rt.alloc(), &words, ANSWER.as_bytes(), "refused 402\n"));
+}
+
+#[test]
+fn refuses_what_is_no_answer(rt: HostRuntime) {
+    let alloc = rt.alloc();
+    // Two digits fewer.
+    let short = b"54545031020001000000000000000001000000003b9aca00000000003b9acd";
+    assert!(rt; refuses(alloc, &AGE, short, "refused 201\n"));
+    // The ends exchanged.
+    let exchanged = b"54545031020001000000000000000001000000003b9acde8000000003b9aca00";
+    assert!(rt; refuses(alloc, &AGE, exchanged, "refused 207\n"));
+    // A request.
+    let request = b"54545031010001000000000000000001";
+    assert!(rt; refuses(alloc, &AGE, request, "refused 405\n"));
+}
+
+#[test]
+fn refuses_what_is_no_hex(rt: HostRuntime) {
+    let alloc = rt.alloc();
+    assert!(rt; refuses(alloc, &AGE, b"zz", "refused 1602\n"));
+    assert!(rt; refuses(alloc, &AGE, b"", "refused 201\n"));
+    assert!(rt; refuses(alloc, &AGE, b"\n", "refused 201\n"));
+    assert!(rt; refuses(alloc, &AGE, b"\n\n", "refused 1602\n"));
+    // Bad hex behind a good part that is too long for a message.
+    let behind = b"54545031020001000000000000000001000000003b9aca00000000003b9acde800zz";
+    assert!(rt; refuses(alloc, &AGE, behind, "refused 1602\n"));
+}
+
+#[test]
+fn refuses_bad_words_before_the_input(rt: HostRuntime) {
+    let alloc = rt.alloc();
+    let bad = "refused 1601\n";
+    assert!(rt; refuses(alloc, &[], b"zz", bad));
+    assert!(rt; refuses(alloc, &["aged"], b"zz", bad));
+    let words = [
+        "age", "--drift", "100001", "--sent", "1", "--got", "2", "--clock", "3",
+    ];
+    assert!(rt; refuses(alloc, &words, b"zz", bad));
+    let words = ["age", "--sent", "x", "--got", "2", "--clock", "3"];
+    assert!(rt; refuses(alloc, &words, b"zz", bad));
+    // A reader that would fail is not asked.
+    let mut reader = MemoryReader::new(b"zz", 7, Some(1));
+    let mut writer = MemoryWriter::new(alloc, 5, None);
+    assert_eq!(rt;
+        main_with(alloc, &[], &mut reader, &mut writer),
+        Status::Bad
+    );
+}
+
+#[test]
+fn refuses_an_input_that_is_too_long(rt: HostRuntime) -> Result<(), Fail> {
+    let alloc = rt.alloc();
+    let long = vec![in alloc; b'0'; MOST_INPUT + 1]?;
+    let mut reader = MemoryReader::new(long.as_slice(), 4096, None);
+    let mut writer = MemoryWriter::new(alloc, 5, None);
+    assert_eq!(rt;
+        main_with(alloc, &AGE, &mut reader, &mut writer),
+        Status::Bad
+    );
+    assert_eq!(rt; writer.taken(), b"refused 1603\n".as_slice());
+    // One byte fewer is read whole, and is no message.
+    let mut reader = MemoryReader::new(&long.as_slice()[1..], 4096, None);
+    let mut writer = MemoryWriter::new(alloc, 5, None);
+    assert_eq!(rt;
+        main_with(alloc, &AGE, &mut reader, &mut writer),
+        Status::Bad
+    );
+    assert_eq!(rt; writer.taken(), b"refused 201\n".as_slice());
+    assert_eq!(rt; (MOST_INPUT, MOST_READS), (1_048_576, 2_097_152));
+    Ok(())
+}
+
+#[test]
+fn gives_help(rt: HostRuntime) {
+    let alloc = rt.alloc();
+    let mut reader = MemoryReader::new(b"", 7, Some(1));
+    let mut writer = MemoryWriter::new(alloc, 4096, None);
+    assert_eq!(rt;
+        main_with(alloc, &["--help"], &mut reader, &mut writer),
+        Status::Fine
+    );
+    assert!(rt; writer.taken().len() > 20);
+}
+
+#[test]
+fn a_reader_fails_in_mid_stream(rt: HostRuntime) {
+    let alloc = rt.alloc();
+    let mut reader = MemoryReader::new(ANSWER.as_bytes(), 7, Some(3));
+    let mut writer = MemoryWriter::new(alloc, 5, None);
+    assert_eq!(rt;
+        main_with(alloc, &AGE, &mut reader, &mut writer),
+        Status::Device
+    );
+    assert_eq!(rt; writer.taken(), b"refused 1604\n".as_slice());
+}
+
+#[test]
+fn a_writer_fails(rt: HostRuntime) {
+    let alloc = rt.alloc();
+    // One that takes nothing, and one that fails in mid-stream.
+    let mut reader = MemoryReader::new(ANSWER.as_bytes(), 7, None);
+    let mut writer = MemoryWriter::new(alloc, 0, None);
+    assert_eq!(rt;
+        main_with(alloc, &AGE, &mut reader, &mut writer),
+        Status::Device
+    );
+    assert_eq!(rt; writer.taken().len(), 0);
+    let mut reader = MemoryReader::new(ANSWER.as_bytes(), 7, None);
+    let mut writer = MemoryWriter::new(alloc, 5, Some(3));
+    assert_eq!(rt;
+        main_with(alloc, &AGE, &mut reader, &mut writer),
+        Status::Device
+    );
+    assert_eq!(rt; writer.taken(), b"aged 30994".as_slice());
+}
+
+#[test]
+fn numbers_the_endings(rt: HostRuntime) {
+    assert_eq!(rt; Status::Fine.code(), 0);
+    assert_eq!(rt; Status::Memory.code(), 1);
+    assert_eq!(rt; Status::Bad.code(), 2);
+    assert_eq!(rt; Status::Device.code(), 4);
+}

@@ -1,0 +1,113 @@
+-- What a parse of the words gives, in the words of the command line's own definitions.
+use Rattle.std.proofs.Common.{◌≡◌, ◌∙◌, Bool, true, not, refl, sym, ap, subst, inl, inr, List, [], ◌∷◌, Result, Ok, IsOk}
+use Rattle.std.specs.List.{list_all}
+use Rattle.std.proofs.lemmas.Bool.{false≢true}
+use Rattle.clap.proofs.OnLiterals.{clap_on_literals}
+use Rattle.clap.proofs.WalkLemmas.{both}
+use Rattle.clap.specs.Walk.{Text}
+use Rattle.clap.specs.Simple.{App, HasMatchesOf, is_simple, subcommand_of, subcommand_rows_of}
+use Rattle.clap.specs.Faults.{fault_of, is_simple_and_free}
+use Rattle.clap.specs.Kinds.{HasKind, IsAmong, Kinds}
+use Rattle.clap.specs.Values.{kind_of}
+use Rattle.clap.specs.declared.error.Error.{Error}
+use Rattle.clap.specs.declared.error.kind.ErrorKind.{ErrorKind}
+use Rattle.clap.specs.declared.error.kind.ErrorKind.TheVariants.{DisplayHelp, OutOfMemory}
+use Rattle.clap.specs.declared.parser.matches.ArgMatches.{ArgMatches}
+use Rattle.ttd_words.specs.CommandLine.{faults_of, named_by, ttd_app}
+use Rattle.ttd_words.specs.Reading.{AreForHelp, AreMistaken, AreTaken, HasDriftInRange, all_and_some, asked_by, asked_of, command_named, is_help}
+use Rattle.ttd_words.specs.declared.words.Asked.{Asked}
+use Rattle.ttd_words.specs.declared.words.WordsFault.{WordsFault}
+use Rattle.ttd_words.proofs.TakenWords.{AsksFor, taken_asks}
+
+ttd_is_simple : is_simple ttd_app ≡ true
+unfolding ttd_app clap_on_literals
+ttd_is_simple = refl
+
+ttd_is_free : is_simple_and_free ttd_app ≡ true
+unfolding ttd_app clap_on_literals
+ttd_is_free = refl
+
+-- a parse that gives matches has met the command that the words name
+pub parsed_named : (a : App) (words : List Text) (m : ArgMatches) → a ≡ ttd_app → HasMatchesOf a words m → subcommand_rows_of m ≡ named_by words
+unfolding named_by
+parsed_named a words m is h = (h (ap is_simple is ∙ ttd_is_simple)).1 ∙ ap (λ (x : App). subcommand_of x words) is
+
+-- a parse fails by what clap finds wrong with the words
+pub parsed_fails : (a : App) (words : List Text) → a ≡ ttd_app → (P : Kinds → Type 0) → (is_simple_and_free a ≡ true → P (fault_of a words)) → P (faults_of words)
+unfolding faults_of
+parsed_fails a words is P h = subst (λ (x : App). P (fault_of x words)) is (h (ap is_simple_and_free is ∙ ttd_is_free))
+
+-- words that clap takes ask for what the command that they name does
+pub asked_taken : (words : List Text) → AreTaken words → asked_of words ≡ command_named (named_by words)
+asked_taken words e = ap (λ (k : Kinds). asked_by k (named_by words)) e
+
+ok_is : {r : Result Asked WordsFault} → AsksFor r → IsOk r
+ok_is asks = subst IsOk (sym asks.is) refl
+
+pub taken_is_ok : (words : List Text) → AreTaken words → IsOk (command_named (named_by words))
+taken_is_ok words e = ok_is (taken_asks words e)
+
+pub asked_is_ok : (words : List Text) → AreTaken words → IsOk (asked_of words)
+asked_is_ok words e = subst IsOk (sym (asked_taken words e)) (taken_is_ok words e)
+
+-- what is asked for in words that clap takes has a drift in range
+pub taken_in_range : (words : List Text) (asked : Asked) → AreTaken words → command_named (named_by words) ≡ Ok asked → HasDriftInRange asked
+taken_in_range words asked e is =
+    let asks = taken_asks words e in
+    let same : Ok asks.asked ≡ Ok asked = sym asks.is ∙ is in
+    let one : asks.asked ≡ asked = cc in
+    subst HasDriftInRange one asks.in_range
+
+-- ---- kinds of error
+
+pub not_mistaken : (words : List Text) → AreTaken words → AreMistaken words → ⊥
+not_mistaken words taken e = false≢true (sym (ap (all_and_some (λ k. not (is_help k))) taken) ∙ e)
+
+pub not_for_help : (words : List Text) → AreTaken words → AreForHelp words → ⊥
+not_for_help words taken e = false≢true (sym (ap (all_and_some is_help) taken) ∙ e)
+
+-- a kind other than want of memory comes only where clap finds something wrong
+pub not_taken : (kinds : Kinds) (e : Error) → HasKind kinds e → (kind_of e ≡ OutOfMemory → ⊥) → kinds ≡ [] → ⊥
+not_taken kinds e h memory none = elim h [
+  | inl m ↦ memory m
+  | inr among ↦
+      let no_kind : IsAmong (kind_of e) [] = rw none at among in
+      absurd no_kind
+]
+
+each_among : (test : ErrorKind → Bool) (kinds : Kinds) (k : ErrorKind) → list_all test kinds ≡ true → IsAmong k kinds → test k ≡ true
+each_among test [] k e among = absurd among
+each_among test (x ∷ xs) k e among =
+    let parts = both (test x) (list_all test xs) e in
+    elim among [ inl here ↦ ap test here ∙ parts.0 | inr later ↦ each_among test xs k parts.1 later ]
+
+all_of_some : (test : ErrorKind → Bool) (kinds : Kinds) → all_and_some test kinds ≡ true → list_all test kinds ≡ true
+all_of_some test [] e = refl
+all_of_some test (x ∷ xs) e = e
+
+-- each kind that is among those of which all pass passes, if it is not want of memory
+pub passes_among : (test : ErrorKind → Bool) (kinds : Kinds) (e : Error) → all_and_some test kinds ≡ true → HasKind kinds e → (kind_of e ≡ OutOfMemory → ⊥)
+    → test (kind_of e) ≡ true
+passes_among test kinds e all h memory = elim h [
+  | inl m ↦ absurd (memory m)
+  | inr among ↦ each_among test kinds (kind_of e) (all_of_some test kinds all) among
+]
+
+pub is_help-true : (k : ErrorKind) → is_help k ≡ true → k ≡ DisplayHelp
+is_help-true DisplayHelp e = refl
+is_help-true _ e = absurd (false≢true e)
+
+pub help_no_memory : (e : Error) → kind_of e ≡ DisplayHelp → kind_of e ≡ OutOfMemory → ⊥
+help_no_memory e help memory =
+    let bad : DisplayHelp ≡ OutOfMemory = sym help ∙ memory in
+    cc
+
+-- help is no answer to a mistake
+pub help_not_mistaken : (words : List Text) (e : Error) → AreMistaken words → HasKind (faults_of words) e → kind_of e ≡ DisplayHelp → ⊥
+help_not_mistaken words e mistaken h help =
+    let other = passes_among (λ k. not (is_help k)) (faults_of words) e mistaken h (help_no_memory e help) in
+    false≢true (sym (ap (λ k. not (is_help k)) help) ∙ other)
+
+-- only help answers a call for help
+pub other_not_help : (words : List Text) (e : Error) → AreForHelp words → HasKind (faults_of words) e → (kind_of e ≡ OutOfMemory → ⊥) → (kind_of e ≡ DisplayHelp → ⊥) → ⊥
+other_not_help words e asks h memory other = other (is_help-true (kind_of e) (passes_among is_help (faults_of words) e asks h memory))

@@ -1,0 +1,88 @@
+-- What words ask for.
+use Rattle.std.specs.Prelude.{◌≡◌, ◌⊎◌, ◌≤◌, ℕ, Bool, true, false, List, [], ◌∷◌, Option, Some, None, Result, Ok, Err, if◌then◌else◌, codes, option_and_then, not}
+use Rattle.std.specs.List.{list_all}
+use Rattle.std.specs.Str.{bytes_eq}
+use Rattle.std.specs.Str.Parse.{digits_value, without_leading_plus}
+use Rattle.clap.specs.Walk.{Row, Text, one_of}
+use Rattle.clap.specs.ValueTests.{is_unsigned_in}
+use Rattle.clap.specs.Kinds.{Kinds}
+use Rattle.clap.specs.declared.error.kind.ErrorKind.{ErrorKind}
+use Rattle.clap.specs.declared.error.kind.ErrorKind.TheVariants.{DisplayHelp}
+use Rattle.ttd_words.specs.CommandLine.{faults_of, max_drift, max_number, named_by}
+use Rattle.ttd_words.specs.declared.words.Asked.{Asked}
+use Rattle.ttd_words.specs.declared.words.Asked.TheVariants.{Age, Fuse, Check, Help}
+use Rattle.ttd_words.specs.declared.words.WordsFault.{WordsFault}
+use Rattle.ttd_words.specs.declared.words.WordsFault.TheVariants.{BadWords, Memory}
+
+-- The number that a text writes in decimal digits, after one plus or none, where it is a number of 64 bits.
+abbrev pub number_in : Text → Option ℕ
+number_in text = if is_unsigned_in 0 max_number text then Some (digits_value 10 (without_leading_plus text)) else None
+
+-- The number that was given for an option, or else its default.
+abbrev pub number_at : Text → List Row → Option ℕ
+number_at id rows = option_and_then number_in (one_of id rows)
+
+-- What `age` asks for by its drift and the three clock readings.
+abbrev pub age_by : Option ℕ → Option ℕ → Option ℕ → Option ℕ → Result Asked WordsFault
+age_by (Some drift) (Some sent) (Some got) (Some clock) = Ok (Age drift sent got clock)
+age_by _ _ _ _ = Err BadWords
+
+-- What `age` asks for by what was found for its options.
+abbrev pub age_of : List Row → Result Asked WordsFault
+age_of rows = age_by (number_at (codes "drift") rows) (number_at (codes "sent") rows)
+    (number_at (codes "got") rows) (number_at (codes "clock") rows)
+
+-- What a command asks for, by its name and its options.
+abbrev pub command_of : Text → List Row → Result Asked WordsFault
+command_of name rows = if bytes_eq name (codes "age") then age_of rows
+    else (if bytes_eq name (codes "fuse") then Ok Fuse
+    else (if bytes_eq name (codes "check") then Ok Check else Err BadWords))
+
+-- What the command asks for that is named, and bad words where none is.
+abbrev pub command_named : Option (Text × List Row) → Result Asked WordsFault
+command_named None = Err BadWords
+command_named (Some named) = command_of named.0 named.1
+
+-- An answer of clap that shows the help, and is no mistake in the words.
+abbrev pub is_help : ErrorKind → Bool
+is_help DisplayHelp = true
+is_help _ = false
+
+-- What words ask for, by what clap finds wrong with them and the command that they name.
+abbrev pub asked_by : Kinds → Option (Text × List Row) → Result Asked WordsFault
+asked_by [] named = command_named named
+asked_by (kind ∷ kinds) named = if is_help kind then Ok Help else Err BadWords
+
+-- What the words ask for, or that they are bad.
+abbrev pub asked_of : List Text → Result Asked WordsFault
+asked_of words = asked_by (faults_of words) (named_by words)
+
+-- clap takes the words.
+abbrev pub AreTaken : List Text → Type 0
+AreTaken words = faults_of words ≡ []
+
+-- Each of some kinds, of which there is one at least, passes the test.
+abbrev pub all_and_some : (ErrorKind → Bool) → Kinds → Bool
+all_and_some test [] = false
+all_and_some test (kind ∷ kinds) = list_all test (kind ∷ kinds)
+
+-- The words are a mistake, whichever of its answers clap gives.
+abbrev pub AreMistaken : List Text → Type 0
+AreMistaken words = all_and_some (λ kind. not (is_help kind)) (faults_of words) ≡ true
+
+-- The words ask for help, whichever of its answers clap gives.
+abbrev pub AreForHelp : List Text → Type 0
+AreForHelp words = all_and_some is_help (faults_of words) ≡ true
+
+-- The answer is this one, or memory ran out.
+abbrev pub IsUnlessMemory : Result Asked WordsFault → Result Asked WordsFault → Type 0
+IsUnlessMemory asked result = (result ≡ asked) ⊎ (result ≡ Err Memory)
+
+-- The words are refused so, or memory ran out.
+abbrev pub IsErrUnlessMemory : {T : Type 0} → WordsFault → Result T WordsFault → Type 0
+IsErrUnlessMemory fault result = (result ≡ Err fault) ⊎ (result ≡ Err Memory)
+
+-- The drift of what is asked for is at most the greatest drift.
+abbrev pub HasDriftInRange : Asked → Type 0
+HasDriftInRange (Age drift sent got clock) = drift ≤ max_drift
+HasDriftInRange _ = Unit {0}
