@@ -4,7 +4,7 @@ use Rattle.std.proofs.lemmas.Bool.{or_parts, ltb-false, eqb-true, eq-eqb}
 use Rattle.tt_span.specs.Time.{max_time}
 use Rattle.tt_span.specs.Drift.{Moment}
 use Rattle.tt_world.specs.declared.events.Event.{Event}
-use Rattle.tt_world.specs.Config.{Configuration}
+use Rattle.tt_daemon.specs.Config.{Configuration}
 use Rattle.tt_world.specs.Past.{packets_of, ClockReading, clock_reading, clock_after, clock_of, moment_at, moments_of}
 use Rattle.tt_world.specs.Bad.{goes_back}
 use Rattle.tt_world.proofs.Places.{IsIn, in_back}

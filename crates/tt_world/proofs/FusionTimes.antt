@@ -6,9 +6,10 @@ use Rattle.tt_span.specs.Interval.{Holds}
 use Rattle.tt_span.specs.Drift.{Moment, KeepsDrift}
 use Rattle.tt_world.specs.declared.events.Event.{Event}
 use Rattle.tt_world.specs.declared.events.Action.{Action}
-use Rattle.tt_world.specs.declared.events.Action.TheVariants.{Send, Answer, Forge, Deliver, Fuse, Read}
+use Rattle.tt_world.specs.declared.events.Action.TheVariants.{Send, Answer, Forge, Deliver, Fuse, Read, Arrive, Stamp, Queue, Release}
 use Rattle.tt_world.specs.declared.publications.Publication.{Publication}
-use Rattle.tt_world.specs.Config.{Configuration, IsConfiguration, config_at}
+use Rattle.tt_daemon.specs.Config.{Configuration, IsConfiguration}
+use Rattle.tt_world.specs.Config.{config_at}
 use Rattle.tt_world.specs.Past.{packets_of, clock_reading, time_of, clock_of, moment_at, moments_of}
 use Rattle.tt_world.specs.Publications.{fusion_of, one_if_made, fuses_at, published_at, publications_of}
 use Rattle.tt_world.specs.Assumptions.{false_count, HasFewFalse, FewLie}
@@ -61,6 +62,10 @@ fusing_of configs past m (Fuse machine c) clock h =
       few = subst (λ (k : ℕ). false_count (config_at configs machine) past machine ≤ (config_at configs machine).faulty → false_count (config_at configs k) past k ≤ (config_at configs k).faulty) same (λ few. few);
     }
 fusing_of configs past m (Read machine worker c publication) clock h = absurd cc
+fusing_of configs past m (Arrive machine worker id floor) clock h = absurd cc
+fusing_of configs past m (Stamp machine worker) clock h = absurd cc
+fusing_of configs past m (Queue machine worker) clock h = absurd cc
+fusing_of configs past m (Release machine worker) clock h = absurd cc
 
 -- the premises of a run up to its last event, for machine m
 record IsKept (configs : List Configuration) (past : List Event) (m : ℕ) : Type 0 where

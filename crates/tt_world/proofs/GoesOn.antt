@@ -1,16 +1,16 @@
 -- From what one event makes of what is kept, to the runs that it stands for.
 use Rattle.std.proofs.Common.{◌≡◌, ◌-◌, ◌^◌, ◌<◌, List, ◌∷◌, length, ap, sym, subst, ◌∙◌, refl, ℕ}
-use Rattle.std.specs.Prelude.{Result, Ok, Err, IfOk, IfErr, OnErr}
+use Rattle.std.specs.Prelude.{Result, Ok, IfOk, IfErr, OnErr}
 use Rattle.tt_world.specs.declared.events.Event.{Event}
 use Rattle.tt_world.specs.declared.events.Reply.{Reply}
 use Rattle.tt_world.specs.declared.events.Reply.TheVariants.{Refused}
 use Rattle.tt_world.specs.declared.faults.WorldFault.{WorldFault}
 use Rattle.tt_world.specs.declared.faults.WorldFault.TheVariants.{TimeBack, ClockBack, NoPacket, NoPublication, NothingThere, UnknownNumber, Machines, Memory}
-use Rattle.tt_world.specs.Config.{Configuration}
+use Rattle.tt_daemon.specs.Config.{Configuration}
 use Rattle.tt_world.specs.Past.{packets_of}
 use Rattle.tt_world.specs.Bad.{accepted}
 use Rattle.tt_world.specs.Reply.{reply_of}
-use Rattle.tt_world.specs.State.{WorldState, state_of, StandsFor}
+use Rattle.tt_world.specs.State.{WorldState, StandsFor}
 use Rattle.tt_world.specs.Step.{Outcome, stepped, refused, IsRefusal, refusal_reply}
 use Rattle.tt_world.proofs.Simulation.{simulation}
 

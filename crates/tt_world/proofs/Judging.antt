@@ -5,9 +5,9 @@ use Rattle.std.specs.List.{AllByRecursion}
 use Rattle.std.proofs.lemmas.Bool.{or_parts, ltb-false}
 use Rattle.tt_span.specs.Time.{max_time}
 use Rattle.tt_world.specs.declared.events.Event.{Event}
-use Rattle.tt_world.specs.Config.{Configuration}
+use Rattle.tt_daemon.specs.Config.{Configuration}
 use Rattle.tt_world.specs.Past.{time_of, packets_of, clock_reading, clock_of}
-use Rattle.tt_world.specs.Bad.{names_unknown, lacks_packet, goes_back, lacks_publication, breaks_time, first_bad, accepted}
+use Rattle.tt_world.specs.Bad.{names_unknown, lacks_packet, goes_back, lacks_publication, lacks_its_thing, breaks_time, first_bad, accepted}
 
 -- what is known of an event that is not bad after what has happened
 pub record IsGood (configs : List Configuration) (past : List Event) (event : Event) : Type 0 where
@@ -17,6 +17,7 @@ pub record IsGood (configs : List Configuration) (past : List Event) (event : Ev
   pub packet_there : lacks_packet (packets_of past) event.action ≡ false
   pub clock_on : goes_back (clock_of past) (clock_reading (packets_of past) event.action) ≡ false
   pub publication_there : lacks_publication configs past event.action ≡ false
+  pub thing_there : lacks_its_thing configs past event.action ≡ false
 
 -- a reason that does not apply, and the reasons after it
 passed : (b : Bool) (number : ℕ) (rest : Option ℕ) → cond b (Some number) rest ≡ None → (b ≡ false) × (rest ≡ None)
@@ -30,6 +31,7 @@ good_of configs past event h =
     let packet = passed (lacks_packet (packets_of past) event.action) 1203 _ named.1 in
     let clock = passed (goes_back (clock_of past) (clock_reading (packets_of past) event.action)) 1202 _ packet.1 in
     let publication = passed (lacks_publication configs past event.action) 1204 _ clock.1 in
+    let thing = passed (lacks_its_thing configs past event.action) 1205 _ publication.1 in
     let times = or_parts _ _ time.0 in
     record {
       not_before = ltb-false event.at (time_of past) times.0;
@@ -38,6 +40,7 @@ good_of configs past event h =
       packet_there = packet.0;
       clock_on = clock.0;
       publication_there = publication.0;
+      thing_there = thing.0;
     }
 
 -- each of the events was not bad after those before it

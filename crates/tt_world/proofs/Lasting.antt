@@ -12,10 +12,10 @@ use Rattle.tt_poll.specs.Reading.{read_of}
 use Rattle.tt_source.specs.Table.{statement_of_message}
 use Rattle.tt_world.specs.declared.events.Event.{Event}
 use Rattle.tt_world.specs.declared.events.Action.{Action}
-use Rattle.tt_world.specs.declared.events.Action.TheVariants.{Send, Answer, Forge, Deliver, Fuse, Read}
+use Rattle.tt_world.specs.declared.events.Action.TheVariants.{Send, Answer, Forge, Deliver, Fuse, Read, Arrive, Stamp, Queue, Release}
 use Rattle.tt_world.specs.declared.packets.Packet.{Packet}
 use Rattle.tt_world.specs.declared.packets.Packet.TheVariants.{Asked, Answered, Forged}
-use Rattle.tt_world.specs.Config.{Configuration}
+use Rattle.tt_daemon.specs.Config.{Configuration}
 use Rattle.tt_world.specs.Packet.{machine_of_packet, source_of_packet, bytes_of, answer_to}
 use Rattle.tt_world.specs.Past.{is_send_of, sends_of, put_by, packets_of, clock_reading, clock_after, clock_of}
 use Rattle.tt_world.specs.Sources.{outstanding}
@@ -40,6 +40,10 @@ sends_more past m (Forge machine source payload) h = no_fewer (sends_of past m) 
 sends_more past m (Deliver packet clock) h = no_fewer (sends_of past m) (packets_of past) _ h
 sends_more past m (Fuse machine clock) h = no_fewer (sends_of past m) (packets_of past) _ h
 sends_more past m (Read machine worker clock publication) h = no_fewer (sends_of past m) (packets_of past) _ h
+sends_more past m (Arrive machine worker id floor) h = no_fewer (sends_of past m) (packets_of past) _ h
+sends_more past m (Stamp machine worker) h = no_fewer (sends_of past m) (packets_of past) _ h
+sends_more past m (Queue machine worker) h = no_fewer (sends_of past m) (packets_of past) _ h
+sends_more past m (Release machine worker) h = no_fewer (sends_of past m) (packets_of past) _ h
 
 pub sends_of-le-packets : (past : List Event) (m : ℕ) → sends_of past m ≤ length (packets_of past)
 sends_of-le-packets [] m = omega arith
@@ -78,6 +82,10 @@ polled_more past m at (Fuse machine clock) fresh h =
     below_reading (λ b. false) (eqb machine m) clock (polled_clock_of past m) (clock_of past m) refl (not_below (clock_of past) machine clock m fresh) h
 polled_more past m at (Read machine worker clock publication) fresh h =
     below_reading (λ b. false) (eqb machine m) clock (polled_clock_of past m) (clock_of past m) refl (not_below (clock_of past) machine clock m fresh) h
+polled_more past m at (Arrive machine worker id floor) fresh h = h
+polled_more past m at (Stamp machine worker) fresh h = h
+polled_more past m at (Queue machine worker) fresh h = h
+polled_more past m at (Release machine worker) fresh h = h
 
 -- ---- packets go to machines that are there, from sources that they ask
 
@@ -106,6 +114,10 @@ module _ (configs : List Configuration) where
   known_put sends packets (Deliver packet clock) named all = All-nil (HasItsSource configs)
   known_put sends packets (Fuse machine clock) named all = All-nil (HasItsSource configs)
   known_put sends packets (Read machine worker clock publication) named all = All-nil (HasItsSource configs)
+  known_put sends packets (Arrive machine worker id floor) named all = All-nil (HasItsSource configs)
+  known_put sends packets (Stamp machine worker) named all = All-nil (HasItsSource configs)
+  known_put sends packets (Queue machine worker) named all = All-nil (HasItsSource configs)
+  known_put sends packets (Release machine worker) named all = All-nil (HasItsSource configs)
 
   -- ---- both, after every run
 
@@ -115,20 +127,20 @@ module _ (configs : List Configuration) where
     pub known : All (HasItsSource configs) (packets_of past)
 
   -- the number of the first test that an event fails
-  abbrev first_failed : Bool → Bool → Bool → Bool → Bool → Option ℕ
-  first_failed t u v w x = cond t (Some 1201) (cond u (Some 1206) (cond v (Some 1203) (cond w (Some 1202) (cond x (Some 1204) None))))
+  abbrev first_failed : Bool → Bool → Bool → Bool → Bool → Bool → Option ℕ
+  first_failed t u v w x y = cond t (Some 1201) (cond u (Some 1206) (cond v (Some 1203) (cond w (Some 1202) (cond x (Some 1204) (cond y (Some 1205) None)))))
 
   -- an event that passes every test passes these two
-  tests_passed : (t u v w x : Bool) → first_failed t u v w x ≡ None → (u ≡ false) × (w ≡ false)
-  tests_passed true u v w x h = absurd cc
-  tests_passed false true v w x h = absurd cc
-  tests_passed false false true w x h = absurd cc
-  tests_passed false false false true x h = absurd cc
-  tests_passed false false false false x h = (refl, refl)
+  tests_passed : (t u v w x y : Bool) → first_failed t u v w x y ≡ None → (u ≡ false) × (w ≡ false)
+  tests_passed true u v w x y h = absurd cc
+  tests_passed false true v w x y h = absurd cc
+  tests_passed false false true w x y h = absurd cc
+  tests_passed false false false true x y h = absurd cc
+  tests_passed false false false false x y h = (refl, refl)
 
   lasts_more : (past : List Event) (event : Event) → first_bad configs past event ≡ None → Lasts past → Lasts (event ∷ past)
   lasts_more past event good before =
-      let passed = tests_passed _ _ _ _ _ good in
+      let passed = tests_passed _ _ _ _ _ _ good in
       record {
         rises = λ m. polled_more past m event.at event.action passed.1 (before.rises m);
         known = All-append (HasItsSource configs) (packets_of past) (put_by (sends_of past) (packets_of past) event.action) before.known

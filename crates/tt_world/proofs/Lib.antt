@@ -1,7 +1,7 @@
-pub mod Spans
 pub mod Fresh
 pub mod Fused
 pub mod Turns
+pub mod Passing
 pub mod Ranges
 pub mod Waiting
 pub mod Kept
@@ -9,6 +9,10 @@ pub mod Polling
 pub mod Taking
 pub mod Publishing
 pub mod Seeing
+pub mod Asking
+pub mod Greatest
+pub mod Stamping
+pub mod Queueing
 pub mod Lasting
 pub mod Stepping
 pub mod Simulation
@@ -24,5 +28,10 @@ pub mod Fusing
 pub mod FusionTimes
 pub mod Promises
 pub mod Running
+pub mod Sound
+pub mod Sight
+pub mod Placing
+pub mod Committing
+pub mod Committed
 pub mod GoesOn
 pub mod OnRun

@@ -3,7 +3,7 @@ use Rattle.std.proofs.Common.{◌≡◌, ℕ, ◌≤◌, List, ◌++◌, length,
 use Rattle.std.proofs.lemmas.List.{nil_from_length}
 use Rattle.tt_world.specs.declared.events.Event.{Event}
 use Rattle.tt_world.specs.declared.events.Reply.{Reply}
-use Rattle.tt_world.specs.Config.{Configuration}
+use Rattle.tt_daemon.specs.Config.{Configuration}
 use Rattle.tt_world.specs.Reply.{replies_from}
 
 -- where no event is left, all replies have been given

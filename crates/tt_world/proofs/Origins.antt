@@ -7,10 +7,10 @@ use Rattle.std.proofs.lemmas.Option.{slice_get_within}
 use Rattle.tt_span.specs.Interval.{Interval, Holds, IsInterval}
 use Rattle.tt_world.specs.declared.events.Event.{Event}
 use Rattle.tt_world.specs.declared.events.Action.{Action}
-use Rattle.tt_world.specs.declared.events.Action.TheVariants.{Send, Answer, Forge, Deliver, Fuse, Read}
+use Rattle.tt_world.specs.declared.events.Action.TheVariants.{Send, Answer, Forge, Deliver, Fuse, Read, Arrive, Stamp, Queue, Release}
 use Rattle.tt_world.specs.declared.packets.Packet.{Packet}
 use Rattle.tt_world.specs.declared.packets.Packet.TheVariants.{Asked, Answered, Forged}
-use Rattle.tt_world.specs.Config.{Configuration}
+use Rattle.tt_daemon.specs.Config.{Configuration}
 use Rattle.tt_world.specs.Packet.{answer_to}
 use Rattle.tt_world.specs.Past.{time_of, is_send_of, sends_of, put_by, packets_of}
 use Rattle.tt_world.specs.Assumptions.{origin_of, is_lie}
@@ -48,6 +48,10 @@ new_nonce sends packets m (Forge machine source payload) k packet h e = subst (�
 new_nonce sends packets m (Deliver p clock) k packet h e = absurd cc
 new_nonce sends packets m (Fuse machine clock) k packet h e = absurd cc
 new_nonce sends packets m (Read machine worker clock publication) k packet h e = absurd cc
+new_nonce sends packets m (Arrive machine worker id floor) k packet h e = absurd cc
+new_nonce sends packets m (Stamp machine worker) k packet h e = absurd cc
+new_nonce sends packets m (Queue machine worker) k packet h e = absurd cc
+new_nonce sends packets m (Release machine worker) k packet h e = absurd cc
 
 -- a packet that an event put, by its place among those that the event put
 pub put_place : (past : List Event) (event : Event) (p : ℕ) (packet : Packet) → length (packets_of past) ≤ p → slice_get (packets_of (event ∷ past)) p ≡ Some packet →
@@ -87,6 +91,10 @@ honest_put sends packets at (Forge machine source payload) k packet valid e h = 
 honest_put sends packets at (Deliver p clock) k packet valid e h = absurd cc
 honest_put sends packets at (Fuse machine clock) k packet valid e h = absurd cc
 honest_put sends packets at (Read machine worker clock publication) k packet valid e h = absurd cc
+honest_put sends packets at (Arrive machine worker id floor) k packet valid e h = absurd cc
+honest_put sends packets at (Stamp machine worker) k packet valid e h = absurd cc
+honest_put sends packets at (Queue machine worker) k packet valid e h = absurd cc
+honest_put sends packets at (Release machine worker) k packet valid e h = absurd cc
 
 -- the event that put packet p, and what the packet says where that was no lie
 pub record HasOrigin (past : List Event) (p : ℕ) (packet : Packet) : Type 0 where

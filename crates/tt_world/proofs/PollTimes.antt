@@ -8,9 +8,9 @@ use Rattle.tt_span.specs.Drift.{Moment}
 use Rattle.tt_source.specs.Table.{Sending}
 use Rattle.tt_world.specs.declared.events.Event.{Event}
 use Rattle.tt_world.specs.declared.events.Action.{Action}
-use Rattle.tt_world.specs.declared.events.Action.TheVariants.{Send, Answer, Forge, Deliver, Fuse, Read}
+use Rattle.tt_world.specs.declared.events.Action.TheVariants.{Send, Answer, Forge, Deliver, Fuse, Read, Arrive, Stamp, Queue, Release}
 use Rattle.tt_world.specs.declared.packets.Packet.{Packet}
-use Rattle.tt_world.specs.Config.{Configuration}
+use Rattle.tt_daemon.specs.Config.{Configuration}
 use Rattle.tt_world.specs.Past.{time_of, sends_of, put_by, packets_of, clock_reading, clock_of, moments_of}
 use Rattle.tt_world.specs.Sources.{sent_by, last_send}
 use Rattle.tt_world.specs.Assumptions.{origin_of}
@@ -45,6 +45,10 @@ sending_of packets nonce m i (Forge machine source payload) sending h = absurd c
 sending_of packets nonce m i (Deliver p clock) sending h = absurd cc
 sending_of packets nonce m i (Fuse machine clock) sending h = absurd cc
 sending_of packets nonce m i (Read machine worker clock publication) sending h = absurd cc
+sending_of packets nonce m i (Arrive machine worker id floor) sending h = absurd cc
+sending_of packets nonce m i (Stamp machine worker) sending h = absurd cc
+sending_of packets nonce m i (Queue machine worker) sending h = absurd cc
+sending_of packets nonce m i (Release machine worker) sending h = absurd cc
 
 same_event : (a b : Event) (o : Option Event) → o ≡ Some a → o ≡ Some b → a ≡ b
 same_event a b o h k = cc

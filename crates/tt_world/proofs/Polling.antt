@@ -4,10 +4,10 @@ use Rattle.std.specs.List.{range_with_len}
 use Rattle.tt_source.specs.Table.{Sending, SourceState, TableState, unknown, source_at, is_back, poll_of}
 use Rattle.tt_world.specs.declared.events.Event.{Event}
 use Rattle.tt_world.specs.declared.events.Action.TheVariants.{Send}
-use Rattle.tt_world.specs.Config.{Configuration}
+use Rattle.tt_daemon.specs.Config.{Configuration}
 use Rattle.tt_world.specs.Past.{sends_of}
 use Rattle.tt_world.specs.Sources.{outstanding, statement_of}
-use Rattle.tt_world.specs.Publications.{publications_of, seen_of}
+use Rattle.tt_world.specs.Publications.{publications_of}
 use Rattle.tt_world.specs.State.{source_of, machine_of}
 use Rattle.tt_world.specs.Step.{with_table}
 use Rattle.tt_world.proofs.Ranges.{get_or-made, set-made}
@@ -48,7 +48,7 @@ module _ (config : Configuration) (past : List Event) (at m s clock : ℕ) where
   pub with_table-polled : s < config.sources
       → with_table (machine_of config past m) clock (polled_table (machine_of config past m).table s clock) ≡ machine_of config (happens at (Send m s clock) ∷ past) m
   with_table-polled there =
-      ap (λ (sources : List SourceState). kept config m (sends_of past m + 1) clock sources clock (publications_of config past m) (map (λ w. seen_of past m w) (range_with_len 0 config.workers)))
+      ap (λ (sources : List SourceState). kept (machine_of config past m) (sends_of past m + 1) clock sources clock (publications_of config past m))
       (asked_sources there)
       ∙ sym (machine_of-send config past at m s clock m ∙ ap (machine_if_sent config past s clock m) (eq-eqb m m refl))
 

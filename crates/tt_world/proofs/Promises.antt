@@ -11,6 +11,8 @@ use Rattle.tt_source.specs.Statement.{Statement}
 use Rattle.tt_source.specs.Table.{statement_of_message}
 use Rattle.tt_source.specs.declared.faults.SourceFault.{SourceFault}
 use Rattle.tt_fuse.specs.Fusion.{IsFusion}
+use Rattle.tt_stamp.specs.declared.faults.StampFault.{StampFault}
+use Rattle.tt_stamp.specs.declared.faults.BookFault.{BookFault}
 use Rattle.tt_world.specs.declared.events.Event.{Event}
 use Rattle.tt_world.specs.declared.events.Action.{Action}
 use Rattle.tt_world.specs.declared.events.Action.TheVariants as does
@@ -18,13 +20,15 @@ use Rattle.tt_world.specs.declared.events.Reply.{Reply}
 use Rattle.tt_world.specs.declared.events.Reply.TheVariants.{Published, Read}
 use Rattle.tt_world.specs.declared.packets.Packet.{Packet}
 use Rattle.tt_world.specs.declared.publications.Publication.{Publication}
-use Rattle.tt_world.specs.Config.{Configuration, config_at}
+use Rattle.tt_daemon.specs.Config.{Configuration}
+use Rattle.tt_world.specs.Config.{config_at}
 use Rattle.tt_world.specs.Packet.{machine_of_packet, source_of_packet, bytes_of}
 use Rattle.tt_world.specs.Past.{packets_of, clock_of, moments_of, time_of}
 use Rattle.tt_world.specs.Sources.{outstanding}
 use Rattle.tt_world.specs.Publications.{spans_of, known_of, fusion_of, publications_of, seen_of, no_publication, publication_at, reading_at}
 use Rattle.tt_world.specs.Bad.{has_machine, has_worker, is_unreadable, first_bad, accepted}
-use Rattle.tt_world.specs.Reply.{delivery_reply, reply_to_packet, fusion_reply, reply_to, reply_unless_bad, reply_of}
+use Rattle.tt_world.specs.Commits.{stamping_of, queueing_of}
+use Rattle.tt_world.specs.Reply.{delivery_reply, reply_to_packet, fusion_reply, stamping_reply, queueing_reply, reply_to, reply_unless_bad, reply_of}
 use Rattle.tt_world.specs.Assumptions.{FewLie, ClocksKeepDrift, MeetsAssumptions}
 use Rattle.tt_world.specs.Headline.{AreConfigurations, IsAction, AreEvents}
 use Rattle.tt_world.proofs.Places.{holds_in, all_by_recursion}
@@ -57,6 +61,15 @@ no_reading_fused : (count : ℕ) (made : Result Publication ℕ) (reading : Inte
 no_reading_fused count (Ok publication) reading h = cc
 no_reading_fused count (Err number) reading h = cc
 
+no_reading_stamped : (stamping : Option (Result ℕ StampFault)) (reading : Interval) → stamping_reply stamping ≡ Read reading → ⊥
+no_reading_stamped None reading h = cc
+no_reading_stamped (Some (Ok stamp)) reading h = cc
+no_reading_stamped (Some (Err fault)) reading h = cc
+
+no_reading_queued : (fault : Option BookFault) (reading : Interval) → queueing_reply fault ≡ Read reading → ⊥
+no_reading_queued None reading h = cc
+no_reading_queued (Some fault) reading h = cc
+
 same_reading : (a b : Interval) → Read a ≡ Read b → a ≡ b
 same_reading a b h = cc
 
@@ -66,7 +79,7 @@ published_made count (Err other) number span h = absurd cc
 
 -- ---- machines
 
-machine_of_worker : (configs : List Configuration) (m w : ℕ) → not (has_worker configs m w) ≡ false → m < length configs
+pub machine_of_worker : (configs : List Configuration) (m w : ℕ) → not (has_worker configs m w) ≡ false → m < length configs
 machine_of_worker configs m w h =
     let parts = and_parts _ _ (not-false _ h) in
     ltb-true m (length configs) parts.0
@@ -86,7 +99,7 @@ readable_place count seen k h =
 -- ---- readings
 
 -- where each publication held the true time when it was made, a reading holds it now
-read_holds : (configs : List Configuration) (past : List Event) (at m w clock k : ℕ) → m < length configs → IsGood configs past (record { at = at; action = does.Read m w clock k }) →
+pub read_holds : (configs : List Configuration) (past : List Event) (at m w clock k : ℕ) → m < length configs → IsGood configs past (record { at = at; action = does.Read m w clock k }) →
     KeepsDrift (config_at configs m).drift (moments_of (record { at = at; action = does.Read m w clock k } ∷ past) m) →
     AllByRecursion (λ (p : Publication). WasRight past m p) (publications_of (config_at configs m) past m) →
     Holds (reading_at (config_at configs m).drift (publication_at (publications_of (config_at configs m) past m) k) clock) at
@@ -113,7 +126,7 @@ assumed configs past event good meets =
     subst (λ (events : List Event). ClocksKeepDrift configs events × FewLie configs events) (accepted-good configs past event good) (meets.clocks, meets.sources)
 
 -- what is known of the events that were not bad, where each answer's span is one of time
-valid_accepted : (configs : List Configuration) (past : List Event) → AreEvents past → AllByRecursion (λ (e : Event). IsAction e.action) (accepted configs past)
+pub valid_accepted : (configs : List Configuration) (past : List Event) → AreEvents past → AllByRecursion (λ (e : Event). IsAction e.action) (accepted configs past)
 valid_accepted configs past events = all_accepted (λ (e : Event). IsAction e.action) configs past (all_by_recursion (λ (e : Event). IsAction e.action) past events)
 
 read_holds_at : FusionLaws → (configs : List Configuration) → AreConfigurations configs → (past : List Event) → AreEvents past → (at m w clock k : ℕ) → first_bad configs (accepted configs past) (record { at = at; action = does.Read m w clock k }) ≡ None →
@@ -141,6 +154,12 @@ read_holds_by_action laws configs configurations past events at (does.Fuse m clo
 read_holds_by_action laws configs configurations past events at (does.Read m w clock k) reading not_bad h meets =
     subst (λ (i : Interval). Holds i at) (same_reading (reading_at (config_at configs m).drift (publication_at (publications_of (config_at configs m) (accepted configs past) m) k) clock) reading h)
     (read_holds_at laws configs configurations past events at m w clock k not_bad meets)
+read_holds_by_action laws configs configurations past events at (does.Arrive m w id floor) reading not_bad h meets = absurd cc
+read_holds_by_action laws configs configurations past events at (does.Stamp m w) reading not_bad h meets =
+    absurd (no_reading_stamped (stamping_of (config_at configs m) (accepted configs past) m w) reading h)
+read_holds_by_action laws configs configurations past events at (does.Queue m w) reading not_bad h meets =
+    absurd (no_reading_queued (queueing_of (config_at configs m) (accepted configs past) m w) reading h)
+read_holds_by_action laws configs configurations past events at (does.Release m w) reading not_bad h meets = absurd cc
 
 -- a reading holds the true time, if the run keeps the assumptions up to then
 pub reading_holds : FusionLaws → (configs : List Configuration) → AreConfigurations configs → (past : List Event) → AreEvents past → (event : Event) (reading : Interval) → reply_of configs past event ≡ Read reading → MeetsAssumptions configs (event ∷ past) → Holds reading event.at

@@ -1,5 +1,5 @@
 -- A machine that fuses keeps what its past says.
-use Rattle.std.proofs.Common.{◌≡◌, ℕ, ◌-◌, cond, ltb, List, ◌∷◌, ◌++◌, map, length, is_some, Result, Ok, Err, refl, sym, ap, ◌∙◌, append-nil, eq-eqb, ne_eqb}
+use Rattle.std.proofs.Common.{◌≡◌, ℕ, ◌-◌, cond, ltb, List, ◌∷◌, ◌++◌, length, is_some, Result, Ok, Err, refl, sym, ap, ◌∙◌, append-nil, eq-eqb, ne_eqb}
 use Rattle.std.specs.List.{range_with_len}
 use Rattle.tt_span.specs.Interval.{Interval}
 use Rattle.tt_source.specs.Table.{SourceState, stated_at, known_of as known_of_table}
@@ -7,15 +7,14 @@ use Rattle.tt_fuse.specs.Depth.{slow_fusion}
 use Rattle.tt_world.specs.declared.events.Event.{Event}
 use Rattle.tt_world.specs.declared.events.Action.TheVariants.{Fuse}
 use Rattle.tt_world.specs.declared.publications.Publication.{Publication}
-use Rattle.tt_world.specs.Config.{Configuration}
-use Rattle.tt_world.specs.Past.{sends_of}
-use Rattle.tt_world.specs.Publications.{spans_of, known_of, published, fusion_of, one_if_made, publications_of, seen_of}
+use Rattle.tt_daemon.specs.Config.{Configuration}
+use Rattle.tt_world.specs.Publications.{spans_of, known_of, published, fusion_of, one_if_made, publications_of}
 use Rattle.tt_world.specs.Reply.{fusion_reply}
-use Rattle.tt_world.specs.State.{MachineState, polled_clock_of, source_of, machine_of}
+use Rattle.tt_world.specs.State.{MachineState, source_of, machine_of}
 use Rattle.tt_world.specs.Step.{spans_on, fusion_on, publish_turn}
 use Rattle.tt_world.proofs.Ranges.{map-map, count_by-map}
 use Rattle.tt_world.proofs.Waiting.{happens}
-use Rattle.tt_world.proofs.Kept.{kept, machine_of-fuse, machine_if_fused}
+use Rattle.tt_world.proofs.Kept.{machine_of-fuse, machine_if_fused}
 
 -- what is published by so many known sources with these spans
 abbrev fusion_by : Configuration → ℕ → ℕ → List Interval → Result Publication ℕ
@@ -26,7 +25,7 @@ module _ (config : Configuration) (past : List Event) (at m clock : ℕ) where
   known_of_table-machine_of : known_of_table (machine_of config past m).table ≡ known_of config past m
   known_of_table-machine_of = count_by-map (λ (source : SourceState). is_some source.statement) (λ i. source_of past m i) (range_with_len 0 config.sources)
 
-  spans_on-machine_of : spans_on (machine_of config past m) clock ≡ spans_of config past m clock
+  pub spans_on-machine_of : spans_on (machine_of config past m) clock ≡ spans_of config past m clock
   spans_on-machine_of = map-map (λ (source : SourceState). stated_at config.drift source.statement clock) (λ i. source_of past m i) (range_with_len 0 config.sources)
 
   pub fusion_on-machine_of : fusion_on (machine_of config past m) clock ≡ fusion_of config past m clock
@@ -36,9 +35,7 @@ module _ (config : Configuration) (past : List Event) (at m clock : ℕ) where
 
   -- the machine with this added to its publications
   abbrev with_publications : List Publication → MachineState
-  with_publications publications =
-      kept config m (sends_of past m) (polled_clock_of past m) (map (λ i. source_of past m i) (range_with_len 0 config.sources))
-      clock publications (map (λ w. seen_of past m w) (range_with_len 0 config.workers))
+  with_publications publications = record (machine_of config past m) { clock = clock; publications = publications }
 
   publish_turn-by : (made : Result Publication ℕ)
       → publish_turn (machine_of config past m) clock made

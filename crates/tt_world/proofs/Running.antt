@@ -8,7 +8,7 @@ use Rattle.tt_world.specs.declared.events.Event.{Event}
 use Rattle.tt_world.specs.declared.events.Action.TheVariants as does
 use Rattle.tt_world.specs.declared.events.Reply.{Reply}
 use Rattle.tt_world.specs.declared.events.Reply.TheVariants.{Published}
-use Rattle.tt_world.specs.Config.{Configuration}
+use Rattle.tt_daemon.specs.Config.{Configuration}
 use Rattle.tt_world.specs.Reply.{reply_of, replies_from}
 use Rattle.tt_world.specs.Headline.{AreConfigurations, IsAction, AreEvents, ReadingsHold, FusionsAreShortest, NoFusionRefused}
 use Rattle.tt_world.proofs.Places.{all_append, all_by_recursion}

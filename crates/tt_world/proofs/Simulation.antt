@@ -2,7 +2,7 @@
 use Rattle.std.proofs.Common.{◌≡◌, ℕ, ◌-◌, ◌^◌, ◌<◌, cond, List, ◌∷◌, length, is_some, Option, Some, None, refl, ◌∙◌}
 use Rattle.tt_world.specs.declared.events.Event.{Event}
 use Rattle.tt_world.specs.declared.events.Reply.{Reply}
-use Rattle.tt_world.specs.Config.{Configuration}
+use Rattle.tt_daemon.specs.Config.{Configuration}
 use Rattle.tt_world.specs.Past.{packets_of}
 use Rattle.tt_world.specs.Bad.{breaks_time, first_bad, accepted}
 use Rattle.tt_world.specs.Reply.{reply_unless_bad, reply_to, reply_of}

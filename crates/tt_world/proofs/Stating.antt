@@ -20,10 +20,10 @@ use Rattle.tt_source.specs.declared.faults.SourceFault.{SourceFault}
 use Rattle.tt_source.specs.declared.faults.SourceFault.TheVariants.{NotMine}
 use Rattle.tt_world.specs.declared.events.Event.{Event}
 use Rattle.tt_world.specs.declared.events.Action.{Action}
-use Rattle.tt_world.specs.declared.events.Action.TheVariants.{Send, Answer, Forge, Deliver, Fuse, Read}
+use Rattle.tt_world.specs.declared.events.Action.TheVariants.{Send, Answer, Forge, Deliver, Fuse, Read, Arrive, Stamp, Queue, Release}
 use Rattle.tt_world.specs.declared.packets.Packet.{Packet}
 use Rattle.tt_world.specs.declared.packets.Packet.TheVariants.{Asked, Answered, Forged}
-use Rattle.tt_world.specs.Config.{Configuration}
+use Rattle.tt_daemon.specs.Config.{Configuration}
 use Rattle.tt_world.specs.Packet.{machine_of_packet, source_of_packet, bytes_of, is_asked}
 use Rattle.tt_world.specs.Past.{time_of, sends_of, put_by, packets_of, clock_reading, clock_of, moments_of}
 use Rattle.tt_world.specs.Sources.{last_send, stated_in, stated_by, is_answered, outstanding, statement_of}
@@ -122,6 +122,10 @@ taken_of packets m i waiting (Forge machine source payload) s h = absurd cc
 taken_of packets m i waiting (Deliver place clock) s h = taken_of_packet packets m i waiting place clock s (slice_get packets place) refl h
 taken_of packets m i waiting (Fuse machine clock) s h = absurd cc
 taken_of packets m i waiting (Read machine worker clock publication) s h = absurd cc
+taken_of packets m i waiting (Arrive machine worker id floor) s h = absurd cc
+taken_of packets m i waiting (Stamp machine worker) s h = absurd cc
+taken_of packets m i waiting (Queue machine worker) s h = absurd cc
+taken_of packets m i waiting (Release machine worker) s h = absurd cc
 
 -- the packet of a statement was put
 packet_put_after : (past : List Event) (event : Event) (m i p : ℕ) (stated : Option Statement) → stated_by (packets_of past) m i (outstanding past m i) event.action ≡ stated → (packet_of_statement past m i ≡ Some p → p < length (packets_of past)) →

@@ -13,11 +13,11 @@ use Rattle.tt_source.specs.declared.faults.SourceFault.{SourceFault}
 use Rattle.tt_world.specs.declared.events.Event.{Event}
 use Rattle.tt_world.specs.declared.events.Action.TheVariants.{Deliver}
 use Rattle.tt_world.specs.declared.packets.Packet.{Packet}
-use Rattle.tt_world.specs.Config.{Configuration}
+use Rattle.tt_daemon.specs.Config.{Configuration}
 use Rattle.tt_world.specs.Packet.{machine_of_packet, source_of_packet, bytes_of}
 use Rattle.tt_world.specs.Past.{sends_of, packets_of, clock_of}
 use Rattle.tt_world.specs.Sources.{outstanding}
-use Rattle.tt_world.specs.Publications.{publications_of, seen_of}
+use Rattle.tt_world.specs.Publications.{publications_of}
 use Rattle.tt_world.specs.Reply.{delivery_reply}
 use Rattle.tt_world.specs.State.{MachineState, polled_clock_of, source_of, machine_of}
 use Rattle.tt_world.specs.Step.{take_turn}
@@ -37,10 +37,10 @@ module _ (config : Configuration) (past : List Event) (m s clock : ℕ) (message
   -- machine j after a message of source s of machine m, where here says whether it is machine m, and from whether a source is source s
   abbrev pub machine_if_reached : ℕ → Bool → (ℕ → Bool) → MachineState
   machine_if_reached j here from =
-      kept config j (sends_of past j)
+      kept (machine_of config past j) (sends_of past j)
       (cond (is_some (cond (here && from s) (result_ok (statement_of_message j s (outstanding past j s) clock message)) None)) clock (polled_clock_of past j))
       (map (λ i. after_delivery config past (cond (here && from i) (result_ok (statement_of_message j i (outstanding past j i) clock message)) None) (source_of past j i)) (range_with_len 0 config.sources))
-      (cond here clock (clock_of past j)) (publications_of config past j) (map (λ w. seen_of past j w) (range_with_len 0 config.workers))
+      (cond here clock (clock_of past j)) (publications_of config past j)
 
   -- a source after the message, where from says whether it is the source that the message is from, which made this statement
   abbrev if_from : ℕ → Option Statement → Bool → SourceState
@@ -72,8 +72,7 @@ module _ (config : Configuration) (past : List Event) (m s clock : ℕ) (message
 
   -- the machine with this reading at its last poll or taking, and these sources
   abbrev with_sources : ℕ → List SourceState → MachineState
-  with_sources polled sources =
-      kept config m (sends_of past m) polled sources clock (publications_of config past m) (map (λ w. seen_of past m w) (range_with_len 0 config.workers))
+  with_sources polled sources = kept (machine_of config past m) (sends_of past m) polled sources clock (publications_of config past m)
 
   polled_by_message : (made : Result Statement SourceFault) → stated_for s ≡ made
       → cond (is_some (result_ok made)) clock (polled_clock_of past m) ≡ cond (is_some (cond (eqb s s) (result_ok (stated_for s)) None)) clock (polled_clock_of past m)

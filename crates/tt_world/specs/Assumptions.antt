@@ -2,12 +2,12 @@
 use Rattle.std.specs.Prelude.{ℕ, ◌<◌, ◌≤◌, ◌&&◌, not, nat_lt, nat_le, Bool, true, false, if◌then◌else◌, List, [], ◌∷◌, length, count_by, is_some, Option, Some, None}
 use Rattle.std.specs.List.{range_with_len}
 use Rattle.std.specs.Option.{option_and_then}
-use Rattle.tt_span.specs.Interval.{Interval}
 use Rattle.tt_span.specs.Drift.{KeepsDrift}
 use Rattle.tt_world.specs.declared.events.Event.{Event}
 use Rattle.tt_world.specs.declared.events.Action.{Action}
-use Rattle.tt_world.specs.declared.events.Action.TheVariants.{Send, Answer, Forge, Deliver, Fuse, Read}
-use Rattle.tt_world.specs.Config.{Configuration, config_at}
+use Rattle.tt_world.specs.declared.events.Action.TheVariants.{Send, Answer, Forge, Deliver, Fuse, Read, Arrive, Stamp, Queue, Release}
+use Rattle.tt_daemon.specs.Config.{Configuration}
+use Rattle.tt_world.specs.Config.{config_at}
 use Rattle.tt_world.specs.Past.{packets_of, moments_of}
 use Rattle.tt_world.specs.Sources.{stated_by, outstanding}
 use Rattle.tt_world.specs.Bad.{accepted}
@@ -28,6 +28,10 @@ delivered_by (Forge machine source payload) = None
 delivered_by (Deliver packet clock) = Some packet
 delivered_by (Fuse machine clock) = None
 delivered_by (Read machine worker clock publication) = None
+delivered_by (Arrive machine worker id floor) = None
+delivered_by (Stamp machine worker) = None
+delivered_by (Queue machine worker) = None
+delivered_by (Release machine worker) = None
 
 -- the packet that made the statement of source i on machine m, if there is a statement
 abbrev pub packet_of_statement : List Event → ℕ → ℕ → Option ℕ
@@ -44,6 +48,10 @@ is_lie at (Forge machine source payload) = true
 is_lie at (Deliver packet clock) = false
 is_lie at (Fuse machine clock) = false
 is_lie at (Read machine worker clock publication) = false
+is_lie at (Arrive machine worker id floor) = false
+is_lie at (Stamp machine worker) = false
+is_lie at (Queue machine worker) = false
+is_lie at (Release machine worker) = false
 
 -- whether an event, if there is one, puts a lie on its way
 abbrev pub is_lying : Option Event → Bool
@@ -66,6 +74,10 @@ HasFewFalse configs past (Forge machine source payload) = Unit {0}
 HasFewFalse configs past (Deliver packet clock) = Unit {0}
 HasFewFalse configs past (Fuse machine clock) = false_count (config_at configs machine) past machine ≤ (config_at configs machine).faulty
 HasFewFalse configs past (Read machine worker clock publication) = Unit {0}
+HasFewFalse configs past (Arrive machine worker id floor) = Unit {0}
+HasFewFalse configs past (Stamp machine worker) = Unit {0}
+HasFewFalse configs past (Queue machine worker) = Unit {0}
+HasFewFalse configs past (Release machine worker) = Unit {0}
 
 -- at every fusion that was not bad few statements were false
 abbrev pub FewLie : List Configuration → List Event → Type 0

@@ -3,12 +3,16 @@ use Rattle.std.specs.Prelude.{ℕ, ◌==◌, ◌&&◌, ◌||◌, not, nat_lt, Bo
 use Rattle.tt_span.specs.Time.{max_time}
 use Rattle.tt_world.specs.declared.events.Event.{Event}
 use Rattle.tt_world.specs.declared.events.Action.{Action}
-use Rattle.tt_world.specs.declared.events.Action.TheVariants.{Send, Answer, Forge, Deliver, Fuse, Read}
+use Rattle.tt_world.specs.declared.events.Action.TheVariants.{Send, Answer, Forge, Deliver, Fuse, Read, Arrive, Stamp, Queue, Release}
 use Rattle.tt_world.specs.declared.packets.Packet.{Packet}
-use Rattle.tt_world.specs.Config.{Configuration, config_at}
+use Rattle.tt_daemon.specs.Config.{Configuration}
+use Rattle.tt_world.specs.Config.{config_at}
 use Rattle.tt_world.specs.Packet.{is_asked}
 use Rattle.tt_world.specs.Past.{time_of, packets_of, ClockReading, clock_reading, clock_of}
+use Rattle.tt_world.specs.declared.workers.Task.{Task}
+use Rattle.tt_world.specs.declared.workers.Task.TheVariants.{Arrived, Stamped}
 use Rattle.tt_world.specs.Publications.{publications_of, seen_of}
+use Rattle.tt_world.specs.Commits.{reading_of, reading_since, task_of}
 
 -- machine m is there
 abbrev pub has_machine : List Configuration → ℕ → Bool
@@ -30,6 +34,10 @@ names_unknown configs (Forge machine source payload) = not (has_source configs m
 names_unknown configs (Deliver packet clock) = false
 names_unknown configs (Fuse machine clock) = not (has_machine configs machine)
 names_unknown configs (Read machine worker clock publication) = not (has_worker configs machine worker)
+names_unknown configs (Arrive machine worker id floor) = not (has_worker configs machine worker)
+names_unknown configs (Stamp machine worker) = not (has_worker configs machine worker)
+names_unknown configs (Queue machine worker) = not (has_worker configs machine worker)
+names_unknown configs (Release machine worker) = not (has_worker configs machine worker)
 
 -- a packet is there and is a request
 abbrev pub is_request : Option Packet → Bool
@@ -49,6 +57,10 @@ lacks_packet packets (Forge machine source payload) = false
 lacks_packet packets (Deliver packet clock) = not (can_be_delivered (slice_get packets packet))
 lacks_packet packets (Fuse machine clock) = false
 lacks_packet packets (Read machine worker clock publication) = false
+lacks_packet packets (Arrive machine worker id floor) = false
+lacks_packet packets (Stamp machine worker) = false
+lacks_packet packets (Queue machine worker) = false
+lacks_packet packets (Release machine worker) = false
 
 -- a reading of a clock that went back, where clocks says what each clock showed last, or one past the greatest time
 abbrev pub goes_back : (ℕ → ℕ) → Option ClockReading → Bool
@@ -68,6 +80,37 @@ lacks_publication configs past (Deliver packet clock) = false
 lacks_publication configs past (Fuse machine clock) = false
 lacks_publication configs past (Read machine worker clock publication) =
     is_unreadable (length (publications_of (config_at configs machine) past machine)) (seen_of past machine worker) publication
+lacks_publication configs past (Arrive machine worker id floor) = false
+lacks_publication configs past (Stamp machine worker) = false
+lacks_publication configs past (Queue machine worker) = false
+lacks_publication configs past (Release machine worker) = false
+
+-- a task is there and has no stamp yet
+abbrev pub is_arrived : Option Task → Bool
+is_arrived None = false
+is_arrived (Some (Arrived arrival)) = true
+is_arrived (Some (Stamped id stamp)) = false
+
+-- a task is there and has its stamp
+abbrev pub is_stamped : Option Task → Bool
+is_stamped None = false
+is_stamped (Some (Arrived arrival)) = false
+is_stamped (Some (Stamped id stamp)) = true
+
+-- the event wants a task or a reading of its worker that is not there: to stamp, a task without a stamp and a reading since the worker was asked for it; to queue, a task with a stamp; to release, any reading
+abbrev pub lacks_its_thing : List Configuration → List Event → Action → Bool
+lacks_its_thing configs past (Send machine source clock) = false
+lacks_its_thing configs past (Answer packet span) = false
+lacks_its_thing configs past (Forge machine source payload) = false
+lacks_its_thing configs past (Deliver packet clock) = false
+lacks_its_thing configs past (Fuse machine clock) = false
+lacks_its_thing configs past (Read machine worker clock publication) = false
+lacks_its_thing configs past (Arrive machine worker id floor) = false
+lacks_its_thing configs past (Stamp machine worker) =
+    not (is_arrived (task_of (config_at configs machine) past machine worker))
+    || not (is_some (reading_since (config_at configs machine) past machine worker))
+lacks_its_thing configs past (Queue machine worker) = not (is_stamped (task_of (config_at configs machine) past machine worker))
+lacks_its_thing configs past (Release machine worker) = not (is_some (reading_of (config_at configs machine) past machine worker))
 
 -- true time falls, or passes the greatest time
 abbrev pub breaks_time : List Event → Event → Bool
@@ -81,6 +124,7 @@ first_bad configs past event =
     else if lacks_packet (packets_of past) event.action then Some 1203
     else if goes_back (clock_of past) (clock_reading (packets_of past) event.action) then Some 1202
     else if lacks_publication configs past event.action then Some 1204
+    else if lacks_its_thing configs past event.action then Some 1205
     else None
 
 -- the events that were not bad, each judged after those before it; the newest first

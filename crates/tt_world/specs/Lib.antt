@@ -3,6 +3,7 @@ pub mod Packet
 pub mod Past
 pub mod Sources
 pub mod Publications
+pub mod Commits
 pub mod Bad
 pub mod Reply
 pub mod Assumptions
@@ -12,4 +13,3 @@ pub mod Fault
 pub mod Machines
 pub mod Headline
 pub mod Trace
-pub mod Reading

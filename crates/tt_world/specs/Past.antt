@@ -1,11 +1,10 @@
 -- What has happened, searched back. Each list has the newest event first, and only events that were not bad.
-use Rattle.std.specs.Prelude.{ℕ, ◌+◌, ◌==◌, Bool, true, false, if◌then◌else◌, List, [], ◌∷◌, ◌++◌, slice_get, Option, Some, None}
+use Rattle.std.specs.Prelude.{ℕ, ◌+◌, ◌==◌, Bool, false, if◌then◌else◌, List, [], ◌∷◌, ◌++◌, slice_get, Option, Some, None}
 use Rattle.std.specs.Option.{option_map}
-use Rattle.tt_span.specs.Interval.{Interval}
 use Rattle.tt_span.specs.Drift.{Moment}
 use Rattle.tt_world.specs.declared.events.Event.{Event}
 use Rattle.tt_world.specs.declared.events.Action.{Action}
-use Rattle.tt_world.specs.declared.events.Action.TheVariants.{Send, Answer, Forge, Deliver, Fuse, Read}
+use Rattle.tt_world.specs.declared.events.Action.TheVariants.{Send, Answer, Forge, Deliver, Fuse, Read, Arrive, Stamp, Queue, Release}
 use Rattle.tt_world.specs.declared.packets.Packet.{Packet}
 use Rattle.tt_world.specs.declared.packets.Packet.TheVariants.{Asked, Forged}
 use Rattle.tt_world.specs.Packet.{machine_of_packet, answer_to}
@@ -23,6 +22,10 @@ is_send_of m (Forge machine source payload) = false
 is_send_of m (Deliver packet clock) = false
 is_send_of m (Fuse machine clock) = false
 is_send_of m (Read machine worker clock publication) = false
+is_send_of m (Arrive machine worker id floor) = false
+is_send_of m (Stamp machine worker) = false
+is_send_of m (Queue machine worker) = false
+is_send_of m (Release machine worker) = false
 
 -- how many polls machine m has sent; the nonce of the next one is one more
 abbrev pub sends_of : List Event → ℕ → ℕ
@@ -37,6 +40,10 @@ put_by sends packets (Forge machine source payload) = Forged machine source payl
 put_by sends packets (Deliver packet clock) = []
 put_by sends packets (Fuse machine clock) = []
 put_by sends packets (Read machine worker clock publication) = []
+put_by sends packets (Arrive machine worker id floor) = []
+put_by sends packets (Stamp machine worker) = []
+put_by sends packets (Queue machine worker) = []
+put_by sends packets (Release machine worker) = []
 
 -- all packets that were put on their way, in the order in which they were put
 abbrev pub packets_of : List Event → List Packet
@@ -56,6 +63,10 @@ clock_reading packets (Forge machine source payload) = None
 clock_reading packets (Deliver packet clock) = option_map (λ p. record { machine = machine_of_packet p; clock = clock }) (slice_get packets packet)
 clock_reading packets (Fuse machine clock) = Some (record { machine = machine; clock = clock })
 clock_reading packets (Read machine worker clock publication) = Some (record { machine = machine; clock = clock })
+clock_reading packets (Arrive machine worker id floor) = None
+clock_reading packets (Stamp machine worker) = None
+clock_reading packets (Queue machine worker) = None
+clock_reading packets (Release machine worker) = None
 
 -- what the clock of machine m shows after a reading, if that is one of this clock
 abbrev pub clock_after : ℕ → Option ClockReading → ℕ → ℕ

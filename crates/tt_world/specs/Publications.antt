@@ -1,5 +1,5 @@
 -- What each machine has published, and what its workers have read from it, searched back.
-use Rattle.std.specs.Prelude.{ℕ, ◌+◌, ◌-◌, ◌==◌, ◌&&◌, Bool, nat_lt, max, if◌then◌else◌, List, [], ◌∷◌, ◌++◌, map, count_by, slice_index_or, is_some, Option, Some, None, Result, Ok, Err}
+use Rattle.std.specs.Prelude.{ℕ, ◌+◌, ◌-◌, ◌==◌, ◌&&◌, nat_lt, max, if◌then◌else◌, List, [], ◌∷◌, ◌++◌, map, length, count_by, slice_index_or, is_some, Option, Some, None, Result, Ok, Err}
 use Rattle.std.specs.List.{range_with_len}
 use Rattle.tt_span.specs.Interval.{Interval, whole}
 use Rattle.tt_span.specs.Drift.{aged}
@@ -7,9 +7,10 @@ use Rattle.tt_source.specs.Table.{stated_at}
 use Rattle.tt_fuse.specs.Depth.{slow_fusion}
 use Rattle.tt_world.specs.declared.events.Event.{Event}
 use Rattle.tt_world.specs.declared.events.Action.{Action}
-use Rattle.tt_world.specs.declared.events.Action.TheVariants.{Send, Answer, Forge, Deliver, Fuse, Read}
+use Rattle.tt_world.specs.declared.events.Action.TheVariants.{Send, Answer, Forge, Deliver, Fuse, Read, Arrive, Stamp, Queue, Release}
 use Rattle.tt_world.specs.declared.publications.Publication.{Publication}
-use Rattle.tt_world.specs.Config.{Configuration, config_at}
+use Rattle.tt_daemon.specs.Config.{Configuration}
+use Rattle.tt_world.specs.Config.{config_at}
 use Rattle.tt_world.specs.Sources.{statement_of}
 
 -- the spans of all sources of machine m at a clock reading; a source that has made no statement stands as the whole
@@ -44,6 +45,10 @@ fuses_at m (Forge machine source payload) = None
 fuses_at m (Deliver packet clock) = None
 fuses_at m (Fuse machine clock) = if machine == m then Some clock else None
 fuses_at m (Read machine worker clock publication) = None
+fuses_at m (Arrive machine worker id floor) = None
+fuses_at m (Stamp machine worker) = None
+fuses_at m (Queue machine worker) = None
+fuses_at m (Release machine worker) = None
 
 -- what a fusion at this clock reading publishes, if there is one
 abbrev pub published_at : Configuration → List Event → ℕ → Option ℕ → List Publication
@@ -55,6 +60,41 @@ abbrev pub publications_of : Configuration → List Event → ℕ → List Publi
 publications_of config [] m = []
 publications_of config (event ∷ past) m = publications_of config past m ++ published_at config past m (fuses_at m event.action)
 
+-- a publication with all that was fused: whose it is, its number there, the clock reading, the fused span, and the spans of which so many may be false
+pub record Showing : Type 0 where
+  pub machine : ℕ
+  pub number : ℕ
+  pub clock : ℕ
+  pub span : Interval
+  pub spans : List Interval
+  pub faulty : ℕ
+
+-- what a fusion of these spans shows of machine m, if there is one
+abbrev pub showing_of : ℕ → ℕ → List Interval → ℕ → Result Publication ℕ → List Showing
+showing_of m number spans faulty (Ok publication) =
+    record { machine = m; number = number; clock = publication.clock; span = publication.span; spans = spans; faulty = faulty } ∷ []
+showing_of m number spans faulty (Err refusal) = []
+
+-- what an event shows
+abbrev pub shown_by : List Configuration → List Event → Action → List Showing
+shown_by configs past (Send machine source clock) = []
+shown_by configs past (Answer packet span) = []
+shown_by configs past (Forge machine source payload) = []
+shown_by configs past (Deliver packet clock) = []
+shown_by configs past (Fuse machine clock) =
+    let config = config_at configs machine in
+    showing_of machine (length (publications_of config past machine) + 1) (spans_of config past machine clock) config.faulty (fusion_of config past machine clock)
+shown_by configs past (Read machine worker clock publication) = []
+shown_by configs past (Arrive machine worker id floor) = []
+shown_by configs past (Stamp machine worker) = []
+shown_by configs past (Queue machine worker) = []
+shown_by configs past (Release machine worker) = []
+
+-- the publications of all machines, in the order of their events
+abbrev pub shown_of : List Configuration → List Event → List Showing
+shown_of configs [] = []
+shown_of configs (event ∷ past) = shown_of configs past ++ shown_by configs past event.action
+
 -- the number of the publication that worker w of machine m reads from in an event, or before if it reads none there
 abbrev pub seen_by : ℕ → ℕ → Action → ℕ → ℕ
 seen_by m w (Send machine source clock) before = before
@@ -63,6 +103,10 @@ seen_by m w (Forge machine source payload) before = before
 seen_by m w (Deliver packet clock) before = before
 seen_by m w (Fuse machine clock) before = before
 seen_by m w (Read machine worker clock publication) before = if machine == m && worker == w then max publication before else before
+seen_by m w (Arrive machine worker id floor) before = before
+seen_by m w (Stamp machine worker) before = before
+seen_by m w (Queue machine worker) before = before
+seen_by m w (Release machine worker) before = before
 
 -- the greatest number of a publication that worker w of machine m has read from, 0 where it has read from none
 abbrev pub seen_of : List Event → ℕ → ℕ → ℕ

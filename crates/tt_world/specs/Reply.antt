@@ -5,6 +5,9 @@ use Rattle.tt_source.specs.Fault.{number_of}
 use Rattle.tt_source.specs.Statement.{Statement}
 use Rattle.tt_source.specs.Table.{statement_of_message}
 use Rattle.tt_source.specs.declared.faults.SourceFault.{SourceFault}
+use Rattle.tt_stamp.specs.declared.faults.StampFault.{StampFault}
+use Rattle.tt_stamp.specs.declared.faults.BookFault.{BookFault}
+use Rattle.tt_stamp.specs.Fault.{number_of as stamp_number_of, book_number_of}
 use Rattle.tt_world.specs.declared.events.Event.{Event}
 use Rattle.tt_world.specs.declared.events.Action.{Action}
 use Rattle.tt_world.specs.declared.events.Action.TheVariants as does
@@ -13,11 +16,13 @@ use Rattle.tt_world.specs.declared.events.Reply.TheVariants.{Sent, Put, Taken, P
 use Rattle.tt_world.specs.declared.events.Reply.TheVariants as replies
 use Rattle.tt_world.specs.declared.packets.Packet.{Packet}
 use Rattle.tt_world.specs.declared.publications.Publication.{Publication}
-use Rattle.tt_world.specs.Config.{Configuration, config_at}
+use Rattle.tt_daemon.specs.Config.{Configuration}
+use Rattle.tt_world.specs.Config.{config_at}
 use Rattle.tt_world.specs.Packet.{machine_of_packet, source_of_packet, bytes_of}
 use Rattle.tt_world.specs.Past.{packets_of}
 use Rattle.tt_world.specs.Sources.{outstanding}
 use Rattle.tt_world.specs.Publications.{fusion_of, publications_of, publication_at, reading_at}
+use Rattle.tt_world.specs.Commits.{reading_of, stamping_of, queueing_of, book_of, released_with}
 use Rattle.tt_world.specs.Bad.{first_bad, accepted}
 
 -- the reply to a delivery that made a statement, or was refused
@@ -38,6 +43,17 @@ abbrev pub fusion_reply : ℕ → Result Publication ℕ → Reply
 fusion_reply count (Ok publication) = Published (count + 1) publication.span
 fusion_reply count (Err number) = Refused number
 
+-- the reply to a stamping, if there is a commit and a reading
+abbrev pub stamping_reply : Option (Result ℕ StampFault) → Reply
+stamping_reply None = Refused 1205
+stamping_reply (Some (Ok stamp)) = replies.Stamped stamp
+stamping_reply (Some (Err fault)) = Refused (stamp_number_of fault)
+
+-- the reply to a queueing, by what refuses it
+abbrev pub queueing_reply : Option BookFault → Reply
+queueing_reply None = replies.Queued
+queueing_reply (Some fault) = Refused (book_number_of fault)
+
 -- the reply to an event that is not bad
 abbrev pub reply_to : List Configuration → List Event → Action → Reply
 reply_to configs past (does.Send machine source clock) = Sent (length (packets_of past))
@@ -48,6 +64,11 @@ reply_to configs past (does.Fuse machine clock) =
     fusion_reply (length (publications_of (config_at configs machine) past machine)) (fusion_of (config_at configs machine) past machine clock)
 reply_to configs past (does.Read machine worker clock publication) =
     replies.Read (reading_at (config_at configs machine).drift (publication_at (publications_of (config_at configs machine) past machine) publication) clock)
+reply_to configs past (does.Arrive machine worker id floor) = replies.Arrived
+reply_to configs past (does.Stamp machine worker) = stamping_reply (stamping_of (config_at configs machine) past machine worker)
+reply_to configs past (does.Queue machine worker) = queueing_reply (queueing_of (config_at configs machine) past machine worker)
+reply_to configs past (does.Release machine worker) =
+    replies.Released (released_with (book_of (config_at configs machine) past machine) (reading_of (config_at configs machine) past machine worker))
 
 -- the reply to an event of which it is known whether it is bad
 abbrev pub reply_unless_bad : Option ℕ → Reply → Reply

@@ -1,5 +1,5 @@
 -- What each machine knows of its sources, searched back.
-use Rattle.std.specs.Prelude.{ℕ, ◌+◌, ◌==◌, ◌&&◌, ◌||◌, Bool, true, false, if◌then◌else◌, List, [], ◌∷◌, slice_get, is_some, Option, Some, None}
+use Rattle.std.specs.Prelude.{ℕ, ◌+◌, ◌==◌, ◌&&◌, ◌||◌, Bool, false, if◌then◌else◌, List, [], ◌∷◌, slice_get, is_some, Option, Some, None}
 use Rattle.std.specs.Option.{option_or}
 use Rattle.std.specs.Result.{result_ok}
 use Rattle.tt_poll.specs.Reading.{read_of}
@@ -7,7 +7,7 @@ use Rattle.tt_source.specs.Statement.{Statement}
 use Rattle.tt_source.specs.Table.{Sending, statement_of_message}
 use Rattle.tt_world.specs.declared.events.Event.{Event}
 use Rattle.tt_world.specs.declared.events.Action.{Action}
-use Rattle.tt_world.specs.declared.events.Action.TheVariants.{Send, Answer, Forge, Deliver, Fuse, Read}
+use Rattle.tt_world.specs.declared.events.Action.TheVariants.{Send, Answer, Forge, Deliver, Fuse, Read, Arrive, Stamp, Queue, Release}
 use Rattle.tt_world.specs.declared.packets.Packet.{Packet}
 use Rattle.tt_world.specs.Packet.{machine_of_packet, source_of_packet, bytes_of}
 use Rattle.tt_world.specs.Past.{sends_of, packets_of}
@@ -20,6 +20,10 @@ sent_by nonce m i (Forge machine source payload) = None
 sent_by nonce m i (Deliver packet clock) = None
 sent_by nonce m i (Fuse machine clock) = None
 sent_by nonce m i (Read machine worker clock publication) = None
+sent_by nonce m i (Arrive machine worker id floor) = None
+sent_by nonce m i (Stamp machine worker) = None
+sent_by nonce m i (Queue machine worker) = None
+sent_by nonce m i (Release machine worker) = None
 
 -- the last poll that machine m sent to source i
 abbrev pub last_send : List Event → ℕ → ℕ → Option Sending
@@ -42,6 +46,10 @@ stated_by packets m i waiting (Forge machine source payload) = None
 stated_by packets m i waiting (Deliver packet clock) = stated_in m i waiting clock (slice_get packets packet)
 stated_by packets m i waiting (Fuse machine clock) = None
 stated_by packets m i waiting (Read machine worker clock publication) = None
+stated_by packets m i waiting (Arrive machine worker id floor) = None
+stated_by packets m i waiting (Stamp machine worker) = None
+stated_by packets m i waiting (Queue machine worker) = None
+stated_by packets m i waiting (Release machine worker) = None
 
 -- whether an answer to the last poll of source i of machine m has come since that poll was sent
 abbrev pub is_answered : List Event → ℕ → ℕ → Bool

@@ -3,16 +3,21 @@ use Rattle.std.specs.Prelude.{◌≡◌, ◌≤◌, ℕ, ◌==◌, Bool, false, 
 use Rattle.std.specs.List.{range_with_len}
 use Rattle.tt_span.specs.Time.{max_time}
 use Rattle.tt_source.specs.Table.{TableState, SourceState, Sending}
+use Rattle.tt_stamp.specs.declared.commits.Entry.{Entry}
+use Rattle.tt_stamp.specs.Stamp.{greatest_of}
 use Rattle.tt_world.specs.declared.events.Event.{Event}
 use Rattle.tt_world.specs.declared.events.Action.{Action}
-use Rattle.tt_world.specs.declared.events.Action.TheVariants.{Send, Answer, Forge, Deliver, Fuse, Read}
+use Rattle.tt_world.specs.declared.events.Action.TheVariants.{Send, Answer, Forge, Deliver, Fuse, Read, Arrive, Stamp, Queue, Release}
 use Rattle.tt_world.specs.declared.packets.Packet.{Packet}
 use Rattle.tt_world.specs.declared.publications.Publication.{Publication}
-use Rattle.tt_world.specs.Config.{Configuration, config_at}
-use Rattle.tt_world.specs.Packet.{machine_of_packet, source_of_packet}
+use Rattle.tt_world.specs.declared.workers.Worker.{Worker}
+use Rattle.tt_daemon.specs.Config.{Configuration}
+use Rattle.tt_world.specs.Config.{config_at}
+use Rattle.tt_world.specs.Packet.{source_of_packet}
 use Rattle.tt_world.specs.Past.{time_of, sends_of, packets_of, clock_of}
 use Rattle.tt_world.specs.Sources.{outstanding, stated_in, statement_of}
-use Rattle.tt_world.specs.Publications.{publications_of, seen_of}
+use Rattle.tt_world.specs.Publications.{Showing, publications_of, seen_of, shown_of}
+use Rattle.tt_world.specs.Commits.{reading_of, reading_since, stamps_of, book_of, task_of}
 use Rattle.tt_world.specs.Bad.{accepted}
 
 -- what is kept of one machine
@@ -21,7 +26,9 @@ pub record MachineState : Type 0 where
   pub table : TableState
   pub clock : ℕ
   pub publications : List Publication
-  pub seen : List ℕ
+  pub row : Option ℕ
+  pub book : List Entry
+  pub workers : List Worker
 
 -- what always holds of what is kept of one machine
 pub record IsMachine (machine : MachineState) : Type 0 where
@@ -35,6 +42,7 @@ pub record WorldState : Type 0 where
   pub time : ℕ
   pub packets : List Packet
   pub machines : List MachineState
+  pub shown : List Showing
 
 -- what always holds of what is kept of a run
 pub record IsWorld (world : WorldState) : Type 0 where
@@ -53,6 +61,10 @@ polled_by past m (Forge machine source payload) before = before
 polled_by past m (Deliver packet clock) before = if is_taken m (outstanding past m) clock (slice_get (packets_of past) packet) then clock else before
 polled_by past m (Fuse machine clock) before = before
 polled_by past m (Read machine worker clock publication) before = before
+polled_by past m (Arrive machine worker id floor) before = before
+polled_by past m (Stamp machine worker) before = before
+polled_by past m (Queue machine worker) before = before
+polled_by past m (Release machine worker) before = before
 
 -- what the clock of machine m showed at its last poll or at the last answer that it took, 0 before the first
 abbrev pub polled_clock_of : List Event → ℕ → ℕ
@@ -62,6 +74,15 @@ polled_clock_of (event ∷ past) m = polled_by past m event.action (polled_clock
 -- what is kept of source i of machine m
 abbrev pub source_of : List Event → ℕ → ℕ → SourceState
 source_of past m i = record { waiting = outstanding past m i; statement = statement_of past m i }
+
+-- what is kept of worker w of machine m
+abbrev pub worker_of : Configuration → List Event → ℕ → ℕ → Worker
+worker_of config past m w = record {
+  seen = seen_of past m w;
+  task = task_of config past m w;
+  reading = reading_of config past m w;
+  since = reading_since config past m w;
+}
 
 -- what is kept of machine m
 abbrev pub machine_of : Configuration → List Event → ℕ → MachineState
@@ -76,7 +97,9 @@ machine_of config past m = record {
   };
   clock = clock_of past m;
   publications = publications_of config past m;
-  seen = map (λ w. seen_of past m w) (range_with_len 0 config.workers);
+  row = greatest_of (stamps_of config past m);
+  book = book_of config past m;
+  workers = map (λ w. worker_of config past m w) (range_with_len 0 config.workers);
 }
 
 -- what is kept of a run of these events, none of them bad
@@ -85,6 +108,7 @@ state_of configs past = record {
   time = time_of past;
   packets = packets_of past;
   machines = map (λ m. machine_of (config_at configs m) past m) (range_with_len 0 (length configs));
+  shown = shown_of configs past;
 }
 
 -- what is kept is what a run of these events leaves, bad ones among them, the newest first

@@ -1,23 +1,34 @@
 -- What one event makes of what is kept, and the reply to it.
-use Rattle.std.specs.Prelude.{◌≡◌, ℕ, ◌+◌, ◌-◌, ◌==◌, ◌||◌, not, nat_lt, Bool, if◌then◌else◌, List, [], ◌∷◌, ◌++◌, map, length, slice_get, slice_set, slice_index, Option, Some, None, Result, Ok, Err}
+use Rattle.std.specs.Prelude.{◌≡◌, ℕ, ◌+◌, ◌-◌, ◌<◌, ◌||◌, not, nat_lt, Bool, if◌then◌else◌, List, [], ◌∷◌, ◌++◌, map, length, slice_get, slice_set, slice_index_or, Option, Some, None, Result, Ok, Err}
 use Rattle.tt_span.specs.Time.{max_time}
 use Rattle.tt_span.specs.Interval.{Interval}
 use Rattle.tt_source.specs.Fault.{number_of}
 use Rattle.tt_source.specs.Table.{TableState, poll_of, take_of, stated_at, known_of as known_of_table}
 use Rattle.tt_source.specs.declared.faults.SourceFault.{SourceFault}
 use Rattle.tt_fuse.specs.Depth.{slow_fusion}
+use Rattle.tt_stamp.specs.declared.commits.Id.{Id}
+use Rattle.tt_stamp.specs.declared.commits.Entry.TheVariants as entries
+use Rattle.tt_stamp.specs.declared.faults.StampFault.{StampFault}
+use Rattle.tt_stamp.specs.declared.faults.BookFault.{BookFault}
+use Rattle.tt_stamp.specs.Fault.{number_of as stamp_number_of, book_number_of}
+use Rattle.tt_stamp.specs.Stamp.{stamp_of}
+use Rattle.tt_stamp.specs.History.{waiting_of, release_of, with_receipts, first_queue_fault}
 use Rattle.tt_world.specs.declared.events.Event.{Event}
 use Rattle.tt_world.specs.declared.events.Action.{Action}
-use Rattle.tt_world.specs.declared.events.Action.TheVariants.{Send, Answer, Forge, Deliver, Fuse, Read}
+use Rattle.tt_world.specs.declared.events.Action.TheVariants.{Send, Answer, Forge, Deliver, Fuse, Read, Arrive, Stamp, Queue, Release}
 use Rattle.tt_world.specs.declared.events.Reply.{Reply}
 use Rattle.tt_world.specs.declared.events.Reply.TheVariants as replies
 use Rattle.tt_world.specs.declared.faults.WorldFault.{WorldFault}
 use Rattle.tt_world.specs.declared.faults.WorldFault.TheVariants as faults
 use Rattle.tt_world.specs.declared.packets.Packet.{Packet}
-use Rattle.tt_world.specs.declared.packets.Packet.TheVariants.{Asked, Answered, Forged}
+use Rattle.tt_world.specs.declared.packets.Packet.TheVariants.{Asked, Forged}
 use Rattle.tt_world.specs.declared.publications.Publication.{Publication}
+use Rattle.tt_world.specs.declared.workers.Arrival.{Arrival}
+use Rattle.tt_world.specs.declared.workers.Task.{Task}
+use Rattle.tt_world.specs.declared.workers.Task.TheVariants as tasks
+use Rattle.tt_world.specs.declared.workers.Worker.{Worker}
 use Rattle.tt_world.specs.Packet.{machine_of_packet, source_of_packet, bytes_of, is_asked, answer_to}
-use Rattle.tt_world.specs.Publications.{published, reading_at}
+use Rattle.tt_world.specs.Publications.{Showing, showing_of, published, reading_at}
 use Rattle.tt_world.specs.Bad.{is_unreadable}
 use Rattle.tt_world.specs.State.{MachineState, WorldState}
 
@@ -42,7 +53,7 @@ is_back_on machine clock = nat_lt clock machine.clock || nat_lt max_time clock
 -- machine m has had its turn at a true time, and these packets were put on their way
 abbrev pub after_turn : WorldState → ℕ → ℕ → Turn → List Packet → Outcome
 after_turn world at m turn put = record {
-  world = record { time = at; packets = world.packets ++ put; machines = slice_set world.machines m turn.machine };
+  world = record world { time = at; packets = world.packets ++ put; machines = slice_set world.machines m turn.machine };
   reply = turn.reply;
 }
 
@@ -116,22 +127,46 @@ publish_turn machine clock (Ok publication) = record {
 }
 publish_turn machine clock (Err number) = record { machine = record machine { clock = clock }; reply = replies.Refused number }
 
+-- publications are shown besides
+abbrev pub with_shown : Outcome → List Showing → Outcome
+with_shown outcome showings = record {
+  world = record outcome.world { shown = outcome.world.shown ++ showings };
+  reply = outcome.reply;
+}
+
 abbrev pub fuse_on : WorldState → ℕ → ℕ → ℕ → Option MachineState → Outcome
 fuse_on world at m clock None = refused world 1206
 fuse_on world at m clock (Some machine) =
     if is_back_on machine clock then refused world 1202
-    else after_turn world at m (publish_turn machine clock (fusion_on machine clock)) []
+    else with_shown (after_turn world at m (publish_turn machine clock (fusion_on machine clock)) [])
+    (showing_of m (length machine.publications + 1) (spans_on machine clock) machine.config.faulty (fusion_on machine clock))
+
+-- no worker has done anything
+abbrev pub new_worker : Worker
+new_worker = record { seen = 0; task = None; reading = None; since = None }
+
+-- worker w of a machine
+abbrev pub worker_at : MachineState → ℕ → Worker
+worker_at machine w = slice_index_or machine.workers w new_worker
+
+-- the machine with another worker w
+abbrev pub with_worker : MachineState → ℕ → Worker → MachineState
+with_worker machine w worker = record machine { workers = slice_set machine.workers w worker }
 
 -- publication k, if worker w can read from it
 abbrev pub readable_on : MachineState → ℕ → ℕ → Option Publication
 readable_on machine w k =
-    if is_unreadable (length machine.publications) (slice_index machine.seen w) k then None
+    if is_unreadable (length machine.publications) (worker_at machine w).seen k then None
     else slice_get machine.publications (k - 1)
 
 -- the worker reads from a publication
 abbrev pub read_turn : MachineState → ℕ → ℕ → ℕ → Publication → Turn
 read_turn machine w clock k publication = record {
-  machine = record machine { clock = clock; seen = slice_set machine.seen w k };
+  machine = record (with_worker machine w (record (worker_at machine w) {
+    seen = k;
+    reading = Some (reading_at machine.config.drift publication clock);
+    since = Some (reading_at machine.config.drift publication clock);
+  })) { clock = clock };
   reply = replies.Read (reading_at machine.config.drift publication clock);
 }
 
@@ -143,10 +178,90 @@ read_from world at m w clock k machine (Some publication) =
 abbrev pub read_on : WorldState → ℕ → ℕ → ℕ → ℕ → ℕ → Option MachineState → Outcome
 read_on world at m w clock k None = refused world 1206
 read_on world at m w clock k (Some machine) =
-    if not (nat_lt w (length machine.seen)) then refused world 1206
+    if not (nat_lt w (length machine.workers)) then refused world 1206
     else if is_back_on machine clock then refused world 1202
-    else if is_unreadable (length machine.publications) (slice_index machine.seen w) k then refused world 1204
+    else if is_unreadable (length machine.publications) (worker_at machine w).seen k then refused world 1204
     else read_from world at m w clock k machine (slice_get machine.publications (k - 1))
+
+-- machine m is there, and has worker w
+abbrev pub IsWorker : WorldState → ℕ → ℕ → Type 0
+IsWorker world m w = (machine : MachineState) × (slice_get world.machines m ≡ Some machine) × (w < length machine.workers)
+
+-- the worker is asked for a commit; an older task is given up
+abbrev pub arrive_turn : MachineState → ℕ → Arrival → Turn
+arrive_turn machine w arrival = record {
+  machine = with_worker machine w (record (worker_at machine w) { task = Some (tasks.Arrived arrival); since = None });
+  reply = replies.Arrived;
+}
+
+abbrev pub arrive_on : WorldState → ℕ → ℕ → ℕ → Arrival → Option MachineState → Outcome
+arrive_on world at m w arrival None = refused world 1206
+arrive_on world at m w arrival (Some machine) =
+    if not (nat_lt w (length machine.workers)) then refused world 1206
+    else after_turn world at m (arrive_turn machine w arrival) []
+
+-- stamps of which this is the greatest, if there is one
+abbrev pub given_in : Option ℕ → List ℕ
+given_in None = []
+given_in (Some greatest) = greatest ∷ []
+
+-- the worker stamps its task, or is refused to
+abbrev pub stamp_turn : MachineState → ℕ → Id → Result ℕ StampFault → Turn
+stamp_turn machine w id (Ok stamp) = record {
+  machine = record (with_worker machine w (record (worker_at machine w) { task = Some (tasks.Stamped id stamp) })) { row = Some stamp };
+  reply = replies.Stamped stamp;
+}
+stamp_turn machine w id (Err fault) = record { machine = machine; reply = replies.Refused (stamp_number_of fault) }
+
+abbrev pub stamp_with : WorldState → ℕ → ℕ → ℕ → MachineState → Option Task → Option Interval → Outcome
+stamp_with world at m w machine None reading = refused world 1205
+stamp_with world at m w machine (Some (tasks.Stamped id stamp)) reading = refused world 1205
+stamp_with world at m w machine (Some (tasks.Arrived arrival)) None = refused world 1205
+stamp_with world at m w machine (Some (tasks.Arrived arrival)) (Some reading) =
+    after_turn world at m (stamp_turn machine w arrival.id (stamp_of (given_in machine.row) reading.hi arrival.floor)) []
+
+abbrev pub stamp_on : WorldState → ℕ → ℕ → ℕ → Option MachineState → Outcome
+stamp_on world at m w None = refused world 1206
+stamp_on world at m w (Some machine) =
+    if not (nat_lt w (length machine.workers)) then refused world 1206
+    else stamp_with world at m w machine (worker_at machine w).task (worker_at machine w).since
+
+-- the worker queues its task, or is refused to
+abbrev pub queue_turn : MachineState → ℕ → Id → ℕ → Option BookFault → Turn
+queue_turn machine w id stamp None = record {
+  machine = record (with_worker machine w (record (worker_at machine w) { task = None })) { book = entries.Queued id stamp ∷ machine.book };
+  reply = replies.Queued;
+}
+queue_turn machine w id stamp (Some fault) = record { machine = machine; reply = replies.Refused (book_number_of fault) }
+
+abbrev pub queue_with : WorldState → ℕ → ℕ → ℕ → MachineState → Option Task → Outcome
+queue_with world at m w machine None = refused world 1205
+queue_with world at m w machine (Some (tasks.Arrived arrival)) = refused world 1205
+queue_with world at m w machine (Some (tasks.Stamped id stamp)) =
+    after_turn world at m (queue_turn machine w id stamp (first_queue_fault machine.book id stamp)) []
+
+abbrev pub queue_on : WorldState → ℕ → ℕ → ℕ → Option MachineState → Outcome
+queue_on world at m w None = refused world 1206
+queue_on world at m w (Some machine) =
+    if not (nat_lt w (length machine.workers)) then refused world 1206
+    else queue_with world at m w machine (worker_at machine w).task
+
+-- the worker releases with a reading
+abbrev pub release_turn : MachineState → Interval → Turn
+release_turn machine reading = record {
+  machine = record machine { book = with_receipts (release_of (waiting_of machine.book) reading.lo) machine.book };
+  reply = replies.Released (release_of (waiting_of machine.book) reading.lo);
+}
+
+abbrev pub release_with : WorldState → ℕ → ℕ → MachineState → Option Interval → Outcome
+release_with world at m machine None = refused world 1205
+release_with world at m machine (Some reading) = after_turn world at m (release_turn machine reading) []
+
+abbrev pub release_on : WorldState → ℕ → ℕ → ℕ → Option MachineState → Outcome
+release_on world at m w None = refused world 1206
+release_on world at m w (Some machine) =
+    if not (nat_lt w (length machine.workers)) then refused world 1206
+    else release_with world at m machine (worker_at machine w).reading
 
 -- what an action makes at a true time
 abbrev pub acted : WorldState → ℕ → Action → Outcome
@@ -156,6 +271,10 @@ acted world at (Forge m i payload) = forge_on world at m i payload (slice_get wo
 acted world at (Deliver packet clock) = deliver_on world at clock (slice_get world.packets packet)
 acted world at (Fuse m clock) = fuse_on world at m clock (slice_get world.machines m)
 acted world at (Read m w clock k) = read_on world at m w clock k (slice_get world.machines m)
+acted world at (Arrive m w id floor) = arrive_on world at m w (record { id = id; floor = floor }) (slice_get world.machines m)
+acted world at (Stamp m w) = stamp_on world at m w (slice_get world.machines m)
+acted world at (Queue m w) = queue_on world at m w (slice_get world.machines m)
+acted world at (Release m w) = release_on world at m w (slice_get world.machines m)
 
 -- what an event makes
 abbrev pub stepped : WorldState → Event → Outcome

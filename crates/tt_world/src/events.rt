@@ -3,10 +3,11 @@
 ghost use Rattle.std.specs.Prelude.{◌≡◌, ◌<◌, ◌≤◌, ◌↔◌, length, IsSome, IfSome};
 ghost use Rattle.tt_world.specs.Headline.{IsAction};
 
-use crate::readings::Reading;
 use arrayvec::ArrayVec;
 use std::marker::Model;
+use tt_publish::Reading;
 use tt_span::Span;
+use tt_stamp::{Id, Receipt};
 
 /// How many bytes a forged packet has at most.
 pub const MAX_PAYLOAD: usize = 64;
@@ -106,10 +107,78 @@ pub enum Action {
         clock: u64,
         publication: u64,
     },
+    /// The worker is asked for a commit with this id, whose stamp is to be the floor at least. A task that the
+    /// worker had before is given up.
+    Arrive {
+        machine: u8,
+        worker: u8,
+        id: Id,
+        floor: u64,
+    },
+    /// The worker stamps its task by its last reading, which is later than the arrival.
+    Stamp {
+        machine: u8,
+        worker: u8,
+    },
+    /// The worker queues its stamped task, and has none then.
+    Queue {
+        machine: u8,
+        worker: u8,
+    },
+    /// The worker releases, with its last reading, the commits of its machine that have surely passed.
+    Release {
+        machine: u8,
+        worker: u8,
+    },
+}
+
+/// The receipts of a release, least stamp first.
+#[derive(Debug, Drop)]
+pub struct Receipts {
+    items: Vec<Receipt>,
+}
+
+impl Model for Receipts {
+    ghost use Rattle.std.specs.Prelude.{List};
+    ghost use Rattle.tt_stamp.specs.declared.commits.Receipt.{Receipt};
+
+    ghost Value = { List Receipt };
+
+    ghost view = { λ r. r.items.items };
+}
+
+impl PartialEq for Receipts {
+    ghost use Rattle.std.specs.Cmp.Lexicographic.{pointwise, lists_per};
+    ghost use Rattle.tt_stamp.specs.contracts.commits.ReceiptPartialEq.TheImpl as receipt;
+    ghost use Rattle.tt_stamp.specs.contracts.commits.ReceiptPartialEq.TheImpl.Laws as receipt_laws;
+
+    ghost eq = { λ a b. pointwise (receipt.ghosts).eq a b };
+
+    ghost laws = { lists_per receipt_laws.laws-law };
+
+    fn eq(&self, other: &Receipts) -> bool {
+        self.as_slice() == other.as_slice()
+    }
+}
+
+impl Receipts {
+    /// These receipts.
+    pub(crate) fn of(items: Vec<Receipt>) -> Receipts
+        ensures { result ≡ items.items }
+    {
+        Receipts { items }
+    }
+
+    /// The receipts, least stamp first.
+    pub fn as_slice(&self) -> &[Receipt]
+        ensures { result.now ≡ self.now }
+    {
+        self.items.as_slice()
+    }
 }
 
 /// What is replied to an event.
-#[derive(Clone, Copy, Debug, PartialEq, Eq)]
+#[derive(Debug, PartialEq, Drop)]
 pub enum Reply {
     /// The request was put as the packet of this number.
     Sent(u64),
@@ -121,6 +190,14 @@ pub enum Reply {
     Published(u64, Span),
     /// The worker's reading.
     Read(Reading),
+    /// The worker has the commit as its task.
+    Arrived,
+    /// The worker's task has this stamp, in nanoseconds.
+    Stamped(u64),
+    /// The worker's task waits in the machine's book.
+    Queued,
+    /// These commits were released.
+    Released(Receipts),
     /// The event was refused, for the reason of this number, of this crate or a lower one.
     Refused(u16),
 }

@@ -1,49 +1,54 @@
-//! The model of true time: what every event of a run is replied to, and what every reading is worth.
+//! The model of true time: what every event of a run is replied to, and what every reading and stamp is worth.
 //!
 //! A run is a list of events. Each [`Event`] has its true time, which the code of the machines is never told, and an
 //! [`Action`]: a machine polls a source, a source answers or makes bytes up, a packet reaches its machine, a
-//! machine fuses what it knows and publishes it, a worker reads the time from a publication. Packets may be lost,
+//! machine fuses what it knows and publishes it, a worker reads the time from a publication, is asked for a commit,
+//! stamps it, queues it, and releases the commits of its machine that have surely passed. Packets may be lost,
 //! repeated, late and forged; sources may lie; clocks may run wrong. Every list of events is taken: a bad event is
 //! replied to with its number, and changes nothing.
 //!
-//! [`run`] gives the replies to a list of events on 1 to 8 machines, each set up by a [`Config`] of its own; a
-//! [`World`] takes the events one by one. What they promise, for every list of events:
+//! [`run`] gives the replies to a list of events on 1 to 8 machines, each set up by a [`Config`](tt_daemon::Config) of
+//! its own; a [`World`] takes the events one by one. What they promise, for every list of events:
 //!
 //! - Each reply is the one that is defined by searching back over the events before it.
 //! - Every reading holds the true time of its event, while at most so many sources of each machine lie as may and
 //!   its clock keeps its drift bound (Spanner's `TT.now()`, OSDI 2012, section 3).
 //! - Every published span is the shortest that is right whichever sources lie (Marzullo and Owicki, 1983).
 //! - While the same is assumed, no fusion is refused at which enough sources are known.
+//! - Every stamp is the least that is no less than the reading's latest and the floor, and above all stamps of the
+//!   machine (the start rule, OSDI 2012, section 4.1.2).
+//! - While the same is assumed, a commit that is released before another arrives, on whatever machine, has the smaller
+//!   stamp (commit wait and external consistency, OSDI 2012, sections 4.1.2 and 4.2.1).
+//! - Every publication is shown with the spans that were fused and the canonical certificate of their fusion.
 //!
 //! Modules:
 //!
-//! - `configs`: what a machine is set up with.
 //! - `events`: what happens, and what is replied.
 //! - `packets`: what is on its way between machines and sources.
-//! - `publications`: what a machine has published.
-//! - `readings`: readings of the time.
+//! - `publications`: what a machine has published, and what is shown of it.
+//! - `workers`: what is kept of one worker.
 //! - `machines`: what is kept of one machine.
 //! - `world`: a whole run, event by event.
 //! - `runs`: whole runs.
 //! - `faults`: why an event is bad.
 #![tactic(auto)]
 
-mod configs;
 mod events;
 mod faults;
 mod machines;
 mod packets;
 mod publications;
-mod readings;
 mod runs;
+mod workers;
 mod world;
 
-pub use configs::{Config, ConfigFault};
-pub use events::{Action, Event, Payload, Reply};
+pub use events::{Action, Event, Payload, Receipts, Reply};
 pub use faults::WorldFault;
-pub use readings::Reading;
+pub use publications::Shown;
 pub use runs::{Trace, run};
 pub use world::{MAX_MACHINES, World};
 
+#[cfg(test)]
+mod commit_tests;
 #[cfg(test)]
 mod tests;

@@ -1,38 +1,46 @@
 //! What is kept of one machine.
 
-ghost use Rattle.std.specs.Prelude.{◌≡◌, [], ℕ, ◌+◌, ◌<◌, ◌≤◌, length, take, All, OnErr, IfOk, IfErr, IsErrOf, IsTrue, Some, None, Ok, Err};
+ghost use Rattle.std.specs.Prelude.{◌≡◌, List, [], ℕ, ◌+◌, ◌++◌, ◌<◌, ◌≤◌, length, map, OnOk, OnErr, IfOk, IfErr, IsErrOf, IsTrue, Some, None, Ok, Err};
+ghost use Rattle.std.specs.Vec.{vec_len, vec_capacity};
 ghost use Rattle.tt_span.specs.Time.{max_time};
-ghost use Rattle.tt_span.specs.Interval.{IsInterval};
 ghost use Rattle.tt_source.specs.Table.{poll_of, take_of};
-ghost use Rattle.tt_fuse.specs.Depth.{slow_fusion};
-ghost use Rattle.tt_world.specs.Config.{IsConfiguration};
+ghost use Rattle.tt_daemon.specs.Config.{IsConfiguration};
 ghost use Rattle.tt_world.specs.Packet.{source_of_packet, bytes_of};
 ghost use Rattle.tt_world.specs.State.{MachineState, IsMachine, machine_of};
-ghost use Rattle.tt_world.specs.Step.{is_back_on, spans_on, with_table, take_turn, publish_turn, fusion_on, read_turn, readable_on};
+ghost use Rattle.tt_world.specs.Headline.{CertificatesProve};
+ghost use Rattle.tt_world.specs.Publications.{showing_of};
+ghost use Rattle.tt_world.specs.Trace.{outline};
+ghost use Rattle.tt_world.specs.Step.{is_back_on, spans_on, with_table, take_turn, publish_turn, fusion_on, read_turn, readable_on, worker_at, arrive_turn, stamp_turn, given_in, queue_turn, release_turn};
+ghost use Rattle.tt_stamp.specs.Stamp.{stamp_of};
+ghost use Rattle.tt_stamp.specs.History.{first_queue_fault};
+ghost use Rattle.tt_stamp.specs.declared.commits.Entry.{Entry};
+ghost use Rattle.tt_stamp.specs.declared.commits.Receipt.{Receipt};
 
-use crate::configs::{Config, MAX_SOURCES, MAX_WORKERS};
-use crate::events::Reply;
+use crate::events::{Receipts, Reply};
 use crate::faults::WorldFault;
 use crate::packets::Packet;
-use crate::publications::Publication;
-use crate::readings::Reading;
+use crate::publications::{Publication, Shown};
+use crate::workers::{Arrival, Task, Worker};
 use arrayvec::ArrayVec;
 use std::alloc::Global;
 use std::marker::Model;
-use tt_fuse::{fuse, fusion_laws};
+use tt_daemon::{Config, Daemon, MAX_WORKERS};
 use tt_poll::{encode_answer, encode_request};
-use tt_source::{SourceFault, Table};
-use tt_span::{MAX_TIME, Span};
+use tt_publish::Reading;
+use tt_source::SourceFault;
+use tt_span::MAX_TIME;
+use tt_stamp::{Book, BookFault, Entry, Id, Receipt, Row, book_laws};
 
-/// One machine: what it is set up with, what it knows of its sources, what its clock showed last, what it has
-/// published, and for each of its workers the number of the last publication that it read from.
+/// One machine: its daemon, what its clock showed last, what it has published, the greatest stamp that it has given,
+/// the book of its commits, and its workers.
 #[derive(Drop)]
 pub struct Machine {
-    config: Config,
-    table: Table,
+    daemon: Daemon,
     clock: u64,
     publications: Vec<Publication>,
-    seen: ArrayVec<u64, MAX_WORKERS>,
+    row: Row,
+    book: Book,
+    workers: ArrayVec<Worker, MAX_WORKERS>,
 }
 
 impl Model for Machine {
@@ -42,9 +50,9 @@ impl Model for Machine {
 
     ghost Value = { MachineState };
 
-    ghost view = { λ m. record { config = m.config; table = m.table; clock = m.clock; publications = m.publications.items; seen = m.seen.items } };
+    ghost view = { λ m. record { config = m.daemon.config; table = m.daemon.table; clock = m.clock; publications = m.publications.items; row = m.row; book = m.book; workers = m.workers.items } };
 
-    ghost invariant = { λ m. IsMachine (record { config = m.config; table = m.table; clock = m.clock; publications = m.publications.items; seen = m.seen.items }) };
+    ghost invariant = { λ m. IsMachine (record { config = m.daemon.config; table = m.daemon.table; clock = m.clock; publications = m.publications.items; row = m.row; book = m.book; workers = m.workers.items }) };
 }
 
 impl Machine {
@@ -54,14 +62,15 @@ impl Machine {
         ensures fresh { result ≡ machine_of config [] number }
         ensures valid { IsConfiguration config }
     {
-        let mut seen = ArrayVec::from([0; MAX_WORKERS]);
-        seen.truncate(config.workers());
+        let mut workers = ArrayVec::from([Worker::new(); MAX_WORKERS]);
+        workers.truncate(config.workers());
         Machine {
-            config,
-            table: Table::new(number, config.sources(), config.drift()),
+            daemon: Daemon::new(number, &config),
             clock: 0,
             publications: Vec::new(alloc),
-            seen,
+            row: Row::new(),
+            book: Book::new(alloc),
+            workers,
         }
     }
 
@@ -70,7 +79,7 @@ impl Machine {
         ensures value { result ≡ self.now.config }
         ensures valid { IsMachine self.now }
     {
-        self.config
+        *self.daemon.config()
     }
 
     /// Whether a reading of the clock is refused: it went back, or passed the greatest time.
@@ -90,8 +99,8 @@ impl Machine {
         ensures refused { IfErr result (λ e. (poll_of self.old.table source clock ≡ Err e) × (self.new ≡ record self.old { clock = clock })) }
     {
         self.clock = clock;
-        self.table.poll(source, clock)?;
-        Ok(self.table.last())
+        self.daemon.poll(source, clock)?;
+        Ok(self.daemon.last())
     }
 
     /// Takes what a packet from a source says.
@@ -101,7 +110,7 @@ impl Machine {
         ensures { record { machine = self.new; reply = result } ≡ take_turn self.old clock (take_of self.old.table source clock bytes.now) }
     {
         self.clock = clock;
-        match self.table.take(source, clock, bytes) {
+        match self.daemon.take(source, clock, bytes) {
             Ok(()) => Reply::Taken,
             Err(fault) => Reply::Refused(fault.number()),
         }
@@ -124,69 +133,61 @@ impl Machine {
         }
     }
 
-    /// The spans of all sources at a reading of the clock, in front.
-    fn spans_at(&self, clock: u64) -> [Span; MAX_SOURCES]
-        requires forward { self.now.clock ≤ clock }
-        requires in_time { clock ≤ max_time }
-        ensures value { take (length self.now.table.sources) result ≡ spans_on self.now clock }
-        ensures valid { All IsInterval result }
-    {
-        let mut spans = [Span::whole(); MAX_SOURCES];
-        for source in 0..self.table.sources() {
-            spans[source] = self.table.aged(source as u8, clock).unwrap();
-        }
-        spans
-    }
-
-    /// The fusion of all sources at a reading of the clock, or None where no time is possible.
-    fn fused_at(&self, clock: u64) -> Option<Span>
-        requires forward { self.now.clock ≤ clock }
-        requires in_time { clock ≤ max_time }
-        ensures { result ≡ slow_fusion (spans_on self.now clock) self.now.config.faulty }
-    {
-        let spans = self.spans_at(clock);
-        fusion_laws();
-        fuse(&spans[..self.table.sources()], self.config.faulty()).ok()
-    }
-
-    /// Fuses what is known of all sources, and publishes it. Want of memory changes nothing.
-    pub fn fuse(&mut self, clock: u64) -> Result<Reply, WorldFault>
+    /// Fuses what is known of all sources, and publishes it: the fusion is shown after the others, as one of the
+    /// machine of this number. Want of memory changes nothing.
+    pub fn fuse(
+        &mut self,
+        machine: u8,
+        clock: u64,
+        shown: &mut Vec<Shown>,
+    ) -> Result<Reply, WorldFault>
         requires forward { self.old.clock ≤ clock }
         requires in_time { clock ≤ max_time }
         ensures fused { IfOk result (λ reply. record { machine = self.new; reply = reply } ≡ publish_turn self.old clock (fusion_on self.old clock)) }
+        ensures shown { OnOk result (map outline shown.new.items ≡ map outline shown.old.items
+            ++ showing_of machine (length self.old.publications + 1) (spans_on self.old clock) self.old.config.faulty (fusion_on self.old clock)) }
+        ensures certified { CertificatesProve shown.old.items → CertificatesProve shown.new.items }
         ensures memory { IfErr result (λ e. e ≡ WorldFault.Memory) }
-        ensures unchanged { OnErr result (self.new ≡ self.old) }
+        ensures unchanged { OnErr result ((self.new ≡ self.old) × (shown.new.items ≡ shown.old.items)) }
     {
-        if self.table.known() < self.config.sources() - self.config.faulty() {
-            self.clock = clock;
-            return Ok(Reply::Refused(701));
-        }
-        let Some(span) = self.fused_at(clock) else {
-            self.clock = clock;
-            return Ok(Reply::Refused(504));
-        };
-        let number = self.publications.len() as u64 + 1;
-        self.publications.push(Publication { clock, span })?;
+        self.publications.reserve(1)?;
+        shown.reserve(1)?;
         self.clock = clock;
-        Ok(Reply::Published(number, span))
+        match self.daemon.fuse(clock) {
+            Ok(fused) => {
+                let number = self.publications.len() as u64 + 1;
+                let span = fused.span();
+                self.publications.push_reserved(Publication { clock, span });
+                shown.push_reserved(Shown {
+                    machine,
+                    number,
+                    fused,
+                });
+                Ok(Reply::Published(number, span))
+            }
+            Err(refusal) => Ok(Reply::Refused(refusal.number())),
+        }
     }
 
     /// How many workers the machine has.
     pub fn workers(&self) -> usize
-        ensures value { result ≡ length self.now.seen }
+        ensures value { result ≡ length self.now.workers }
         ensures valid { IsMachine self.now }
     {
-        self.seen.len()
+        self.workers.len()
     }
 
     /// The publication of this number, or None where it is not there, or older than one that the worker has read
     /// from.
     pub fn readable(&self, worker: u8, publication: u64) -> Option<Publication>
-        requires { worker < length self.now.seen }
+        requires { worker < length self.now.workers }
         ensures { result ≡ readable_on self.now worker publication }
     {
         let count = self.publications.len() as u64;
-        if publication == 0 || publication > count || publication < self.seen[usize::from(worker)] {
+        if publication == 0
+            || publication > count
+            || publication < self.workers[usize::from(worker)].seen
+        {
             return None;
         }
         self.publications.get((publication - 1) as usize).copied()
@@ -196,13 +197,104 @@ impl Machine {
     pub fn read(&mut self, worker: u8, clock: u64, number: u64, publication: &Publication) -> Reply
         requires forward { self.old.clock ≤ clock }
         requires in_time { clock ≤ max_time }
-        requires there { worker < length self.old.seen }
+        requires there { worker < length self.old.workers }
         ensures { record { machine = self.new; reply = result } ≡ read_turn self.old worker clock number publication.now }
     {
         let since = clock.saturating_sub(publication.clock);
-        let span = self.config.drift().age(&publication.span, since);
+        let span = self.daemon.config().drift().age(&publication.span, since);
         self.clock = clock;
-        self.seen[usize::from(worker)] = number;
-        Reply::Read(Reading::of(span))
+        let reading = Reading::of(span);
+        let place = usize::from(worker);
+        self.workers[place] = Worker {
+            seen: number,
+            reading: Some(reading),
+            since: Some(reading),
+            ..self.workers[place]
+        };
+        Reply::Read(reading)
+    }
+
+    /// What is kept of a worker.
+    pub fn worker(&self, worker: u8) -> Worker
+        requires { worker < length self.now.workers }
+        ensures { result ≡ worker_at self.now worker }
+    {
+        self.workers[usize::from(worker)]
+    }
+
+    /// The worker is asked for a commit.
+    pub fn arrive(&mut self, worker: u8, arrival: Arrival) -> Reply
+        requires { worker < length self.old.workers }
+        ensures { record { machine = self.new; reply = result } ≡ arrive_turn self.old worker arrival }
+    {
+        let place = usize::from(worker);
+        self.workers[place] = Worker {
+            task: Some(Task::Arrived(arrival)),
+            since: None,
+            ..self.workers[place]
+        };
+        Reply::Arrived
+    }
+
+    /// The worker stamps its task by a reading.
+    pub fn stamp(&mut self, worker: u8, arrival: &Arrival, reading: &Reading) -> Reply
+        requires { worker < length self.old.workers }
+        ensures { record { machine = self.new; reply = result }
+            ≡ stamp_turn self.old worker arrival.now.id (stamp_of (given_in self.old.row) reading.now.hi arrival.now.floor) }
+    {
+        match self.row.stamp(reading, arrival.floor) {
+            Ok(stamp) => {
+                let id = arrival.id;
+                self.workers[usize::from(worker)].task = Some(Task::Stamped { id, stamp });
+                Reply::Stamped(stamp)
+            }
+            Err(fault) => Reply::Refused(fault.number()),
+        }
+    }
+
+    /// The worker queues its task, which has a stamp. Want of memory changes nothing.
+    pub fn queue(&mut self, worker: u8, id: Id, stamp: u64) -> Result<Reply, WorldFault>
+        requires { worker < length self.old.workers }
+        ensures queued { IfOk result (λ reply. record { machine = self.new; reply = reply }
+            ≡ queue_turn self.old worker id stamp (first_queue_fault self.old.book id stamp)) }
+        ensures memory { IfErr result (λ e. e ≡ WorldFault.Memory) }
+        ensures unchanged { OnErr result (self.new ≡ self.old) }
+    {
+        match self.book.queue(id, stamp) {
+            Ok(()) => {
+                self.workers[usize::from(worker)].task = None;
+                Ok(Reply::Queued)
+            }
+            Err(BookFault::Memory) => Err(WorldFault::Memory),
+            Err(fault) => Ok(Reply::Refused(fault.number())),
+        }
+    }
+
+    /// Releases with a reading. Want of memory changes nothing.
+    pub fn release(&mut self, alloc: Global, reading: &Reading) -> Result<Reply, WorldFault>
+        ensures released { IfOk result (λ reply. record { machine = self.new; reply = reply } ≡ release_turn self.old reading.now) }
+        ensures memory { IfErr result (λ e. e ≡ WorldFault.Memory) }
+        ensures unchanged { OnErr result (self.new ≡ self.old) }
+    {
+        let mut receipts = Vec::with_capacity(alloc, self.book.waiting())?;
+        let count = self.book.release(reading);
+        book_laws();
+        let history = self.book.history();
+        copy_receipts(&history[history.len() - count..], &mut receipts);
+        Ok(Reply::Released(Receipts::of(receipts)))
+    }
+}
+
+/// Adds the receipts of these entries, for which there is room.
+fn copy_receipts(entries: &[Entry], receipts: &mut Vec<Receipt>)
+    requires { vec_len receipts.old + length entries.now ≤ vec_capacity receipts.old }
+    ensures { (passed : List Receipt) → entries.now ≡ map (λ receipt. Entry.Passed receipt) passed →
+        receipts.new.items ≡ receipts.old.items ++ passed }
+{
+    for entry in entries {
+        let Entry::Passed(receipt) = entry else {
+            continue;
+        };
+        receipts.push_reserved(*receipt);
     }
 }

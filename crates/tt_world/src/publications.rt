@@ -1,5 +1,6 @@
 //! What a machine has published.
 
+use tt_daemon::Fused;
 use tt_span::Span;
 
 /// A fused span, and the clock reading at which it was fused, in nanoseconds.
@@ -7,4 +8,13 @@ use tt_span::Span;
 pub struct Publication {
     pub clock: u64,
     pub span: Span,
+}
+
+/// A publication with all that was fused: which machine made it, its number among those of this machine, counted from
+/// 1, and the fusion with its certificate.
+#[derive(Debug, Drop)]
+pub struct Shown {
+    pub machine: u8,
+    pub number: u64,
+    pub fused: Fused,
 }

@@ -1,21 +1,27 @@
 //! Whole runs.
 
-ghost use Rattle.std.specs.Prelude.{◌≡◌, ℕ, ◌<◌, ◌⊎◌, ◌↔◌, [], length, IfOk, IfErr, IsErrOf};
-ghost use Rattle.tt_world.specs.Headline.{ReadingsHold, FusionsAreShortest, NoFusionRefused};
+ghost use Rattle.std.specs.Prelude.{◌≡◌, ℕ, ◌<◌, ◌⊎◌, ◌↔◌, [], length, map, reverse, IfOk, IfErr, IsErrOf};
+ghost use Rattle.tt_world.specs.Headline.{ReadingsHold, FusionsAreShortest, NoFusionRefused, StampsAreLeast, ExternallyConsistent, CertificatesProve};
 ghost use Rattle.tt_world.specs.Reply.{replies_from};
+ghost use Rattle.tt_world.specs.Bad.{accepted};
+ghost use Rattle.tt_world.specs.Publications.{shown_of};
+ghost use Rattle.tt_world.specs.Trace.{outline};
 
-use crate::configs::Config;
 use crate::events::{Event, Reply};
 use crate::faults::WorldFault;
+use crate::publications::Shown;
 use crate::world::World;
 use std::alloc::Global;
 use std::marker::Model;
+use tt_daemon::Config;
 use tt_fuse::fusion_laws;
+use tt_stamp::stamp_laws;
 
-/// What a run answers: the reply to each event, in the order of the events.
+/// What a run answers: the reply to each event, and what was published, both in the order of the events.
 #[derive(Drop)]
 pub struct Trace {
     replies: Vec<Reply>,
+    shown: Vec<Shown>,
 }
 
 impl Model for Trace {
@@ -23,7 +29,7 @@ impl Model for Trace {
 
     ghost Value = { RunTrace };
 
-    ghost view = { λ t. record { replies = t.replies.items } };
+    ghost view = { λ t. record { replies = t.replies.items; shown = t.shown.items } };
 }
 
 impl Trace {
@@ -33,9 +39,16 @@ impl Trace {
     {
         self.replies.as_slice()
     }
+
+    /// The publications of all machines.
+    pub fn shown(&self) -> &[Shown]
+        ensures { result.now ≡ self.now.shown }
+    {
+        self.shown.as_slice()
+    }
 }
 
-/// Runs a list of events on these machines, from the beginning, and answers the replies. Every list is taken; bad
+/// Runs a list of events on these machines, from the beginning, and answers the replies and what was published. Every list is taken; bad
 /// events are replied to with their numbers. Refuses by 1207 `Machines` where there is no machine, or more than
 /// eight, and by 1 `Memory` where memory was refused; there is no trace then.
 pub fn run(alloc: Global, configs: &[Config], events: &[Event]) -> Result<Trace, WorldFault>
@@ -52,6 +65,19 @@ pub fn run(alloc: Global, configs: &[Config], events: &[Event]) -> Result<Trace,
     // Under the assumptions no fusion is refused at which enough sources are known.
     ensures no_fusion_refused { IfOk result (λ trace. NoFusionRefused configs.now events.now trace.replies) }
 
+    // Every stamp is the least that its rules allow. Nothing is assumed.
+    ensures stamps_are_least { IfOk result (λ trace. StampsAreLeast configs.now events.now trace.replies) }
+
+    // Under the assumptions a commit that is released before another arrives, on whatever machines, has the smaller
+    // stamp (Spanner's external consistency: OSDI 2012, section 4.1.2).
+    ensures externally_consistent { IfOk result (λ trace. ExternallyConsistent configs.now events.now trace.replies) }
+
+    // What is shown is what was published, with the spans that were fused.
+    ensures shown { IfOk result (λ trace. map outline trace.shown ≡ shown_of configs.now (accepted configs.now (reverse events.now))) }
+
+    // Each publication has the certificate by which anybody can check it.
+    ensures certificates_prove { IfOk result (λ trace. CertificatesProve trace.shown) }
+
     ensures machines { IsErrOf result WorldFault.Machines ↔ ((length configs.now ≡ 0) ⊎ (8 < length configs.now)) }
     ensures refused { IfErr result (λ e. (e ≡ WorldFault.Machines) ⊎ (e ≡ WorldFault.Memory)) }
 {
@@ -62,5 +88,9 @@ pub fn run(alloc: Global, configs: &[Config], events: &[Event]) -> Result<Trace,
         replies.push(world.step(event)?)?;
     }
     fusion_laws();
-    Ok(Trace { replies })
+    stamp_laws();
+    Ok(Trace {
+        replies,
+        shown: world.into_shown(),
+    })
 }

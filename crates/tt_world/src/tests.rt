@@ -1,21 +1,23 @@
 //! Scripts whose replies were worked out by hand.
 
-use crate::{Action, Config, ConfigFault, Event, Payload, Reading, Reply, World, WorldFault, run};
+use crate::{Action, Event, Payload, Reply, World, WorldFault, run};
 use std::alloc::Global;
 use std::test::Fail;
+use tt_daemon::Config;
+use tt_publish::Reading;
 use tt_span::{Drift, MAX_TIME, Span};
 
 /// A span of these ends, which are in their order.
-fn span(lo: u64, hi: u64) -> Span {
+pub(crate) fn span(lo: u64, hi: u64) -> Span {
     Span::new(lo, hi).unwrap_or(Span::whole())
 }
 
 /// A machine with two workers.
-fn machine(sources: usize, faulty: usize, drift: u32) -> Result<Config, Fail> {
+pub(crate) fn machine(sources: usize, faulty: usize, drift: u32) -> Result<Config, Fail> {
     Ok(Config::new(sources, faulty, Drift::new(drift).ok_or("a drift")?, 2)?)
 }
 
-fn send(at: u64, machine: u8, source: u8, clock: u64) -> Event {
+pub(crate) fn send(at: u64, machine: u8, source: u8, clock: u64) -> Event {
     let action = Action::Send {
         machine,
         source,
@@ -24,7 +26,7 @@ fn send(at: u64, machine: u8, source: u8, clock: u64) -> Event {
     Event { at, action }
 }
 
-fn answer(at: u64, packet: u64, lo: u64, hi: u64) -> Event {
+pub(crate) fn answer(at: u64, packet: u64, lo: u64, hi: u64) -> Event {
     let action = Action::Answer {
         packet,
         span: span(lo, hi),
@@ -42,17 +44,17 @@ fn forge(at: u64, machine: u8, source: u8, bytes: &[u8]) -> Result<Event, Fail> 
     Ok(Event { at, action })
 }
 
-fn deliver(at: u64, packet: u64, clock: u64) -> Event {
+pub(crate) fn deliver(at: u64, packet: u64, clock: u64) -> Event {
     let action = Action::Deliver { packet, clock };
     Event { at, action }
 }
 
-fn fuse(at: u64, machine: u8, clock: u64) -> Event {
+pub(crate) fn fuse(at: u64, machine: u8, clock: u64) -> Event {
     let action = Action::Fuse { machine, clock };
     Event { at, action }
 }
 
-fn read(at: u64, machine: u8, worker: u8, clock: u64, publication: u64) -> Event {
+pub(crate) fn read(at: u64, machine: u8, worker: u8, clock: u64, publication: u64) -> Event {
     let action = Action::Read {
         machine,
         worker,
@@ -62,20 +64,25 @@ fn read(at: u64, machine: u8, worker: u8, clock: u64, publication: u64) -> Event
     Event { at, action }
 }
 
-fn published(number: u64, lo: u64, hi: u64) -> Reply {
+pub(crate) fn published(number: u64, lo: u64, hi: u64) -> Reply {
     Reply::Published(number, span(lo, hi))
 }
 
-fn reading(lo: u64, hi: u64) -> Reply {
+pub(crate) fn reading(lo: u64, hi: u64) -> Reply {
     Reply::Read(Reading::of(span(lo, hi)))
 }
 
-fn refused(number: u16) -> Reply {
+pub(crate) fn refused(number: u16) -> Reply {
     Reply::Refused(number)
 }
 
 /// Whether a run of these events has these replies.
-fn replies(alloc: Global, configs: &[Config], events: &[Event], replies: &[Reply]) -> bool {
+pub(crate) fn replies(
+    alloc: Global,
+    configs: &[Config],
+    events: &[Event],
+    replies: &[Reply],
+) -> bool {
     match run(alloc, configs, events) {
         Ok(trace) => trace.replies() == replies,
         Err(_) => false,
@@ -620,40 +627,6 @@ fn numbers_its_faults(rt: HostRuntime) {
     assert_eq!(rt; WorldFault::UnknownNumber.number(), 1206);
     assert_eq!(rt; WorldFault::Machines.number(), 1207);
     assert_eq!(rt; WorldFault::Memory.number(), 1);
-    assert_eq!(rt; ConfigFault::NoSource.number(), 501);
-    assert_eq!(rt; ConfigFault::TooManySources.number(), 502);
-    assert_eq!(rt; ConfigFault::TooFewSources.number(), 503);
-    assert_eq!(rt; ConfigFault::Workers.number(), 702);
-}
-
-#[test]
-fn sets_machines_up(rt: HostRuntime) -> Result<(), Fail> {
-    let drift = Drift::new(200).ok_or("a drift")?;
-    assert_eq!(rt; Config::new(0, 9, drift, 0), Err(ConfigFault::NoSource));
-    assert_eq!(rt;
-        Config::new(17, 9, drift, 0),
-        Err(ConfigFault::TooManySources)
-    );
-    assert_eq!(rt;
-        Config::new(2, 1, drift, 0),
-        Err(ConfigFault::TooFewSources)
-    );
-    assert_eq!(rt;
-        Config::new(16, 8, drift, 1),
-        Err(ConfigFault::TooFewSources)
-    );
-    assert_eq!(rt;
-        Config::new(1, usize::MAX, drift, 1),
-        Err(ConfigFault::TooFewSources)
-    );
-    assert_eq!(rt; Config::new(3, 1, drift, 0), Err(ConfigFault::Workers));
-    assert_eq!(rt; Config::new(3, 1, drift, 33), Err(ConfigFault::Workers));
-    let config = Config::new(16, 7, drift, 32)?;
-    assert_eq!(rt; config.sources(), 16);
-    assert_eq!(rt; config.faulty(), 7);
-    assert_eq!(rt; config.drift(), drift);
-    assert_eq!(rt; config.workers(), 32);
-    Ok(())
 }
 
 #[test]

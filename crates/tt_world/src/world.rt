@@ -1,22 +1,25 @@
 //! A whole run, event by event.
 
-ghost use Rattle.std.specs.Prelude.{◌≡◌, ℕ, ◌+◌, ◌<◌, ◌≤◌, slice_get, List, [], ◌∷◌, length, ◌↔◌, ◌⊎◌, IfOk, IfErr, OnErr, IsErrOf};
-ghost use Rattle.tt_world.specs.Config.{Configuration};
+ghost use Rattle.std.specs.Prelude.{◌≡◌, ℕ, ◌+◌, ◌<◌, ◌≤◌, slice_get, List, [], ◌∷◌, length, map, ◌↔◌, ◌⊎◌, IfOk, IfErr, OnErr, IsErrOf};
+ghost use Rattle.tt_daemon.specs.Config.{Configuration};
 ghost use Rattle.tt_world.specs.declared.events.Event.{Event};
 ghost use Rattle.tt_world.specs.declared.events.Reply.{Reply};
-ghost use Rattle.tt_world.specs.Headline.{AreConfigurations};
+ghost use Rattle.tt_world.specs.Headline.{AreConfigurations, CertificatesProve};
+ghost use Rattle.tt_world.specs.Trace.{outline};
 ghost use Rattle.tt_world.specs.Reply.{reply_of};
 ghost use Rattle.tt_world.specs.State.{WorldState, StandsFor};
 ghost use Rattle.tt_world.specs.Packet.{answer_to};
-ghost use Rattle.tt_world.specs.Step.{Does, send_on, answer_on, forge_on, deliver_on, fuse_on, read_on, stepped};
+ghost use Rattle.tt_world.specs.Step.{Does, IsWorker, send_on, answer_on, forge_on, deliver_on, fuse_on, read_on, arrive_on, stamp_on, queue_on, release_on, stepped};
 
-use crate::configs::Config;
 use crate::events::{Action, Event, Payload, Reply};
 use crate::faults::WorldFault;
 use crate::machines::Machine;
 use crate::packets::Packet;
+use crate::publications::Shown;
+use crate::workers::{Arrival, Task};
 use std::alloc::Global;
 use std::marker::Model;
+use tt_daemon::Config;
 use tt_poll::{Answer, Request};
 use tt_span::{MAX_TIME, Span};
 
@@ -24,22 +27,28 @@ use tt_span::{MAX_TIME, Span};
 pub const MAX_MACHINES: usize = 8;
 
 /// A run of up to eight machines, as far as it has come: the last true time, the packets that were put on their
-/// way, and the machines.
+/// way, the machines, and what they have published.
 #[derive(Drop)]
 pub struct World {
+    alloc: Global,
     time: u64,
     packets: Vec<Packet>,
     machines: Vec<Machine>,
+    shown: Vec<Shown>,
 }
 
 impl Model for World {
+    ghost use Rattle.std.specs.Prelude.{map};
     ghost use Rattle.tt_world.specs.State.{WorldState, IsWorld};
+    ghost use Rattle.tt_world.specs.Trace.{outline};
+    ghost use Rattle.tt_world.specs.Headline.{CertificatesProve};
 
     ghost Value = { WorldState };
 
-    ghost view = { λ w. record { time = w.time; packets = w.packets.items; machines = w.machines.items } };
+    ghost view = { λ w. record { time = w.time; packets = w.packets.items; machines = w.machines.items; shown = map outline w.shown.items } };
 
-    ghost invariant = { λ w. IsWorld (record { time = w.time; packets = w.packets.items; machines = w.machines.items }) };
+    ghost invariant = { λ w. IsWorld (record { time = w.time; packets = w.packets.items; machines = w.machines.items; shown = map outline w.shown.items })
+        × CertificatesProve w.shown.items };
 }
 
 impl World {
@@ -59,16 +68,15 @@ impl World {
         }
         self.packets.reserve(1)?;
         let number = self.packets.len() as u64;
-        let reply = match self.machines[place].poll(source, clock) {
+        self.time = at;
+        match self.machines[place].poll(source, clock) {
             Ok(nonce) => {
                 let request = Request::new(machine, source, nonce).unwrap();
                 self.packets.push(Packet::Asked(request)).unwrap();
-                Reply::Sent(number)
+                Ok(Reply::Sent(number))
             }
-            Err(fault) => Reply::Refused(fault.number()),
-        };
-        self.time = at;
-        Ok(reply)
+            Err(fault) => Ok(Reply::Refused(fault.number())),
+        }
     }
 
     /// A source puts bytes that it made up on their way.
@@ -110,7 +118,7 @@ impl World {
         if self.machines[place].is_back(clock) {
             return Err(WorldFault::ClockBack);
         }
-        let reply = self.machines[place].fuse(clock)?;
+        let reply = self.machines[place].fuse(machine, clock, &mut self.shown)?;
         self.time = at;
         Ok(reply)
     }
@@ -142,6 +150,77 @@ impl World {
         let reply = self.machines[place].read(worker, clock, number, &publication);
         self.time = at;
         Ok(reply)
+    }
+
+    /// A worker is asked for a commit.
+    fn arrive(
+        &mut self,
+        at: u64,
+        machine: u8,
+        worker: u8,
+        arrival: Arrival,
+    ) -> Result<Reply, WorldFault>
+        ensures { Does (arrive_on self.old at machine worker arrival (slice_get self.old.machines machine)) self.old result self.new }
+    {
+        let place = self.place_of(machine, worker)?;
+        let reply = self.machines[place].arrive(worker, arrival);
+        self.time = at;
+        Ok(reply)
+    }
+
+    /// A worker stamps its task.
+    fn stamp(&mut self, at: u64, machine: u8, worker: u8) -> Result<Reply, WorldFault>
+        ensures { Does (stamp_on self.old at machine worker (slice_get self.old.machines machine)) self.old result self.new }
+    {
+        let place = self.place_of(machine, worker)?;
+        let kept = self.machines[place].worker(worker);
+        let Some(Task::Arrived(arrival)) = kept.task else {
+            return Err(WorldFault::NothingThere);
+        };
+        let Some(reading) = kept.since else {
+            return Err(WorldFault::NothingThere);
+        };
+        let reply = self.machines[place].stamp(worker, &arrival, &reading);
+        self.time = at;
+        Ok(reply)
+    }
+
+    /// A worker queues its stamped task.
+    fn queue(&mut self, at: u64, machine: u8, worker: u8) -> Result<Reply, WorldFault>
+        ensures { Does (queue_on self.old at machine worker (slice_get self.old.machines machine)) self.old result self.new }
+    {
+        let place = self.place_of(machine, worker)?;
+        let Some(Task::Stamped { id, stamp }) = self.machines[place].worker(worker).task else {
+            return Err(WorldFault::NothingThere);
+        };
+        let reply = self.machines[place].queue(worker, id, stamp)?;
+        self.time = at;
+        Ok(reply)
+    }
+
+    /// A worker releases with its last reading.
+    fn release(&mut self, at: u64, machine: u8, worker: u8) -> Result<Reply, WorldFault>
+        ensures { Does (release_on self.old at machine worker (slice_get self.old.machines machine)) self.old result self.new }
+    {
+        let place = self.place_of(machine, worker)?;
+        let Some(reading) = self.machines[place].worker(worker).reading else {
+            return Err(WorldFault::NothingThere);
+        };
+        let reply = self.machines[place].release(self.alloc, &reading)?;
+        self.time = at;
+        Ok(reply)
+    }
+
+    /// The place of a machine that has this worker.
+    fn place_of(&self, machine: u8, worker: u8) -> Result<usize, WorldFault>
+        ensures there { IfOk result (λ place. (place ≡ machine) × IsWorker self.now machine worker) }
+        ensures not_there { IfErr result (λ e. (e ≡ WorldFault.UnknownNumber) × (IsWorker self.now machine worker → ⊥)) }
+    {
+        let place = usize::from(machine);
+        if place >= self.machines.len() || usize::from(worker) >= self.machines[place].workers() {
+            return Err(WorldFault::UnknownNumber);
+        }
+        Ok(place)
     }
 
     /// The source that a request asks answers it.
@@ -213,6 +292,23 @@ impl World {
                 clock,
                 publication,
             } => self.read(at, *machine, *worker, *clock, *publication),
+            Action::Arrive {
+                machine,
+                worker,
+                id,
+                floor,
+            } => self.arrive(
+                at,
+                *machine,
+                *worker,
+                Arrival {
+                    id: *id,
+                    floor: *floor,
+                },
+            ),
+            Action::Stamp { machine, worker } => self.stamp(at, *machine, *worker),
+            Action::Queue { machine, worker } => self.queue(at, *machine, *worker),
+            Action::Release { machine, worker } => self.release(at, *machine, *worker),
         }
     }
 
@@ -232,16 +328,18 @@ impl World {
             machines.push(Machine::new(alloc, number as u8, *config))?;
         }
         Ok(World {
+            alloc,
             time: 0,
             packets: Vec::new(alloc),
             machines,
+            shown: Vec::new(alloc),
         })
     }
 
     /// What an event makes, and the reply to it. Every event is taken: one that is bad is replied to with its
-    /// number, the first that applies of 1201 `TimeBack`, 1206 `UnknownNumber`, 1203 `NoPacket`, 1202 `ClockBack`
-    /// and 1204 `NoPublication`, and changes nothing. A reply with a number of a lower crate moves the true time
-    /// and the machine's clock alone. Refuses by 1 `Memory` where memory was refused; the world is then as before.
+    /// number, the first that applies of 1201 `TimeBack`, 1206 `UnknownNumber`, 1203 `NoPacket`, 1202 `ClockBack`,
+    /// 1204 `NoPublication` and 1205 `NothingThere`, and changes nothing. A reply with a number of a lower crate moves
+    /// the true time and, where the event reads it, the machine's clock alone. Refuses by 1 `Memory` where memory was refused; the world is then as before.
     pub fn step(&mut self, event: &Event) -> Result<Reply, WorldFault>
         // Of every run that the world stands for, this is the next reply, and the world stands for the longer run.
         ensures reply { IfOk result (λ reply. (configs : List Configuration) (past : List Event) → StandsFor configs past self.old →
@@ -254,5 +352,13 @@ impl World {
             Ok(reply) => Ok(reply),
             Err(fault) => fault.as_reply(),
         }
+    }
+
+    /// What was published, in the order of the events.
+    pub(crate) fn into_shown(self) -> Vec<Shown>
+        ensures value { map outline result.items ≡ self.shown }
+        ensures certified { CertificatesProve result.items }
+    {
+        self.shown
     }
 }

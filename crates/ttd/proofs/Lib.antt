@@ -1,2 +1,6 @@
 pub mod Writing
 pub mod Replies
+pub mod Numbers
+pub mod Lines
+pub mod Suspects
+pub mod Checking

@@ -1,12 +1,12 @@
--- What is replied where the input could not be read whole.
-use Rattle.std.proofs.Common.{◌≡◌, ◌≢◌, ◌<◌, ◌+◌, ℕ, List, Option, None, Some, Result, Err, IfSome, length, replicate, inl, inr, refl, arith}
+-- What is replied to an input, and answered.
+use Rattle.std.proofs.Common.{◌≡◌, ◌≢◌, ◌<◌, ◌≤◌, ◌+◌, ℕ, List, Option, None, Some, Result, Err, IfSome, length, replicate, inl, inr, refl, arith}
+use Rattle.std.specs.Io.KnownBytes.{IsAtEnd}
 use Rattle.std.proofs.lemmas.List.{length-replicate}
-use Rattle.std.proofs.lemmas.Bool.{lt-ltb}
 use Rattle.tt_stream.specs.Counts.{HasFailed}
 use Rattle.ttd_words.specs.declared.words.Asked.{Asked}
 use Rattle.ttd.specs.declared.faults.Fault.{Fault}
 use Rattle.ttd.specs.declared.faults.Fault.TheVariants.{BadInput, ReadFailed}
-use Rattle.ttd.specs.Command.{IsReplyRead, reply_of}
+use Rattle.ttd.specs.Command.{HasReply, IsCommandReply, IsReply, IsReplyRead}
 use Rattle.ttd.specs.Input.{IsInputFault, most_input}
 use Rattle.ttd.specs.Run.{Input}
 
@@ -22,7 +22,7 @@ pub fault_replied : {T : Type 0} (text_of : T → List ℕ) (asked : Asked) (old
     → (fault ≡ ReadFailed → HasFailed old.failed new.failed)
     → (fault ≡ BadInput → IfSome old.left (λ all. most_input < length all))
     → (fault ≢ ReadFailed → new.failed ≡ old.failed)
-    → IsReplyRead text_of (reply_of asked) old new result
+    → IsReplyRead text_of (IsReply asked) old new result
 fault_replied text_of asked old new fault result is (inl failed) cause long sound = inr (inl (cc, cause failed))
 fault_replied text_of asked old new fault result is (inr (inl too_long)) cause long sound =
     let more = longer_input old.left most_input (long too_long) in
@@ -34,6 +34,15 @@ fault_replied text_of asked old new fault result is (inr (inl too_long)) cause l
         end = inr more.2;
         sound = sound (λ e. cc);
       },
-      rw (refused, lt-ltb most_input (length more.0) more.2) refl,
+      rw refused (inl (more.2, refl)),
     )
 fault_replied text_of asked old new fault result is (inr (inr memory)) cause long sound = inr (inr cc)
+
+-- what is replied where it was read
+pub command_replied : {T : Type 0} (text_of : T → List ℕ) (asked : Asked) (bytes : List ℕ) (old new : Input) (result : Result T Fault)
+    → IfSome old.left (λ all. all ≡ bytes) → length bytes ≤ most_input → IsAtEnd new.left → new.failed ≡ old.failed
+    → HasReply text_of (IsCommandReply asked bytes) result
+    → IsReplyRead text_of (IsReply asked) old new result
+command_replied text_of asked bytes old new result whole short end sound (inl is) =
+    inl (bytes, record { whole = whole; end = inl end; sound = sound }, inr (short, is))
+command_replied text_of asked bytes old new result whole short end sound (inr memory) = inr (inr memory)

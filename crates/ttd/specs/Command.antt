@@ -1,5 +1,5 @@
 -- What each command answers to its input.
-use Rattle.std.specs.Prelude.{◌≡◌, ◌⊎◌, ℕ, List, length, nat_lt, Result, Ok, Err, if◌then◌else◌}
+use Rattle.std.specs.Prelude.{◌≡◌, ◌⊎◌, ℕ, ◌<◌, ◌≤◌, List, length, Result, Ok, Err}
 use Rattle.std.specs.Result.{result_map_both}
 use Rattle.tt_stream.specs.Counts.{HasFailed}
 use Rattle.ttd.specs.Run.{Input, IsRead}
@@ -11,30 +11,25 @@ use Rattle.ttd.specs.declared.faults.Fault.{Fault}
 use Rattle.ttd.specs.declared.faults.Fault.TheVariants.{BadWords, BadInput, ReadFailed, Memory}
 use Rattle.ttd.specs.Input.{most_input}
 use Rattle.ttd.specs.Age.{age_of}
+use Rattle.ttd.specs.Fuse.{IsFuseReply}
+use Rattle.ttd.specs.Check.{IsCheckReply}
 
--- `fuse` is not there yet: it is refused as bad words are.
-abbrev pub fuse_of : List ℕ → Result (List ℕ) Fault
-fuse_of input = Err BadWords
+-- The reply is what the command that is asked for answers to an input of allowed length.
+abbrev pub IsCommandReply : Asked → List ℕ → Result (List ℕ) Fault → Type 0
+IsCommandReply (Age drift sent got clock) input reply = reply ≡ age_of (record { drift = drift; sent = sent; got = got; clock = clock }) input
+IsCommandReply Fuse input reply = IsFuseReply input reply
+IsCommandReply Check input reply = IsCheckReply input reply
+IsCommandReply Help input reply = reply ≡ Err BadWords
 
--- `check` is not there yet: it is refused as bad words are.
-abbrev pub check_of : List ℕ → Result (List ℕ) Fault
-check_of input = Err BadWords
-
--- What the command that is asked for answers to an input of allowed length.
-abbrev pub command_of : Asked → List ℕ → Result (List ℕ) Fault
-command_of (Age drift sent got clock) input = age_of (record { drift = drift; sent = sent; got = got; clock = clock }) input
-command_of Fuse input = fuse_of input
-command_of Check input = check_of input
-command_of Help input = Err BadWords
-
--- What it answers to any input: one that is too long is refused before anything else is looked at.
-abbrev pub reply_of : Asked → List ℕ → Result (List ℕ) Fault
-reply_of asked input = if nat_lt most_input (length input) then Err BadInput else command_of asked input
+-- The reply is what it answers to any input: one that is too long is refused before anything else is looked at.
+abbrev pub IsReply : Asked → List ℕ → Result (List ℕ) Fault → Type 0
+IsReply asked input reply =
+    ((most_input < length input) × (reply ≡ Err BadInput)) ⊎ ((length input ≤ most_input) × IsCommandReply asked input reply)
 
 -- The same by what the words ask for, or why they are refused.
-abbrev pub reply_to : Result Asked WordsFault → List ℕ → Result (List ℕ) Fault
-reply_to (Ok asked) input = reply_of asked input
-reply_to (Err fault) input = Err BadWords
+abbrev pub IsReplyTo : Result Asked WordsFault → List ℕ → Result (List ℕ) Fault → Type 0
+IsReplyTo (Ok asked) input reply = IsReply asked input reply
+IsReplyTo (Err fault) input reply = reply ≡ Err BadWords
 
 -- The result is this one, or memory was refused.
 abbrev pub IsUnlessMemory : {T : Type 0} → Result T Fault → Result T Fault → Type 0
@@ -44,10 +39,14 @@ IsUnlessMemory reply result = (result ≡ reply) ⊎ (result ≡ Err Memory)
 abbrev pub HasText : {T : Type 0} → (T → List ℕ) → Result (List ℕ) Fault → Result T Fault → Type 0
 HasText text_of reply result = (result_map_both text_of (λ fault. fault) result ≡ reply) ⊎ (result ≡ Err Memory)
 
--- The result is the reply to the bytes of the input, which was read; or reading failed; or memory was refused.
-abbrev pub IsReplyRead : {T : Type 0} → (T → List ℕ) → (List ℕ → Result (List ℕ) Fault) → Input → Input → Result T Fault → Type 0
-IsReplyRead text_of reply old new result =
-    ((bytes : List ℕ) × IsRead bytes old new × (result_map_both text_of (λ fault. fault) result ≡ reply bytes))
+-- The result's text or refusal is such a reply, or memory was refused.
+abbrev pub HasReply : {T : Type 0} → (T → List ℕ) → (Result (List ℕ) Fault → Type 0) → Result T Fault → Type 0
+HasReply text_of IsSuch result = IsSuch (result_map_both text_of (λ fault. fault) result) ⊎ (result ≡ Err Memory)
+
+-- The result is a reply to the bytes of the input, which was read; or reading failed; or memory was refused.
+abbrev pub IsReplyRead : {T : Type 0} → (T → List ℕ) → (List ℕ → Result (List ℕ) Fault → Type 0) → Input → Input → Result T Fault → Type 0
+IsReplyRead text_of IsReplyOf old new result =
+    ((bytes : List ℕ) × IsRead bytes old new × IsReplyOf bytes (result_map_both text_of (λ fault. fault) result))
     ⊎ (((result ≡ Err ReadFailed) × HasFailed old.failed new.failed)
     ⊎ (result ≡ Err Memory))
 

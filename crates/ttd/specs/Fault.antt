@@ -2,10 +2,12 @@
 use Rattle.std.specs.Prelude.{ℕ}
 use Rattle.tt_poll.specs.Fault.{number_of as poll_number}
 use Rattle.tt_source.specs.Fault.{number_of as source_number}
+use Rattle.tt_fuse.specs.Fault.{number_of as fusion_number}
+use Rattle.tt_cert.specs.Fault.{number_of as certificate_number}
 use Rattle.ttd.specs.declared.ending.Status.{Status}
 use Rattle.ttd.specs.declared.ending.Status.TheVariants.{Fine, Memory as NoMemory, Bad, Device}
 use Rattle.ttd.specs.declared.faults.Fault.{Fault}
-use Rattle.ttd.specs.declared.faults.Fault.TheVariants.{BadWords, BadHex, BadInput, ReadFailed, Poll, Source, Memory}
+use Rattle.ttd.specs.declared.faults.Fault.TheVariants.{BadWords, BadHex, BadInput, ReadFailed, Poll, Source, Fusion, Certificate, Memory}
 
 -- The number of each refusal.
 abbrev pub number_of : Fault → ℕ
@@ -15,6 +17,8 @@ number_of BadInput = 1603
 number_of ReadFailed = 1604
 number_of (Poll fault) = poll_number fault
 number_of (Source fault) = source_number fault
+number_of (Fusion fault) = fusion_number fault
+number_of (Certificate fault) = certificate_number fault
 number_of Memory = 1
 
 -- How the program ends after each refusal: a device fault where reading failed, else bad words or input, or want of memory.

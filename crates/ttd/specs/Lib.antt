@@ -3,4 +3,7 @@ pub mod Input
 pub mod Answer
 pub mod Run
 pub mod Age
+pub mod SpansText
+pub mod Fuse
+pub mod Check
 pub mod Command

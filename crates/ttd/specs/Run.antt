@@ -55,9 +55,11 @@ pub record IsRead (bytes : List ℕ) (old new : Input) : Type 0 where
   pub end : IsAtEnd new.left ⊎ (most_input < length bytes)
   pub sound : new.failed ≡ old.failed
 
--- The input was read, and the answer is the one for its bytes; or reading failed, and that is the answer; or memory was refused.
-abbrev pub Answers : (List ℕ → Result (List ℕ) Fault) → Input → Input → Output → Output → Status → Type 0
-Answers reply old_in new_in old_out new_out status =
-    ((bytes : List ℕ) × IsRead bytes old_in new_in × Gives (answer_of (reply bytes)) old_out new_out status)
+-- The input was read, and the answer is the one for a reply to its bytes; or reading failed, and that is the answer; or memory was
+-- refused.
+abbrev pub Answers : (List ℕ → Result (List ℕ) Fault → Type 0) → Input → Input → Output → Output → Status → Type 0
+Answers IsReplyOf old_in new_in old_out new_out status =
+    ((bytes : List ℕ) × (reply : Result (List ℕ) Fault) × IsRead bytes old_in new_in × IsReplyOf bytes reply
+    × Gives (answer_of reply) old_out new_out status)
     ⊎ ((HasFailed old_in.failed new_in.failed × Gives (answer_of (Err ReadFailed)) old_out new_out status)
     ⊎ IsUnwritten old_out new_out status)

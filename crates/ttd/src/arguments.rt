@@ -1,5 +1,11 @@
 //! The words that the program was started with.
 
+ghost use Rattle.std.specs.Prelude.{◌≡◌, ◌⊎◌, IfOk, map, string_bytes};
+ghost use Rattle.clap.specs.Walk.{texts};
+ghost use Rattle.tt_stream.specs.Counts.{HasFailed};
+ghost use Rattle.tt_stream.specs.Known.{ReadsOn};
+ghost use Rattle.ttd.specs.Run.{output_at};
+
 use crate::ending::Status;
 use crate::program::main_with;
 use std::alloc::{AllocError, Global};
@@ -14,12 +20,14 @@ fn words_given(rt: &(impl Env + AllocGlobal)) -> io::Result<Vec<String>> {
 }
 
 /// The words as texts.
-fn as_texts(alloc: Global, words: &[String]) -> Result<Vec<&str>, AllocError> {
-    let mut texts = Vec::new(alloc);
+fn as_texts(alloc: Global, words: &[String]) -> Result<Vec<&str>, AllocError>
+    ensures { IfOk result (λ all. texts all.items ≡ map string_bytes words.entry.now) }
+{
+    let mut all = Vec::new(alloc);
     for word in words {
-        texts.push(word.as_str())?;
+        all.push(word.as_str())?;
     }
-    Ok(texts)
+    Ok(all)
 }
 
 /// Runs the program with the words that it was started with. Words that are no text are bad words, as no words are.
@@ -27,7 +35,15 @@ pub(crate) fn main_from<R: ByteReader, W: ByteWriter>(
     rt: &(impl Env + AllocGlobal),
     input: &mut R,
     output: &mut W,
-) -> Status {
+) -> Status
+    ensures device { result ≡ Status.Device → HasFailed (R.failed input.old) (R.failed input.new)
+        ⊎ HasFailed (W.failed output.old) (W.failed output.new) }
+    ensures sound { (result ≡ Status.Fine) ⊎ (result ≡ Status.Bad) → (R.failed input.new ≡ R.failed input.old)
+        × (W.failed output.new ≡ W.failed output.old) }
+    ensures memory { result ≡ Status.Memory → output_at (W.taken output.new) (W.failed output.new)
+        ≡ output_at (W.taken output.old) (W.failed output.old) }
+    ensures rest { ReadsOn (R.left input.old) (R.left input.new) }
+{
     match words_given(rt) {
         Ok(words) => match as_texts(rt.alloc(), words.as_slice()) {
             Ok(texts) => main_with(rt.alloc(), texts.as_slice(), input, output),

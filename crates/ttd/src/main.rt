@@ -1,27 +1,35 @@
 //! The program `ttd`: it reads its whole input, does what its words ask for, and writes one answer.
 //!
-//! The command `age` reads the answer of a source of time to a poll, in hex, and prints the span of time that holds the true time
-//! when the clock shows a later reading: `aged LO HI`. What is refused is answered with the one line `refused N`, where N is the
-//! number of the first refusal in the order words (1601), input too long (1603), hex (1602), message (201 to 207), request (405)
-//! and clock readings (402).
+//! - `age` reads the answer of a source of time to a poll, in hex, and prints the span of time that holds the true time when the clock
+//!   shows a later reading: `aged LO HI`.
+//! - `fuse` reads the spans of sources as text, and prints their fusion with its certificate and suspects.
+//! - `check` reads the same spans and a certificate, and prints `valid` where it proves its claim.
+//!
+//! What is refused is answered with the one line `refused N`, where N is the number of the first refusal in the order words (1601), input
+//! too long (1603), and those of the command: for `age` hex (1602), message (201 to 207), request (405) and clock readings (402); for
+//! `fuse` bad text (1603) and spans without a fusion (501 to 504); for `check` bad spans text (1603), bad certificate text (606), spans
+//! that can't be fused (501 to 503) and a certificate that proves nothing (601 to 605).
 //!
 //! [`main_with`] is the whole program over any devices, and its contract says what is written for all words and all
-//! inputs: `specs/Run.antt` says what a run does to its devices, `specs/Command.antt` and `specs/Age.antt` what the commands reply,
-//! and `specs/Answer.antt` the lines and statuses of the replies.
+//! inputs: `specs/Run.antt` says what a run does to its devices, `specs/Command.antt`, `specs/Age.antt`, `specs/Fuse.antt` and
+//! `specs/Check.antt` what the commands reply, `specs/SpansText.antt` what spans text is, and `specs/Answer.antt` has the lines and
+//! statuses of the replies.
 //!
 //! - `program`: the program over any devices. `arguments`: the words that it was started with.
 //! - `input` reads, `output` writes; `ending` has the statuses and `faults` the refusals.
-//! - `age`: the command `age`. `later`: the commands that are not there yet.
+//! - `age`, `fuse` and `check`: the commands. `spans_text`: the text that `fuse` and `check` read.
 #![tactic(auto)]
 
 mod age;
 mod arguments;
+mod check;
 mod ending;
 mod faults;
+mod fuse;
 mod input;
-mod later;
 mod output;
 mod program;
+mod spans_text;
 
 use arguments::main_from;
 use std::process::ExitCode;

@@ -8,14 +8,15 @@ ghost use Rattle.tt_stream.specs.Known.{ReadsOn};
 ghost use Rattle.tt_span.specs.Drift.{max_drift};
 ghost use Rattle.ttd_words.specs.Reading.{AreForHelp, AreMistaken, AreTaken, HasDriftInRange, asked_of};
 ghost use Rattle.ttd.specs.Answer.{answer_of};
-ghost use Rattle.ttd.specs.Command.{HasText, IsReplyRead, command_of, reply_of, reply_to, words_fault_of};
+ghost use Rattle.ttd.specs.Command.{HasReply, IsCommandReply, IsReply, IsReplyRead, IsReplyTo, words_fault_of};
 ghost use Rattle.ttd.specs.Run.{Answers, Gives, input_at, output_at};
 
 use crate::age::{Ageing, age_text};
+use crate::check::check_text;
 use crate::ending::Status;
 use crate::faults::Fault;
+use crate::fuse::fuse_text;
 use crate::input::read_input;
-use crate::later::{check_text, fuse_text};
 use crate::output::give;
 use std::alloc::Global;
 use tt_span::Drift;
@@ -44,7 +45,7 @@ fn drift_of(ppm: u64) -> Drift
 /// What a command answers to its input.
 fn command_text(alloc: Global, asked: Asked, input: &[u8]) -> Result<String, Fault>
     requires { HasDriftInRange asked }
-    ensures value { HasText string_bytes (command_of asked input.now) result }
+    ensures value { HasReply string_bytes (IsCommandReply asked input.now) result }
     ensures no_device { result ≢ Err Fault.ReadFailed }
 {
     match asked {
@@ -71,7 +72,7 @@ fn command_text(alloc: Global, asked: Asked, input: &[u8]) -> Result<String, Fau
 /// Reads the input, and answers what the command says of it.
 fn command_reply<R: ByteReader>(alloc: Global, asked: Asked, input: &mut R) -> Result<String, Fault>
     requires { HasDriftInRange asked }
-    ensures value { IsReplyRead string_bytes (reply_of asked) (input_at (R.left input.old) (R.failed input.old) (R.asked input.old))
+    ensures value { IsReplyRead string_bytes (IsReply asked) (input_at (R.left input.old) (R.failed input.old) (R.asked input.old))
         (input_at (R.left input.new) (R.failed input.new) (R.asked input.new)) result }
     ensures failed { IsErrOf result Fault.ReadFailed → HasFailed (R.failed input.old) (R.failed input.new) }
     ensures sound { (result ≢ Err Fault.ReadFailed) → R.failed input.new ≡ R.failed input.old }
@@ -83,7 +84,7 @@ fn command_reply<R: ByteReader>(alloc: Global, asked: Asked, input: &mut R) -> R
 
 /// What the program has to write: the text that the words ask for, or a refusal. The words are judged before the input.
 fn reply<R: ByteReader>(alloc: Global, words: &[&str], input: &mut R) -> Result<String, Fault>
-    ensures taken { AreTaken (texts words.now) → IsReplyRead string_bytes (reply_to (asked_of (texts words.now)))
+    ensures taken { AreTaken (texts words.now) → IsReplyRead string_bytes (IsReplyTo (asked_of (texts words.now)))
         (input_at (R.left input.old) (R.failed input.old) (R.asked input.old))
         (input_at (R.left input.new) (R.failed input.new) (R.asked input.new)) result }
     ensures mistaken { AreMistaken (texts words.now) → (input_at (R.left input.new) (R.failed input.new) (R.asked input.new)
@@ -105,11 +106,18 @@ fn reply<R: ByteReader>(alloc: Global, words: &[&str], input: &mut R) -> Result<
 /// Runs the program with the words after its name: reads the input, writes one answer to the output, and says how the program ends.
 ///
 /// `age --drift N --sent N --got N --clock N` (the drift in parts per million, 200 where it is left out, the others in nanoseconds)
-/// writes `aged LO HI` for the poll answer that the input gives in hex, and ends with [`Status::Fine`]. `--help` writes the help.
+/// writes `aged LO HI` for the poll answer that the input gives in hex. `fuse` writes the fusion of the spans that the input gives as
+/// text, with its canonical certificate and its suspects. `check` writes `valid` where the certificate behind the spans proves its claim.
+/// Each ends with [`Status::Fine`] then. `--help` writes the help.
 ///
 /// Each refusal is the one line `refused N`, with [`Status::Bad`], of the first number that applies: 1601 bad words, before any read; 1603
-/// more than 1,048,576 bytes of input; 1602 no hex, after which one line feed is allowed; 201 to 207 no poll message; 405 a request; 402 an
-/// answer that came before its poll was sent, a clock reading before that, or one past the greatest time.
+/// more than 1,048,576 bytes of input; and then those of the command.
+/// - `age`: 1602 no hex, after which one line feed is allowed; 201 to 207 no poll message; 405 a request; 402 an answer that came before
+///   its poll was sent, a clock reading before that, or one past the greatest time.
+/// - `fuse`: 1603 no spans text; 501 no source, 502 more than 16, 503 fewer than twice the number that may be wrong and one, 504 no
+///   possible time.
+/// - `check`: 1603 no spans text before the first line that begins with `claim`; 606 no certificate text from there on; 501 to 503 as
+///   `fuse`; 601 to 605 a certificate that proves nothing.
 ///
 /// [`Status::Device`] comes only where a device failed: the reader, which is told by `refused 1604`, or the writer (1605), which has then
 /// taken a front of the answer. With [`Status::Memory`] nothing was written. Nothing but the answer is ever written.
@@ -119,7 +127,7 @@ pub fn main_with<R: ByteReader, W: ByteWriter>(
     input: &mut R,
     output: &mut W,
 ) -> Status
-    ensures taken { AreTaken (texts words.now) → Answers (reply_to (asked_of (texts words.now)))
+    ensures taken { AreTaken (texts words.now) → Answers (IsReplyTo (asked_of (texts words.now)))
         (input_at (R.left input.old) (R.failed input.old) (R.asked input.old))
         (input_at (R.left input.new) (R.failed input.new) (R.asked input.new))
         (output_at (W.taken output.old) (W.failed output.old))

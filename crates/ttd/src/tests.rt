@@ -1,7 +1,7 @@
 use crate::ending::Status;
 use crate::input::{MOST_INPUT, MOST_READS};
 use crate::program::main_with;
-use std::alloc::Global;
+use std::alloc::{AllocError, Global};
 use std::test::Fail;
 use tt_stream::{MemoryReader, MemoryWriter};
 
@@ -178,4 +178,224 @@ fn numbers_the_endings(rt: HostRuntime) {
     assert_eq!(rt; Status::Memory.code(), 1);
     assert_eq!(rt; Status::Bad.code(), 2);
     assert_eq!(rt; Status::Device.code(), 4);
+}
+
+// How many sources may be wrong, and the spans of three of them.
+const CHAIN: [&str; 4] = ["faulty 1", "span 0 10", "span 5 15", "span 12 20"];
+
+// Their fusion with its certificate.
+const CERTIFICATE: [&str; 6] = [
+    "claim 5 15",
+    "left 0 1",
+    "right 1 2",
+    "below 0 4 1",
+    "above 16 20 1",
+    "above 21 4000000000000000000 0",
+];
+
+// Adds lines, each with its line feed.
+fn add(text: &mut String, lines: &[&str]) -> Result<(), AllocError> {
+    for line in lines {
+        text.push_str(line)?;
+        text.push_str("\n")?;
+    }
+    Ok(())
+}
+
+// The lines as a text.
+fn lines_of(alloc: Global, lines: &[&str]) -> Result<String, AllocError> {
+    let mut text = String::new(alloc);
+    add(&mut text, lines)?;
+    Ok(text)
+}
+
+// Whether `fuse` refuses these lines so.
+fn fuse_refuses(alloc: Global, lines: &[&str], text: &str) -> Result<bool, AllocError> {
+    let input = lines_of(alloc, lines)?;
+    Ok(refuses(alloc, &["fuse"], input.as_bytes(), text))
+}
+
+// Whether `check` refuses the certificate so when the line `at` stands in it in place of its own, or none where it is empty.
+fn check_refuses(alloc: Global, at: usize, line: &str, text: &str) -> Result<bool, AllocError> {
+    let mut input = lines_of(alloc, &CHAIN)?;
+    for (place, original) in CERTIFICATE.iter().enumerate() {
+        if place != at {
+            add(&mut input, &[*original])?;
+        } else if !line.is_empty() {
+            add(&mut input, &[line])?;
+        }
+    }
+    Ok(refuses(alloc, &["check"], input.as_bytes(), text))
+}
+
+#[test]
+fn fuses_three_spans(rt: HostRuntime) -> Result<(), Fail> {
+    let alloc = rt.alloc();
+    let input = lines_of(alloc, &CHAIN)?;
+    let mut want = lines_of(alloc, &CERTIFICATE)?;
+    add(&mut want, &["suspects none"])?;
+    assert!(rt;
+        writes(
+            alloc,
+            &["fuse"],
+            input.as_bytes(),
+            Status::Fine,
+            want.as_str()
+        )
+    );
+    Ok(())
+}
+
+#[test]
+fn fuses_four_spans(rt: HostRuntime) -> Result<(), Fail> {
+    let alloc = rt.alloc();
+    let input = lines_of(
+        alloc,
+        &[
+            "faulty 1",
+            "span 0 10",
+            "span 5 15",
+            "span 8 20",
+            "span 100 110",
+        ],
+    )?;
+    let mut want = lines_of(
+        alloc,
+        &[
+            "claim 8 10",
+            "left 0 1 2",
+            "right 0 1 2",
+            "below 0 4 1",
+            "below 5 7 2",
+        ],
+    )?;
+    add(
+        &mut want,
+        &[
+            "above 11 15 2",
+            "above 16 20 1",
+            "above 21 99 0",
+            "above 100 110 1",
+        ],
+    )?;
+    add(
+        &mut want,
+        &["above 111 4000000000000000000 0", "suspects 3"],
+    )?;
+    assert!(rt;
+        writes(
+            alloc,
+            &["fuse"],
+            input.as_bytes(),
+            Status::Fine,
+            want.as_str()
+        )
+    );
+    Ok(())
+}
+
+#[test]
+fn refuses_spans_without_a_fusion(rt: HostRuntime) -> Result<(), Fail> {
+    let alloc = rt.alloc();
+    assert!(rt; fuse_refuses(alloc, &["faulty 0"], "refused 501\n")?);
+    assert!(rt;
+        fuse_refuses(
+            alloc,
+            &["faulty 1", "span 0 10", "span 5 15"],
+            "refused 503\n"
+        )?
+    );
+    let apart = ["faulty 1", "span 0 1", "span 3 4", "span 6 7"];
+    assert!(rt; fuse_refuses(alloc, &apart, "refused 504\n")?);
+    Ok(())
+}
+
+#[test]
+fn refuses_too_many_spans(rt: HostRuntime) -> Result<(), Fail> {
+    let alloc = rt.alloc();
+    let mut input = lines_of(alloc, &["faulty 0"])?;
+    add(&mut input, &["span 0 1"; 17])?;
+    assert!(rt; refuses(alloc, &["fuse"], input.as_bytes(), "refused 502\n"));
+    // A bad line behind them comes first.
+    add(&mut input, &["span 9 5"])?;
+    assert!(rt; refuses(alloc, &["fuse"], input.as_bytes(), "refused 1603\n"));
+    Ok(())
+}
+
+#[test]
+fn refuses_bad_spans_text(rt: HostRuntime) -> Result<(), Fail> {
+    let alloc = rt.alloc();
+    let bad = "refused 1603\n";
+    assert!(rt; fuse_refuses(alloc, &[], bad)?);
+    assert!(rt; fuse_refuses(alloc, &["faulty 0", "span 9 5"], bad)?);
+    assert!(rt; fuse_refuses(alloc, &["faulty 0", "span 05 9"], bad)?);
+    assert!(rt; fuse_refuses(alloc, &["faulty 0", "span 5  9"], bad)?);
+    assert!(rt; fuse_refuses(alloc, &["faulty 0", "span 5 4000000000000000001"], bad)?);
+    assert!(rt; fuse_refuses(alloc, &["span 5 9", "faulty 0"], bad)?);
+    // Without a line feed at the end, and with a carriage return before it.
+    assert!(rt; refuses(alloc, &["fuse"], b"faulty 0", bad));
+    assert!(rt; refuses(alloc, &["fuse"], b"faulty 0\r\n", bad));
+    Ok(())
+}
+
+#[test]
+fn checks_a_certificate(rt: HostRuntime) -> Result<(), Fail> {
+    let alloc = rt.alloc();
+    let mut input = lines_of(alloc, &CHAIN)?;
+    add(&mut input, &CERTIFICATE)?;
+    assert!(rt; writes(alloc, &["check"], input.as_bytes(), Status::Fine, "valid\n"));
+    Ok(())
+}
+
+#[test]
+fn refuses_certificates_that_prove_nothing(rt: HostRuntime) -> Result<(), Fail> {
+    let alloc = rt.alloc();
+    assert!(rt; check_refuses(alloc, 1, "left 0 0", "refused 601\n")?);
+    assert!(rt; check_refuses(alloc, 2, "right 0 1", "refused 602\n")?);
+    assert!(rt; check_refuses(alloc, 3, "", "refused 603\n")?);
+    assert!(rt; check_refuses(alloc, 4, "above 16 20 0", "refused 605\n")?);
+    Ok(())
+}
+
+#[test]
+fn refuses_a_claim_that_is_too_small(rt: HostRuntime) -> Result<(), Fail> {
+    let alloc = rt.alloc();
+    let mut input = lines_of(alloc, &CHAIN)?;
+    add(
+        &mut input,
+        &["claim 6 15", "left 0 1", "right 1 2", "below 0 5 2"],
+    )?;
+    add(
+        &mut input,
+        &["above 16 20 1", "above 21 4000000000000000000 0"],
+    )?;
+    assert!(rt; refuses(alloc, &["check"], input.as_bytes(), "refused 604\n"));
+    Ok(())
+}
+
+#[test]
+fn refuses_bad_certificate_text(rt: HostRuntime) -> Result<(), Fail> {
+    let alloc = rt.alloc();
+    assert!(rt; check_refuses(alloc, 0, "claims 5 15", "refused 606\n")?);
+    // The two sets in the other order.
+    let mut input = lines_of(alloc, &CHAIN)?;
+    add(&mut input, &["claim 5 15", "right 1 2", "left 0 1"])?;
+    assert!(rt; refuses(alloc, &["check"], input.as_bytes(), "refused 606\n"));
+    // No line that begins with `claim`.
+    let spans = lines_of(alloc, &CHAIN)?;
+    assert!(rt; refuses(alloc, &["check"], spans.as_bytes(), "refused 606\n"));
+    Ok(())
+}
+
+#[test]
+fn judges_spans_text_first(rt: HostRuntime) -> Result<(), Fail> {
+    let alloc = rt.alloc();
+    // The certificate text is none here, either.
+    assert!(rt; refuses(alloc, &["check"], b"claim", "refused 1603\n"));
+    assert!(rt; refuses(alloc, &["check"], b"faulty 0\nclaim", "refused 606\n"));
+    assert!(rt; refuses(alloc, &["check"], b"faulty 00\nclaim", "refused 1603\n"));
+    let mut input = lines_of(alloc, &["faulty 0"])?;
+    add(&mut input, &CERTIFICATE)?;
+    assert!(rt; refuses(alloc, &["check"], input.as_bytes(), "refused 501\n"));
+    Ok(())
 }

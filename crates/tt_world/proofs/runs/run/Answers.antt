@@ -1,25 +1,31 @@
-use Rattle.std.proofs.Common.{◌≡◌, ◌≤◌, [], ◌<◌, ℕ, List, sym, subst, reverse, take, arith, length}
+use Rattle.std.proofs.Common.{◌≡◌, [], List, ap, ◌∙◌, sym, subst, reverse, take, arith}
+use Rattle.std.proofs.lemmas.List.{take_all}
+use Rattle.tt_world.specs.declared.events.Event.{Event}
 use Rattle.tt_world.specs.declared.events.Reply.{Reply}
-use Rattle.tt_world.specs.Headline.{AreEvents, ReadingsHold, FusionsAreShortest, NoFusionRefused}
+use Rattle.tt_world.specs.Headline.{AreEvents, ReadingsHold, FusionsAreShortest, NoFusionRefused, StampsAreLeast, ExternallyConsistent}
 use Rattle.tt_world.specs.Reply.{replies_from}
+use Rattle.tt_world.specs.Bad.{accepted}
+use Rattle.tt_world.specs.Publications.{shown_of}
+use Rattle.tt_world.specs.State.{WorldState}
 use Rattle.tt_world.proofs.Fusing.{FusionLaws}
 use Rattle.tt_world.proofs.OnRun.{told-all}
 use Rattle.tt_world.proofs.Running.{readings-hold, fusions-shortest, no-fusion-refused}
+use Rattle.tt_world.proofs.Committed.{stamps-least, externally-consistent}
 use Rattle.tt_world.proofs.runs.run.Goals as goal
-use Rattle.tt_world.proofs.runs.run.Goals.{After-drop-world-inside-3}
+use Rattle.tt_world.proofs.runs.run.Goals.{After-into_shown}
 
 -- the laws of fusions that the theorems rest on
-laws : After-drop-world-inside-3 → FusionLaws
+laws : After-into_shown → FusionLaws
 laws c = record { found_slowly = c.fusion_laws.ensures.found_slowly; none_slowly = c.fusion_laws.ensures.none_slowly }
 
 -- the replies are those that are defined
-told : (c : After-drop-world-inside-3) → c.loop-event.replies.items ≡ replies_from c.args.configs.now [] c.args.events.now
+told : (c : After-into_shown) → c.loop-event.replies.items ≡ replies_from c.args.configs.now [] c.args.events.now
 told c =
     told-all c.args.configs.now c.args.events.now c.loop-event.event-index (reverse (take c.loop-event.event-index c.args.events.now)) c.loop-event.replies.items _
     c.loop-event-test.false c.loop-event.invariant.told
 
 -- every event is one that can be
-known : (c : After-drop-world-inside-3) → AreEvents c.args.events.now
+known : (c : After-into_shown) → AreEvents c.args.events.now
 known c = λ k d h. c.loop-event.invariant.known k d (omega (arith, h, c.loop-event-test.false))
 
 pub returns-clause-readings_hold : goal.returns-clause-readings_hold
@@ -36,3 +42,21 @@ pub returns-clause-no_fusion_refused : goal.returns-clause-no_fusion_refused
 returns-clause-no_fusion_refused c =
     subst (λ (rs : List Reply). NoFusionRefused c.args.configs.now c.args.events.now rs) (sym (told c))
     (no-fusion-refused (laws c) c.args.configs.now c.args.events.now c.in_ok-world.ensures.valid (known c))
+
+pub returns-clause-stamps_are_least : goal.returns-clause-stamps_are_least
+returns-clause-stamps_are_least c =
+    subst (λ (rs : List Reply). StampsAreLeast c.args.configs.now c.args.events.now rs) (sym (told c))
+    (stamps-least c.stamp_laws.ensures c.args.configs.now c.args.events.now c.in_ok-world.ensures.valid)
+
+pub returns-clause-externally_consistent : goal.returns-clause-externally_consistent
+returns-clause-externally_consistent c =
+    subst (λ (rs : List Reply). ExternallyConsistent c.args.configs.now c.args.events.now rs) (sym (told c))
+    (externally-consistent (laws c) c.stamp_laws.ensures c.args.configs.now c.args.events.now c.in_ok-world.ensures.valid (known c))
+
+pub returns-clause-shown : goal.returns-clause-shown
+returns-clause-shown c =
+    let events = c.args.events.now in
+    let all : take c.loop-event.event-index events ≡ events = take_all c.loop-event.event-index events c.loop-event-test.false in
+    c.into_shown.ensures.value
+    ∙ ap (λ (w : WorldState). w.shown) c.loop-event.invariant.stands
+    ∙ ap (λ (es : List Event). shown_of c.args.configs.now (accepted c.args.configs.now (reverse es))) all

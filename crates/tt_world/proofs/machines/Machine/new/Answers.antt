@@ -1,14 +1,19 @@
-use Rattle.std.proofs.Common.{◌≡◌, ◌∙◌, ap, ◌≤◌, ℕ, List, take, replicate, arith, rules}
+use Rattle.std.proofs.Common.{◌≡◌, ◌∙◌, ap, ℕ, List, Option, take, replicate, arith, rules}
 use Rattle.std.proofs.lemmas.List.{take-replicate}
-use Rattle.tt_source.specs.Table.{new_table}
-use Rattle.tt_world.proofs.Fresh.{fresh-machine}
+use Rattle.tt_daemon.specs.Config.{Configuration}
+use Rattle.tt_daemon.specs.Daemon.{DaemonState}
+use Rattle.tt_world.specs.declared.workers.Worker.{Worker}
+use Rattle.tt_world.specs.Step.{new_worker}
+use Rattle.tt_world.proofs.Fresh.{machine, fresh-machine}
 use Rattle.tt_world.proofs.machines.Machine.new.Goals as goal
 
 pub returns-clause-fresh : goal.returns-clause-fresh
 returns-clause-fresh c =
-    let from : c.from-seen.result.items ≡ replicate 32 0 = search rules in
-    fresh-machine c.args.config c.args.number c.new.result c.new-2.result.items c.truncate.new.self.items
-    (c.new.ensures ∙ ap (λ n. new_table c.args.number n c.drift.result 0) c.sources.ensures.value ∙ ap (λ d. new_table c.args.number c.args.config.sources d 0) c.drift.ensures.value)
-    c.new-2.ensures.items
-    (c.truncate.ensures.items ∙ ap (λ n. take n c.from-seen.result.items) c.workers.ensures.value ∙ ap (λ (xs : List ℕ). take c.args.config.workers xs) from
-    ∙ take-replicate c.args.config.workers 32 0 (omega (arith, c.workers.ensures.valid.workers_in)))
+    let each : c.from-workers.result.items ≡ replicate 32 c.new.result = search rules in
+    let workers : c.truncate.new.self.items ≡ replicate c.args.config.workers new_worker =
+    c.truncate.ensures.items ∙ ap (λ n. take n c.from-workers.result.items) c.workers.ensures.value ∙ ap (λ (xs : List Worker). take c.args.config.workers xs) each
+    ∙ take-replicate c.args.config.workers 32 c.new.result (omega (arith, c.workers.ensures.valid.workers_in)) ∙ ap (λ (w : Worker). replicate c.args.config.workers w) c.new.ensures in
+    let table = ap (λ (d : DaemonState). d.table) c.new-2.ensures.value in
+    ap (λ (k : Configuration). record (machine k c.new-2.result.table c.new-3.result.items c.new-5.result c.truncate.new.self.items) { row = c.new-4.result }) (ap (λ (d : DaemonState). d.config) c.new-2.ensures.value)
+    ∙ ap (λ (row : Option ℕ). record (machine c.args.config c.new-2.result.table c.new-3.result.items c.new-5.result c.truncate.new.self.items) { row = row }) c.new-4.ensures
+    ∙ fresh-machine c.args.config c.args.number c.new-2.result.table c.new-3.result.items c.new-5.result c.truncate.new.self.items table c.new-3.ensures.items c.new-5.ensures workers

@@ -1,15 +1,16 @@
-use Rattle.std.proofs.Common.{◌≡◌, ℕ, Bool, false, ◌<◌, ◌∙◌, List, refl, ap, sym, slice_get, Option, Some, length, arith}
+use Rattle.std.proofs.Common.{◌≡◌, false, ◌<◌, ◌∙◌, List, refl, ap, sym, slice_get, Option, Some, length, arith}
 use Rattle.std.proofs.lemmas.Option.{slice_get_read}
 use Rattle.tt_world.specs.declared.packets.Packet.{Packet}
 use Rattle.tt_world.specs.Packet.{machine_of_packet, is_asked}
 use Rattle.tt_world.specs.State.{MachineState, WorldState}
-use Rattle.tt_world.specs.Step.{Outcome, is_back_on, deliver_on}
+use Rattle.tt_world.specs.Step.{is_back_on, deliver_on}
+use Rattle.tt_world.specs.contracts.world.World.{the_view}
 use Rattle.tt_world.proofs.Turns.{same_item, found_at, deliver_on-taken}
 use Rattle.tt_world.proofs.world.World.deliver.Goals as goal
 
 pub returns : goal.returns
 returns c =
-    let w : WorldState = record { time = c.self.inside.time; packets = c.self.inside.packets.items; machines = c.self.inside.machines.items } in
+    let w : WorldState = the_view c.self.inside in
     let packet : Packet = c.in-Some.found.now in
     let p = c.from-place.result in
     let x : MachineState = c.index_mut.result.now in

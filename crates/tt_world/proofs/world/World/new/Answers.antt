@@ -1,8 +1,9 @@
-use Rattle.std.proofs.Common.{◌≡◌, ◌<◌, ◌≤◌, ℕ, List, [], ◌∷◌, ◌++◌, length, map, ap, sym, subst, ◌∙◌, arith, below_more}
+use Rattle.std.proofs.Common.{◌≡◌, ◌<◌, List, [], ◌∷◌, ◌++◌, length, map, ap, sym, subst, ◌∙◌, arith, below_more}
 use Rattle.std.proofs.lemmas.List.{get_or_default}
 use Rattle.std.proofs.lemmas.List.FromFn.{map-range_with_len_more, length-map-range_with_len}
 use Rattle.std.specs.List.{range_with_len}
-use Rattle.tt_world.specs.Config.{Configuration, IsConfiguration, no_configuration, config_at}
+use Rattle.tt_daemon.specs.Config.{Configuration, IsConfiguration, no_configuration}
+use Rattle.tt_world.specs.Config.{config_at}
 use Rattle.tt_world.specs.State.{MachineState, machine_of}
 use Rattle.tt_world.proofs.world.World.new.Goals as goal
 
@@ -24,6 +25,9 @@ loop-number-preserved c =
     }
 
 pub invariant_of-result : goal.invariant_of-result
-invariant_of-result c = record {
-  few_machines = omega (arith, ap (λ (ms : List MachineState). length ms) c.loop-number.invariant.fresh, length-map-range_with_len (λ m. machine_of (config_at c.args.configs.now m) [] m) 0 c.loop-number.number);
-}
+invariant_of-result c = (
+  record {
+    few_machines = omega (arith, ap (λ (ms : List MachineState). length ms) c.loop-number.invariant.fresh, length-map-range_with_len (λ m. machine_of (config_at c.args.configs.now m) [] m) 0 c.loop-number.number);
+  },
+  λ k d h. absurd (omega (arith, h, c.new-3.ensures.len)),
+)

@@ -1,6 +1,7 @@
 use Rattle.std.proofs.Common.{◌≡◌, ◌<◌, ℕ, [], map}
 use Rattle.std.specs.List.{range_with_len}
-use Rattle.tt_world.specs.Config.{IsConfiguration, config_at}
+use Rattle.tt_daemon.specs.Config.{IsConfiguration}
+use Rattle.tt_world.specs.Config.{config_at}
 use Rattle.tt_world.specs.State.{machine_of}
 use Rattle.tt_world.proofs.world.World.new.Given as goal
 

@@ -1,19 +1,19 @@
-use Rattle.std.proofs.Common.{◌≡◌, ℕ, Bool, true, false, ◌<◌, ◌≤◌, ◌∙◌, ap, sym, refl, slice_get, Option, Some, None, length, [], arith}
-use Rattle.tt_world.specs.declared.publications.Publication.{Publication}
+use Rattle.std.proofs.Common.{◌≡◌, true, false, ◌<◌, ◌≤◌, ◌∙◌, ap, sym, refl, slice_get, Some, None, length, [], arith}
 use Rattle.tt_world.specs.State.{MachineState, WorldState}
-use Rattle.tt_world.specs.Step.{Outcome, Turn, is_back_on, read_on, readable_on, read_turn, after_turn, refused}
+use Rattle.tt_world.specs.Step.{Turn, is_back_on, read_on, readable_on, after_turn, refused}
+use Rattle.tt_world.specs.contracts.world.World.{the_view}
 use Rattle.tt_world.proofs.Turns.{same_item, found_at, read_on-no_worker, read_on-back, read_on-unreadable, read_on-read, after_turn-nothing}
 use Rattle.tt_world.proofs.world.World.read.Goals as goal
 
 pub returns-then-from-workers : goal.returns-then-from-workers
 returns-then-from-workers c =
-    let w : WorldState = record { time = c.self.inside.time; packets = c.self.inside.packets.items; machines = c.self.inside.machines.items } in
+    let w : WorldState = the_view c.self.inside in
     let m = c.args.machine in
     let p = c.from-place.result in
     let x : MachineState = c.index.result.now in
     let inside : p < length w.machines = omega (arith, c.len.ensures) in
     let found : slice_get w.machines m ≡ Some x = found_at w.machines p m x c.from-place.ensures inside c.index.ensures in
-    let no_worker : length x.seen ≤ c.args.worker = omega (arith, c.workers.ensures.value, c.from.ensures, c.if-from-workers.true) in (
+    let no_worker : length x.workers ≤ c.args.worker = omega (arith, c.workers.ensures.value, c.from.ensures, c.if-from-workers.true) in (
       refl,
       ap (λ (v : WorldState). read_on v c.args.at m c.args.worker c.args.clock c.args.number (slice_get v.machines m)) (sym c.self.view_is)
           ∙ read_on-no_worker w c.args.at m c.args.worker c.args.clock c.args.number x found no_worker
@@ -22,14 +22,14 @@ returns-then-from-workers c =
 
 pub returns-then-is_back : goal.returns-then-is_back
 returns-then-is_back c =
-    let w : WorldState = record { time = c.self.inside.time; packets = c.self.inside.packets.items; machines = c.self.inside.machines.items } in
+    let w : WorldState = the_view c.self.inside in
     let m = c.args.machine in
     let p = c.from-place.result in
     let x : MachineState = c.index.result.now in
     let inside : p < length w.machines = omega (arith, c.len.ensures) in
     let found : slice_get w.machines m ≡ Some x = found_at w.machines p m x c.from-place.ensures inside c.index.ensures in
     let one : x ≡ c.index-2.result.now = same_item w.machines p x c.index-2.result.now inside c.index.ensures c.index-2.ensures in
-    let worker : c.args.worker < length x.seen = omega (arith, c.workers.ensures.value, c.from.ensures, c.if-from-workers.false) in
+    let worker : c.args.worker < length x.workers = omega (arith, c.workers.ensures.value, c.from.ensures, c.if-from-workers.false) in
     let back : is_back_on x c.args.clock ≡ true = ap (λ (y : MachineState). is_back_on y c.args.clock) one ∙ sym c.is_back.ensures.value ∙ c.if-is_back.true in (
       refl,
       ap (λ (v : WorldState). read_on v c.args.at m c.args.worker c.args.clock c.args.number (slice_get v.machines m)) (sym c.self.view_is)
@@ -39,7 +39,7 @@ returns-then-is_back c =
 
 pub returns-in_default : goal.returns-in_default
 returns-in_default c =
-    let w : WorldState = record { time = c.self.inside.time; packets = c.self.inside.packets.items; machines = c.self.inside.machines.items } in
+    let w : WorldState = the_view c.self.inside in
     let m = c.args.machine in
     let p = c.from-place.result in
     let x : MachineState = c.index.result.now in
@@ -47,7 +47,7 @@ returns-in_default c =
     let found : slice_get w.machines m ≡ Some x = found_at w.machines p m x c.from-place.ensures inside c.index.ensures in
     let one : x ≡ c.index-2.result.now = same_item w.machines p x c.index-2.result.now inside c.index.ensures c.index-2.ensures in
     let again : x ≡ c.index-3.result.now = same_item w.machines p x c.index-3.result.now inside c.index.ensures c.index-3.ensures in
-    let worker : c.args.worker < length x.seen = omega (arith, c.workers.ensures.value, c.from.ensures, c.if-from-workers.false) in
+    let worker : c.args.worker < length x.workers = omega (arith, c.workers.ensures.value, c.from.ensures, c.if-from-workers.false) in
     let forward : is_back_on x c.args.clock ≡ false = ap (λ (y : MachineState). is_back_on y c.args.clock) one ∙ sym c.is_back.ensures.value ∙ c.if-is_back.false in
     let nothing : readable_on x c.args.worker c.args.number ≡ None = ap (λ (y : MachineState). readable_on y c.args.worker c.args.number) again ∙ sym c.readable.ensures ∙ c.in_default.is in (
       refl,
@@ -58,7 +58,7 @@ returns-in_default c =
 
 pub returns : goal.returns
 returns c =
-    let w : WorldState = record { time = c.self.inside.time; packets = c.self.inside.packets.items; machines = c.self.inside.machines.items } in
+    let w : WorldState = the_view c.self.inside in
     let m = c.args.machine in
     let p = c.from-place.result in
     let x : MachineState = c.index_mut.result.now in
@@ -67,7 +67,7 @@ returns c =
     let first : x ≡ c.index.result.now = same_item w.machines p x c.index.result.now inside c.index_mut.ensures.value c.index.ensures in
     let one : x ≡ c.index-2.result.now = same_item w.machines p x c.index-2.result.now inside c.index_mut.ensures.value c.index-2.ensures in
     let again : x ≡ c.index-3.result.now = same_item w.machines p x c.index-3.result.now inside c.index_mut.ensures.value c.index-3.ensures in
-    let worker : c.args.worker < length x.seen = omega (arith, ap (λ (y : MachineState). length y.seen) first, c.workers.ensures.value, c.from.ensures, c.if-from-workers.false) in
+    let worker : c.args.worker < length x.workers = omega (arith, ap (λ (y : MachineState). length y.workers) first, c.workers.ensures.value, c.from.ensures, c.if-from-workers.false) in
     let forward : is_back_on x c.args.clock ≡ false = ap (λ (y : MachineState). is_back_on y c.args.clock) one ∙ sym c.is_back.ensures.value ∙ c.if-is_back.false in
     let some : readable_on x c.args.worker c.args.number ≡ Some c.in-Some.publication = ap (λ (y : MachineState). readable_on y c.args.worker c.args.number) again ∙ sym c.readable.ensures ∙ c.in-Some.is in
     ap (λ (v : WorldState). read_on v c.args.at m c.args.worker c.args.clock c.args.number (slice_get v.machines m)) (sym c.self.view_is)

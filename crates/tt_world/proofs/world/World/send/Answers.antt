@@ -1,18 +1,17 @@
-use Rattle.std.proofs.Common.{◌≡◌, ℕ, Bool, true, false, [], ◌<◌, ◌≤◌, ◌∙◌, List, ◌∷◌, ◌++◌, ap, sym, refl, slice_get, slice_set, Option, Some, None, length, arith}
+use Rattle.std.proofs.Common.{◌≡◌, true, false, [], ◌<◌, ◌≤◌, ◌∙◌, List, ◌∷◌, ◌++◌, ap, sym, refl, slice_get, slice_set, Some, length, arith}
 use Rattle.tt_poll.specs.Message.{PollRequest}
-use Rattle.tt_world.specs.declared.events.Reply.{Reply}
+use Rattle.tt_world.specs.declared.events.Reply.TheVariants.{Refused}
 use Rattle.tt_world.specs.declared.packets.Packet.{Packet}
 use Rattle.tt_world.specs.declared.packets.Packet.TheVariants.{Asked}
-use Rattle.tt_world.specs.declared.world.World.TheInside.{Inside}
 use Rattle.tt_world.specs.State.{MachineState, WorldState}
-use Rattle.tt_world.specs.Step.{Outcome, is_back_on, send_on, refused}
+use Rattle.tt_world.specs.Step.{is_back_on, send_on, refused}
+use Rattle.tt_world.specs.contracts.world.World.{the_view}
 use Rattle.tt_world.proofs.Turns.{same_item, found_at, send_on-no_source, send_on-back, send_on-sent, send_on-refused, outcome}
 use Rattle.tt_world.proofs.world.World.send.Goals as goal
-use Rattle.tt_world.proofs.world.World.send.Goals.{in-Ok, in-Err}
 
 pub returns-then-from-sources : goal.returns-then-from-sources
 returns-then-from-sources c =
-    let w : WorldState = record { time = c.self.inside.time; packets = c.self.inside.packets.items; machines = c.self.inside.machines.items } in
+    let w : WorldState = the_view c.self.inside in
     let m = c.args.machine in
     let p = c.from-place.result in
     let x : MachineState = c.index.result.now in
@@ -28,7 +27,7 @@ returns-then-from-sources c =
 
 pub returns-then-is_back : goal.returns-then-is_back
 returns-then-is_back c =
-    let w : WorldState = record { time = c.self.inside.time; packets = c.self.inside.packets.items; machines = c.self.inside.machines.items } in
+    let w : WorldState = the_view c.self.inside in
     let m = c.args.machine in
     let p = c.from-place.result in
     let x : MachineState = c.index.result.now in
@@ -43,9 +42,31 @@ returns-then-is_back c =
           ∙ ap (λ (v : WorldState). refused v 1202) c.self.view_is,
     )
 
-pub returns : goal.returns
-returns c =
-    let w : WorldState = record { time = c.self.inside.time; packets = c.self.inside.packets.items; machines = c.self.inside.machines.items } in
+pub returns-in-Ok : goal.returns-in-Ok
+returns-in-Ok c =
+    let w : WorldState = the_view c.self.inside in
+    let m = c.args.machine in
+    let p = c.from-place.result in
+    let x : MachineState = c.index_mut.result.now in
+    let inside : p < length w.machines = omega (arith, c.len.ensures) in
+    let found : slice_get w.machines m ≡ Some x = found_at w.machines p m x c.from-place.ensures inside c.index_mut.ensures.value in
+    let first : x ≡ c.index.result.now = same_item w.machines p x c.index.result.now inside c.index_mut.ensures.value c.index.ensures in
+    let one : x ≡ c.index-2.result.now = same_item w.machines p x c.index-2.result.now inside c.index_mut.ensures.value c.index-2.ensures in
+    let source : c.args.source < x.config.sources =
+    omega (arith, ap (λ (y : MachineState). y.config.sources) first, c.sources.ensures.value, ap (λ k. k.sources) c.config.ensures.value, c.from.ensures, c.if-from-sources.false) in
+    let forward : is_back_on x c.args.clock ≡ false = ap (λ (y : MachineState). is_back_on y c.args.clock) one ∙ sym c.is_back.ensures.value ∙ c.if-is_back.false in
+    let request = rw c.unwrap-request.ensures at c.new.ensures.value in
+    let pushed = rw c.unwrap.ensures at c.push.ensures.items in
+    let put : c.push.new.self.items ≡ w.packets ++ Asked (record { machine = m; source = c.args.source; nonce = c.in-Ok.nonce }) ∷ [] =
+    pushed ∙ ap (λ (ps : List Packet). ps ++ Asked c.unwrap-request.result ∷ []) c.in_ok-reserve.ensures.items ∙ ap (λ (r : PollRequest). w.packets ++ Asked r ∷ []) request in
+    let count : c.len-number.result ≡ length w.packets = omega (arith, c.len-number.ensures, c.in_ok-reserve.ensures.len) in
+    ap (λ (v : WorldState). send_on v c.args.at m c.args.source c.args.clock (slice_get v.machines m)) (sym c.self.view_is)
+    ∙ send_on-sent w c.args.at m p c.args.source c.args.clock c.len-number.result c.in-Ok.nonce x c.poll.new.self c.push.new.self.items found source forward
+    c.in-Ok.ensures.polled.0 c.in-Ok.ensures.polled.1 c.in-Ok.ensures.polled.2 count put c.from-place.ensures
+
+pub returns-in-Err : goal.returns-in-Err
+returns-in-Err c =
+    let w : WorldState = the_view c.self.inside in
     let m = c.args.machine in
     let p = c.from-place.result in
     let x : MachineState = c.index_mut.result.now in
@@ -57,21 +78,6 @@ returns c =
     omega (arith, ap (λ (y : MachineState). y.config.sources) first, c.sources.ensures.value, ap (λ k. k.sources) c.config.ensures.value, c.from.ensures, c.if-from-sources.false) in
     let forward : is_back_on x c.args.clock ≡ false = ap (λ (y : MachineState). is_back_on y c.args.clock) one ∙ sym c.is_back.ensures.value ∙ c.if-is_back.false in
     ap (λ (v : WorldState). send_on v c.args.at m c.args.source c.args.clock (slice_get v.machines m)) (sym c.self.view_is)
-    ∙ elim c.match-poll.branch [
-      | in-Ok b ↦
-          let request = rw b.unwrap-request.ensures at b.new.ensures.value in
-          let pushed = rw b.unwrap.ensures at b.push.ensures.items in
-          let put : b.push.new.self.items ≡ w.packets ++ Asked (record { machine = m; source = c.args.source; nonce = b.in-Ok.nonce }) ∷ [] =
-          pushed ∙ ap (λ (ps : List Packet). ps ++ Asked b.unwrap-request.result ∷ []) c.in_ok-reserve.ensures.items ∙ ap (λ (r : PollRequest). w.packets ++ Asked r ∷ []) request in
-          let count : c.len-number.result ≡ length w.packets = omega (arith, c.len-number.ensures, c.in_ok-reserve.ensures.len) in
-          send_on-sent w c.args.at m p c.args.source c.args.clock c.len-number.result b.in-Ok.nonce x c.poll.new.self b.push.new.self.items found source forward
-          b.in-Ok.ensures.polled.0 b.in-Ok.ensures.polled.1 b.in-Ok.ensures.polled.2 count put c.from-place.ensures
-          ∙ sym (ap (λ (s : Inside). outcome c.args.at s.packets.items s.machines.items c.match-poll.reply) b.self-inside-is
-          ∙ ap (λ (r : Reply). outcome c.args.at b.push.new.self.items (slice_set w.machines p c.poll.new.self) r) b.reply-is)
-      | in-Err b ↦
-          send_on-refused w c.args.at m p c.args.source c.args.clock b.number.result x c.poll.new.self b.in-Err.fault found source forward
-          b.in-Err.ensures.refused.0 b.in-Err.ensures.refused.1 b.number.ensures c.from-place.ensures
-          ∙ sym (ap (λ (s : Inside). outcome c.args.at s.packets.items s.machines.items c.match-poll.reply) b.self-inside-is
-          ∙ ap (λ (ps : List Packet). outcome c.args.at ps (slice_set w.machines p c.poll.new.self) c.match-poll.reply) c.in_ok-reserve.ensures.items
-          ∙ ap (λ (r : Reply). outcome c.args.at w.packets (slice_set w.machines p c.poll.new.self) r) b.reply-is)
-    ]
+    ∙ send_on-refused w c.args.at m p c.args.source c.args.clock c.number.result x c.poll.new.self c.in-Err.fault found source forward
+    c.in-Err.ensures.refused.0 c.in-Err.ensures.refused.1 c.number.ensures c.from-place.ensures
+    ∙ ap (λ (ps : List Packet). outcome c.args.at ps (slice_set w.machines p c.poll.new.self) w.shown (Refused c.number.result)) (sym c.in_ok-reserve.ensures.items)

@@ -1,18 +1,19 @@
-use Rattle.std.proofs.Common.{◌≡◌, ℕ, ◌-◌, ◌^◌, ◌<◌, List, length, ap, sym, subst, ◌∙◌, arith}
+use Rattle.std.proofs.Common.{◌≡◌, ◌-◌, ◌^◌, ◌<◌, List, length, ap, sym, subst, ◌∙◌, arith}
 use Rattle.std.specs.Prelude.{Result}
 use Rattle.tt_world.specs.declared.events.Reply.{Reply}
 use Rattle.tt_world.specs.declared.faults.WorldFault.{WorldFault}
 use Rattle.tt_world.specs.declared.packets.Packet.{Packet}
 use Rattle.tt_world.specs.State.{WorldState}
-use Rattle.tt_world.specs.Step.{stepped, IsRefusal, refusal_reply}
+use Rattle.tt_world.specs.Step.{stepped, IsRefusal}
+use Rattle.tt_world.specs.contracts.world.World.{the_view}
 use Rattle.tt_world.proofs.GoesOn.{Promises, goes_on, refusal_promises}
 use Rattle.tt_world.proofs.world.World.step.Goals as goal
 
 pub returns-in-Ok-clause-reply : goal.returns-in-Ok-clause-reply
 returns-in-Ok-clause-reply c =
-    let w : WorldState = record { time = c.self.inside.time; packets = c.reserve.new.self.items; machines = c.self.inside.machines.items } in
+    let w : WorldState = the_view (record c.self.inside { packets = c.reserve.new.self }) in
     let same : w ≡ c.args.self.now =
-    ap (λ (ps : List Packet). record { time = c.self.inside.time; packets = ps; machines = c.self.inside.machines.items }) c.in_ok-reserve.ensures.items ∙ c.self.view_is in
+    ap (λ (ps : List Packet). record (the_view c.self.inside) { packets = ps }) c.in_ok-reserve.ensures.items ∙ c.self.view_is in
     let few : length w.packets < 2 ^ 64 - 1 = omega (arith, c.in_ok-reserve.ensures.ok) in
     let few_then : length c.args.self.now.packets < 2 ^ 64 - 1 = subst (λ (v : WorldState). length v.packets < 2 ^ 64 - 1) same few in
     goes_on c.args.self.now c.act.new.self c.args.event.now c.in-Ok.reply few_then
@@ -20,9 +21,9 @@ returns-in-Ok-clause-reply c =
 
 pub returns-in-Err : goal.returns-in-Err
 returns-in-Err c =
-    let w : WorldState = record { time = c.self.inside.time; packets = c.reserve.new.self.items; machines = c.self.inside.machines.items } in
+    let w : WorldState = the_view (record c.self.inside { packets = c.reserve.new.self }) in
     let same : w ≡ c.args.self.now =
-    ap (λ (ps : List Packet). record { time = c.self.inside.time; packets = ps; machines = c.self.inside.machines.items }) c.in_ok-reserve.ensures.items ∙ c.self.view_is in
+    ap (λ (ps : List Packet). record (the_view c.self.inside) { packets = ps }) c.in_ok-reserve.ensures.items ∙ c.self.view_is in
     let few : length w.packets < 2 ^ 64 - 1 = omega (arith, c.in_ok-reserve.ensures.ok) in
     let few_then : length c.args.self.now.packets < 2 ^ 64 - 1 = subst (λ (v : WorldState). length v.packets < 2 ^ 64 - 1) same few in
     let promises = refusal_promises c.args.self.now c.act.new.self c.args.event.now c.in-Err.fault in

@@ -1,0 +1,15 @@
+pub mod Counting
+pub mod Members
+pub mod Sides
+pub mod Proving
+pub mod Verdicts
+pub mod Sorting
+pub mod Passing
+pub mod Lifting
+pub mod Least
+pub mod Canonicals
+pub mod Single
+pub mod Digits
+pub mod Fronts
+pub mod Many
+pub mod Parts

@@ -1,0 +1,120 @@
+//! Certificates as values.
+
+ghost use Rattle.std.specs.Prelude.{◌≡◌, ◌≤◌, length};
+
+use arrayvec::ArrayVec;
+use std::marker::Model;
+
+/// A stretch of time from `from` to `to`, both in nanoseconds and in it, and how many sources are said to meet it.
+/// Nothing is promised of the three numbers: `check` judges them.
+#[derive(Clone, Copy, Debug, Default, PartialEq, Eq)]
+pub struct Stretch {
+    pub from: u64,
+    pub to: u64,
+    pub depth: u8,
+}
+
+/// Evidence that a claimed span is the fusion: source numbers for each end of the claim, and stretches of time on
+/// each side of it. Nothing is promised of them: `check` judges them.
+#[derive(Debug, Drop)]
+pub struct Certificate {
+    left: ArrayVec<u8, 16>,
+    right: ArrayVec<u8, 16>,
+    below: ArrayVec<Stretch, 33>,
+    above: ArrayVec<Stretch, 33>,
+}
+
+impl Model for Certificate {
+    ghost use Rattle.tt_cert.specs.Proof.{Proof};
+
+    ghost Value = { Proof };
+
+    ghost view = { λ c. record { left = c.left.items; right = c.right.items; below = c.below.items; above = c.above.items } };
+}
+
+impl Certificate {
+    /// The certificate of these parts, each in the order in which it is given.
+    pub fn new(
+        left: ArrayVec<u8, 16>,
+        right: ArrayVec<u8, 16>,
+        below: ArrayVec<Stretch, 33>,
+        above: ArrayVec<Stretch, 33>,
+    ) -> Certificate
+        ensures { result ≡ record { left = left.items; right = right.items; below = below.items; above = above.items } }
+    {
+        Certificate {
+            left,
+            right,
+            below,
+            above,
+        }
+    }
+
+    /// The numbers of the sources that are said to hold the lower end of the claim.
+    pub fn left(&self) -> &[u8]
+        ensures value { result.now ≡ self.now.left }
+        ensures few { length result.now ≤ 16 }
+    {
+        self.left.as_slice()
+    }
+
+    /// The numbers of the sources that are said to hold the upper end of the claim.
+    pub fn right(&self) -> &[u8]
+        ensures value { result.now ≡ self.now.right }
+        ensures few { length result.now ≤ 16 }
+    {
+        self.right.as_slice()
+    }
+
+    /// The stretches below the claim.
+    pub fn below(&self) -> &[Stretch]
+        ensures value { result.now ≡ self.now.below }
+        ensures few { length result.now ≤ 33 }
+    {
+        self.below.as_slice()
+    }
+
+    /// The stretches above the claim.
+    pub fn above(&self) -> &[Stretch]
+        ensures value { result.now ≡ self.now.above }
+        ensures few { length result.now ≤ 33 }
+    {
+        self.above.as_slice()
+    }
+
+    /// An equal certificate.
+    pub fn copied(&self) -> Certificate
+        ensures { result ≡ self.now }
+    {
+        Certificate {
+            left: numbers_of(self.left()),
+            right: numbers_of(self.right()),
+            below: stretches_of(self.below()),
+            above: stretches_of(self.above()),
+        }
+    }
+}
+
+/// At most 16 source numbers, kept in a vector of their own.
+fn numbers_of(sources: &[u8]) -> ArrayVec<u8, 16>
+    requires { length sources.now ≤ 16 }
+    ensures { result.items ≡ sources.now }
+{
+    let mut kept = ArrayVec::new();
+    for source in sources {
+        kept.push(*source);
+    }
+    kept
+}
+
+/// At most 33 stretches, kept in a vector of their own.
+fn stretches_of(stretches: &[Stretch]) -> ArrayVec<Stretch, 33>
+    requires { length stretches.now ≤ 33 }
+    ensures { result.items ≡ stretches.now }
+{
+    let mut kept = ArrayVec::new();
+    for stretch in stretches {
+        kept.push(*stretch);
+    }
+    kept
+}

@@ -1,0 +1,47 @@
+//! The canonical certificate of a fusion.
+
+ghost use Rattle.std.specs.Prelude.{◌≡◌, ◌≤◌, length, take};
+ghost use Rattle.tt_fuse.specs.Fusion.{IsFusion, CanBeFused};
+ghost use Rattle.tt_cert.specs.Valid.{IsCertificate};
+ghost use Rattle.tt_cert.specs.Canonical.{IsCanonical, sources_at};
+
+use crate::certificate::Certificate;
+use crate::sweeping::{ascending_lower_ends, ascending_upper_ends, stretches_between};
+use arrayvec::ArrayVec;
+use tt_fuse::fusion_laws;
+use tt_span::{MAX_TIME, Span};
+
+/// The canonical certificate of the fusion of the spans, which is valid: the caller sees to it that `claim` is what
+/// `fuse` answers for them. At each end of the claim it names the least source numbers that serve, ascending. Its
+/// stretches are cut wherever the span of a source begins, and just after where one ends, and nowhere else.
+pub fn certify(spans: &[Span], faulty: usize, claim: &Span) -> Certificate
+    requires fusible { CanBeFused (length spans.now) faulty }
+    requires fused { IsFusion spans.now faulty claim.now }
+    ensures canonical { IsCanonical spans.now faulty claim.now result }
+    ensures valid { IsCertificate spans.now faulty claim.now result }
+{
+    fusion_laws();
+    let need = spans.len() - faulty;
+    let lows = ascending_lower_ends(spans);
+    let highs = ascending_upper_ends(spans);
+    Certificate::new(
+        least_sources_at(spans, need, claim.lo()),
+        least_sources_at(spans, need, claim.hi()),
+        stretches_between(&lows, &highs, 0, claim.lo()),
+        stretches_between(&lows, &highs, claim.hi() + 1, MAX_TIME + 1),
+    )
+}
+
+/// The `need` least numbers of the sources that hold `time`, ascending, or all of them where they are fewer.
+fn least_sources_at(spans: &[Span], need: usize, time: u64) -> ArrayVec<u8, 16>
+    requires { length spans.now ≤ 16 }
+    ensures { result.items ≡ take need (sources_at spans.now time) }
+{
+    let mut found = ArrayVec::new();
+    for (source, span) in spans.iter().enumerate() {
+        if found.len() < need && span.contains(time) {
+            found.push(source as u8);
+        }
+    }
+    found
+}

@@ -1,0 +1,30 @@
+//! Certificates of a fusion: evidence that a claimed span is the fusion, which anybody can check.
+//!
+//! A [`Certificate`] of a claim names, for each end of the claim, as many sources as have to hold a time for it to be
+//! possible, and cuts all time below and above the claim into stretches, each with the number of sources that meet
+//! it. So it shows that both ends are possible times, and that no time outside the claim is. [`check`] says yes
+//! exactly where the certificate is valid, and then the claim is the fusion. [`certify`] gives the canonical
+//! certificate of a fusion. [`write_text`] and [`read_text`] keep certificates as text, and
+//! [`line_at`] reads one line of such text.
+//!
+//! Times are whole nanoseconds, as in `tt_span`, and a source's number is its place among the spans, from 0. Only
+//! the writing of a text takes memory.
+#![tactic(auto)]
+
+mod certificate;
+mod certifying;
+mod checking;
+mod faults;
+mod reading;
+mod sweeping;
+mod writing;
+
+pub use certificate::{Certificate, Stretch};
+pub use certifying::certify;
+pub use checking::{certificate_laws, check};
+pub use faults::CertFault;
+pub use reading::{line_at, read_text};
+pub use writing::write_text;
+
+#[cfg(test)]
+mod tests;

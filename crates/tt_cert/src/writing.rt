@@ -1,0 +1,86 @@
+//! Certificates to text.
+
+ghost use Rattle.std.specs.Prelude.{◌≡◌, ℕ, ◌≤◌, List, length, ◌++◌, IfOk, IfErr, OnOk, string_bytes};
+ghost use Rattle.std.specs.List.{flat_map};
+ghost use Rattle.tt_cert.specs.Text.{line_of, stretch_line, text_of};
+
+use crate::certificate::{Certificate, Stretch};
+use crate::faults::CertFault;
+use arrayvec::ArrayVec;
+use std::alloc::{AllocError, Global};
+use tt_span::Span;
+
+/// The text of a claim and its certificate, which `read_text` reads: the line `claim LO HI`, a line `left I I ..`,
+/// a line `right I I ..`, a line `below FROM TO DEPTH` for each stretch below the claim, and a line
+/// `above FROM TO DEPTH` for each above it, all in the order in which they are kept. What is written reads back as the
+/// same claim and certificate wherever neither set is empty and each stretch is a span. Refuses with 1 `Memory` where
+/// memory runs out, and never else.
+pub fn write_text(
+    alloc: Global,
+    claim: &Span,
+    certificate: &Certificate,
+) -> Result<String, CertFault>
+    ensures written { IfOk result (λ text. string_bytes text ≡ text_of claim.now certificate.now) }
+    ensures memory { IfErr result (λ fault. fault ≡ CertFault.Memory) }
+{
+    text_in(alloc, claim, certificate).map_err(|_error| CertFault::Memory)
+}
+
+/// The text, unless memory runs out.
+fn text_in(alloc: Global, claim: &Span, certificate: &Certificate) -> Result<String, AllocError>
+    ensures { IfOk result (λ text. string_bytes text ≡ text_of claim.now certificate.now) }
+{
+    let mut text = String::new(alloc);
+    push_line(alloc, &mut text, "claim", &[claim.lo(), claim.hi()])?;
+    push_line(alloc, &mut text, "left", &widened(certificate.left()))?;
+    push_line(alloc, &mut text, "right", &widened(certificate.right()))?;
+    push_stretches(alloc, &mut text, "below", certificate.below())?;
+    push_stretches(alloc, &mut text, "above", certificate.above())?;
+    Ok(text)
+}
+
+/// Source numbers as numbers of a line.
+fn widened(sources: &[u8]) -> ArrayVec<u64, 16>
+    requires { length sources.now ≤ 16 }
+    ensures { result.items ≡ sources.now }
+{
+    let mut numbers = ArrayVec::new();
+    for source in sources {
+        numbers.push(u64::from(*source));
+    }
+    numbers
+}
+
+/// Writes the line of each stretch at the end.
+fn push_stretches(
+    alloc: Global,
+    text: &mut String,
+    word: &str,
+    stretches: &[Stretch],
+) -> Result<(), AllocError>
+    ensures { OnOk result (string_bytes text.new ≡ string_bytes text.old ++ flat_map (stretch_line word.now) stretches.now) }
+{
+    for stretch in stretches {
+        let numbers = [stretch.from, stretch.to, u64::from(stretch.depth)];
+        push_line(alloc, text, word, &numbers)?;
+    }
+    Ok(())
+}
+
+/// Writes a line at the end: the word, and the numbers, each behind one space.
+fn push_line(
+    alloc: Global,
+    text: &mut String,
+    word: &str,
+    numbers: &[u64],
+) -> Result<(), AllocError>
+    ensures { OnOk result (string_bytes text.new ≡ string_bytes text.old ++ line_of word.now numbers.now) }
+{
+    text.push_str(word)?;
+    for number in numbers {
+        text.push_str(" ")?;
+        let digits = number.to_string(alloc)?;
+        text.push_str(digits.as_str())?;
+    }
+    text.push_str("\n")
+}

@@ -1,0 +1,23 @@
+-- What a machine is set up with.
+use Rattle.std.specs.Prelude.{ℕ, ◌+◌, ◌*◌, ◌≤◌, ◌<◌}
+use Rattle.tt_span.specs.Drift.{max_drift}
+
+-- one machine: how many sources it asks, how many of them may lie, the drift of its clock in parts per million, and its workers
+pub record Configuration : Type 0 where
+  pub sources : ℕ
+  pub faulty : ℕ
+  pub drift : ℕ
+  pub workers : ℕ
+
+-- a set-up that a machine can have
+pub record IsConfiguration (c : Configuration) : Type 0 where
+  pub some_source : 0 < c.sources
+  pub not_too_many : c.sources ≤ 16
+  pub enough : 2 * c.faulty + 1 ≤ c.sources
+  pub drift_in : c.drift ≤ max_drift
+  pub some_worker : 0 < c.workers
+  pub workers_in : c.workers ≤ 32
+
+-- no machine has this one
+abbrev pub no_configuration : Configuration
+no_configuration = record { sources = 0; faulty = 0; drift = 0; workers = 0 }

@@ -1,0 +1,4 @@
+pub mod Config
+pub mod Fault
+pub mod Publication
+pub mod Daemon

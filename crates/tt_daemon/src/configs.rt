@@ -1,0 +1,138 @@
+//! What a machine is set up with.
+
+ghost use Rattle.std.specs.Prelude.{◌≡◌, ◌+◌, ◌*◌, ◌<◌, ◌≤◌, ◌↔◌, ◌⊎◌, IsOk, IfOk, IsErrOf};
+ghost use Rattle.tt_daemon.specs.Config.{IsConfiguration};
+ghost use Rattle.tt_daemon.specs.Fault.{config_number_of};
+
+use std::marker::Model;
+use thiserror::Error;
+use tt_span::{Drift, MAX_DRIFT};
+
+/// How many sources a machine asks at most.
+pub const MAX_SOURCES: usize = 16;
+
+/// How many workers a machine has at most.
+pub const MAX_WORKERS: usize = 32;
+
+/// Why no machine can be set up so.
+#[derive(Clone, Copy, Debug, PartialEq, Eq, Error)]
+pub enum ConfigFault {
+    #[error("a machine asks one source at least")]
+    NoSource,
+    #[error("a machine asks sixteen sources at most")]
+    TooManySources,
+    #[error("too few sources for so many that may lie")]
+    TooFewSources,
+    #[error("a machine has from one to thirty-two workers")]
+    Workers,
+}
+
+impl ConfigFault {
+    /// The fault's number: 501 `NoSource`, 502 `TooManySources`, 503 `TooFewSources`, 702 `Workers`.
+    pub fn number(&self) -> u16
+        ensures { result ≡ config_number_of self.now }
+    {
+        match self {
+            ConfigFault::NoSource => 501,
+            ConfigFault::TooManySources => 502,
+            ConfigFault::TooFewSources => 503,
+            ConfigFault::Workers => 702,
+        }
+    }
+}
+
+/// What a machine is set up with: how many sources it asks, how many of them may lie, the drift of its clock,
+/// and how many workers it has.
+#[derive(Clone, Copy, Debug, PartialEq, Eq)]
+pub struct Config {
+    sources: usize,
+    faulty: usize,
+    drift: Drift,
+    workers: usize,
+}
+
+impl Model for Config {
+    ghost use Rattle.tt_daemon.specs.Config.{Configuration, IsConfiguration};
+
+    ghost Value = { Configuration };
+
+    ghost view = { λ c. record { sources = c.sources; faulty = c.faulty; drift = c.drift; workers = c.workers } };
+
+    ghost invariant = { λ c. IsConfiguration (record { sources = c.sources; faulty = c.faulty; drift = c.drift; workers = c.workers }) };
+
+    ghost inverse = { λ c. record { sources = c.sources; faulty = c.faulty; drift = c.drift; workers = c.workers } };
+}
+
+impl Config {
+    /// The set-up with so many sources, of which `faulty` may lie, this drift, and so many workers. Refuses, in
+    /// this order: 501 `NoSource` where there is no source, 502 `TooManySources` above [`MAX_SOURCES`],
+    /// 503 `TooFewSources` where there are fewer than `2 * faulty + 1`, 702 `Workers` where there is no worker or
+    /// more than [`MAX_WORKERS`].
+    pub fn new(
+        sources: usize,
+        faulty: usize,
+        drift: Drift,
+        workers: usize,
+    ) -> Result<Config, ConfigFault>
+        ensures taken { IsOk result ↔ ((0 < sources) × (sources ≤ 16) × (2 * faulty + 1 ≤ sources) × (0 < workers) × (workers ≤ 32)) }
+        ensures value { IfOk result (λ c. c ≡ record { sources = sources; faulty = faulty; drift = drift; workers = workers }) }
+        ensures no_source { IsErrOf result ConfigFault.NoSource ↔ (sources ≡ 0) }
+        ensures too_many { IsErrOf result ConfigFault.TooManySources ↔ (16 < sources) }
+        ensures too_few { IsErrOf result ConfigFault.TooFewSources ↔ ((0 < sources) × (sources ≤ 16) × (sources < 2 * faulty + 1)) }
+        ensures workers { IsErrOf result ConfigFault.Workers
+            ↔ ((0 < sources) × (sources ≤ 16) × (2 * faulty + 1 ≤ sources) × ((workers ≡ 0) ⊎ (32 < workers))) }
+    {
+        if sources == 0 {
+            return Err(ConfigFault::NoSource);
+        }
+        if sources > MAX_SOURCES {
+            return Err(ConfigFault::TooManySources);
+        }
+        // That is, fewer than `2 * faulty + 1`, which may be too large a number to write.
+        if faulty > (sources - 1) / 2 {
+            return Err(ConfigFault::TooFewSources);
+        }
+        if workers == 0 || workers > MAX_WORKERS {
+            return Err(ConfigFault::Workers);
+        }
+        prove!(drift.ppm() <= MAX_DRIFT);
+        Ok(Config {
+            sources,
+            faulty,
+            drift,
+            workers,
+        })
+    }
+
+    /// How many sources the machine asks, from 1 to [`MAX_SOURCES`].
+    pub fn sources(&self) -> usize
+        ensures value { result ≡ self.now.sources }
+        ensures valid { IsConfiguration self.now }
+    {
+        self.sources
+    }
+
+    /// How many of its sources may lie.
+    pub fn faulty(&self) -> usize
+        ensures value { result ≡ self.now.faulty }
+        ensures valid { IsConfiguration self.now }
+    {
+        self.faulty
+    }
+
+    /// The drift of its clock.
+    pub fn drift(&self) -> Drift
+        ensures value { result ≡ self.now.drift }
+        ensures valid { IsConfiguration self.now }
+    {
+        self.drift
+    }
+
+    /// How many workers it has, from 1 to [`MAX_WORKERS`].
+    pub fn workers(&self) -> usize
+        ensures value { result ≡ self.now.workers }
+        ensures valid { IsConfiguration self.now }
+    {
+        self.workers
+    }
+}

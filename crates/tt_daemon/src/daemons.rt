@@ -1,0 +1,197 @@
+//! What one machine's daemon does.
+
+ghost use Rattle.std.specs.Prelude.{◌≡◌, ℕ, ◌-◌, ◌<◌, ◌≤◌, ◌↔◌, length, take, All, IsTrue, not, Some, None, Ok, Err, IsOk, IfOk, IfErr, OnOk, OnErr, IsErrOf, MatchResult};
+ghost use Rattle.tt_span.specs.Interval.{Interval, IsInterval};
+ghost use Rattle.tt_poll.specs.Message.{max_machine};
+ghost use Rattle.tt_poll.specs.Spelling.{spelling_of};
+ghost use Rattle.tt_poll.specs.declared.messages.Message.TheVariants as message;
+ghost use Rattle.tt_source.specs.Table.{Sending, source_at, poll_of, take_of, known_of, is_known_of, CanBeCalled, IsAwaitedAnswer};
+ghost use Rattle.tt_fuse.specs.Fusion.{IsPossibleTime, HasNoPossibleTime};
+ghost use Rattle.tt_fuse.specs.Depth.{slow_fusion};
+ghost use Rattle.tt_daemon.specs.Publication.{IsPublication};
+ghost use Rattle.tt_daemon.specs.Daemon.{IsDaemon, new_daemon, IsBack, IsForward, KnowsEnough, spans_of};
+
+use crate::configs::{Config, MAX_SOURCES};
+use crate::faults::DaemonFault;
+use crate::fusions::Fused;
+use std::marker::Model;
+use tt_fuse::fusion_laws;
+use tt_poll::REQUEST_LEN;
+use tt_source::{SourceFault, Table};
+use tt_span::Span;
+
+/// One machine's daemon: what the machine is set up with, and what it knows of its sources, which are numbered
+/// from 0. It polls them, takes their answers, and fuses what it knows (Spanner's time daemon: OSDI 2012,
+/// section 3).
+///
+/// Clock readings are in nanoseconds. Each call that takes one refuses by 402 a reading below that of the last
+/// `poll` or `take` that was not refused, or above [`MAX_TIME`](tt_span::MAX_TIME). A refused call changes nothing,
+/// and no call takes memory.
+#[derive(Drop)]
+pub struct Daemon {
+    config: Config,
+    table: Table,
+}
+
+impl Model for Daemon {
+    ghost use Rattle.tt_daemon.specs.Daemon.{DaemonState, IsDaemon};
+
+    ghost Value = { DaemonState };
+
+    ghost view = { λ d. record { config = d.config; table = d.table } };
+
+    ghost invariant = { λ d. IsDaemon (record { config = d.config; table = d.table }) };
+}
+
+impl Daemon {
+    /// The daemon of machine `machine`, at most 7, that is set up so. Nothing is known yet of its sources.
+    pub fn new(machine: u8, config: &Config) -> Daemon
+        requires { machine ≤ max_machine }
+        ensures value { result ≡ new_daemon machine config.now }
+        ensures valid { IsDaemon result }
+    {
+        let table = Table::new(machine, config.sources(), config.drift());
+        prove!(table.sources() > 0);
+        Daemon {
+            config: *config,
+            table,
+        }
+    }
+
+    /// What the machine is set up with: what `new` was given, whatever calls came between.
+    pub fn config(&self) -> &Config
+        ensures value { result.now ≡ self.now.config }
+        ensures valid { IsDaemon self.now }
+    {
+        &self.config
+    }
+
+    /// The last nonce that was used, 0 before the first poll.
+    pub fn last(&self) -> u64
+        ensures value { result ≡ self.now.table.last }
+        ensures valid { IsDaemon self.now }
+    {
+        self.table.last()
+    }
+
+    /// How many sources have made a statement.
+    pub fn known(&self) -> usize
+        ensures value { result ≡ known_of self.now.table }
+        ensures valid { IsDaemon self.now }
+    {
+        self.table.known()
+    }
+
+    /// Polls source `i` when the clock shows `clock`: the bytes of a request with the nonce after the last one,
+    /// for which the source now waits in place of an earlier one. Its statement stays. Refuses, in this order: 401
+    /// `NoSource` where `i` is no source, 402 `ClockBack`, 403 `NoncesUsedUp` where the last nonce was `u64::MAX`.
+    pub fn poll(&mut self, i: u8, clock: u64) -> Result<[u8; REQUEST_LEN], SourceFault>
+        ensures polled { OnOk result (poll_of self.old.table i clock ≡ Ok self.new.table) }
+        ensures request { IfOk result (λ bytes. bytes ≡ spelling_of (message.Request (record { machine = self.new.table.machine; source = i; nonce = self.new.table.last }))) }
+        ensures refused { IfErr result (λ e. poll_of self.old.table i clock ≡ Err e) }
+        ensures unchanged { OnErr result (self.new ≡ self.old) }
+        ensures keeps_config { self.new.config ≡ self.old.config }
+        ensures valid { IsDaemon self.new }
+    {
+        let polled = self.table.poll(i, clock);
+        prove!(self.table.sources() > 0);
+        polled
+    }
+
+    /// Takes a packet that came from source `i` when the clock showed `clock`: where it is the answer to the poll
+    /// that waits, it becomes the source's statement, and nothing waits any more. Refuses, in this order: 401
+    /// `NoSource` where `i` is no source, 402 `ClockBack`, 404 `BadMessage` where the bytes spell no message, 405
+    /// `NotMine` where they are a request, or an answer for another machine or of another source, 406
+    /// `NotOutstanding` where no poll of the source with this nonce waits.
+    pub fn take(&mut self, i: u8, clock: u64, bytes: &[u8]) -> Result<(), SourceFault>
+        ensures taken { OnOk result (take_of self.old.table i clock bytes.now ≡ Ok self.new.table) }
+        ensures refused { IfErr result (λ e. take_of self.old.table i clock bytes.now ≡ Err e) }
+        ensures unchanged { OnErr result (self.new ≡ self.old) }
+        // An answer is taken exactly where it is the answer to the poll that waits.
+        ensures takes_the_awaited { IsOk result ↔ (CanBeCalled self.old.table i clock ×
+            ((sending : Sending) × (span : Interval) × IsAwaitedAnswer self.old.table i bytes.now sending span)) }
+        // Its span is then the source's statement, from the sending to now, and nothing waits any more.
+        ensures stores_the_awaited { OnOk result ((sending : Sending) (span : Interval) → IsAwaitedAnswer self.old.table i bytes.now sending span →
+            source_at self.new.table i ≡ record { waiting = None; statement = Some (record { span = span; sent = sending.clock; got = clock }) }) }
+        ensures keeps_config { self.new.config ≡ self.old.config }
+        ensures valid { IsDaemon self.new }
+    {
+        let taken = self.table.take(i, clock, bytes);
+        prove!(self.table.sources() > 0);
+        taken
+    }
+
+    /// Fuses what is known when the clock shows `clock`: the statements of the sources, aged, where a source that
+    /// has made none stands as the whole of time. Refuses, in this order: 402 `ClockBack`, 701 `Unknown` where fewer
+    /// sources have made a statement than all but those that may lie, 504 `NoPoint` where no time is possible,
+    /// which shows that more sources lie than may.
+    ///
+    /// Fusing changes nothing of the daemon, nor the clock reading that later ones are compared with.
+    pub fn fuse(&mut self, clock: u64) -> Result<Fused, DaemonFault>
+        ensures fused { IfOk result (λ p. (p.clock ≡ clock) × (p.spans ≡ spans_of self.old clock) × (p.faulty ≡ self.old.config.faulty)) }
+        // So its span is the fusion of these spans, and its certificate is the canonical one.
+        ensures publication { IfOk result (λ p. IsPublication p) }
+        ensures clock_back { IsErrOf result DaemonFault.ClockBack ↔ IsBack self.old clock }
+        ensures unknown { IsErrOf result DaemonFault.Unknown
+            ↔ (IsForward self.old clock × (known_of self.old.table < self.old.config.sources - self.old.config.faulty)) }
+        ensures no_point { IsErrOf result DaemonFault.NoPoint
+            ↔ (IsForward self.old clock × KnowsEnough self.old × HasNoPossibleTime (spans_of self.old clock) self.old.config.faulty) }
+        ensures answered { IsOk result
+            ↔ (IsForward self.old clock × KnowsEnough self.old × ((x : ℕ) × IsPossibleTime (spans_of self.old clock) self.old.config.faulty x)) }
+        // The same, where nothing else is refused, by trying each end of each span.
+        ensures found_slowly { IsForward self.old clock → KnowsEnough self.old →
+            MatchResult result
+            (λ p. slow_fusion (spans_of self.old clock) self.old.config.faulty ≡ Some p.span)
+            (λ e. (e ≡ DaemonFault.NoPoint) × (slow_fusion (spans_of self.old clock) self.old.config.faulty ≡ None)) }
+        ensures unchanged { self.new ≡ self.old }
+        ensures valid { IsDaemon self.new }
+    {
+        if self.is_back(clock) {
+            return Err(DaemonFault::ClockBack);
+        }
+        if self.table.known() < self.config.sources() - self.config.faulty() {
+            return Err(DaemonFault::Unknown);
+        }
+        self.fused_at(clock)
+    }
+
+    /// Whether a clock reading is refused.
+    fn is_back(&self, clock: u64) -> bool
+        ensures back { IsTrue result ↔ IsBack self.now clock }
+        ensures forward { IsTrue (not result) ↔ IsForward self.now clock }
+    {
+        // There is a source 0, so only the clock can be refused.
+        self.table.aged(0, clock).is_err()
+    }
+
+    /// The fusion of the spans of all sources at a clock reading.
+    fn fused_at(&self, clock: u64) -> Result<Fused, DaemonFault>
+        requires { IsForward self.now clock }
+        ensures fused { IfOk result (λ p. (p.clock ≡ clock) × (p.spans ≡ spans_of self.now clock) × (p.faulty ≡ self.now.config.faulty)) }
+        ensures publication { IfOk result (λ p. IsPublication p) }
+        ensures no_point { IsErrOf result DaemonFault.NoPoint ↔ HasNoPossibleTime (spans_of self.now clock) self.now.config.faulty }
+        ensures answered { IsOk result ↔ ((x : ℕ) × IsPossibleTime (spans_of self.now clock) self.now.config.faulty x) }
+        ensures found_slowly { MatchResult result
+            (λ p. slow_fusion (spans_of self.now clock) self.now.config.faulty ≡ Some p.span)
+            (λ e. (e ≡ DaemonFault.NoPoint) × (slow_fusion (spans_of self.now clock) self.now.config.faulty ≡ None)) }
+    {
+        fusion_laws();
+        let spans = self.spans_at(clock);
+        Fused::make(clock, &spans[..self.table.sources()], self.config.faulty())
+            .ok()
+            .ok_or(DaemonFault::NoPoint)
+    }
+
+    /// The spans of all sources at a clock reading, in front.
+    fn spans_at(&self, clock: u64) -> [Span; MAX_SOURCES]
+        requires { IsForward self.now clock }
+        ensures value { take (length self.now.table.sources) result ≡ spans_of self.now clock }
+        ensures valid { All IsInterval result }
+    {
+        let mut spans = [Span::whole(); MAX_SOURCES];
+        for source in 0..self.table.sources() {
+            spans[source] = self.table.aged(source as u8, clock).unwrap();
+        }
+        spans
+    }
+}

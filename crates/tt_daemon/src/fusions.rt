@@ -1,0 +1,141 @@
+//! Fusions with all that they were made of.
+
+ghost use Rattle.std.specs.Prelude.{◌≡◌, ℕ, ◌+◌, ◌*◌, ◌<◌, ◌≤◌, ◌↔◌, length, take, All, IsOk, IfOk, IsErrOf};
+ghost use Rattle.tt_span.specs.Interval.{IsInterval};
+ghost use Rattle.tt_fuse.specs.Fusion.{IsPossibleTime, HasNoPossibleTime, CanBeFused};
+ghost use Rattle.tt_daemon.specs.Publication.{IsPublication};
+
+use crate::configs::MAX_SOURCES;
+use std::marker::Model;
+use tt_cert::{Certificate, certify};
+use tt_fuse::{FuseFault, fuse};
+use tt_span::Span;
+
+/// A fusion with all that it was made of, as a machine publishes it: the clock reading at which it was made, the
+/// spans of the sources, how many of these may be wrong, their fusion, and the canonical certificate of it, by
+/// which anybody can check the fusion.
+///
+/// It is a value of its own: what comes after it at its machine does not change it. It takes no memory beside
+/// itself.
+#[derive(Debug, Drop)]
+pub struct Fused {
+    clock: u64,
+    span: Span,
+    /// The spans of the sources, in front.
+    spans: [Span; MAX_SOURCES],
+    sources: usize,
+    faulty: usize,
+    certificate: Certificate,
+}
+
+impl Model for Fused {
+    ghost use Rattle.std.specs.Prelude.{◌≤◌, take};
+    ghost use Rattle.tt_daemon.specs.Publication.{Publication, IsPublication};
+
+    ghost Value = { Publication };
+
+    ghost view = { λ f. record { clock = f.clock; span = f.span; spans = take f.sources f.spans; faulty = f.faulty; certificate = f.certificate } };
+
+    ghost invariant = { λ f. (f.sources ≤ 16)
+        × IsPublication (record { clock = f.clock; span = f.span; spans = take f.sources f.spans; faulty = f.faulty; certificate = f.certificate }) };
+}
+
+impl Fused {
+    /// The fusion of the spans, of which at most `faulty` may be wrong, made when the clock showed `clock`, any
+    /// reading at all. Refuses as [`fuse`] does, in this order: 501 `NoSource` where there is no span, 502 `TooMany`
+    /// where there are more than [`MAX_SOURCES`], 503 `TooFew` where there are fewer than `2 * faulty + 1`, 504
+    /// `NoPoint` where no time is possible.
+    pub fn make(clock: u64, spans: &[Span], faulty: usize) -> Result<Fused, FuseFault>
+        ensures no_source { IsErrOf result FuseFault.NoSource ↔ (length spans.now ≡ 0) }
+        ensures too_many { IsErrOf result FuseFault.TooMany ↔ (16 < length spans.now) }
+        ensures too_few { IsErrOf result FuseFault.TooFew
+            ↔ ((0 < length spans.now) × (length spans.now ≤ 16) × (length spans.now < 2 * faulty + 1)) }
+        ensures no_point { IsErrOf result FuseFault.NoPoint
+            ↔ (CanBeFused (length spans.now) faulty × HasNoPossibleTime spans.now faulty) }
+        ensures answered { IsOk result
+            ↔ (CanBeFused (length spans.now) faulty × ((x : ℕ) × IsPossibleTime spans.now faulty x)) }
+        ensures value { IfOk result (λ p. (p.clock ≡ clock) × (p.spans ≡ spans.now) × (p.faulty ≡ faulty)) }
+        // So its span is the fusion of the spans, and its certificate is the canonical one.
+        ensures valid { IfOk result (λ p. IsPublication p) }
+    {
+        let span = fuse(spans, faulty)?;
+        Ok(Fused {
+            clock,
+            span,
+            spans: in_front(spans),
+            sources: spans.len(),
+            faulty,
+            certificate: certify(spans, faulty, &span),
+        })
+    }
+
+    /// What the clock showed when the fusion was made, in nanoseconds.
+    pub fn clock(&self) -> u64
+        ensures value { result ≡ self.now.clock }
+        ensures valid { IsPublication self.now }
+    {
+        self.clock
+    }
+
+    /// The fusion: the least span that holds every time that is possible when at most `faulty` of the sources are
+    /// wrong.
+    pub fn span(&self) -> Span
+        ensures value { result ≡ self.now.span }
+        ensures valid { IsPublication self.now }
+    {
+        self.span
+    }
+
+    /// The spans of the sources, from 1 to [`MAX_SOURCES`] of them.
+    pub fn spans(&self) -> &[Span]
+        ensures value { result.now ≡ self.now.spans }
+        ensures valid { IsPublication self.now }
+    {
+        &self.spans[..self.sources]
+    }
+
+    /// How many of the sources may be wrong.
+    pub fn faulty(&self) -> usize
+        ensures value { result ≡ self.now.faulty }
+        ensures valid { IsPublication self.now }
+    {
+        self.faulty
+    }
+
+    /// The canonical certificate of the fusion.
+    pub fn certificate(&self) -> &Certificate
+        ensures value { result.now ≡ self.now.certificate }
+        ensures valid { IsPublication self.now }
+    {
+        &self.certificate
+    }
+
+    /// An equal one.
+    pub fn copied(&self) -> Fused
+        ensures value { result ≡ self.now }
+        ensures valid { IsPublication self.now }
+    {
+        Fused {
+            clock: self.clock,
+            span: self.span,
+            spans: self.spans,
+            sources: self.sources,
+            faulty: self.faulty,
+            certificate: self.certificate.copied(),
+        }
+    }
+}
+
+/// At most [`MAX_SOURCES`] spans, at the front of an array of their own.
+fn in_front(spans: &[Span]) -> [Span; MAX_SOURCES]
+    requires { length spans.now ≤ 16 }
+    ensures value { take (length spans.now) result ≡ spans.now }
+    ensures valid { All IsInterval spans.now }
+{
+    let mut kept = [Span::whole(); MAX_SOURCES];
+    for (place, span) in spans.iter().enumerate() {
+        prove!(span.lo() <= span.hi());
+        kept[place] = *span;
+    }
+    kept
+}

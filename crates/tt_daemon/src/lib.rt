@@ -1,0 +1,34 @@
+//! One machine's time daemon: it polls its time sources, keeps what they state, and fuses what it knows into a span
+//! that holds the true time while no more of its sources lie than may.
+//!
+//! A [`Daemon`] is set up by a [`Config`]: how many sources it asks, how many of them may lie, and the drift of the
+//! machine's clock. [`Daemon::poll`] writes a request, [`Daemon::take`] takes exactly the answer that is awaited, and
+//! [`Daemon::fuse`] gives a [`Fused`]: the fusion of what all sources stated, aged to this reading of the clock, where
+//! a source that has stated nothing stands as the whole of time. A fusion is refused while fewer sources have made a
+//! statement than all but those that may lie.
+//!
+//! A [`Fused`] carries all that it was made of, and the canonical certificate by which anybody can check it with
+//! `tt_cert`. It is a value of its own: a later fusion, made or refused, does not change it.
+//!
+//! Times and clock readings are whole nanoseconds, as in `tt_span`. Nothing here takes memory.
+//!
+//! Modules:
+//!
+//! - `configs`: what a machine is set up with.
+//! - `daemons`: what a machine's daemon does.
+//! - `fusions`: fusions with all that they were made of.
+//! - `faults`: why a daemon fuses nothing.
+#![tactic(auto)]
+
+mod configs;
+mod daemons;
+mod faults;
+mod fusions;
+
+pub use configs::{Config, ConfigFault, MAX_SOURCES, MAX_WORKERS};
+pub use daemons::Daemon;
+pub use faults::DaemonFault;
+pub use fusions::Fused;
+
+#[cfg(test)]
+mod tests;

@@ -1,0 +1,173 @@
+//! Values worked out by hand.
+
+use crate::{Config, ConfigFault, Daemon, DaemonFault, Fused};
+use std::test::Fail;
+use tt_cert::Stretch;
+use tt_fuse::FuseFault;
+use tt_poll::{Answer, encode_answer};
+use tt_span::{Drift, MAX_TIME, Span};
+
+/// A machine of three sources of which one may lie, with an exact clock.
+fn three_sources() -> Result<Daemon, Fail> {
+    let exact = Drift::new(0).ok_or("a drift")?;
+    Ok(Daemon::new(0, &Config::new(3, 1, exact, 1)?))
+}
+
+/// Source `i` is polled, and answers at once.
+fn state(daemon: &mut Daemon, i: u8, clock: u64, lo: u64, hi: u64) -> Result<(), Fail> {
+    daemon.poll(i, clock)?;
+    let answer = Answer::new(0, i, daemon.last(), Span::new(lo, hi)?)?;
+    daemon.take(i, clock, &encode_answer(&answer))?;
+    Ok(())
+}
+
+/// Why the daemon fuses nothing, if it does not.
+fn refusal(daemon: &mut Daemon, clock: u64) -> Option<DaemonFault> {
+    daemon.fuse(clock).err()
+}
+
+/// The ends of the fused span.
+fn ends(fused: &Fused) -> (u64, u64) {
+    (fused.span().lo(), fused.span().hi())
+}
+
+#[test]
+fn fuses_what_is_known(rt: HostRuntime) -> Result<(), Fail> {
+    let mut daemon = three_sources()?;
+    state(&mut daemon, 0, 0, 40, 60)?;
+    assert_eq!(rt; refusal(&mut daemon, 0), Some(DaemonFault::Unknown));
+    state(&mut daemon, 1, 0, 50, 70)?;
+    let fused = daemon.fuse(0)?;
+    assert_eq!(rt; ends(&fused), (40, 70));
+    assert_eq!(rt; fused.certificate().left(), [0, 2].as_slice());
+    assert_eq!(rt; fused.certificate().right(), [1, 2].as_slice());
+    assert_eq!(rt;
+        (fused.clock(), fused.faulty(), fused.spans().len()),
+        (0, 1, 3)
+    );
+    assert_eq!(rt; (daemon.known(), daemon.last()), (2, 2));
+    assert_eq!(rt; daemon.config().sources(), 3);
+    Ok(())
+}
+
+#[test]
+fn a_refused_fusion_leaves_the_last_one(rt: HostRuntime) -> Result<(), Fail> {
+    let mut daemon = three_sources()?;
+    state(&mut daemon, 0, 0, 40, 60)?;
+    state(&mut daemon, 1, 0, 50, 70)?;
+    let fused = daemon.fuse(0)?;
+    state(&mut daemon, 0, 10, 0, 1)?;
+    state(&mut daemon, 1, 10, 3, 4)?;
+    state(&mut daemon, 2, 10, 6, 7)?;
+    assert_eq!(rt; refusal(&mut daemon, 10), Some(DaemonFault::NoPoint));
+    assert_eq!(rt; refusal(&mut daemon, 9), Some(DaemonFault::ClockBack));
+    assert_eq!(rt;
+        refusal(&mut daemon, MAX_TIME + 1),
+        Some(DaemonFault::ClockBack)
+    );
+    assert_eq!(rt; ends(&fused), (40, 70));
+    Ok(())
+}
+
+#[test]
+fn numbers_the_refusals(rt: HostRuntime) -> Result<(), Fail> {
+    assert_eq!(rt; DaemonFault::ClockBack.number(), 402);
+    assert_eq!(rt; DaemonFault::Unknown.number(), 701);
+    assert_eq!(rt; DaemonFault::NoPoint.number(), 504);
+    assert_eq!(rt; ConfigFault::NoSource.number(), 501);
+    assert_eq!(rt; ConfigFault::TooManySources.number(), 502);
+    assert_eq!(rt; ConfigFault::TooFewSources.number(), 503);
+    assert_eq!(rt; ConfigFault::Workers.number(), 702);
+    Ok(())
+}
+
+#[test]
+fn sets_up_within_the_ranges(rt: HostRuntime) -> Result<(), Fail> {
+    let exact = Drift::new(0).ok_or("a drift")?;
+    let config = Config::new(16, 7, exact, 32)?;
+    assert_eq!(rt;
+        (config.sources(), config.faulty(), config.workers()),
+        (16, 7, 32)
+    );
+    assert_eq!(rt; config.drift(), exact);
+    assert_eq!(rt;
+        Config::new(0, usize::MAX, exact, 0).err(),
+        Some(ConfigFault::NoSource)
+    );
+    assert_eq!(rt;
+        Config::new(17, 0, exact, 0).err(),
+        Some(ConfigFault::TooManySources)
+    );
+    assert_eq!(rt;
+        Config::new(2, 1, exact, 0).err(),
+        Some(ConfigFault::TooFewSources)
+    );
+    assert_eq!(rt;
+        Config::new(16, 1 << 63, exact, 1).err(),
+        Some(ConfigFault::TooFewSources)
+    );
+    assert_eq!(rt;
+        Config::new(3, 1, exact, 0).err(),
+        Some(ConfigFault::Workers)
+    );
+    assert_eq!(rt;
+        Config::new(3, 1, exact, 33).err(),
+        Some(ConfigFault::Workers)
+    );
+    Ok(())
+}
+
+#[test]
+fn a_copy_is_equal(rt: HostRuntime) -> Result<(), Fail> {
+    let spans = [Span::new(0, 10)?, Span::new(5, 15)?, Span::new(12, 20)?];
+    let fused = Fused::make(u64::MAX, &spans, 1)?.copied();
+    assert_eq!(rt; (fused.clock(), fused.faulty()), (u64::MAX, 1));
+    assert_eq!(rt; ends(&fused), (5, 15));
+    assert_eq!(rt; fused.spans(), spans.as_slice());
+    assert_eq!(rt; fused.certificate().left(), [0, 1].as_slice());
+    assert_eq!(rt; fused.certificate().right(), [1, 2].as_slice());
+    Ok(())
+}
+
+#[test]
+fn a_copy_has_the_stretches(rt: HostRuntime) -> Result<(), Fail> {
+    let spans = [Span::new(0, 10)?, Span::new(5, 15)?, Span::new(12, 20)?];
+    let fused = Fused::make(0, &spans, 1)?.copied();
+    let below = [Stretch {
+        from: 0,
+        to: 4,
+        depth: 1,
+    }];
+    let above = [
+        Stretch {
+            from: 16,
+            to: 20,
+            depth: 1,
+        },
+        Stretch {
+            from: 21,
+            to: MAX_TIME,
+            depth: 0,
+        },
+    ];
+    assert_eq!(rt; fused.certificate().below(), below.as_slice());
+    assert_eq!(rt; fused.certificate().above(), above.as_slice());
+    Ok(())
+}
+
+#[test]
+fn makes_no_fusion(rt: HostRuntime) -> Result<(), Fail> {
+    let span = Span::new(0, 1)?;
+    let apart = [span, Span::new(3, 4)?, Span::new(6, 7)?];
+    assert_eq!(rt; Fused::make(0, &[], 0).err(), Some(FuseFault::NoSource));
+    assert_eq!(rt;
+        Fused::make(0, &[span; 17], 1).err(),
+        Some(FuseFault::TooMany)
+    );
+    assert_eq!(rt;
+        Fused::make(0, &[span; 2], 1).err(),
+        Some(FuseFault::TooFew)
+    );
+    assert_eq!(rt; Fused::make(0, &apart, 1).err(), Some(FuseFault::NoPoint));
+    Ok(())
+}

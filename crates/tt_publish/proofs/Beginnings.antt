@@ -1,0 +1,64 @@
+-- Beginnings of one list, and its last item.
+use Rattle.std.proofs.Common.{◌≡◌, ◌≤◌, List, [], ◌∷◌, ◌++◌, length, Option, Some, None, ◌≢◌, refl, ap, sym, subst, inl, inr, ⊎_elim, ◌∙◌, arith, append_assoc}
+use Rattle.std.specs.List.{last_or}
+use mathlib.Core.List.{IsPrefix}
+use Rattle.tt_publish.specs.Known.{last_of, IsLonger}
+
+-- each list begins with itself
+pub prefix_self : {A : Type 0} (xs : List A) → IsPrefix xs xs
+prefix_self [] = ([], refl)
+prefix_self (x ∷ xs) = (let r = prefix_self xs in r.0, ap (λ ys. x ∷ ys) (prefix_self xs).1)
+
+-- a list begins the list with one more item
+pub prefix_more : {A : Type 0} (xs : List A) (x : A) → IsPrefix xs (xs ++ x ∷ [])
+prefix_more xs x = (x ∷ [], refl)
+
+pub prefix_trans : {A : Type 0} (xs ys zs : List A) → IsPrefix xs ys → IsPrefix ys zs → IsPrefix xs zs
+prefix_trans xs ys zs p q = (p.0 ++ q.0, sym (append_assoc xs p.0 q.0) ∙ (ap (λ w. w ++ q.0) p.1 ∙ q.1))
+
+-- of two beginnings of one list the shorter begins the longer
+pub prefix_shorter : {A : Type 0} (xs ys zs : List A) → IsPrefix xs zs → IsPrefix ys zs → length xs ≤ length ys → IsPrefix xs ys
+prefix_shorter [] ys zs p q le = (ys, refl)
+prefix_shorter (x ∷ xs) [] zs p q le = absurd (omega arith)
+prefix_shorter (x ∷ xs) (y ∷ ys) [] p q le = absurd (cc (p.1))
+prefix_shorter (x ∷ xs) (y ∷ ys) (z ∷ zs) p q le =
+    let heads : x ≡ y = cc (p.1, q.1) in
+    let rest = prefix_shorter xs ys zs (p.0, cc (p.1)) (q.0, cc (q.1)) (omega arith) in
+    (rest.0, cc (heads, rest.1))
+
+-- a beginning as long as the whole is the whole
+pub prefix_whole : {A : Type 0} (xs ys : List A) → IsPrefix xs ys → length ys ≤ length xs → xs ≡ ys
+prefix_whole [] [] p le = refl
+prefix_whole [] (y ∷ ys) p le = absurd (omega arith)
+prefix_whole (x ∷ xs) [] p le = absurd (cc (p.1))
+prefix_whole (x ∷ xs) (y ∷ ys) p le =
+    let rest = prefix_whole xs ys (p.0, cc (p.1)) (omega arith) in cc (p.1, rest)
+
+last_or-more : {A : Type 0} (o : Option A) (xs : List A) (x : A) → last_or o (xs ++ x ∷ []) ≡ Some x
+last_or-more o [] x = refl
+last_or-more o (y ∷ xs) x = last_or-more (Some y) xs x
+
+-- the item that is put behind a list is its last
+pub last_of-more : {A : Type 0} (xs : List A) (x : A) → last_of (xs ++ x ∷ []) ≡ Some x
+last_of-more xs x = last_or-more _ xs x
+
+last_or-some : {A : Type 0} (x : A) (xs : List A) → last_or (Some x) xs ≢ None
+last_or-some x [] e = absurd (cc e)
+last_or-some x (y ∷ ys) e = last_or-some y ys e
+
+-- a list with no last item is empty
+pub last_of-none : {A : Type 0} (xs : List A) → last_of xs ≡ None → xs ≡ []
+last_of-none [] e = refl
+last_of-none (x ∷ xs) e = absurd (last_or-some x xs e)
+
+-- of two beginnings of one list the first begins the second, which is at least as long
+pub longer_second : {A : Type 0} (xs ys zs new : List A) → IsPrefix xs zs → IsPrefix ys zs → length xs ≤ length ys → new ≡ ys → IsLonger xs ys new
+longer_second xs ys zs new p q le is = inl (prefix_shorter xs ys zs p q le, is)
+
+-- of two beginnings of one list the second begins the first, which is at least as long
+pub longer_first : {A : Type 0} (xs ys zs : List A) → IsPrefix xs zs → IsPrefix ys zs → length ys ≤ length xs → IsLonger xs ys xs
+longer_first xs ys zs p q le = inr (prefix_shorter ys xs zs q p le, refl)
+
+-- the longer of two lists begins with the first
+pub longer_begins : {A : Type 0} (xs ys new : List A) → IsLonger xs ys new → IsPrefix xs new
+longer_begins {A = A} xs ys new h = ⊎_elim (λ (t : IsPrefix xs ys × (new ≡ ys)). subst (λ (w : List A). IsPrefix xs w) (sym t.1) t.0) (λ (t : IsPrefix ys xs × (new ≡ xs)). subst (λ (w : List A). IsPrefix xs w) (sym t.1) (prefix_self xs)) h

@@ -1,0 +1,40 @@
+-- What is known of the publications of a machine.
+use Rattle.std.specs.Prelude.{ℕ, ◌≡◌, ◌<◌, ◌⊎◌, List, Option, Some, None}
+use Rattle.std.specs.List.{last_or}
+use mathlib.Core.List.{IsPrefix}
+use Rattle.logbook.specs.Pages.{Book}
+use Rattle.tt_span.specs.Interval.{Interval}
+use Rattle.tt_daemon.specs.Publication.{Publication}
+use Rattle.tt_publish.specs.Reading.{CanBeReadAt, reading_at}
+
+-- publications that are known: the first ones of one source, oldest first
+pub record Known : Type 0 where
+  pub source : Book
+  pub items : List Publication
+
+-- a watch: what it has seen of one source, oldest first, and the drift of the clock that it reads by, in parts per million
+pub record WatchState : Type 0 where
+  pub source : Book
+  pub drift : ℕ
+  pub items : List Publication
+
+-- the last of a list, if it has one
+abbrev pub last_of : {A : Type 0} → List A → Option A
+last_of xs = last_or None xs
+
+-- the clock of the publication is below that of the last one
+abbrev pub GoesBack : List Publication → Publication → Type 0
+GoesBack items publication = (last : Publication) × (last_of items ≡ Some last) × (publication.clock < last.clock)
+
+-- one of two lists begins the other, and this is the longer one
+abbrev pub IsLonger : {A : Type 0} → List A → List A → List A → Type 0
+IsLonger xs ys longer = (IsPrefix xs ys × (longer ≡ ys)) ⊎ (IsPrefix ys xs × (longer ≡ xs))
+
+-- the reading of the last publication that is known, at something that the clock gave
+abbrev pub ReadsLast : WatchState → (ℕ → Type 0) → Interval → Type 0
+ReadsLast watch gave reading =
+    (last : Publication) × (c : ℕ) × (last_of watch.items ≡ Some last) × gave c × CanBeReadAt last c × (reading ≡ reading_at watch.drift last c)
+
+-- the last publication that is known can't be read at something that the clock gave
+abbrev pub MissesLast : WatchState → (ℕ → Type 0) → Type 0
+MissesLast watch gave = (last : Publication) × (c : ℕ) × (last_of watch.items ≡ Some last) × gave c × (¬ CanBeReadAt last c)

@@ -1,0 +1,6 @@
+pub mod Fault
+pub mod Clock
+pub mod Reading
+pub mod Known
+pub mod History
+pub mod Shown

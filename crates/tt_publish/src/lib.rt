@@ -1,0 +1,39 @@
+//! What a machine publishes of the time, and readings of it.
+//!
+//! A [`Reading`] is an interval that holds the true time, as Spanner's `TT.now()` gives it (OSDI 2012, section 3).
+//! A daemon tells its fusions to a [`Teller`]; many threads read the last of them, each through a [`Watch`] of
+//! its own, and age it by their clock. Nobody waits for a lock: a teller shows a fusion in one step, and a
+//! watch takes what is shown in one step.
+//!
+//! What is published is a list, which only grows. What a watch has seen of it is always a beginning of that
+//! list, and no look ever makes it shorter. So of two watches of one source, one has seen a beginning of what the
+//! other has; and who has been told what a teller published (a [`Told`]) reads no older publication from then on.
+//!
+//! - `faults`: what is answered where a call refuses.
+//! - `clocks`: the trait `Clock`. `memory`: a clock in memory.
+//! - `readings`: `Reading`, and how a fusion is read at a clock reading (`ReadAt`).
+//! - `fronts`: what is known of the publications, in the history that all threads share.
+//! - `shows`: how one front is shown to many watches.
+//! - `teller`: `open`, `Teller` and `Told`. `watch`: `Watch`.
+//!
+//! No call that only reads takes memory or waits: `tell`, `learn` and `now`.
+#![tactic(auto)]
+
+mod clocks;
+mod faults;
+mod fronts;
+mod memory;
+mod readings;
+mod shows;
+mod teller;
+mod watch;
+
+pub use clocks::Clock;
+pub use faults::{ClockFault, PublishFault, ReadFault};
+pub use memory::MemoryClock;
+pub use readings::{ReadAt, Reading};
+pub use teller::{MAX_WATCHES, Teller, Told, open};
+pub use watch::Watch;
+
+#[cfg(test)]
+mod tests;

@@ -1,0 +1,193 @@
+//! What publishes, and what it tells.
+
+ghost use Rattle.std.specs.Prelude.{◌≡◌, ◌<◌, ◌↔◌, ◌⊎◌, ◌++◌, ◌∷◌, [], length, vec_len, All, IfOk, IfSome, OnOk, OnErr, IsErrOf};
+ghost use Rattle.tt_publish.specs.Known.{GoesBack};
+
+use crate::faults::PublishFault;
+use crate::fronts::{Front, Head};
+use crate::shows::{FrontWriter, reader_of, show, writer_of};
+use crate::watch::Watch;
+use std::alloc::Global;
+use std::marker::Model;
+use std::sync::Wait;
+use tt_daemon::Fused;
+use tt_span::Drift;
+
+/// The most watches that one teller can show its publications to.
+pub const MAX_WATCHES: usize = 32;
+
+/// What a machine publishes its fusions by. Contracts see its source and the list of what it has published, oldest
+/// first.
+///
+/// It has no drop: end it by [`close`](Teller::close).
+pub struct Teller {
+    head: Head,
+    front: Front,
+    /// It is there between calls.
+    writer: Option<FrontWriter>,
+}
+
+impl Model for Teller {
+    ghost use Rattle.std.specs.Prelude.{◌≡◌, [], Some, MatchOption, drop};
+    ghost use Rattle.left_right.specs.Sides.{view as seen_at};
+    ghost use Rattle.tt_publish.specs.Known.{Known};
+    ghost use Rattle.tt_publish.specs.History.{head_of};
+    ghost use Rattle.tt_publish.specs.Shown.{source_of};
+
+    ghost Value = { Known };
+
+    ghost view = { λ t. t.front };
+
+    ghost invariant = { λ t. (t.head ≡ head_of t.front.source)
+        × MatchOption t.writer ⊥ (λ writer.
+        (drop writer.behind writer.log.items ≡ []) × (source_of (seen_at writer.desk.place) ≡ Some t.front.source)) };
+}
+
+/// What a teller had published when it was asked. Contracts see the source and the list, oldest first.
+#[derive(Drop)]
+pub struct Told {
+    front: Front,
+}
+
+impl Model for Told {
+    ghost use Rattle.tt_publish.specs.Known.{Known};
+
+    ghost Value = { Known };
+
+    ghost view = { λ t. t.front };
+}
+
+/// A teller that has published nothing, and so many watches of it, for machines whose clock has this drift.
+///
+/// Refuses with 804 `Places` where `readers` is 0 or above [`MAX_WATCHES`], or no place for a reader was given,
+/// and with 1 `Memory` where memory is refused. It waits for no other thread.
+pub fn open<R: Wait>(
+    rt: &R,
+    alloc: Global,
+    drift: Drift,
+    readers: usize,
+) -> Result<(Teller, Vec<Watch>), PublishFault>
+    ensures places { (readers ≡ 0) ⊎ (32 < readers) → IsErrOf result PublishFault.Places }
+    ensures faults { (¬ IsErrOf result PublishFault.ClockBack) × (¬ IsErrOf result PublishFault.UsedUp) }
+    ensures nothing { IfOk result (λ opened. opened.0.items ≡ []) }
+    ensures count { IfOk result (λ opened. vec_len opened.1 ≡ readers) }
+    ensures watches { IfOk result (λ opened. All (λ watch. watch ≡ record { source = opened.0.source; drift = drift; items = [] }) opened.1.items) }
+{
+    if readers == 0 || readers > MAX_WATCHES {
+        return Err(PublishFault::Places);
+    }
+    let (head, front) = Front::open();
+    let Ok(writer) = writer_of(rt, alloc, &front, readers) else {
+        return Err(PublishFault::Memory);
+    };
+    let mut teller = Teller {
+        head,
+        front,
+        writer: Some(writer),
+    };
+    match teller.watches(alloc, drift, readers) {
+        Ok(watches) => Ok((teller, watches)),
+        Err(fault) => {
+            teller.close(rt);
+            Err(fault)
+        }
+    }
+}
+
+impl Teller {
+    /// Publishes a fusion: from now on the watches read it.
+    ///
+    /// Refuses, in this order: 802 `ClockBack` where its clock is below that of the last publication, 805 `UsedUp`
+    /// where 2^64 - 1 publications were made, 1 `Memory` where memory is refused. Then nothing is published, and
+    /// the fusion is dropped. It may wait for watches that are still looking at the publication before the last.
+    ///
+    /// The memory that a publication takes is that of [`open`](crate::open), so `Memory` does not come after it.
+    /// If it came all the same, it would come at each later call.
+    pub fn publish<R: Wait>(&mut self, rt: &R, fused: Fused) -> Result<(), PublishFault>
+        ensures published { OnOk result (self.new ≡ record self.old { items = self.old.items ++ fused ∷ [] }) }
+        ensures unchanged { OnErr result (self.new ≡ self.old) }
+        ensures source { self.new.source ≡ self.old.source }
+        ensures clock_back { IsErrOf result PublishFault.ClockBack ↔ GoesBack self.old.items fused }
+        ensures used_up { IsErrOf result PublishFault.UsedUp ↔ ((¬ GoesBack self.old.items fused) × (length self.old.items ≡ 18446744073709551615)) }
+        ensures places { ¬ IsErrOf result PublishFault.Places }
+    {
+        if self.front.goes_back(&fused) {
+            return Err(PublishFault::ClockBack);
+        }
+        if self.front.number() == u64::MAX {
+            return Err(PublishFault::UsedUp);
+        }
+        let Some(next) = self.front.extended(&self.head, fused) else {
+            return Err(PublishFault::Memory);
+        };
+        let (writer, shown) = show(rt, self.writer.take().unwrap(), &next);
+        if let Some(other) = self.writer.replace(writer) {
+            other.take(rt);
+        }
+        if shown.is_err() {
+            return Err(PublishFault::Memory);
+        }
+        self.front = next;
+        Ok(())
+    }
+
+    /// What is published.
+    pub fn tell(&self) -> Told
+        ensures { result ≡ self.now }
+    {
+        Told {
+            front: self.front.copied(),
+        }
+    }
+
+    /// Ends it. Its watches keep what they have seen. It waits for those that are looking.
+    pub fn close<R: Wait>(self, rt: &R) {
+        let Teller {
+            head: _head,
+            front: _front,
+            writer,
+        } = self;
+        writer.unwrap().take(rt);
+    }
+
+    /// So many watches, of which none has seen more than this teller has published.
+    fn watches(
+        &mut self,
+        alloc: Global,
+        drift: Drift,
+        readers: usize,
+    ) -> Result<Vec<Watch>, PublishFault>
+        ensures same { self.new ≡ self.old }
+        ensures faults { (¬ IsErrOf result PublishFault.ClockBack) × (¬ IsErrOf result PublishFault.UsedUp) }
+        ensures count { IfOk result (λ watches. vec_len watches ≡ readers) }
+        ensures watches { IfOk result (λ watches. All (λ watch. watch ≡ record { source = self.old.source; drift = drift; items = self.old.items }) watches.items) }
+    {
+        let mut watches = Vec::new(alloc);
+        for _ in 0..readers {
+            let Some(watch) = self.watch(drift) else {
+                return Err(PublishFault::Places);
+            };
+            if watches.push(watch).is_err() {
+                return Err(PublishFault::Memory);
+            }
+        }
+        Ok(watches)
+    }
+
+    /// A watch that has seen what this teller has published.
+    fn watch(&mut self, drift: Drift) -> Option<Watch>
+        ensures same { self.new ≡ self.old }
+        ensures watch { IfSome result (λ watch. watch ≡ record { source = self.old.source; drift = drift; items = self.old.items }) }
+    {
+        let reader = reader_of(self.writer.as_mut().unwrap())?;
+        Some(Watch::over(reader, self.front.copied(), drift))
+    }
+}
+
+impl Told {
+    pub(crate) fn front(&self) -> &Front
+        ensures { result.now ≡ self.now }
+    {
+        &self.front
+    }
+}

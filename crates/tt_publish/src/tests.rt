@@ -1,0 +1,172 @@
+ghost use Rattle.std.specs.Prelude.{◌≡◌, IfSome};
+
+use super::*;
+use std::alloc::Global;
+use std::sync::Wait;
+use std::test::Fail;
+use std::thread::{Threads, join};
+use tt_daemon::Fused;
+use tt_span::{Drift, MAX_TIME, Span};
+
+// A fusion of one source.
+fn fused(clock: u64, lo: u64, hi: u64) -> Option<Fused> {
+    let span = Span::new(lo, hi).ok()?;
+    Fused::make(clock, &[span], 0).ok()
+}
+
+// A teller and two watches of it.
+fn opened<R: Wait>(rt: &R, alloc: Global, ppm: u32) -> Option<(Teller, Watch, Watch)>
+    ensures { IfSome result (λ all. (all.1.source ≡ all.0.source) × (all.2.source ≡ all.0.source)) }
+{
+    let drift = Drift::new(ppm)?;
+    let Ok((teller, mut watches)) = open(rt, alloc, drift, 2) else {
+        return None;
+    };
+    let second = watches.pop();
+    let first = watches.pop();
+    match (first, second) {
+        (Some(first), Some(second)) => Some((teller, first, second)),
+        _ => {
+            teller.close(rt);
+            None
+        }
+    }
+}
+
+fn ends(answer: Result<Reading, ReadFault>) -> Result<(u64, u64), u16> {
+    match answer {
+        Ok(reading) => Ok((reading.earliest(), reading.latest())),
+        Err(fault) => Err(fault.number()),
+    }
+}
+
+#[test]
+fn a_time_has_passed_below_the_reading_and_is_to_come_above_it(
+    rt: HostRuntime,
+) -> Result<(), Fail> {
+    let reading = Reading::of(Span::new(200, 300)?);
+    assert_eq!(rt; (reading.earliest(), reading.latest()), (200, 300));
+    assert_eq!(rt; (reading.after(199), reading.after(200)), (true, false));
+    assert_eq!(rt; (reading.before(300), reading.before(301)), (false, true));
+    Ok(())
+}
+
+#[test]
+fn a_fusion_at_the_greatest_time_is_read(rt: HostRuntime) -> Result<(), Fail> {
+    let last = fused(0, MAX_TIME - 10, MAX_TIME).ok_or("a fusion")?;
+    let drift = Drift::new(0).ok_or("a drift")?;
+    assert_eq!(rt; ends(last.read_at(drift, 100)), Ok((MAX_TIME, MAX_TIME)));
+    assert_eq!(rt; ends(last.read_at(drift, MAX_TIME + 1)), Err(802));
+    Ok(())
+}
+
+#[test]
+fn nobody_opens_no_watch_or_too_many(rt: HostRuntime) -> Result<(), Fail> {
+    let drift = Drift::new(200).ok_or("a drift")?;
+    for readers in [0, 33] {
+        match open(&rt, rt.alloc(), drift, readers) {
+            Ok((teller, _watches)) => {
+                teller.close(&rt);
+                assert!(rt; false, "{readers} watches");
+            }
+            Err(fault) => assert_eq!(rt; fault.number(), 804),
+        }
+    }
+    Ok(())
+}
+
+#[test]
+fn the_last_fusion_is_read(rt: HostRuntime) -> Result<(), Fail> {
+    let (a, b, c) = (Span::new(0, 10)?, Span::new(5, 15)?, Span::new(12, 20)?);
+    let older = Fused::make(1000, &[a, b, c], 1)?;
+    let newer = fused(2000, 1003, 1020).ok_or("a fusion")?;
+    let too_old = fused(1999, 1003, 1020).ok_or("a fusion")?;
+    let mut clock = MemoryClock::new(&[2000, 7000, 1999, 2000], None);
+    let (mut teller, mut first, mut second) = opened(&rt, rt.alloc(), 200).ok_or("watches")?;
+    assert_eq!(rt; ends(first.now(&mut clock)), Err(801));
+    assert_eq!(rt; teller.publish(&rt, older), Ok(()));
+    assert_eq!(rt; teller.publish(&rt, newer), Ok(()));
+    first.learn(&teller.tell());
+    assert_eq!(rt; ends(first.now(&mut clock)), Ok((1003, 1020)));
+    assert_eq!(rt; ends(first.now(&mut clock)), Ok((6002, 6021)));
+    assert_eq!(rt; ends(first.now(&mut clock)), Err(802));
+    // The second one has learned nothing.
+    assert_eq!(rt; ends(second.now(&mut clock)), Ok((1003, 1020)));
+    assert_eq!(rt; teller.publish(&rt, too_old), Err(PublishFault::ClockBack));
+    teller.close(&rt);
+    Ok(())
+}
+
+#[test]
+fn a_watch_reads_what_it_was_told_once_its_teller_is_closed(rt: HostRuntime) -> Result<(), Fail> {
+    let fusion = fused(5, 40, 70).ok_or("a fusion")?;
+    let mut clock = MemoryClock::new(&[5, 6], Some(1));
+    let (mut teller, mut first, mut second) = opened(&rt, rt.alloc(), 0).ok_or("watches")?;
+    assert_eq!(rt; teller.publish(&rt, fusion), Ok(()));
+    let told = teller.tell();
+    teller.close(&rt);
+    first.learn(&told);
+    assert_eq!(rt; ends(first.now(&mut clock)), Err(803));
+    assert_eq!(rt; clock.failures(), 1);
+    assert_eq!(rt; ends(first.now(&mut clock)), Ok((40, 70)));
+    assert_eq!(rt; ends(second.now(&mut clock)), Err(801));
+    assert_eq!(rt; ends(first.now(&mut clock)), Ok((41, 71)));
+    assert_eq!(rt; ends(first.now(&mut clock)), Err(803));
+    Ok(())
+}
+
+// Publishes [k, k] for each k up to 100.
+fn publish_all<R: Wait>(rt: &R, teller: &mut Teller) -> u64 {
+    let mut published = 0;
+    for k in 1..101 {
+        if let Some(fusion) = fused(0, k, k) {
+            if teller.publish(rt, fusion).is_ok() {
+                published = k;
+            }
+        }
+    }
+    published
+}
+
+// Reads a thousand times: whether no reading is below one before it, and there is always one after the first.
+fn read_on(mut watch: Watch) -> (Watch, bool) {
+    let mut clock = MemoryClock::new(&[0; 1000], None);
+    let mut least = 0;
+    let mut rises = true;
+    for _ in 0..1000 {
+        let read = match ends(watch.now(&mut clock)) {
+            Ok((earliest, _)) => earliest,
+            Err(fault) => if fault == 801 { 0 } else { u64::MAX },
+        };
+        rises = rises && least <= read && read <= 100;
+        least = read;
+    }
+    (watch, rises)
+}
+
+fn read_and_publish<R: Threads + Wait + Sync>(
+    rt: &R,
+    teller: &mut Teller,
+    first: Watch,
+    second: Watch,
+) -> (u64, ((Watch, bool), (Watch, bool))) {
+    join(
+        rt,
+        || publish_all(rt, teller),
+        || join(rt, || read_on(first), || read_on(second)),
+    )
+}
+
+#[test]
+fn readings_in_threads_rise(rt: HostRuntime) -> Result<(), Fail> {
+    let mut clock = MemoryClock::new(&[0; 3], None);
+    let (mut teller, first, second) = opened(&rt, rt.alloc(), 0).ok_or("watches")?;
+    let (published, read) = read_and_publish(&rt, &mut teller, first, second);
+    let ((mut first, first_rises), (mut second, second_rises)) = read;
+    assert_eq!(rt; (published, first_rises, second_rises), (100, true, true));
+    assert_eq!(rt; ends(first.now(&mut clock)), Ok((100, 100)));
+    teller.close(&rt);
+    assert_eq!(rt; ends(first.now(&mut clock)), Ok((100, 100)));
+    assert!(rt; ends(second.now(&mut clock)).is_ok());
+    Ok(())
+}

@@ -1,0 +1,102 @@
+//! What reads the publications.
+
+ghost use Rattle.std.specs.Prelude.{◌≡◌, ◌↔◌, [], Some, None, IfOk, OnOk, OnErr, IsErrOf};
+ghost use mathlib.Core.List.{IsPrefix};
+ghost use Rattle.left_right.specs.Sides.{view};
+ghost use Rattle.tt_publish.specs.Clock.{HasFailed};
+ghost use Rattle.tt_publish.specs.Known.{IsLonger, ReadsLast, MissesLast};
+ghost use Rattle.tt_publish.specs.Shown.{source_of};
+
+use crate::clocks::Clock;
+use crate::faults::ReadFault;
+use crate::fronts::Front;
+use crate::readings::{ReadAt, Reading};
+use crate::shows::{FrontReader, look};
+use crate::teller::Told;
+use std::marker::Model;
+use tt_span::Drift;
+
+/// What one thread reads publications by. It keeps the last one that it has seen.
+///
+/// Contracts see its source, the drift of the clock that it reads by, and the list of what it has seen, oldest
+/// first. It never waits and takes no memory, and may go to another thread.
+#[derive(Drop)]
+pub struct Watch {
+    /// It is there between calls.
+    reader: Option<FrontReader>,
+    front: Front,
+    drift: Drift,
+}
+
+impl Model for Watch {
+    ghost use Rattle.std.specs.Prelude.{◌≡◌, Some, MatchOption};
+    ghost use Rattle.left_right.specs.Sides.{view as seen_at};
+    ghost use Rattle.tt_publish.specs.Known.{WatchState};
+    ghost use Rattle.tt_publish.specs.Shown.{source_of};
+
+    ghost Value = { WatchState };
+
+    ghost view = { λ w. record { source = w.front.source; drift = w.drift; items = w.front.items } };
+
+    ghost invariant = { λ w. MatchOption w.reader ⊥ (λ reader. source_of (seen_at reader.place) ≡ Some w.front.source) };
+}
+
+impl Watch {
+    /// A watch that has seen what the front knows.
+    pub(crate) fn over(reader: FrontReader, front: Front, drift: Drift) -> Watch
+        requires { source_of (view reader.place) ≡ Some front.source }
+        ensures { result ≡ record { source = front.source; drift = drift; items = front.items } }
+    {
+        Watch {
+            reader: Some(reader),
+            front,
+            drift,
+        }
+    }
+
+    /// Takes in what a teller told. From now on it reads no older publication. The caller sees to it that both
+    /// came from one call of [`open`](crate::open).
+    pub fn learn(&mut self, told: &Told)
+        requires { told.now.source ≡ self.old.source }
+        ensures same { (self.new.source ≡ self.old.source) × (self.new.drift ≡ self.old.drift) }
+        ensures longer { IsLonger self.old.items told.now.items self.new.items }
+    {
+        self.front.learn(told.front());
+    }
+
+    /// A reading of the last publication at what the clock shows, aged by the drift that
+    /// [`open`](crate::open) was given.
+    ///
+    /// Looks first at what is published, and keeps what it saw before where its teller is closed. Refuses, in
+    /// this order: 801 `Nothing` where nothing was published so far, and then the clock is not read; 803
+    /// `ClockFailed` where the clock gave no reading; 802 `ClockBack` where the clock is below that of the
+    /// publication, or above the greatest time. A refused call may have seen more.
+    pub fn now<C: Clock>(&mut self, clock: &mut C) -> Result<Reading, ReadFault>
+        ensures same { (self.new.source ≡ self.old.source) × (self.new.drift ≡ self.old.drift) }
+        ensures seen { IsPrefix self.old.items self.new.items }
+        ensures reading { IfOk result (λ reading. ReadsLast self.new (λ c. C.gives clock.old (Some c) clock.new) reading) }
+        ensures nothing { IsErrOf result ReadFault.Nothing ↔ (self.new.items ≡ []) }
+        ensures unread { IsErrOf result ReadFault.Nothing → clock.new ≡ clock.old }
+        ensures clock_failed { IsErrOf result ReadFault.ClockFailed → C.gives clock.old None clock.new × HasFailed (C.failed clock.old) (C.failed clock.new) }
+        ensures clock_back { IsErrOf result ReadFault.ClockBack → MissesLast self.new (λ c. C.gives clock.old (Some c) clock.new) }
+        ensures sound { ¬ IsErrOf result ReadFault.ClockFailed → C.failed clock.new ≡ C.failed clock.old }
+    {
+        self.look();
+        let Some(last) = self.front.last() else {
+            return Err(ReadFault::Nothing);
+        };
+        let Ok(time) = clock.read() else {
+            return Err(ReadFault::ClockFailed);
+        };
+        last.read_at(self.drift, time)
+    }
+
+    /// Looks at what is published.
+    fn look(&mut self)
+        ensures same { (self.new.source ≡ self.old.source) × (self.new.drift ≡ self.old.drift) }
+        ensures seen { IsPrefix self.old.items self.new.items }
+    {
+        let reader = self.reader.take().unwrap();
+        self.reader = Some(look(reader, &mut self.front));
+    }
+}

@@ -1,0 +1,10 @@
+pub mod Stamps
+pub mod Ids
+pub mod Waiting
+pub mod Histories
+pub mod Releases
+pub mod Waits
+pub mod Standings
+pub mod Runs
+pub mod Turns
+pub mod Seats

@@ -1,0 +1,106 @@
+-- What a book keeps beside its history, step by step.
+use Rattle.std.proofs.Common.{◌≡◌, ℕ, ◌+◌, ◌<◌, ◌≤◌, ◌==◌, cond, Bool, true, false, List, [], ◌∷◌, ◌++◌, length, reverse, All, Contains, Option, Some, None, is_some, IsSome, IfSome, IfNone, Result, Ok, Err, is_err, OnOk, OnErr, vec_len, vec_capacity, refl, sym, ap, ◌∙◌, subst, arith}
+use Rattle.std.proofs.lemmas.Bool.{true≢false, false≢true, eqb-true}
+use Rattle.std.proofs.lemmas.List.{reverse-append}
+use Rattle.std.specs.BTreeMap as tree
+use Rattle.std.specs.BTreeMap.{is_at}
+use Rattle.std.specs.BTreeSet as sorted
+use Rattle.std.specs.Map.{remove_entry}
+use Rattle.std.specs.Ordering.{nat_cmp}
+use Rattle.tt_stamp.specs.Ids.{id_cmp, same_id}
+use Rattle.tt_stamp.specs.History.{waiting_of, has_id, has_stamp, IsLegalHistory, IsNextReceipt, receipt_of}
+use Rattle.tt_stamp.specs.Book.{standing_of, history_of, IsKept}
+use Rattle.tt_stamp.specs.declared.books.Book.TheInside.{Inside}
+use Rattle.tt_stamp.specs.declared.commits.Id.{Id}
+use Rattle.tt_stamp.specs.declared.commits.Receipt.{Receipt}
+use Rattle.tt_stamp.specs.declared.commits.Entry.{Entry}
+use Rattle.tt_stamp.specs.declared.commits.Entry.TheVariants.{Passed}
+use Rattle.tt_stamp.specs.declared.commits.Standing.{Standing}
+use Rattle.tt_stamp.specs.declared.commits.Standing.TheVariants.{Waits, Released}
+use Rattle.tt_stamp.proofs.Ids.{same_id-true, is_at-id_cmp, is_eq-nat_cmp}
+use Rattle.tt_stamp.proofs.Waiting.{Ascends}
+use Rattle.tt_stamp.proofs.Histories.{standing_of-new, is_some-standing_of, receipt_in, receipt_of-standing_of, Ascends-waiting_of}
+use Rattle.tt_stamp.proofs.Releases.{head_is_least, remove_entry-head}
+
+-- an id that was put in and taken out again
+taken_out : (b : Bool) (o : Option Standing) → (b ≡ true → o ≡ None) → cond b None (cond b (Some Waits) o) ≡ o
+taken_out true o f = sym (f refl)
+taken_out false o f = refl
+
+pub standing_of-undone : (past : List Entry) (id q : Id) → IsLegalHistory past → has_id past id ≡ false → cond (is_at (id_cmp id) q) None (cond (is_at (id_cmp id) q) (Some Waits) (standing_of past q)) ≡ standing_of past q
+standing_of-undone past id q legal new =
+    taken_out (is_at (id_cmp id) q) (standing_of past q) (λ e. standing_of-new past legal q (ap (λ i. has_id past i) (sym (same_id-true id q (sym (is_at-id_cmp id q) ∙ e))) ∙ new))
+
+pub standing_of-queued : (past : List Entry) (id q : Id) (x : Standing) → cond (is_at (id_cmp id) q) (Some x) (standing_of past q) ≡ cond (same_id id q) (Some x) (standing_of past q)
+standing_of-queued past id q x =
+    ap (λ b. cond b (Some x) (standing_of past q)) (is_at-id_cmp id q)
+
+-- a stamp that was put in and taken out again
+stamp_out : (b there : Bool) → (b ≡ true → there ≡ false) → cond b false (cond b true there) ≡ there
+stamp_out true there f = sym (f refl)
+stamp_out false there f = refl
+
+pub has_stamp-undone : (past : List Entry) (stamp q : ℕ) → has_stamp past stamp ≡ false → cond (is_at (nat_cmp stamp) q) false (cond (is_at (nat_cmp stamp) q) true (has_stamp past q)) ≡ has_stamp past q
+has_stamp-undone past stamp q new =
+    stamp_out (is_at (nat_cmp stamp) q) (has_stamp past q) (λ e. ap (λ s. has_stamp past s) (sym (eqb-true stamp q (sym (is_eq-nat_cmp stamp q) ∙ e))) ∙ new)
+
+-- ---- a book that is kept, after each kind of change
+pub reverse-push : (xs : List Entry) (e : Entry) → reverse (xs ++ e ∷ []) ≡ e ∷ reverse xs
+reverse-push xs e = reverse-append xs (e ∷ [])
+
+-- nothing that counts has changed
+pub IsKept-refused : (b n : Inside) → IsKept b → n.history.items ≡ b.history.items → n.waiting.entries ≡ b.waiting.entries → ((q : Id) → tree.get id_cmp n.standings q ≡ standing_of (history_of b) q) → ((q : ℕ) → sorted.contains nat_cmp n.stamps q ≡ has_stamp (history_of b) q) → vec_len n.history + tree.btree_map_len n.waiting ≤ vec_capacity n.history → IsKept n
+IsKept-refused b n kept history waiting stands stamps room =
+    let same : history_of b ≡ history_of n = sym (ap reverse history) in
+    record {
+      legal = subst IsLegalHistory same kept.legal;
+      waits = waiting ∙ kept.waits ∙ ap waiting_of same;
+      stands = λ q. stands q ∙ ap (λ h. standing_of h q) same;
+      stamps = λ q. stamps q ∙ ap (λ h. has_stamp h q) same;
+      room = room;
+    }
+
+-- a commit was released
+pub IsKept-passed : (b n : Inside) (r : Receipt) (first : ℕ × Id) → IsKept b → IsNextReceipt (history_of b) r → n.history.items ≡ b.history.items ++ Passed r ∷ [] → b.waiting.entries ≡ first ∷ n.waiting.entries → ((q : Id) → tree.get id_cmp n.standings q ≡ cond (is_at (id_cmp r.id) q) (Some (Released r)) (tree.get id_cmp b.standings q)) → n.stamps ≡ b.stamps → vec_len n.history + tree.btree_map_len n.waiting ≤ vec_capacity n.history → IsKept n
+IsKept-passed b n r first kept next history waiting stands stamps room =
+    let now : Passed r ∷ history_of b ≡ history_of n = sym (ap reverse history ∙ reverse-push b.history.items (Passed r)) in
+    let waits : first ∷ n.waiting.entries ≡ waiting_of (history_of b) = sym waiting ∙ kept.waits in
+    let is = head_is_least first n.waiting.entries r.stamp r.id (subst Ascends (sym waits) (Ascends-waiting_of (history_of b))) (subst (λ (w : List (ℕ × Id)). Contains w (r.stamp, r.id)) (sym waits) next.waits) (subst (λ (w : List (ℕ × Id)). All (λ (c : ℕ × Id). r.stamp ≤ c.0) w) (sym waits) next.least) in
+    record {
+      legal = subst IsLegalHistory now (next, kept.legal);
+      waits = sym (remove_entry-head first n.waiting.entries r.stamp r.id is) ∙ ap (remove_entry (λ s. r.stamp == s)) waits ∙ ap waiting_of now;
+      stands = λ q. stands q ∙ ap (cond (is_at (id_cmp r.id) q) (Some (Released r))) (kept.stands q) ∙ standing_of-queued (history_of b) r.id q (Released r) ∙ ap (λ h. standing_of h q) now;
+      stamps = λ q. ap (λ s. sorted.contains nat_cmp s q) stamps ∙ kept.stamps q ∙ ap (λ h. has_stamp h q) now;
+      room = room;
+    }
+
+-- ---- what a call answered
+pub on_err : {T E : Type 0} (r : Result T E) (P : Type 0) → is_err r ≡ true → OnErr r P → P
+on_err (Ok x) P e h = absurd (false≢true e)
+on_err (Err x) P e h = h
+
+pub on_ok : {T E : Type 0} (r : Result T E) (P : Type 0) → is_err r ≡ false → OnOk r P → P
+on_ok (Ok x) P e h = h
+on_ok (Err x) P e h = absurd (true≢false e)
+
+pub popped : (old new : List (ℕ × Id)) (o : Option (ℕ × Id)) (c : ℕ × Id) → Contains old c → (0 < length old → IsSome o) → IfSome o (λ p. old ≡ p ∷ new) → (p : ℕ × Id) × (old ≡ p ∷ new)
+popped old new None c there some taken =
+    absurd (false≢true (some (omega (arith, there.1))))
+popped old new (Some p) c there some taken = (p, taken)
+
+-- ---- what a look-up says of the history
+pub has_id-looked_up : (b : Inside) (now : List Entry) (id : Id) (result answer : Bool) → IsKept b → history_of b ≡ now → result ≡ is_some (tree.get id_cmp b.standings id) → result ≡ answer → has_id now id ≡ answer
+has_id-looked_up b now id result answer kept is looked e =
+    ap (λ h. has_id h id) (sym is) ∙ sym (is_some-standing_of (history_of b) kept.legal id) ∙ ap is_some (sym (kept.stands id)) ∙ sym looked ∙ e
+
+pub has_stamp-looked_up : (b : Inside) (now : List Entry) (stamp : ℕ) (result answer : Bool) → IsKept b → history_of b ≡ now → result ≡ sorted.contains nat_cmp b.stamps stamp → result ≡ answer → has_stamp now stamp ≡ answer
+has_stamp-looked_up b now stamp result answer kept is looked e =
+    ap (λ h. has_stamp h stamp) (sym is) ∙ sym (kept.stamps stamp) ∙ sym looked ∙ e
+
+pub receipt_of-looked_up : (b : Inside) (now : List Entry) (id : Id) (found : Option Standing) → IsKept b → history_of b ≡ now → found ≡ tree.get id_cmp b.standings id → receipt_in found ≡ receipt_of now id
+receipt_of-looked_up b now id found kept is looked =
+    ap receipt_in (looked ∙ kept.stands id) ∙ sym (receipt_of-standing_of (history_of b) kept.legal id) ∙ ap (λ h. receipt_of h id) is
+
+pub IfNone-from : {X : Type 0} (o : Option X) (P : Type 0) → P → IfNone o P
+IfNone-from None P p = p
+IfNone-from (Some x) P p = tt

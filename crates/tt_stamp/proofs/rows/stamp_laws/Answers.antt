@@ -1,0 +1,5 @@
+use Rattle.tt_stamp.proofs.Stamps.{IsAnswer-stamp_of}
+use Rattle.tt_stamp.proofs.rows.stamp_laws.Goals as goal
+
+pub returns : goal.returns
+returns c = IsAnswer-stamp_of

@@ -1,0 +1,31 @@
+-- What a book keeps beside its history, so that each question takes a look-up.
+use Rattle.std.specs.Prelude.{ℕ, ◌≡◌, ◌+◌, ◌≤◌, if◌then◌else◌, List, [], ◌∷◌, reverse, Option, Some, None, vec_len, vec_capacity}
+use Rattle.std.specs.Ordering.{nat_cmp}
+use Rattle.std.specs.BTreeMap as tree
+use Rattle.std.specs.BTreeSet as sorted
+use Rattle.tt_stamp.specs.Ids.{same_id, id_cmp}
+use Rattle.tt_stamp.specs.History.{waiting_of, has_stamp, IsLegalHistory}
+use Rattle.tt_stamp.specs.declared.commits.Id.{Id}
+use Rattle.tt_stamp.specs.declared.commits.Entry.{Entry}
+use Rattle.tt_stamp.specs.declared.commits.Entry.TheVariants.{Queued, Passed}
+use Rattle.tt_stamp.specs.declared.commits.Standing.{Standing}
+use Rattle.tt_stamp.specs.declared.commits.Standing.TheVariants.{Waits, Released}
+use Rattle.tt_stamp.specs.declared.books.Book.TheInside.{Inside}
+
+-- where a commit stands after a history, if it was queued
+abbrev pub standing_of : List Entry → Id → Option Standing
+standing_of [] id = None
+standing_of (Queued other stamp ∷ past) id = if same_id other id then Some Waits else standing_of past id
+standing_of (Passed receipt ∷ past) id = if same_id receipt.id id then Some (Released receipt) else standing_of past id
+
+-- the history of a book, newest first
+abbrev pub history_of : Inside → List Entry
+history_of b = reverse b.history.items
+
+-- the history is legal, what is kept beside it is what it leaves, and there is room for the receipts of all that wait
+pub record IsKept (b : Inside) : Type 0 where
+  pub legal : IsLegalHistory (history_of b)
+  pub waits : b.waiting.entries ≡ waiting_of (history_of b)
+  pub stands : (id : Id) → tree.get id_cmp b.standings id ≡ standing_of (history_of b) id
+  pub stamps : (stamp : ℕ) → sorted.contains nat_cmp b.stamps stamp ≡ has_stamp (history_of b) stamp
+  pub room : vec_len b.history + tree.btree_map_len b.waiting ≤ vec_capacity b.history

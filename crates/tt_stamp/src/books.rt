@@ -1,0 +1,199 @@
+//! The commits that wait until their stamps have surely passed.
+
+ghost use Rattle.std.specs.Prelude.{◌≡◌, ◌≢◌, ℕ, ◌+◌, ◌<◌, ◌≤◌, ◌↔◌, List, [], ◌∷◌, ◌++◌, length, reverse, map, Contains, Some, None, Ok, Err, IsOk, IfOk, OnOk, OnErr, IsErrOf, IfSome, IfNone, MatchOption, IsOkUnless, IsSome, if◌then◌else◌, slice_get};
+ghost use Rattle.std.specs.BTreeMap as tree;
+ghost use Rattle.std.specs.BTreeMap.{is_at};
+ghost use Rattle.tt_stamp.specs.History.{MayQueue, Waits, IsNextReceipt, IsLegalHistory, IsRelease, IsIdThere, IsStampThere, waiting_of, released_of, release_of, with_receipts, first_queue_fault, receipt_of, max_waiting};
+ghost use Rattle.tt_stamp.specs.Ids.{id_cmp};
+ghost use Rattle.tt_stamp.specs.declared.commits.Id.{Id};
+ghost use Rattle.tt_stamp.specs.declared.commits.Entry.{Entry};
+ghost use Rattle.tt_stamp.specs.declared.commits.Receipt.{Receipt};
+
+use crate::commits::{Entry, Id, Receipt, Standing};
+use crate::faults::BookFault;
+use std::alloc::{AllocError, Global};
+use std::collections::{BTreeMap, BTreeSet};
+use std::marker::Model;
+use tt_publish::Reading;
+
+/// The most commits that may wait in a book.
+pub const MAX_WAITING: usize = 65_536;
+
+/// The commits of one machine: which wait, and which were released. Contracts see its history, newest first.
+///
+/// Receipts are kept for good.
+#[derive(Debug, Drop)]
+pub struct Book {
+    history: Vec<Entry>,
+    waiting: BTreeMap<u64, Id>,
+    standings: BTreeMap<Id, Standing>,
+    stamps: BTreeSet<u64>,
+}
+
+impl Model for Book {
+    ghost use Rattle.std.specs.Prelude.{List};
+    ghost use Rattle.tt_stamp.specs.declared.commits.Entry.{Entry};
+
+    ghost Value = { List Entry };
+
+    ghost use Rattle.tt_stamp.specs.Book.{history_of, IsKept};
+
+    ghost view = { history_of };
+
+    ghost invariant = { IsKept };
+}
+
+impl Book {
+    /// A book in which nothing has happened.
+    pub fn new(alloc: Global) -> Book
+        ensures { result ≡ [] }
+    {
+        Book {
+            history: Vec::new(alloc),
+            waiting: BTreeMap::new(alloc),
+            standings: BTreeMap::new(alloc),
+            stamps: BTreeSet::new(alloc),
+        }
+    }
+
+    /// Queues a commit with its stamp, in nanoseconds. Its one entry is appended to the history.
+    ///
+    /// Refuses, in this order: 1001 `Full` where [`MAX_WAITING`] commits wait, 1002 `IdThere` where a commit with
+    /// this id waits or was released, 1003 `StampThere` where one with this stamp does or was, 1 `Memory`. After a
+    /// refusal the book is as it was. The room for the later receipt is taken here.
+    pub fn queue(&mut self, id: Id, stamp: u64) -> Result<(), BookFault>
+        ensures fault { MatchOption (first_queue_fault self.old id stamp)
+            (IsOkUnless result BookFault.Memory) (λ fault. result ≡ Err fault) }
+        ensures may { IsOk result → MayQueue self.old id stamp }
+        ensures ok { OnOk result (self.new ≡ Entry.Queued id stamp ∷ self.old) }
+        ensures err { OnErr result (self.new ≡ self.old) }
+    {
+        if self.waiting() >= MAX_WAITING {
+            return Err(BookFault::Full);
+        }
+        if self.standings.contains_key(&id) {
+            return Err(BookFault::IdThere);
+        }
+        if self.stamps.contains(&stamp) {
+            return Err(BookFault::StampThere);
+        }
+        match self.append(id, stamp) {
+            Ok(()) => Ok(()),
+            Err(AllocError) => Err(BookFault::Memory),
+        }
+    }
+
+    // Appends the entry of a commit that may be queued.
+    fn append(&mut self, id: Id, stamp: u64) -> Result<(), AllocError>
+        requires { MayQueue self.old id stamp }
+        ensures ok { OnOk result (self.new ≡ Entry.Queued id stamp ∷ self.old) }
+        ensures err { OnErr result (self.new ≡ self.old) }
+    {
+        self.history.reserve(self.waiting.len() + 2)?;
+        self.standings.insert(id, Standing::Waits)?;
+        if self.stamps.insert(stamp).is_err() {
+            let _ = self.standings.remove(&id);
+            return Err(AllocError);
+        }
+        if self.waiting.insert(stamp, id).is_err() {
+            let _ = self.standings.remove(&id);
+            let _ = self.stamps.remove(&stamp);
+            return Err(AllocError);
+        }
+        self.history.push_reserved(Entry::Queued { id, stamp });
+        Ok(())
+    }
+
+    /// Releases each waiting commit whose stamp is below the reading's earliest, and so has surely passed, least
+    /// stamp first, and answers how many (commit wait of Spanner, OSDI 2012, section 4.2.1). Their receipts are
+    /// appended to the history. It takes no memory.
+    pub fn release(&mut self, reading: &Reading) -> usize
+        ensures receipts { self.new ≡ with_receipts (release_of (waiting_of self.old) reading.now.lo) self.old }
+        ensures count { result ≡ length (release_of (waiting_of self.old) reading.now.lo) }
+        ensures exactly { IsRelease (waiting_of self.old) reading.now.lo (release_of (waiting_of self.old) reading.now.lo) }
+    {
+        let earliest = reading.earliest();
+        let before = self.waiting();
+        while let Some(receipt) = self.next_receipt(earliest) {
+            self.pass(receipt);
+        }
+        before - self.waiting()
+    }
+
+    // The receipt of the waiting commit with the least stamp, if that stamp is below the earliest.
+    fn next_receipt(&self, earliest: u64) -> Option<Receipt>
+        ensures first { result ≡ slice_get (release_of (waiting_of self.now) earliest) 0 }
+        ensures next { IfSome result (IsNextReceipt self.now) }
+    {
+        let (stamp, id) = self.waiting.first_key_value()?;
+        if *stamp >= earliest {
+            return None;
+        }
+        Some(Receipt {
+            id: *id,
+            stamp: *stamp,
+            earliest,
+        })
+    }
+
+    // Appends the receipt of the commit that is to be released next.
+    fn pass(&mut self, receipt: Receipt)
+        requires { IsNextReceipt self.old receipt }
+        ensures { self.new ≡ Entry.Passed receipt ∷ self.old }
+    {
+        let _ = self.waiting.pop_first();
+        mark_released(&mut self.standings, receipt);
+        self.history.push_reserved(Entry::Passed(receipt));
+    }
+
+    /// The receipt of a commit, if it was released.
+    pub fn is_released(&self, id: Id) -> Option<Receipt>
+        ensures value { result ≡ receipt_of self.now id }
+        ensures found { IfSome result (λ receipt. (receipt.id ≡ id) × Contains (released_of self.now) receipt) }
+        ensures none { IfNone result ((receipt : Receipt) → Contains (released_of self.now) receipt → receipt.id ≢ id) }
+    {
+        match self.standings.get(&id)? {
+            Standing::Waits => None,
+            Standing::Released(receipt) => Some(*receipt),
+        }
+    }
+
+    /// How many commits wait: at most [`MAX_WAITING`].
+    pub fn waiting(&self) -> usize
+        ensures value { result ≡ length (waiting_of self.now) }
+        ensures bound { result ≤ max_waiting }
+    {
+        self.waiting.len()
+    }
+
+    /// What happened, oldest first.
+    pub fn history(&self) -> &[Entry]
+        ensures entries { result.now ≡ reverse self.now }
+        ensures legal { IsLegalHistory self.now }
+    {
+        &self.history
+    }
+}
+
+/// A commit may be queued exactly where no fault is found; after a legal history those commits wait that were queued
+/// and that no later receipt names; the receipts of a release are one for each waiting commit
+/// whose stamp is below the earliest, least stamp first; and they stand at the end of the history.
+pub fn book_laws()
+    ensures queue { (past : List Entry) (id : Id) (stamp : ℕ) →
+        (first_queue_fault past id stamp ≡ None) ↔ MayQueue past id stamp }
+    ensures waiting { (past : List Entry) (id : Id) (stamp : ℕ) → IsLegalHistory past →
+        Contains (waiting_of past) (stamp, id) ↔ Waits past id stamp }
+    ensures release { (past : List Entry) (earliest : ℕ) →
+        IsRelease (waiting_of past) earliest (release_of (waiting_of past) earliest) }
+    ensures history { (past : List Entry) (receipts : List Receipt) →
+        reverse (with_receipts receipts past) ≡ reverse past ++ map (λ receipt. Entry.Passed receipt) receipts }
+{}
+
+// Writes that a commit, which waited, was released.
+fn mark_released(standings: &mut BTreeMap<Id, Standing>, receipt: Receipt)
+    requires { IsSome (tree.get id_cmp standings.old receipt.id) }
+    ensures { (id : Id) → tree.get id_cmp standings.new id ≡
+        (if is_at (id_cmp receipt.id) id then Some (Standing.Released receipt) else tree.get id_cmp standings.old id) }
+{
+    *standings.get_mut(&receipt.id).unwrap() = Standing::Released(receipt);
+}

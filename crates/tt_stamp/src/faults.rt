@@ -1,0 +1,84 @@
+//! Why a stamp was not given, why a commit did not begin, and why one was not queued.
+
+ghost use Rattle.std.specs.Prelude.{◌≡◌};
+ghost use Rattle.tt_stamp.specs.Fault.{number_of, begin_number_of, book_number_of};
+
+use thiserror::Error;
+use tt_publish::ReadFault;
+
+/// Why no stamp was given, or why a sequencer was not opened.
+#[derive(Clone, Copy, Debug, PartialEq, Eq, Error)]
+pub enum StampFault {
+    #[error("no stamp is left up to the greatest time")]
+    UsedUp,
+    #[error("the floor is too far ahead of the latest")]
+    FloorTooFar,
+    #[error("there are no seats, or too many")]
+    Seats,
+    #[error("out of memory")]
+    Memory,
+}
+
+impl StampFault {
+    /// The fault's number: 901 `UsedUp`, 902 `FloorTooFar`, 904 `Seats`, 1 `Memory`.
+    pub fn number(&self) -> u16
+        ensures { result ≡ number_of self.now }
+    {
+        match self {
+            StampFault::UsedUp => 901,
+            StampFault::FloorTooFar => 902,
+            StampFault::Seats => 904,
+            StampFault::Memory => 1,
+        }
+    }
+}
+
+/// Why a commit did not begin.
+#[derive(Clone, Copy, Debug, PartialEq, Eq, Error)]
+pub enum BeginFault {
+    /// There was no reading. The seat is as it was.
+    #[error("no reading: {0}")]
+    Read(ReadFault),
+    /// With the reading, no stamp was given.
+    #[error("no stamp: {0}")]
+    Stamp(StampFault),
+}
+
+impl BeginFault {
+    /// The fault's number, that of the fault within: 801, 802, 803, 901, 902.
+    pub fn number(&self) -> u16
+        ensures { result ≡ begin_number_of self.now }
+    {
+        match self {
+            BeginFault::Read(fault) => fault.number(),
+            BeginFault::Stamp(fault) => fault.number(),
+        }
+    }
+}
+
+/// Why a commit was not queued. The book is as it was.
+#[derive(Clone, Copy, Debug, PartialEq, Eq, Error)]
+pub enum BookFault {
+    #[error("as many commits wait as may")]
+    Full,
+    #[error("a commit with this id waits or was released")]
+    IdThere,
+    #[error("a commit with this stamp waits or was released")]
+    StampThere,
+    #[error("out of memory")]
+    Memory,
+}
+
+impl BookFault {
+    /// The fault's number: 1001 `Full`, 1002 `IdThere`, 1003 `StampThere`, 1 `Memory`.
+    pub fn number(&self) -> u16
+        ensures { result ≡ book_number_of self.now }
+    {
+        match self {
+            BookFault::Full => 1001,
+            BookFault::IdThere => 1002,
+            BookFault::StampThere => 1003,
+            BookFault::Memory => 1,
+        }
+    }
+}

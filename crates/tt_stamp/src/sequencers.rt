@@ -1,0 +1,194 @@
+//! The stamps that several threads draw from one sequencer.
+
+ghost use Rattle.std.specs.Prelude.{◌≡◌, ℕ, ◌<◌, ◌≤◌, ◌↔◌, ◌⊎◌, List, [], All, true, max, map, IfOk, IfErr, OnOk, IsErrOf};
+ghost use Rattle.std.specs.List.{range_with_len};
+ghost use Rattle.tt_span.specs.Time.{max_time};
+ghost use Rattle.tt_stamp.specs.Stamp.{IsTooFar, HasNoStamp, least_above};
+ghost use Rattle.tt_stamp.specs.Stamping.{IsLegalRun, Looks, Gives, Unites, new_seat, stamps_of, last_of, is_in, entries_of};
+ghost use Rattle.tt_stamp.specs.Sequencing.{met};
+ghost use Rattle.tt_stamp.specs.declared.stampings.Stamping.{Stamping};
+
+use crate::asks::Ask;
+use crate::faults::StampFault;
+use crate::rows::MAX_AHEAD;
+use crate::rule::{Deal, InTurn, Look, Meet, Try};
+use crate::stampings::View;
+use atomic_table::{Seat as Token, Table};
+use std::alloc::Global;
+use std::marker::Model;
+use std::sync::Wait;
+use tt_publish::Reading;
+use tt_span::MAX_TIME;
+
+/// The most seats of a sequencer.
+pub const MAX_SEATS: usize = 32;
+
+/// The sequencer of up to [`MAX_SEATS`] threads, which share it by reference, each with a seat of its own. Contracts
+/// see which one it is.
+#[derive(Drop)]
+pub struct Sequencer {
+    table: Table<Ask, View, u64, InTurn, Global>,
+}
+
+impl Model for Sequencer {
+    ghost use Rattle.std.specs.Prelude.{◌≡◌};
+    ghost use Rattle.atomic_table.specs.Seated.{TableId, table_id_coded};
+
+    ghost Value = { TableId };
+
+    ghost coded = { table_id_coded };
+
+    ghost view = { λ s. s.table.shared.table_id };
+
+    ghost invariant = { λ s. s.table.shared.table_id.words ≡ 1 };
+}
+
+/// What a thread draws stamps with. It has no bytes. Contracts see what it knows: its numbers, the stamps that it has
+/// seen, and its own among them, newest first.
+#[derive(Drop)]
+pub struct Seat {
+    token: Token<Ask, View>,
+}
+
+impl Model for Seat {
+    ghost use Rattle.tt_stamp.specs.Stamping.{SeatState};
+
+    ghost Value = { SeatState };
+
+    ghost use Rattle.tt_stamp.specs.Sequencing.{state_of, IsAtRest};
+
+    ghost view = { λ s. state_of s.token.table_id s.token.me.0 };
+
+    ghost invariant = { λ s. IsAtRest s.token.me };
+}
+
+impl Sequencer {
+    /// Opens a sequencer that has given no stamp, with its seats, which have one number each, from 0 on.
+    ///
+    /// Refuses, in this order: 904 `Seats` where there are to be none, or more than [`MAX_SEATS`], 1 `Memory`.
+    pub fn open(alloc: Global, seats: usize) -> Result<(Sequencer, Vec<Seat>), StampFault>
+        ensures seats { IsErrOf result StampFault.Seats ↔ ((seats ≡ 0) ⊎ (32 < seats)) }
+        ensures faults { IfErr result (λ e. (e ≡ StampFault.Seats) ⊎ (e ≡ StampFault.Memory)) }
+        ensures opened { IfOk result (λ r. r.1.items ≡ map (new_seat r.0 seats) (range_with_len 0 seats)) }
+        ensures of_it { IfOk result (λ r. All (λ seat. seat.table ≡ r.0) r.1.items) }
+    {
+        if seats == 0 || seats > MAX_SEATS {
+            return Err(StampFault::Seats);
+        }
+        let Ok(mut opened) = Vec::with_capacity(alloc, seats) else {
+            return Err(StampFault::Memory);
+        };
+        let Ok((table, mut token)) = Table::of_words(alloc, &[0], &(seats as u64)) else {
+            return Err(StampFault::Memory);
+        };
+        while opened.len() + 1 < seats {
+            let next = table.shared.split_seat::<Deal>(&mut token);
+            opened.push_reserved(Seat { token: next });
+        }
+        opened.push_reserved(Seat { token });
+        Ok((Sequencer { table }, opened))
+    }
+
+    /// Gives the commit of this reading its stamp, as [`Row::stamp`](crate::Row::stamp) does, after all stamps that
+    /// any seat of the sequencer gave before. It is one load and one exchange, and a further exchange whenever
+    /// another seat was faster.
+    ///
+    /// Refuses, in this order: 902 `FloorTooFar`, which leaves the seat as it was, and 901 `UsedUp`, after which the
+    /// seat may have seen more. It may wait: nothing says that an exchange succeeds.
+    pub fn stamp<R: Wait>(
+        &self,
+        rt: &R,
+        seat: &mut Seat,
+        reading: &Reading,
+        floor: u64,
+    ) -> Result<u64, StampFault>
+        requires { seat.old.table ≡ self.now }
+        ensures given { IfOk result (λ s. Gives seat.old seat.new reading.now.hi floor s) }
+        ensures too_far { IsErrOf result StampFault.FloorTooFar ↔ IsTooFar reading.now.hi floor }
+        ensures too_far_keeps { IsTooFar reading.now.hi floor → seat.new ≡ seat.old }
+        ensures used_up { IsErrOf result StampFault.UsedUp →
+            Looks seat.old seat.new × HasNoStamp (stamps_of seat.new.seen) reading.now.hi floor }
+        ensures faults { IfErr result (λ e. (e ≡ StampFault.FloorTooFar) ⊎ (e ≡ StampFault.UsedUp)) }
+    {
+        let latest = reading.latest();
+        if floor > latest + MAX_AHEAD {
+            return Err(StampFault::FloorTooFar);
+        }
+        let mut word = self.look(seat);
+        for _ in rt.forever() {
+            let stamp = latest.max(floor).max(word);
+            if stamp > MAX_TIME {
+                return Err(StampFault::UsedUp);
+            }
+            match self.try_stamp(seat, Ask { latest, floor }, word, stamp) {
+                Ok(()) => return Ok(stamp),
+                Err(found) => word = found,
+            }
+        }
+        unreachable!()
+    }
+
+    /// The last stamp that the seat sees when it looks, if there is one.
+    pub fn last(&self, seat: &mut Seat) -> Option<u64>
+        requires { seat.old.table ≡ self.now }
+        ensures looks { Looks seat.old seat.new }
+        ensures value { result ≡ last_of seat.new.seen }
+    {
+        self.look(seat).checked_sub(1)
+    }
+
+    /// One seat of two: it has seen what both had, and has the numbers and the own stamps of both. Once all seats
+    /// are joined, what it has seen are its own stamps alone.
+    pub fn join(&self, first: Seat, second: Seat) -> Seat
+        requires first { first.table ≡ self.now }
+        requires second { second.table ≡ self.now }
+        ensures { Unites first second result }
+    {
+        let Seat { mut token } = first;
+        let Seat { token: other } = second;
+        self.meet(&mut token, other);
+        let _ = self.table.shared.load::<Look>(&mut token, 0);
+        Seat { token }
+    }
+
+    // Makes one token of two, which keeps what each of them knew.
+    #[tactic(auto, using(crate::proofs::Turns::join_allowed))]
+    fn meet(&self, token: &mut Token<Ask, View>, other: Token<Ask, View>)
+        requires token { token.old.table_id ≡ self.now }
+        requires other { other.table_id ≡ self.now }
+        requires no_slot { other.me.1 ≡ [] }
+        ensures table { token.new.table_id ≡ token.old.table_id }
+        ensures both { token.new.me ≡ (met token.old.me.0 other.me.0, token.old.me.1) }
+    {
+        self.table.shared.join_seat::<Meet>(token, other);
+    }
+
+    // Looks at the word, which is the least number above all stamps given.
+    fn look(&self, seat: &mut Seat) -> u64
+        requires { seat.old.table ≡ self.now }
+        ensures looks { Looks seat.old seat.new }
+        ensures word { result ≡ least_above (stamps_of seat.new.seen) }
+    {
+        self.table.shared.load::<Look>(&mut seat.token, 0)
+    }
+
+    // Gives the stamp if the word is still what it was; else answers what it is.
+    fn try_stamp(&self, seat: &mut Seat, ask: Ask, word: u64, stamp: u64) -> Result<(), u64>
+        requires seat { seat.old.table ≡ self.now }
+        requires near { ¬ IsTooFar ask.latest ask.floor }
+        requires least { stamp ≡ max (max ask.latest ask.floor) word }
+        requires in_time { stamp ≤ max_time }
+        ensures given { OnOk result (Gives seat.old seat.new ask.latest ask.floor stamp) }
+        ensures missed { IfErr result (λ found. Looks seat.old seat.new × (found ≡ least_above (stamps_of seat.new.seen))) }
+    {
+        let shared = &self.table.shared;
+        let found = shared.compare_exchange_with::<Try>(&mut seat.token, 0, word, stamp + 1, &ask);
+        if found == word { Ok(()) } else { Err(found) }
+    }
+}
+
+/// Once all numbers are joined in one seat, what it has seen are its own stamps alone.
+pub fn seat_laws()
+    ensures { (seats : ℕ) (numbers : List ℕ) (seen : List Stamping) → ((n : ℕ) → n < seats → is_in numbers n ≡ true) →
+        IsLegalRun seats seen → entries_of numbers seen ≡ seen }
+{}

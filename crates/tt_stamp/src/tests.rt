@@ -1,0 +1,123 @@
+//! Values worked out by hand.
+
+use crate::{Book, BookFault, Entry, Id, Receipt, Row, StampFault};
+use std::alloc::Global;
+use std::test::Fail;
+use tt_publish::Reading;
+use tt_span::{MAX_TIME, Span};
+
+fn reading(lo: u64, hi: u64) -> Result<Reading, Fail> {
+    Ok(Reading::of(Span::new(lo, hi)?))
+}
+
+#[test]
+fn each_stamp_is_the_least_above_all(rt: HostRuntime) -> Result<(), Fail> {
+    let now = reading(0, 100)?;
+    let mut row = Row::new();
+    assert_eq!(rt; row.stamp(&now, 0), Ok(100));
+    assert_eq!(rt; row.stamp(&now, 0), Ok(101));
+    assert_eq!(rt; row.stamp(&now, 500), Ok(500));
+    assert_eq!(rt; row.stamp(&now, 0), Ok(501));
+    assert_eq!(rt;
+        row.stamp(&now, 10_000_000_101),
+        Err(StampFault::FloorTooFar)
+    );
+    assert_eq!(rt; row.stamp(&now, 10_000_000_100), Ok(10_000_000_100));
+    Ok(())
+}
+
+#[test]
+fn the_last_stamp_is_the_greatest_time(rt: HostRuntime) -> Result<(), Fail> {
+    let end = reading(0, MAX_TIME)?;
+    let mut row = Row::new();
+    assert_eq!(rt; row.stamp(&end, 0), Ok(MAX_TIME));
+    assert_eq!(rt; row.stamp(&end, 0), Err(StampFault::UsedUp));
+    assert_eq!(rt; row.stamp(&end, MAX_TIME + 1), Err(StampFault::UsedUp));
+    let mut start = Row::new();
+    assert_eq!(rt; start.stamp(&reading(0, 0)?, 0), Ok(0));
+    assert_eq!(rt; start.stamp(&reading(0, 0)?, 0), Ok(1));
+    Ok(())
+}
+
+fn id(session: u32, number: u64) -> Id {
+    Id { session, number }
+}
+
+// Two commits, of which the second has the smaller stamp.
+fn two_waiting(alloc: Global) -> Result<Book, Fail> {
+    let mut book = Book::new(alloc);
+    book.queue(id(0, 1), 200)?;
+    book.queue(id(0, 2), 150)?;
+    Ok(book)
+}
+
+#[test]
+fn commits_wait_until_their_stamps_have_passed(rt: HostRuntime) -> Result<(), Fail> {
+    let mut book = two_waiting(rt.alloc())?;
+    assert_eq!(rt; book.release(&reading(200, 300)?), 1);
+    assert!(rt; book.is_released(id(0, 2)).is_some());
+    assert_eq!(rt; book.is_released(id(0, 1)), None);
+    assert_eq!(rt; book.release(&reading(201, 301)?), 1);
+    assert_eq!(rt; book.release(&reading(201, 301)?), 0);
+    assert_eq!(rt; book.waiting(), 0);
+    Ok(())
+}
+
+#[test]
+fn a_receipt_names_the_reading_that_released(rt: HostRuntime) -> Result<(), Fail> {
+    let mut book = two_waiting(rt.alloc())?;
+    book.release(&reading(201, 301)?);
+    let receipt = Receipt {
+        id: id(0, 1),
+        stamp: 200,
+        earliest: 201,
+    };
+    assert_eq!(rt; book.is_released(id(0, 1)), Some(receipt));
+    assert_eq!(rt; book.history().len(), 4);
+    assert_eq!(rt; book.history()[3], Entry::Passed(receipt));
+    Ok(())
+}
+
+#[test]
+fn ids_and_stamps_are_taken_for_good(rt: HostRuntime) -> Result<(), Fail> {
+    let mut book = two_waiting(rt.alloc())?;
+    assert_eq!(rt; book.queue(id(0, 1), 300), Err(BookFault::IdThere));
+    assert_eq!(rt; book.queue(id(0, 3), 200), Err(BookFault::StampThere));
+    book.release(&reading(201, 301)?);
+    assert_eq!(rt; book.queue(id(0, 1), 300), Err(BookFault::IdThere));
+    assert_eq!(rt; book.queue(id(0, 3), 200), Err(BookFault::StampThere));
+    Ok(())
+}
+
+#[test]
+fn as_many_wait_as_may(rt: HostRuntime) -> Result<(), Fail> {
+    let mut book = Book::new(rt.alloc());
+    for stamp in 1..65_537 {
+        assert_eq!(rt; book.queue(id(9, stamp), stamp), Ok(()));
+    }
+    assert_eq!(rt; book.queue(id(0, 1), 65_537), Err(BookFault::Full));
+    assert_eq!(rt; book.release(&reading(2, 2)?), 1);
+    assert_eq!(rt; book.queue(id(0, 1), 65_537), Ok(()));
+    Ok(())
+}
+
+#[test]
+fn each_refusal_has_its_number(rt: HostRuntime) -> Result<(), Fail> {
+    for (fault, number) in [
+        (StampFault::UsedUp, 901),
+        (StampFault::FloorTooFar, 902),
+        (StampFault::Seats, 904),
+        (StampFault::Memory, 1),
+    ] {
+        assert_eq!(rt; fault.number(), number);
+    }
+    for (fault, number) in [
+        (BookFault::Full, 1001),
+        (BookFault::IdThere, 1002),
+        (BookFault::StampThere, 1003),
+        (BookFault::Memory, 1),
+    ] {
+        assert_eq!(rt; fault.number(), number);
+    }
+    Ok(())
+}

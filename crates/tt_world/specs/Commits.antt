@@ -1,0 +1,202 @@
+-- What the workers of each machine were asked to commit, and what became of it, searched back. Each list has the newest event first, and only events that were not bad.
+use Rattle.std.specs.Prelude.{ℕ, ◌==◌, ◌&&◌, ◌||◌, not, Bool, false, if◌then◌else◌, List, [], ◌∷◌, is_some, Option, Some, None, Result, Ok, Err}
+use Rattle.std.specs.Option.{option_or}
+use Rattle.tt_span.specs.Interval.{Interval}
+use Rattle.tt_stamp.specs.declared.commits.Receipt.{Receipt}
+use Rattle.tt_stamp.specs.declared.commits.Entry.{Entry}
+use Rattle.tt_stamp.specs.declared.commits.Entry.TheVariants.{Queued}
+use Rattle.tt_stamp.specs.declared.faults.StampFault.{StampFault}
+use Rattle.tt_stamp.specs.declared.faults.BookFault.{BookFault}
+use Rattle.tt_stamp.specs.Stamp.{stamp_of}
+use Rattle.tt_stamp.specs.History.{waiting_of, release_of, with_receipts, first_queue_fault}
+use Rattle.tt_world.specs.declared.events.Event.{Event}
+use Rattle.tt_world.specs.declared.events.Action.{Action}
+use Rattle.tt_world.specs.declared.events.Action.TheVariants.{Send, Answer, Forge, Deliver, Fuse, Read, Arrive, Stamp, Queue, Release}
+use Rattle.tt_world.specs.declared.workers.Arrival.{Arrival}
+use Rattle.tt_world.specs.declared.workers.Task.{Task}
+use Rattle.tt_world.specs.declared.workers.Task.TheVariants.{Arrived, Stamped}
+use Rattle.tt_daemon.specs.Config.{Configuration}
+use Rattle.tt_world.specs.Publications.{publications_of, publication_at, reading_at}
+
+-- the commit that an event asks worker w of machine m for, if it does
+abbrev pub arrived_by : ℕ → ℕ → Action → Option Arrival
+arrived_by m w (Send machine source clock) = None
+arrived_by m w (Answer packet span) = None
+arrived_by m w (Forge machine source payload) = None
+arrived_by m w (Deliver packet clock) = None
+arrived_by m w (Fuse machine clock) = None
+arrived_by m w (Read machine worker clock publication) = None
+arrived_by m w (Arrive machine worker id floor) = if machine == m && worker == w then Some (record { id = id; floor = floor }) else None
+arrived_by m w (Stamp machine worker) = None
+arrived_by m w (Queue machine worker) = None
+arrived_by m w (Release machine worker) = None
+
+-- the last commit that worker w of machine m was asked for
+abbrev pub arrival_of : List Event → ℕ → ℕ → Option Arrival
+arrival_of [] m w = None
+arrival_of (event ∷ past) m w = option_or (arrived_by m w event.action) (arrival_of past m w)
+
+-- the reading that worker w of machine m takes in an event after this past, if it does
+abbrev pub read_by : Configuration → List Event → ℕ → ℕ → Action → Option Interval
+read_by config past m w (Send machine source clock) = None
+read_by config past m w (Answer packet span) = None
+read_by config past m w (Forge machine source payload) = None
+read_by config past m w (Deliver packet clock) = None
+read_by config past m w (Fuse machine clock) = None
+read_by config past m w (Read machine worker clock publication) =
+    if machine == m && worker == w then Some (reading_at config.drift (publication_at (publications_of config past m) publication) clock) else None
+read_by config past m w (Arrive machine worker id floor) = None
+read_by config past m w (Stamp machine worker) = None
+read_by config past m w (Queue machine worker) = None
+read_by config past m w (Release machine worker) = None
+
+-- the last reading of worker w of machine m
+abbrev pub reading_of : Configuration → List Event → ℕ → ℕ → Option Interval
+reading_of config [] m w = None
+reading_of config (event ∷ past) m w = option_or (read_by config past m w event.action) (reading_of config past m w)
+
+-- the last reading of worker w of machine m, if it is later than the last commit that the worker was asked for
+abbrev pub reading_since : Configuration → List Event → ℕ → ℕ → Option Interval
+reading_since config [] m w = None
+reading_since config (event ∷ past) m w =
+    if is_some (arrived_by m w event.action) then None
+    else option_or (read_by config past m w event.action) (reading_since config past m w)
+
+-- the stamp of a commit by a reading after these stamps were given, or its refusal, if there is a commit and a reading
+abbrev pub stamping_after : List ℕ → Option Arrival → Option Interval → Option (Result ℕ StampFault)
+stamping_after given None reading = None
+stamping_after given (Some arrival) None = None
+stamping_after given (Some arrival) (Some reading) = Some (stamp_of given reading.hi arrival.floor)
+
+-- the stamp that was given, if one was
+abbrev pub stamp_given : Option (Result ℕ StampFault) → Option ℕ
+stamp_given None = None
+stamp_given (Some (Err fault)) = None
+stamp_given (Some (Ok stamp)) = Some stamp
+
+-- the worker of machine m whose commit an event stamps, if it does
+abbrev pub stamping_worker : ℕ → Action → Option ℕ
+stamping_worker m (Send machine source clock) = None
+stamping_worker m (Answer packet span) = None
+stamping_worker m (Forge machine source payload) = None
+stamping_worker m (Deliver packet clock) = None
+stamping_worker m (Fuse machine clock) = None
+stamping_worker m (Read machine worker clock publication) = None
+stamping_worker m (Arrive machine worker id floor) = None
+stamping_worker m (Stamp machine worker) = if machine == m then Some worker else None
+stamping_worker m (Queue machine worker) = None
+stamping_worker m (Release machine worker) = None
+
+-- the stamps with the one that was given, if one was
+abbrev pub with_stamp : List ℕ → Option ℕ → List ℕ
+with_stamp given None = given
+with_stamp given (Some stamp) = stamp ∷ given
+
+-- the stamps of machine m once this worker's commit was stamped after them
+abbrev pub stamps_after : Configuration → List Event → ℕ → List ℕ → Option ℕ → List ℕ
+stamps_after config past m given None = given
+stamps_after config past m given (Some w) =
+    with_stamp given (stamp_given (stamping_after given (arrival_of past m w) (reading_since config past m w)))
+
+-- all stamps that machine m has given, the newest first
+abbrev pub stamps_of : Configuration → List Event → ℕ → List ℕ
+stamps_of config [] m = []
+stamps_of config (event ∷ past) m = stamps_after config past m (stamps_of config past m) (stamping_worker m event.action)
+
+-- what the stamping of the last commit of worker w of machine m gives: the stamp by the last reading since the worker was asked for it, or the refusal
+abbrev pub stamping_of : Configuration → List Event → ℕ → ℕ → Option (Result ℕ StampFault)
+stamping_of config past m w = stamping_after (stamps_of config past m) (arrival_of past m w) (reading_since config past m w)
+
+-- whether an event stamps for worker w of machine m
+abbrev pub stamps_for : ℕ → ℕ → Action → Bool
+stamps_for m w (Send machine source clock) = false
+stamps_for m w (Answer packet span) = false
+stamps_for m w (Forge machine source payload) = false
+stamps_for m w (Deliver packet clock) = false
+stamps_for m w (Fuse machine clock) = false
+stamps_for m w (Read machine worker clock publication) = false
+stamps_for m w (Arrive machine worker id floor) = false
+stamps_for m w (Stamp machine worker) = machine == m && worker == w
+stamps_for m w (Queue machine worker) = false
+stamps_for m w (Release machine worker) = false
+
+-- the stamp that was given to the last commit that worker w of machine m was asked for, if one was
+abbrev pub stamp_held : Configuration → List Event → ℕ → ℕ → Option ℕ
+stamp_held config [] m w = None
+stamp_held config (event ∷ past) m w =
+    if is_some (arrived_by m w event.action) then None
+    else if stamps_for m w event.action then option_or (stamp_given (stamping_of config past m w)) (stamp_held config past m w)
+    else stamp_held config past m w
+
+-- the book's history once a commit with a stamp was queued, if there is one and nothing refuses it
+abbrev pub with_queued : List Entry → Option Arrival → Option ℕ → List Entry
+with_queued book None stamp = book
+with_queued book (Some arrival) None = book
+with_queued book (Some arrival) (Some stamp) =
+    if is_some (first_queue_fault book arrival.id stamp) then book else Queued arrival.id stamp ∷ book
+
+-- the receipts of a release with a reading, least stamp first, if there is a reading
+abbrev pub released_with : List Entry → Option Interval → List Receipt
+released_with book None = []
+released_with book (Some reading) = release_of (waiting_of book) reading.lo
+
+-- the history of machine m's book after an event that comes after this past and this history
+abbrev pub book_after : Configuration → List Event → ℕ → List Entry → Action → List Entry
+book_after config past m book (Send machine source clock) = book
+book_after config past m book (Answer packet span) = book
+book_after config past m book (Forge machine source payload) = book
+book_after config past m book (Deliver packet clock) = book
+book_after config past m book (Fuse machine clock) = book
+book_after config past m book (Read machine worker clock publication) = book
+book_after config past m book (Arrive machine worker id floor) = book
+book_after config past m book (Stamp machine worker) = book
+book_after config past m book (Queue machine worker) =
+    if machine == m then with_queued book (arrival_of past m worker) (stamp_held config past m worker) else book
+book_after config past m book (Release machine worker) =
+    if machine == m then with_receipts (released_with book (reading_of config past m worker)) book else book
+
+-- the history of machine m's book, the newest entry first
+abbrev pub book_of : Configuration → List Event → ℕ → List Entry
+book_of config [] m = []
+book_of config (event ∷ past) m = book_after config past m (book_of config past m) event.action
+
+-- why a commit with a stamp is not queued after this history, if there is such a commit
+abbrev pub queue_fault : List Entry → Option Arrival → Option ℕ → Option BookFault
+queue_fault book None stamp = None
+queue_fault book (Some arrival) None = None
+queue_fault book (Some arrival) (Some stamp) = first_queue_fault book arrival.id stamp
+
+-- why the last commit of worker w of machine m is not queued, if something refuses it
+abbrev pub queueing_of : Configuration → List Event → ℕ → ℕ → Option BookFault
+queueing_of config past m w = queue_fault (book_of config past m) (arrival_of past m w) (stamp_held config past m w)
+
+-- whether an event queues for worker w of machine m
+abbrev pub queues_for : ℕ → ℕ → Action → Bool
+queues_for m w (Send machine source clock) = false
+queues_for m w (Answer packet span) = false
+queues_for m w (Forge machine source payload) = false
+queues_for m w (Deliver packet clock) = false
+queues_for m w (Fuse machine clock) = false
+queues_for m w (Read machine worker clock publication) = false
+queues_for m w (Arrive machine worker id floor) = false
+queues_for m w (Stamp machine worker) = false
+queues_for m w (Queue machine worker) = machine == m && worker == w
+queues_for m w (Release machine worker) = false
+
+-- whether the last commit that worker w of machine m was asked for was queued
+abbrev pub is_queued : Configuration → List Event → ℕ → ℕ → Bool
+is_queued config [] m w = false
+is_queued config (event ∷ past) m w =
+    if is_some (arrived_by m w event.action) then false
+    else if queues_for m w event.action then (not (is_some (queueing_of config past m w)) || is_queued config past m w)
+    else is_queued config past m w
+
+-- a task by the commit that was asked for, and its stamp
+abbrev pub task_with : Option Arrival → Option ℕ → Option Task
+task_with None stamp = None
+task_with (Some arrival) None = Some (Arrived arrival)
+task_with (Some arrival) (Some stamp) = Some (Stamped arrival.id stamp)
+
+-- the task of worker w of machine m: the last commit that the worker was asked for, with its stamp if it has one; none once that was queued
+abbrev pub task_of : Configuration → List Event → ℕ → ℕ → Option Task
+task_of config past m w = if is_queued config past m w then None else task_with (arrival_of past m w) (stamp_held config past m w)
