@@ -159,14 +159,15 @@ fn read_and_publish<R: Threads + Wait + Sync>(
 
 #[test]
 fn readings_in_threads_rise(rt: HostRuntime) -> Result<(), Fail> {
-    let mut clock = MemoryClock::new(&[0; 3], None);
+    let mut clock = MemoryClock::new(&[0; 4], None);
     let (mut teller, first, second) = opened(&rt, rt.alloc(), 0).ok_or("watches")?;
     let (published, read) = read_and_publish(&rt, &mut teller, first, second);
     let ((mut first, first_rises), (mut second, second_rises)) = read;
     assert_eq!(rt; (published, first_rises, second_rises), (100, true, true));
     assert_eq!(rt; ends(first.now(&mut clock)), Ok((100, 100)));
+    assert_eq!(rt; ends(second.now(&mut clock)), Ok((100, 100)));
     teller.close(&rt);
     assert_eq!(rt; ends(first.now(&mut clock)), Ok((100, 100)));
-    assert!(rt; ends(second.now(&mut clock)).is_ok());
+    assert_eq!(rt; ends(second.now(&mut clock)), Ok((100, 100)));
     Ok(())
 }
