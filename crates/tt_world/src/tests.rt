@@ -618,6 +618,25 @@ fn steps_one_event_at_a_time(rt: HostRuntime) -> Result<(), Fail> {
 }
 
 #[test]
+fn six_more_events_of_one_liar_are_refused(rt: HostRuntime) -> Result<(), Fail> {
+    let mut world = World::new(rt.alloc(), &[machine(3, 1, 200)?])?;
+    for event in &three_answers(span(40, 60), span(45, 55), span(100, 105)) {
+        world.step(event)?;
+    }
+    let action = Action::Stamp {
+        machine: 0,
+        worker: 0,
+    };
+    assert_eq!(rt; world.step(&read(50, 0, 0, 0, 2))?, refused(1204));
+    assert_eq!(rt; world.step(&deliver(50, 3, 0))?, refused(406));
+    assert_eq!(rt; world.step(&send(49, 0, 0, 0))?, refused(1201));
+    assert_eq!(rt; world.step(&send(50, 1, 0, 0))?, refused(1206));
+    assert_eq!(rt; world.step(&deliver(50, 0, 0))?, refused(1203));
+    assert_eq!(rt; world.step(&Event { at: 50, action })?, refused(1205));
+    Ok(())
+}
+
+#[test]
 fn numbers_its_faults(rt: HostRuntime) {
     assert_eq!(rt; WorldFault::TimeBack.number(), 1201);
     assert_eq!(rt; WorldFault::ClockBack.number(), 1202);
