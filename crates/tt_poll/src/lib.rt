@@ -17,6 +17,13 @@
 //! Each message has one spelling. [`encode_request`] and [`encode_answer`] write it; [`decode`] gives a message
 //! back exactly where the bytes are its spelling, and else the first refusal that applies.
 //!
+//! - `requests`: `Request`, and the greatest numbers of machines and sources. `answers`: `Answer`.
+//! - `messages`: `Message`, which is one of the two.
+//! - `format`: how long messages are, what they begin with, and their kinds.
+//! - `encoding`: `encode_request` and `encode_answer`.
+//! - `decoding`: `decode`, and what is known of spellings.
+//! - `faults`: why bytes are no message.
+//!
 //! The ranges are in the types, so what is encoded is always a message. Nothing here takes memory.
 #![tactic(auto)]
 

@@ -56,7 +56,9 @@ impl Statement {
         ensures valid { IfOk result (λ i. IsInterval i) }
         ensures holds { IfOk result (λ i. (x : ℕ) → IsPossibleNow drift self.now clock x → Holds i x) }
 
-        // No narrower answer is right: each end that is not cut is the true time of such a run.
+        // No narrower answer is right. An upper end that is not cut is the true time of such a run. So is a lower end
+        // that is not cut, where the span's lower end is at least `got - sent`: in that run the answer was given and
+        // came at the span's lower end, and the poll was sent `got - sent` before it.
         ensures low_is_possible { IfOk result (λ i. self.now.got - self.now.sent ≤ self.now.span.lo →
             uncut_low drift self.now clock ≤ max_time → IsPossibleNow drift self.now clock i.lo) }
         ensures high_is_possible { IfOk result (λ i. uncut_high drift self.now clock ≤ max_time → IsPossibleNow drift self.now clock i.hi) }

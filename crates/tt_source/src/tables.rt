@@ -7,7 +7,7 @@ ghost use Rattle.tt_poll.specs.Message.{max_machine};
 ghost use Rattle.tt_poll.specs.Spelling.{spelling_of};
 ghost use Rattle.tt_poll.specs.Reading.{read_of};
 ghost use Rattle.tt_poll.specs.declared.messages.Message.TheVariants as message;
-ghost use Rattle.tt_source.specs.Table.{Sending, IsTable, max_sources, new_table, source_at, poll_of, take_of, statement_of_message, aged_of, known_of, is_known_of, CanBeCalled, IsAwaitedAnswer};
+ghost use Rattle.tt_source.specs.Table.{Sending, IsTable, max_sources, new_table, source_at, poll_of, take_of, statement_of_message, aged_of, is_back as is_back_of, known_of, is_known_of, CanBeCalled, IsAwaitedAnswer};
 
 use crate::faults::SourceFault;
 use crate::slots::Slot;
@@ -21,8 +21,9 @@ use tt_span::{Drift, MAX_TIME, Span};
 pub const MAX_SOURCES: usize = 16;
 
 /// What one machine knows of its sources, which are numbered from 0: of each at most one poll that waits for its
-/// answer, and one statement, the last answer that was taken. The nonces of all its polls are one count, so an
-/// answer to an earlier poll is known as such (Spanner's time daemons poll their masters so: OSDI 2012, section 3).
+/// answer, and one statement, the last answer that was taken. That a machine polls several sources is Spanner's
+/// way, whose time daemons poll several time masters (OSDI 2012, section 3). The nonces are this table's own: those
+/// of all its polls are one count, so an answer to an earlier poll is known as such.
 ///
 /// Clock readings are in nanoseconds. Each call that takes one refuses by 402 `ClockBack` a reading below that of
 /// the last `poll` or `take` that was not refused, or above [`MAX_TIME`]. A refused call changes nothing, the
@@ -119,10 +120,19 @@ impl Table {
         if index >= self.sources.len() {
             return Err(SourceFault::NoSource);
         }
-        if clock < self.clock || clock > MAX_TIME {
+        if self.is_back(clock) {
             return Err(SourceFault::ClockBack);
         }
         Ok(index)
+    }
+
+    /// Whether the clock reading `clock`, in nanoseconds, is refused by 402 `ClockBack`: it is below that of the last
+    /// `poll` or `take` that was not refused, or above [`MAX_TIME`]. Before the first of these only the latter counts.
+    pub fn is_back(&self, clock: u64) -> bool
+        ensures value { result ≡ is_back_of self.now clock }
+        ensures valid { IsTable self.now }
+    {
+        clock < self.clock || clock > MAX_TIME
     }
 
     /// Polls source `i` when the clock shows `clock`: the bytes of a request with the nonce after the last one,

@@ -125,6 +125,8 @@ fn refuses_in_order(rt: HostRuntime) -> Result<(), Fail> {
     assert_eq!(rt; refusal(table.aged(3, 499)), Some(401));
     assert_eq!(rt; refusal(table.aged(1, 499)), Some(402));
     // None of these moved the clock, or ended the wait.
+    assert!(rt; table.is_back(499) && table.is_back(MAX_TIME + 1));
+    assert!(rt; !table.is_back(500) && !table.is_back(MAX_TIME));
     table.take(1, 500, &answer(0, 1))?;
     Ok(())
 }

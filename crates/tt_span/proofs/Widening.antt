@@ -1,8 +1,7 @@
 -- The laws of what a clock may go wrong by.
-use Rattle.std.proofs.Common.{◌≡◌, ℕ, ◌+◌, ◌-◌, ◌*◌, ◌/◌, ◌%◌, ◌<◌, ◌≤◌, ap, ◌∙◌, arith}
+use Rattle.std.proofs.Common.{◌≡◌, ℕ, ◌+◌, ◌*◌, ◌/◌, ◌%◌, ◌≤◌, ap, ◌∙◌, arith}
 use Rattle.std.specs.Int.{div_ceil}
 use Rattle.std.proofs.Math.Nat.{mul-le-mul_left}
-use Rattle.tt_span.specs.Time.{max_time, cut}
 use Rattle.tt_span.specs.Drift.{widening, IsWidening, max_drift}
 
 -- the quotient rounded up is the least number that is enough

@@ -1,7 +1,7 @@
 -- What a clock may be wrong by, and what that does to an interval as it ages.
 use Rattle.std.specs.Prelude.{ℕ, ◌+◌, ◌-◌, ◌*◌, ◌/◌, ◌≤◌, List, [], ◌∷◌}
 use Rattle.std.specs.List.{AllByRecursion}
-use Rattle.tt_span.specs.Time.{max_time, cut}
+use Rattle.tt_span.specs.Time.{cut}
 use Rattle.tt_span.specs.Interval.{Interval}
 
 -- the greatest drift, in parts per million

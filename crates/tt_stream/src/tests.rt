@@ -1,3 +1,5 @@
+//! Devices in memory and in the standard library, whole, piece by piece and failing.
+
 use super::*;
 use std::io::{self, Error, ErrorKind, Read, Write};
 use std::test::Fail;

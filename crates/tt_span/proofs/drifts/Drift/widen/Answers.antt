@@ -1,4 +1,4 @@
-use Rattle.std.proofs.Common.{◌≡◌, ℕ, ◌+◌, ◌*◌, ◌/◌, ◌%◌, ◌∙◌, ap, sym, subst, arith}
+use Rattle.std.proofs.Common.{◌≡◌, ℕ, ◌+◌, ◌*◌, ◌/◌, ◌%◌, ◌∙◌, ap, sym, subst}
 use Rattle.std.specs.Int.{div_ceil}
 use Rattle.tt_span.specs.Drift.{widening, IsWidening}
 use Rattle.tt_span.proofs.Widening.{least-widening, parts-widening}

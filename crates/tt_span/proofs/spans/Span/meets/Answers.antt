@@ -1,5 +1,5 @@
-use Rattle.std.proofs.Common.{◌≡◌, ℕ, ◌≤◌, arith, rules, eq-eqb}
-use Rattle.std.specs.Prelude.{max, IsTrue}
+use Rattle.std.proofs.Common.{arith}
+use Rattle.std.specs.Prelude.{max}
 use Rattle.std.proofs.lemmas.Grind.{common_steps}
 use Rattle.tt_span.proofs.spans.Span.meets.Goals as goal
 
