@@ -3,7 +3,6 @@ pub mod Members
 pub mod Sides
 pub mod Proving
 pub mod Verdicts
-pub mod Sorting
 pub mod Passing
 pub mod Lifting
 pub mod Least

@@ -1,5 +1,6 @@
 -- The lines of a text.
 use Rattle.std.proofs.Common.{◌≡◌, ℕ, ◌<◌, ◌≤◌, List, [], ◌∷◌, ◌++◌, length, drop, sym, ◌∙◌, ap, subst, refl, arith, append_assoc, length-append}
+use Rattle.std.specs.Prelude.{All}
 use Rattle.std.specs.Fmt.{decimal}
 use Rattle.std.specs.List.{flat_map}
 use Rattle.std.proofs.lemmas.List.{append-nil, append_cancel_left}
@@ -8,7 +9,7 @@ use Rattle.tt_span.specs.Time.{max_time}
 use Rattle.tt_span.specs.Interval.{Interval, IsInterval}
 use Rattle.tt_cert.specs.declared.certificate.Stretch.{Stretch}
 use Rattle.tt_cert.specs.Proof.{Proof}
-use Rattle.tt_cert.specs.Text.{spaced, numbers_text, line_of, ends_of, numbers_of, stretch_line, claim_word, left_word, right_word, below_word, above_word, text_of, AreSources, IsStretch, AreStretches, HasText}
+use Rattle.tt_cert.specs.Text.{spaced, numbers_text, line_of, ends_of, numbers_of, stretch_line, claim_word, left_word, right_word, below_word, above_word, text_of, AreSources, IsStretch, AreStretches, IsSpan, IsReadable, HasText}
 use Rattle.tt_cert.specs.Reading.{ReadsNothing, Reads, Anything, NoDigit, NoWord, BeginsWith, IsNumber, AreNumbers}
 
 -- lists with different heads are not the same
@@ -49,6 +50,13 @@ pub ReadsNothing-line_end : (bytes : List ℕ) → ReadsNothing (flat_map spaced
 ReadsNothing-line_end bytes none w other fits follows is =
     none w (10 ∷ other) fits (other, refl) (is ∙ append_assoc (flat_map spaced w) (10 ∷ []) other)
 
+-- one number fits a line, and it is the only one that the line has
+pub AreNumbers-alone : (n : ℕ) → IsNumber n → AreNumbers (n ∷ [])
+AreNumbers-alone n fits = (omega arith, All-cons IsNumber n [] fits (All-nil IsNumber))
+
+pub one-alone : (n m : ℕ) → n ∷ [] ≡ m ∷ [] → n ≡ m
+one-alone n m e = cc
+
 -- the numbers of claims, sources and stretches fit a line
 pub AreNumbers-ends_of : (claim : Interval) → IsInterval claim → AreNumbers (ends_of claim)
 AreNumbers-ends_of claim valid =
@@ -80,6 +88,22 @@ one-numbers_of a b e =
     let depth_same : a.depth ≡ b.depth = cc in
     let made : ℕ → ℕ → ℕ → Stretch = λ from to depth. record { from = from; to = to; depth = depth } in
     ap (λ from. made from a.to a.depth) from_same ∙ (ap (λ to. made b.from to a.depth) to_same ∙ ap (λ depth. made b.from b.to depth) depth_same)
+
+-- spans with depths that are bytes fit a text
+AreStretches-from_spans : (xs : List Stretch) → length xs ≤ 33 → All (λ s. s.depth ≤ 255) xs → All IsSpan xs → AreStretches xs
+AreStretches-from_spans xs few bytes spans =
+    (few, λ k d below. record { ordered = (spans k d below).0; in_time = (spans k d below).1; byte = bytes k d below })
+
+-- what is readable has a text
+module _ (claim : Interval) (proof : Proof) (valid : IsInterval claim) (readable : IsReadable proof) where
+  pub HasText-readable : length proof.left ≤ 16 → All (λ i. i ≤ 255) proof.left → length proof.right ≤ 16 → All (λ i. i ≤ 255) proof.right → length proof.below ≤ 33 → All (λ s. s.depth ≤ 255) proof.below → length proof.above ≤ 33 → All (λ s. s.depth ≤ 255) proof.above → HasText claim proof
+  HasText-readable few_left bytes_left few_right bytes_right few_below bytes_below few_above bytes_above = record {
+    claim_is = valid;
+    left = record { some = readable.left; few = few_left; bytes = bytes_left };
+    right = record { some = readable.right; few = few_right; bytes = bytes_right };
+    below = AreStretches-from_spans proof.below few_below bytes_below readable.below;
+    above = AreStretches-from_spans proof.above few_above bytes_above readable.above;
+  }
 
 -- the stretches above the claim do not begin with the word of those below it
 no_below-above : (xs : List Stretch) → NoWord below_word (flat_map (stretch_line above_word) xs ++ [])

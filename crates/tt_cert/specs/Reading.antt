@@ -1,5 +1,5 @@
 -- What stands at the front of some bytes.
-use Rattle.std.specs.Prelude.{◌≡◌, ◌≢◌, ℕ, ◌<◌, ◌≤◌, ◌^◌, List, [], ◌++◌, length, drop, All, slice_index}
+use Rattle.std.specs.Prelude.{◌≡◌, ◌≢◌, ℕ, ◌<◌, ◌≤◌, ◌^◌, List, ◌++◌, length, drop, All, slice_index}
 use Rattle.std.specs.Char.{digit_value}
 
 -- no value that fits, with something behind it that may follow, is spelled by the bytes
@@ -33,10 +33,6 @@ BeginsWith word bytes = (rest : List ℕ) × (bytes ≡ word ++ rest)
 -- the bytes begin with something else
 abbrev pub NoWord : List ℕ → List ℕ → Type 0
 NoWord word bytes = (rest : List ℕ) → bytes ≢ word ++ rest
-
--- nothing follows
-abbrev pub IsEnd : List ℕ → Type 0
-IsEnd rest = rest ≡ []
 
 -- a number that fits a u64
 abbrev pub IsNumber : ℕ → Type 0

@@ -31,19 +31,23 @@ numbers_of s = s.from ∷ s.to ∷ s.depth ∷ []
 abbrev pub stretch_line : List ℕ → Stretch → List ℕ
 stretch_line word s = line_of word (numbers_of s)
 
--- the words that lines begin with
+-- the word of the claim's line
 abbrev pub claim_word : List ℕ
 claim_word = codes "claim"
 
+-- the word of the line of the left set
 abbrev pub left_word : List ℕ
 left_word = codes "left"
 
+-- the word of the line of the right set
 abbrev pub right_word : List ℕ
 right_word = codes "right"
 
+-- the word of the line of a stretch below the claim
 abbrev pub below_word : List ℕ
 below_word = codes "below"
 
+-- the word of the line of a stretch above the claim
 abbrev pub above_word : List ℕ
 above_word = codes "above"
 
@@ -71,6 +75,17 @@ pub record IsStretch (s : Stretch) : Type 0 where
 -- stretches that a text can hold on one side
 abbrev pub AreStretches : List Stretch → Type 0
 AreStretches stretches = (length stretches ≤ 33) × All IsStretch stretches
+
+-- the two times of a stretch are the ends of a span
+abbrev pub IsSpan : Stretch → Type 0
+IsSpan s = (s.from ≤ s.to) × (s.to ≤ max_time)
+
+-- a certificate that names sources for both ends, and whose stretches are spans
+pub record IsReadable (proof : Proof) : Type 0 where
+  pub left : 0 < length proof.left
+  pub right : 0 < length proof.right
+  pub below : All IsSpan proof.below
+  pub above : All IsSpan proof.above
 
 -- a claim and a certificate that have a text
 pub record HasText (claim : Interval) (proof : Proof) : Type 0 where

@@ -6,9 +6,9 @@ ghost use Rattle.tt_cert.specs.Valid.{IsCertificate};
 ghost use Rattle.tt_cert.specs.Canonical.{IsCanonical, sources_at};
 
 use crate::certificate::Certificate;
-use crate::sweeping::{ascending_lower_ends, ascending_upper_ends, stretches_between};
+use crate::sweeping::stretches_between;
 use arrayvec::ArrayVec;
-use tt_fuse::fusion_laws;
+use tt_fuse::{ascending_lower_ends, ascending_upper_ends, fusion_laws};
 use tt_span::{MAX_TIME, Span};
 
 /// The canonical certificate of the fusion of the spans, which is valid: the caller sees to it that `claim` is what

@@ -39,6 +39,7 @@ pub fn check(
     ensures first { IfErr result (λ fault. IsFirstFault spans.now faulty claim.now certificate.now fault) }
     ensures fused { OnOk result (IsFusion spans.now faulty claim.now) }
 {
+    // `lo` says that the claim is an interval, which the law `proves` asks for.
     let _lower_end = claim.lo();
     certificate_laws();
     verdict(spans, faulty, claim, certificate)

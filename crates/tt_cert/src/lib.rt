@@ -7,6 +7,13 @@
 //! certificate of a fusion. [`write_text`] and [`read_text`] keep certificates as text, and
 //! [`line_at`] reads one line of such text.
 //!
+//! - `certificate`: `Certificate` and its `Stretch`es, as values.
+//! - `checking`: `check`, and what a certificate shows.
+//! - `certifying`: `certify`.
+//! - `sweeping`: stretches of time, cut where spans begin and end.
+//! - `reading`: `read_text`, `line_at`, and what a line says. `writing`: `write_text`.
+//! - `faults`: why a certificate, or its text, is refused.
+//!
 //! Times are whole nanoseconds, as in `tt_span`, and a source's number is its place among the spans, from 0. Only
 //! the writing of a text takes memory.
 #![tactic(auto)]
@@ -23,7 +30,7 @@ pub use certificate::{Certificate, Stretch};
 pub use certifying::certify;
 pub use checking::{certificate_laws, check};
 pub use faults::CertFault;
-pub use reading::{line_at, read_text};
+pub use reading::{line_at, read_text, text_laws};
 pub use writing::write_text;
 
 #[cfg(test)]

@@ -9,7 +9,7 @@ ghost use Rattle.tt_span.specs.Interval.{Interval, IsInterval};
 ghost use Rattle.tt_cert.specs.declared.certificate.Stretch.{Stretch};
 ghost use Rattle.tt_cert.specs.Proof.{Proof};
 ghost use Rattle.tt_cert.specs.Text.{spaced, numbers_text, line_of, ends_of, numbers_of, stretch_line, claim_word, text_of, AreSources, IsStretch, AreStretches, HasText};
-ghost use Rattle.tt_cert.specs.Reading.{ReadsNothing, ReadsUpTo, Anything, NoDigit, NoWord, IsEnd, IsNumber, AreNumbers};
+ghost use Rattle.tt_cert.specs.Reading.{ReadsNothing, Reads, ReadsUpTo, Anything, NoDigit, NoWord, IsNumber, AreNumbers};
 
 use crate::certificate::{Certificate, Stretch};
 use crate::faults::CertFault;
@@ -32,6 +32,31 @@ pub fn read_text(text: &[u8]) -> Result<(Span, Certificate), CertFault>
 {
     parts_of(text).ok_or(CertFault::BadText)
 }
+
+/// What the line that [`line_at`] reads says of what its numbers stand for, where that is one number, or a span by its
+/// two ends.
+///
+/// Where no such line stands, neither that of a number nor that of a span does. Where one stands, it is that of the
+/// number or the span whose numbers it has, if there is one, and of no other. What comes after the line of a span
+/// stands further on.
+pub fn text_laws()
+    ensures no_number { (word bytes : List ℕ) → ReadsNothing (line_of word) AreNumbers Anything bytes →
+        ReadsNothing (λ n. line_of word (n ∷ [])) IsNumber Anything bytes }
+    ensures other_numbers { (word bytes numbers rest : List ℕ) → Reads (line_of word) AreNumbers Anything bytes numbers rest →
+        ((n : ℕ) → IsNumber n → n ∷ [] ≢ numbers) → ReadsNothing (λ n. line_of word (n ∷ [])) IsNumber Anything bytes }
+    ensures number { (word bytes numbers rest : List ℕ) → Reads (line_of word) AreNumbers Anything bytes numbers rest →
+        (n : ℕ) → IsNumber n → n ∷ [] ≡ numbers → Reads (λ n. line_of word (n ∷ [])) IsNumber Anything bytes n rest }
+    ensures no_span { (word bytes : List ℕ) → ReadsNothing (line_of word) AreNumbers Anything bytes →
+        ReadsNothing (λ span. line_of word (ends_of span)) IsInterval Anything bytes }
+    ensures other_ends { (word bytes numbers rest : List ℕ) → Reads (line_of word) AreNumbers Anything bytes numbers rest →
+        ((span : Interval) → IsInterval span → ends_of span ≢ numbers) →
+        ReadsNothing (λ span. line_of word (ends_of span)) IsInterval Anything bytes }
+    ensures span { (word bytes numbers rest : List ℕ) → Reads (line_of word) AreNumbers Anything bytes numbers rest →
+        (span : Interval) → IsInterval span → ends_of span ≡ numbers →
+        Reads (λ span. line_of word (ends_of span)) IsInterval Anything bytes span rest }
+    ensures further { (word text : List ℕ) (at next : ℕ) (span : Interval) → at ≤ length text →
+        ReadsUpTo (λ span. line_of word (ends_of span)) IsInterval Anything text at span next → at < next }
+{}
 
 /// The claim and the certificate that the whole text spells.
 fn parts_of(text: &[u8]) -> Option<(Span, Certificate)>

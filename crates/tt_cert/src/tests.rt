@@ -1,7 +1,11 @@
 //! Values worked out by hand.
 
+ghost use Rattle.std.specs.Prelude.{◌≡◌, MatchResult};
+ghost use Rattle.tt_cert.specs.Text.{IsReadable};
+
 use crate::{CertFault, Certificate, Stretch, certify, check, read_text, write_text};
 use arrayvec::ArrayVec;
+use std::alloc::Global;
 use std::test::Fail;
 use tt_fuse::fuse;
 use tt_span::{MAX_TIME, Span};
@@ -245,6 +249,31 @@ fn writes_what_it_reads(rt: HostRuntime) -> Result<(), Fail> {
     assert_eq!(rt; proof.left(), [255, 3, 3].as_slice());
     assert_eq!(rt; proof.below(), [stretch(6, 8, 255)].as_slice());
     assert_eq!(rt; write_text(rt.alloc(), &claim, &proof)?.as_str(), text);
+    Ok(())
+}
+
+/// What is read of the text that is written.
+fn read_again(
+    alloc: Global,
+    claim: &Span,
+    certificate: &Certificate,
+) -> Result<(Span, Certificate), CertFault>
+    ensures { IsReadable certificate.now →
+        MatchResult result (λ read. (read.0 ≡ claim.now) × (read.1 ≡ certificate.now)) (λ fault. fault ≡ CertFault.Memory) }
+{
+    let text = write_text(alloc, claim, certificate)?;
+    read_text(text.as_bytes())
+}
+
+#[test]
+fn reads_what_it_writes(rt: HostRuntime) -> Result<(), Fail> {
+    let (claim, proof) = certified(&chain()?, 1)?;
+    let (again, other) = read_again(rt.alloc(), &claim, &proof)?;
+    assert_eq!(rt; (again.lo(), again.hi()), (5, 15));
+    assert_eq!(rt; other.left(), [0, 1].as_slice());
+    assert_eq!(rt; other.right(), [1, 2].as_slice());
+    assert_eq!(rt; other.below(), [stretch(0, 4, 1)].as_slice());
+    assert_eq!(rt; other.above(), proof.above());
     Ok(())
 }
 

@@ -1,8 +1,8 @@
 //! Certificates to text.
 
-ghost use Rattle.std.specs.Prelude.{◌≡◌, ℕ, ◌≤◌, List, length, ◌++◌, IfOk, IfErr, OnOk, string_bytes};
+ghost use Rattle.std.specs.Prelude.{◌≡◌, ℕ, ◌≤◌, List, length, ◌++◌, All, IfOk, IfErr, OnOk, string_bytes};
 ghost use Rattle.std.specs.List.{flat_map};
-ghost use Rattle.tt_cert.specs.Text.{line_of, stretch_line, text_of};
+ghost use Rattle.tt_cert.specs.Text.{line_of, stretch_line, text_of, HasText, IsReadable};
 
 use crate::certificate::{Certificate, Stretch};
 use crate::faults::CertFault;
@@ -12,15 +12,16 @@ use tt_span::Span;
 
 /// The text of a claim and its certificate, which `read_text` reads: the line `claim LO HI`, a line `left I I ..`,
 /// a line `right I I ..`, a line `below FROM TO DEPTH` for each stretch below the claim, and a line
-/// `above FROM TO DEPTH` for each above it, all in the order in which they are kept. What is written reads back as the
-/// same claim and certificate wherever neither set is empty and each stretch is a span. Refuses with 1 `Memory` where
-/// memory runs out, and never else.
+/// `above FROM TO DEPTH` for each above it, all in the order in which they are kept. Wherever neither set is empty and
+/// each stretch is a span, what is written is a text that `read_text` takes, and it reads back as the same claim and
+/// certificate. Refuses with 1 `Memory` where memory runs out, and never else.
 pub fn write_text(
     alloc: Global,
     claim: &Span,
     certificate: &Certificate,
 ) -> Result<String, CertFault>
     ensures written { IfOk result (λ text. string_bytes text ≡ text_of claim.now certificate.now) }
+    ensures reads_back { IsReadable certificate.now → OnOk result (HasText claim.now certificate.now) }
     ensures memory { IfErr result (λ fault. fault ≡ CertFault.Memory) }
 {
     text_in(alloc, claim, certificate).map_err(|_error| CertFault::Memory)
@@ -28,7 +29,8 @@ pub fn write_text(
 
 /// The text, unless memory runs out.
 fn text_in(alloc: Global, claim: &Span, certificate: &Certificate) -> Result<String, AllocError>
-    ensures { IfOk result (λ text. string_bytes text ≡ text_of claim.now certificate.now) }
+    ensures written { IfOk result (λ text. string_bytes text ≡ text_of claim.now certificate.now) }
+    ensures reads_back { IsReadable certificate.now → OnOk result (HasText claim.now certificate.now) }
 {
     let mut text = String::new(alloc);
     push_line(alloc, &mut text, "claim", &[claim.lo(), claim.hi()])?;
@@ -39,10 +41,11 @@ fn text_in(alloc: Global, claim: &Span, certificate: &Certificate) -> Result<Str
     Ok(text)
 }
 
-/// Source numbers as numbers of a line.
+/// Source numbers as numbers of a line, and that each of them is a byte.
 fn widened(sources: &[u8]) -> ArrayVec<u64, 16>
     requires { length sources.now ≤ 16 }
-    ensures { result.items ≡ sources.now }
+    ensures same { result.items ≡ sources.now }
+    ensures bytes { All (λ source. source ≤ 255) sources.now }
 {
     let mut numbers = ArrayVec::new();
     for source in sources {
@@ -51,14 +54,15 @@ fn widened(sources: &[u8]) -> ArrayVec<u64, 16>
     numbers
 }
 
-/// Writes the line of each stretch at the end.
+/// Writes the line of each stretch at the end, and sees that each depth is a byte.
 fn push_stretches(
     alloc: Global,
     text: &mut String,
     word: &str,
     stretches: &[Stretch],
 ) -> Result<(), AllocError>
-    ensures { OnOk result (string_bytes text.new ≡ string_bytes text.old ++ flat_map (stretch_line word.now) stretches.now) }
+    ensures written { OnOk result (string_bytes text.new ≡ string_bytes text.old ++ flat_map (stretch_line word.now) stretches.now) }
+    ensures bytes { OnOk result (All (λ s. s.depth ≤ 255) stretches.now) }
 {
     for stretch in stretches {
         let numbers = [stretch.from, stretch.to, u64::from(stretch.depth)];

@@ -13,7 +13,7 @@ use tt_span::Span;
 /// [`MAX_SOURCES`](crate::MAX_SOURCES) of them.
 pub fn suspects(spans: &[Span], fused: &Span) -> ArrayVec<u8, 16>
     requires { length spans.now ≤ 16 }
-    ensures { AreSuspects spans.now fused.now result.items }
+    ensures exact { AreSuspects spans.now fused.now result.items }
 {
     let mut found = ArrayVec::new();
     for (source, span) in spans.iter().enumerate() {
@@ -27,6 +27,6 @@ pub fn suspects(spans: &[Span], fused: &Span) -> ArrayVec<u8, 16>
 /// The span of a suspect of the fusion holds no possible time. So what it said is false wherever at most as many
 /// sources are wrong as the fusion was told.
 pub fn suspect_laws()
-    ensures { (spans : List Interval) (f : ℕ) (fused : Interval) → IsFusion spans f fused → (k : ℕ) → IsSuspect spans fused k →
+    ensures no_possible_time { (spans : List Interval) (f : ℕ) (fused : Interval) → IsFusion spans f fused → (k : ℕ) → IsSuspect spans fused k →
         (span : Interval) → slice_index_or spans k span ≡ span → (x : ℕ) → IsPossibleTime spans f x → Holds span x → ⊥ }
 {}

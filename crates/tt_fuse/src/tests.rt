@@ -49,6 +49,11 @@ fn names_suspects(rt: HostRuntime) -> Result<(), Fail> {
     assert_eq!(rt; (found.lo(), found.hi()), (100, 105));
     assert_eq!(rt; suspects(&one_early, &found).as_slice(), [0].as_slice());
 
+    let touching = [span(0, 5)?, span(5, 9)?, span(20, 30)?];
+    let found = fuse(&touching, 1)?;
+    assert_eq!(rt; (found.lo(), found.hi()), (5, 5));
+    assert_eq!(rt; suspects(&touching, &found).as_slice(), [2].as_slice());
+
     let chain = [span(0, 10)?, span(5, 15)?, span(12, 20)?];
     assert!(rt; suspects(&chain, &fuse(&chain, 1)?).is_empty());
     assert_eq!(rt;

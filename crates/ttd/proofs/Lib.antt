@@ -1,6 +1,5 @@
 pub mod Writing
 pub mod Replies
-pub mod Numbers
 pub mod Lines
 pub mod Suspects
 pub mod Checking

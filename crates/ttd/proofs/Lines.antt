@@ -16,7 +16,7 @@ pub record AreFoundSoFar (lines : List ℕ) (found : List Interval) (rest : List
   pub only : (spans : List Interval) → All IsInterval spans → lines ≡ flat_map span_line spans →
       (others : List Interval) × All IsInterval others × (spans ≡ found ++ others) × (rest ≡ flat_map span_line others)
 
-pub some-line : (span : Interval) → 0 < length (span_line span)
+some-line : (span : Interval) → 0 < length (span_line span)
 some-line span =
     omega (arith, length-append span_word (numbers_text (ends_of span)))
 

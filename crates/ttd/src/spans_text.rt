@@ -8,7 +8,7 @@ ghost use Rattle.ttd.specs.SpansText.{AreNoSpans, AreSpansOf, IsNoSpansText, IsR
 
 use crate::faults::Fault;
 use std::alloc::Global;
-use tt_cert::line_at;
+use tt_cert::{line_at, text_laws};
 use tt_span::Span;
 
 /// What a spans text says.
@@ -47,6 +47,7 @@ fn faulty_at(text: &[u8], at: usize) -> Option<(u64, usize)>
     ensures { MatchOption result (ReadsNothing faulty_line IsNumber Anything (drop at text.now))
         (λ read. ReadsUpTo faulty_line IsNumber Anything text.now at read.0 read.1) }
 {
+    text_laws();
     let (numbers, next) = line_at(b"faulty", text, at)?;
     let faulty = one_of(&numbers)?;
     Some((faulty, next))
@@ -68,6 +69,7 @@ fn spans_at(alloc: Global, text: &[u8], at: usize) -> Result<Vec<Span>, Fault>
     ensures { MatchResult result (λ spans. AreSpansOf (drop at text.now) spans.items)
         (IsReadingFault (AreNoSpans (drop at text.now))) }
 {
+    text_laws();
     let mut spans = Vec::new(alloc);
     let mut place = at;
     while place < text.len() {
@@ -86,6 +88,7 @@ fn span_at(text: &[u8], at: usize) -> Option<(Span, usize)>
     ensures { MatchOption result (ReadsNothing span_line IsInterval Anything (drop at text.now))
         (λ read. ReadsUpTo span_line IsInterval Anything text.now at read.0 read.1) }
 {
+    text_laws();
     let (numbers, next) = line_at(b"span", text, at)?;
     let span = span_of(&numbers)?;
     Some((span, next))

@@ -1,3 +1,5 @@
+//! The whole program over devices in memory, with answers worked out by hand.
+
 use crate::ending::Status;
 use crate::input::{MOST_INPUT, MOST_READS};
 use crate::program::main_with;

@@ -1,3 +1,5 @@
+//! Command lines written by hand, with what they ask for or why they are refused.
+
 use super::{Asked, WordsFault, help_text, read_words};
 use std::test::Fail;
 

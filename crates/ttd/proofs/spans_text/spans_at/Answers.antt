@@ -1,10 +1,7 @@
 use Rattle.std.proofs.Common.{◌<◌, ℕ, List, length, drop, inl, refl, sym, arith, length-drop}
 use Rattle.std.proofs.lemmas.List.{drop_all}
-use Rattle.tt_span.specs.Interval.{IsInterval}
-use Rattle.tt_cert.specs.Reading.{Anything}
-use Rattle.tt_cert.proofs.Fronts.{further-ReadsUpTo}
-use Rattle.ttd.specs.SpansText.{span_line}
-use Rattle.ttd.proofs.Lines.{AreFoundSoFar-push, AreNoSpans-bad_line, AreSpansOf-end, some-line}
+use Rattle.ttd.specs.SpansText.{span_word}
+use Rattle.ttd.proofs.Lines.{AreFoundSoFar-push, AreNoSpans-bad_line, AreSpansOf-end}
 use Rattle.ttd.proofs.spans_text.spans_at.Goals as goal
 
 pub returns-in_default : goal.returns-in_default
@@ -16,7 +13,7 @@ returns-in_default c =
 pub loop-place-smaller : goal.loop-place-smaller
 loop-place-smaller c =
     let read = c.in-Some.ensures in
-    omega (arith, read.0, further-ReadsUpTo span_line IsInterval Anything c.args.text.now c.loop-place.place _ _ c.loop-place.invariant.0 (some-line _) read)
+    omega (arith, read.0, c.text_laws.ensures.further span_word c.args.text.now c.loop-place.place _ _ c.loop-place.invariant.0 read)
 
 pub loop-place-preserved : goal.loop-place-preserved
 loop-place-preserved c =
