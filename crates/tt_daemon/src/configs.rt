@@ -6,10 +6,8 @@ ghost use Rattle.tt_daemon.specs.Fault.{config_number_of};
 
 use std::marker::Model;
 use thiserror::Error;
+use tt_fuse::MAX_SOURCES;
 use tt_span::{Drift, MAX_DRIFT};
-
-/// How many sources a machine asks at most.
-pub const MAX_SOURCES: usize = 16;
 
 /// How many workers a machine has at most.
 pub const MAX_WORKERS: usize = 32;
@@ -112,7 +110,7 @@ impl Config {
         self.sources
     }
 
-    /// How many of its sources may lie.
+    /// How many of its sources may lie, from 0 to 7.
     pub fn faulty(&self) -> usize
         ensures value { result ≡ self.now.faulty }
         ensures valid { IsConfiguration self.now }

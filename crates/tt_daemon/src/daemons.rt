@@ -11,11 +11,11 @@ ghost use Rattle.tt_fuse.specs.Depth.{slow_fusion};
 ghost use Rattle.tt_daemon.specs.Publication.{IsPublication};
 ghost use Rattle.tt_daemon.specs.Daemon.{IsDaemon, new_daemon, IsBack, IsForward, KnowsEnough, spans_of};
 
-use crate::configs::{Config, MAX_SOURCES};
+use crate::configs::Config;
 use crate::faults::DaemonFault;
 use crate::fusions::Fused;
 use std::marker::Model;
-use tt_fuse::fusion_laws;
+use tt_fuse::{MAX_SOURCES, fusion_laws};
 use tt_poll::REQUEST_LEN;
 use tt_source::{SourceFault, Table};
 use tt_span::Span;
@@ -155,13 +155,13 @@ impl Daemon {
         self.fused_at(clock)
     }
 
-    /// Whether a clock reading is refused.
+    /// Whether the clock reading `clock` is refused: it is below that of the last `poll` or `take` that was not
+    /// refused, or above the greatest time.
     fn is_back(&self, clock: u64) -> bool
         ensures back { IsTrue result ↔ IsBack self.now clock }
         ensures forward { IsTrue (not result) ↔ IsForward self.now clock }
     {
-        // There is a source 0, so only the clock can be refused.
-        self.table.aged(0, clock).is_err()
+        self.table.is_back(clock)
     }
 
     /// The fusion of the spans of all sources at a clock reading.

@@ -5,10 +5,9 @@ ghost use Rattle.tt_span.specs.Interval.{IsInterval};
 ghost use Rattle.tt_fuse.specs.Fusion.{IsPossibleTime, HasNoPossibleTime, CanBeFused};
 ghost use Rattle.tt_daemon.specs.Publication.{IsPublication};
 
-use crate::configs::MAX_SOURCES;
 use std::marker::Model;
 use tt_cert::{Certificate, certify};
-use tt_fuse::{FuseFault, fuse};
+use tt_fuse::{FuseFault, MAX_SOURCES, fuse};
 use tt_span::Span;
 
 /// A fusion with all that it was made of, as a machine publishes it: the clock reading at which it was made, the
@@ -94,7 +93,7 @@ impl Fused {
         &self.spans[..self.sources]
     }
 
-    /// How many of the sources may be wrong.
+    /// How many of the sources may be wrong, from 0 to 7.
     pub fn faulty(&self) -> usize
         ensures value { result ≡ self.now.faulty }
         ensures valid { IsPublication self.now }

@@ -1,5 +1,5 @@
 //! One machine's time daemon: it polls its time sources, keeps what they state, and fuses what it knows into a span
-//! that holds the true time while no more of its sources lie than may.
+//! that holds the true time while no more of its sources lie than may and its clock keeps the drift bound.
 //!
 //! A [`Daemon`] is set up by a [`Config`]: how many sources it asks, how many of them may lie, and the drift of the
 //! machine's clock. [`Daemon::poll`] writes a request, [`Daemon::take`] takes exactly the answer that is awaited, and
@@ -25,10 +25,11 @@ mod daemons;
 mod faults;
 mod fusions;
 
-pub use configs::{Config, ConfigFault, MAX_SOURCES, MAX_WORKERS};
+pub use configs::{Config, ConfigFault, MAX_WORKERS};
 pub use daemons::Daemon;
 pub use faults::DaemonFault;
 pub use fusions::Fused;
+pub use tt_fuse::MAX_SOURCES;
 
 #[cfg(test)]
 mod tests;

@@ -1,13 +1,5 @@
--- How clocks count their failures, and what a clock in memory gives.
-use Rattle.std.specs.Prelude.{◌≡◌, ◌<◌, ◌+◌, ℕ, min, ◌⊎◌, List, ◌∷◌, Option, Some, None}
-
--- a clock failed between the two counts: the count rose, or it stands at its greatest value, where it stays
-abbrev pub HasFailed : ℕ → ℕ → Type 0
-HasFailed before after = (before < after) ⊎ (after ≡ 18446744073709551615)
-
--- a count after one more; it stays at 2^64 - 1 once it is there
-abbrev pub risen : ℕ → ℕ
-risen count = min (count + 1) 18446744073709551615
+-- What a clock in memory gives.
+use Rattle.std.specs.Prelude.{◌≡◌, ℕ, List, ◌∷◌, Option, Some, None}
 
 -- a clock in memory
 pub record ClockState : Type 0 where

@@ -1,7 +1,7 @@
 //! Clocks that count their failures.
 
 ghost use Rattle.std.specs.Prelude.{◌≡◌, ℕ, Option, Some, None, OnOk, OnErr, MatchResult};
-ghost use Rattle.tt_publish.specs.Clock.{HasFailed};
+ghost use Rattle.tt_stream.specs.Counts.{HasFailed};
 
 use crate::faults::ClockFault;
 

@@ -5,9 +5,9 @@
 //! its own, and age it by their clock. Nobody waits for a lock: a teller shows a fusion in one step, and a
 //! watch takes what is shown in one step.
 //!
-//! What is published is a list, which only grows. What a watch has seen of it is always a beginning of that
-//! list, and no look ever makes it shorter. So of two watches of one source, one has seen a beginning of what the
-//! other has; and who has been told what a teller published (a [`Told`]) reads no older publication from then on.
+//! What is published is a list, which only grows, and what a watch has seen of it never shrinks. Of what a watch
+//! has seen and what it is told (a [`Told`]) one begins the other, and the watch keeps the longer. So who has been
+//! told what a teller published reads no older publication from then on.
 //!
 //! - `faults`: what is answered where a call refuses.
 //! - `clocks`: the trait `Clock`. `memory`: a clock in memory.

@@ -1,7 +1,8 @@
 //! A clock in memory, that gives the readings of a list and fails when told to: for tests, and for proofs over runs.
 
 ghost use Rattle.std.specs.Prelude.{◌≡◌, ◌↔◌, ◌⊎◌, ◌∷◌, [], Some, None, OnOk, OnErr, IfOk, IsErr, MatchResult};
-ghost use Rattle.tt_publish.specs.Clock.{HasFailed, ClockState, GivesNext, risen};
+ghost use Rattle.tt_stream.specs.Counts.{HasFailed, count_after};
+ghost use Rattle.tt_publish.specs.Clock.{ClockState, GivesNext};
 
 use crate::clocks::Clock;
 use crate::faults::ClockFault;
@@ -48,9 +49,9 @@ impl<'a> Clock for MemoryClock<'a> {
         ensures sound { OnOk result (self.new.failures ≡ self.old.failures) }
         ensures cause { OnErr result (HasFailed self.old.failures self.new.failures) }
 
-        ensures fails { IsErr result ↔ ((self.old.fails_at ≡ Some (risen self.old.calls)) ⊎ (self.old.left ≡ [])) }
-        ensures ok { OnOk result (self.new ≡ record self.old { left = self.new.left; calls = risen self.old.calls }) }
-        ensures err { OnErr result (self.new ≡ record self.old { calls = risen self.old.calls; failures = risen self.old.failures }) }
+        ensures fails { IsErr result ↔ ((self.old.fails_at ≡ Some (count_after self.old.calls 1)) ⊎ (self.old.left ≡ [])) }
+        ensures ok { OnOk result (self.new ≡ record self.old { left = self.new.left; calls = count_after self.old.calls 1 }) }
+        ensures err { OnErr result (self.new ≡ record self.old { calls = count_after self.old.calls 1; failures = count_after self.old.failures 1 }) }
     {
         self.calls = self.calls.saturating_add(1);
         if self.fails_at != Some(self.calls) {

@@ -29,6 +29,12 @@ impl Absorb<Front> for Front {
         *self = operation.copied();
         Ok(())
     }
+
+    /// The same, with no further copy.
+    fn absorb_second(&mut self, operation: Front, _other: &Front) -> Result<(), Front> {
+        *self = operation;
+        Ok(())
+    }
 }
 
 /// The rule of what is shown: all that those at it know is of one source.
@@ -69,8 +75,10 @@ impl Join<Option<Front>> for Tell {
     ghost spent = { None };
 }
 
+/// A watch's side of what is shown: it looks at one of the two copies, with no lock.
 pub type FrontReader = Reader<Front, Option<Front>, OneSource>;
 
+/// A teller's side of what is shown: it changes the copy that is not shown, and then shows that one.
 pub type FrontWriter = Writer<Front, Front, Option<Front>, OneSource>;
 
 /// A writer that shows this front to at most so many readers.

@@ -101,8 +101,9 @@ impl Teller {
     /// where 2^64 - 1 publications were made, 1 `Memory` where memory is refused. Then nothing is published, and
     /// the fusion is dropped. It may wait for watches that are still looking at the publication before the last.
     ///
-    /// The memory that a publication takes is that of [`open`](crate::open), so `Memory` does not come after it.
-    /// If it came all the same, it would come at each later call.
+    /// [`open`](crate::open) takes the room for the two operations that are ever kept, so `publish` asks for no
+    /// memory. No clause says so; runs with failing allocations show it. If memory were refused all the same, each
+    /// later call that is not refused by 802 or 805 would answer `Memory` too.
     pub fn publish<R: Wait>(&mut self, rt: &R, fused: Fused) -> Result<(), PublishFault>
         ensures published { OnOk result (self.new ≡ record self.old { items = self.old.items ++ fused ∷ [] }) }
         ensures unchanged { OnErr result (self.new ≡ self.old) }
@@ -121,6 +122,7 @@ impl Teller {
             return Err(PublishFault::Memory);
         };
         let (writer, shown) = show(rt, self.writer.take().unwrap(), &next);
+        // The writer was taken out above, so the place is empty. What `replace` gives has no drop, so it is asked for.
         if let Some(other) = self.writer.replace(writer) {
             other.take(rt);
         }
@@ -162,14 +164,14 @@ impl Teller {
         ensures count { IfOk result (λ watches. vec_len watches ≡ readers) }
         ensures watches { IfOk result (λ watches. All (λ watch. watch ≡ record { source = self.old.source; drift = drift; items = self.old.items }) watches.items) }
     {
-        let mut watches = Vec::new(alloc);
+        let Ok(mut watches) = Vec::with_capacity(alloc, readers) else {
+            return Err(PublishFault::Memory);
+        };
         for _ in 0..readers {
             let Some(watch) = self.watch(drift) else {
                 return Err(PublishFault::Places);
             };
-            if watches.push(watch).is_err() {
-                return Err(PublishFault::Memory);
-            }
+            watches.push_reserved(watch);
         }
         Ok(watches)
     }
@@ -185,6 +187,7 @@ impl Teller {
 }
 
 impl Told {
+    /// What the teller had published when it was asked.
     pub(crate) fn front(&self) -> &Front
         ensures { result.now ≡ self.now }
     {

@@ -1,3 +1,5 @@
+//! Values worked out by hand, and readings while another thread publishes.
+
 ghost use Rattle.std.specs.Prelude.{◌≡◌, IfSome};
 
 use super::*;
@@ -76,6 +78,21 @@ fn nobody_opens_no_watch_or_too_many(rt: HostRuntime) -> Result<(), Fail> {
 }
 
 #[test]
+fn as_many_watches_as_may_are_opened(rt: HostRuntime) -> Result<(), Fail> {
+    let fusion = fused(5, 40, 70).ok_or("a fusion")?;
+    let drift = Drift::new(0).ok_or("a drift")?;
+    let mut clock = MemoryClock::new(&[5; 32], None);
+    let (mut teller, mut watches) = open(&rt, rt.alloc(), drift, 32)?;
+    assert_eq!(rt; watches.len(), 32);
+    assert_eq!(rt; teller.publish(&rt, fusion), Ok(()));
+    for watch in watches.iter_mut() {
+        assert_eq!(rt; ends(watch.now(&mut clock)), Ok((40, 70)));
+    }
+    teller.close(&rt);
+    Ok(())
+}
+
+#[test]
 fn the_last_fusion_is_read(rt: HostRuntime) -> Result<(), Fail> {
     let (a, b, c) = (Span::new(0, 10)?, Span::new(5, 15)?, Span::new(12, 20)?);
     let older = Fused::make(1000, &[a, b, c], 1)?;
@@ -115,10 +132,12 @@ fn a_watch_reads_what_it_was_told_once_its_teller_is_closed(rt: HostRuntime) -> 
     Ok(())
 }
 
-// Publishes [k, k] for each k up to 100.
-fn publish_all<R: Wait>(rt: &R, teller: &mut Teller) -> u64 {
+// Publishes [k, k] for each k from `start` up to the one before `end`. Gives the last of them that was published.
+fn publish_all<R: Wait>(rt: &R, teller: &mut Teller, start: u64, end: u64) -> u64
+    ensures { teller.new.source ≡ teller.old.source }
+{
     let mut published = 0;
-    for k in 1..101 {
+    for k in start..end {
         if let Some(fusion) = fused(0, k, k) {
             if teller.publish(rt, fusion).is_ok() {
                 published = k;
@@ -128,10 +147,10 @@ fn publish_all<R: Wait>(rt: &R, teller: &mut Teller) -> u64 {
     published
 }
 
-// Reads a thousand times: whether no reading is below one before it, and there is always one after the first.
-fn read_on(mut watch: Watch) -> (Watch, bool) {
+// Reads a thousand times at clock 0: whether the earliest of each reading is at least `least`, never falls, and is
+// at most 100. Refusal 801 counts as 0, so there is none where `least` is above 0, nor after the first reading.
+fn read_on(mut watch: Watch, mut least: u64) -> (Watch, bool) {
     let mut clock = MemoryClock::new(&[0; 1000], None);
-    let mut least = 0;
     let mut rises = true;
     for _ in 0..1000 {
         let read = match ends(watch.now(&mut clock)) {
@@ -144,16 +163,19 @@ fn read_on(mut watch: Watch) -> (Watch, bool) {
     (watch, rises)
 }
 
+// Publishes [k, k] for each k from `start` to 100, while two other threads read on: the first watch from the least
+// that is given, the second from 0.
 fn read_and_publish<R: Threads + Wait + Sync>(
     rt: &R,
     teller: &mut Teller,
-    first: Watch,
+    start: u64,
+    (first, least): (Watch, u64),
     second: Watch,
 ) -> (u64, ((Watch, bool), (Watch, bool))) {
     join(
         rt,
-        || publish_all(rt, teller),
-        || join(rt, || read_on(first), || read_on(second)),
+        || publish_all(rt, teller, start, 101),
+        || join(rt, || read_on(first, least), || read_on(second, 0)),
     )
 }
 
@@ -161,7 +183,7 @@ fn read_and_publish<R: Threads + Wait + Sync>(
 fn readings_in_threads_rise(rt: HostRuntime) -> Result<(), Fail> {
     let mut clock = MemoryClock::new(&[0; 4], None);
     let (mut teller, first, second) = opened(&rt, rt.alloc(), 0).ok_or("watches")?;
-    let (published, read) = read_and_publish(&rt, &mut teller, first, second);
+    let (published, read) = read_and_publish(&rt, &mut teller, 1, (first, 0), second);
     let ((mut first, first_rises), (mut second, second_rises)) = read;
     assert_eq!(rt; (published, first_rises, second_rises), (100, true, true));
     assert_eq!(rt; ends(first.now(&mut clock)), Ok((100, 100)));
@@ -169,5 +191,18 @@ fn readings_in_threads_rise(rt: HostRuntime) -> Result<(), Fail> {
     teller.close(&rt);
     assert_eq!(rt; ends(first.now(&mut clock)), Ok((100, 100)));
     assert_eq!(rt; ends(second.now(&mut clock)), Ok((100, 100)));
+    Ok(())
+}
+
+#[test]
+fn no_reading_is_older_than_what_was_told(rt: HostRuntime) -> Result<(), Fail> {
+    let (mut teller, mut first, second) = opened(&rt, rt.alloc(), 0).ok_or("watches")?;
+    let before = publish_all(&rt, &mut teller, 1, 51);
+    first.learn(&teller.tell());
+    let (published, read) = read_and_publish(&rt, &mut teller, 51, (first, 50), second);
+    let ((_first, first_rises), (_second, second_rises)) = read;
+    assert_eq!(rt; (before, published), (50, 100));
+    assert_eq!(rt; (first_rises, second_rises), (true, true));
+    teller.close(&rt);
     Ok(())
 }

@@ -3,7 +3,7 @@
 ghost use Rattle.std.specs.Prelude.{◌≡◌, ◌↔◌, [], Some, None, IfOk, OnOk, OnErr, IsErrOf};
 ghost use mathlib.Core.List.{IsPrefix};
 ghost use Rattle.left_right.specs.Sides.{view};
-ghost use Rattle.tt_publish.specs.Clock.{HasFailed};
+ghost use Rattle.tt_stream.specs.Counts.{HasFailed};
 ghost use Rattle.tt_publish.specs.Known.{IsLonger, ReadsLast, MissesLast};
 ghost use Rattle.tt_publish.specs.Shown.{source_of};
 

@@ -9,7 +9,7 @@ use Rattle.std.specs.Map.{remove_entry}
 use Rattle.std.specs.Ordering.{nat_cmp}
 use Rattle.tt_stamp.specs.Ids.{id_cmp, same_id}
 use Rattle.tt_stamp.specs.History.{waiting_of, has_id, has_stamp, IsLegalHistory, IsNextReceipt, receipt_of}
-use Rattle.tt_stamp.specs.Book.{standing_of, history_of, IsKept}
+use Rattle.tt_stamp.specs.Book.{standing_of, history_of, IsBook}
 use Rattle.tt_stamp.specs.declared.books.Book.TheInside.{Inside}
 use Rattle.tt_stamp.specs.declared.commits.Id.{Id}
 use Rattle.tt_stamp.specs.declared.commits.Receipt.{Receipt}
@@ -49,8 +49,8 @@ pub reverse-push : (xs : List Entry) (e : Entry) → reverse (xs ++ e ∷ []) �
 reverse-push xs e = reverse-append xs (e ∷ [])
 
 -- nothing that counts has changed
-pub IsKept-refused : (b n : Inside) → IsKept b → n.history.items ≡ b.history.items → n.waiting.entries ≡ b.waiting.entries → ((q : Id) → tree.get id_cmp n.standings q ≡ standing_of (history_of b) q) → ((q : ℕ) → sorted.contains nat_cmp n.stamps q ≡ has_stamp (history_of b) q) → vec_len n.history + tree.btree_map_len n.waiting ≤ vec_capacity n.history → IsKept n
-IsKept-refused b n kept history waiting stands stamps room =
+pub IsBook-refused : (b n : Inside) → IsBook b → n.history.items ≡ b.history.items → n.waiting.entries ≡ b.waiting.entries → ((q : Id) → tree.get id_cmp n.standings q ≡ standing_of (history_of b) q) → ((q : ℕ) → sorted.contains nat_cmp n.stamps q ≡ has_stamp (history_of b) q) → vec_len n.history + tree.btree_map_len n.waiting ≤ vec_capacity n.history → IsBook n
+IsBook-refused b n kept history waiting stands stamps room =
     let same : history_of b ≡ history_of n = sym (ap reverse history) in
     record {
       legal = subst IsLegalHistory same kept.legal;
@@ -61,8 +61,8 @@ IsKept-refused b n kept history waiting stands stamps room =
     }
 
 -- a commit was released
-pub IsKept-passed : (b n : Inside) (r : Receipt) (first : ℕ × Id) → IsKept b → IsNextReceipt (history_of b) r → n.history.items ≡ b.history.items ++ Passed r ∷ [] → b.waiting.entries ≡ first ∷ n.waiting.entries → ((q : Id) → tree.get id_cmp n.standings q ≡ cond (is_at (id_cmp r.id) q) (Some (Released r)) (tree.get id_cmp b.standings q)) → n.stamps ≡ b.stamps → vec_len n.history + tree.btree_map_len n.waiting ≤ vec_capacity n.history → IsKept n
-IsKept-passed b n r first kept next history waiting stands stamps room =
+pub IsBook-passed : (b n : Inside) (r : Receipt) (first : ℕ × Id) → IsBook b → IsNextReceipt (history_of b) r → n.history.items ≡ b.history.items ++ Passed r ∷ [] → b.waiting.entries ≡ first ∷ n.waiting.entries → ((q : Id) → tree.get id_cmp n.standings q ≡ cond (is_at (id_cmp r.id) q) (Some (Released r)) (tree.get id_cmp b.standings q)) → n.stamps ≡ b.stamps → vec_len n.history + tree.btree_map_len n.waiting ≤ vec_capacity n.history → IsBook n
+IsBook-passed b n r first kept next history waiting stands stamps room =
     let now : Passed r ∷ history_of b ≡ history_of n = sym (ap reverse history ∙ reverse-push b.history.items (Passed r)) in
     let waits : first ∷ n.waiting.entries ≡ waiting_of (history_of b) = sym waiting ∙ kept.waits in
     let is = head_is_least first n.waiting.entries r.stamp r.id (subst Ascends (sym waits) (Ascends-waiting_of (history_of b))) (subst (λ (w : List (ℕ × Id)). Contains w (r.stamp, r.id)) (sym waits) next.waits) (subst (λ (w : List (ℕ × Id)). All (λ (c : ℕ × Id). r.stamp ≤ c.0) w) (sym waits) next.least) in
@@ -89,15 +89,15 @@ popped old new None c there some taken =
 popped old new (Some p) c there some taken = (p, taken)
 
 -- ---- what a look-up says of the history
-pub has_id-looked_up : (b : Inside) (now : List Entry) (id : Id) (result answer : Bool) → IsKept b → history_of b ≡ now → result ≡ is_some (tree.get id_cmp b.standings id) → result ≡ answer → has_id now id ≡ answer
+pub has_id-looked_up : (b : Inside) (now : List Entry) (id : Id) (result answer : Bool) → IsBook b → history_of b ≡ now → result ≡ is_some (tree.get id_cmp b.standings id) → result ≡ answer → has_id now id ≡ answer
 has_id-looked_up b now id result answer kept is looked e =
     ap (λ h. has_id h id) (sym is) ∙ sym (is_some-standing_of (history_of b) kept.legal id) ∙ ap is_some (sym (kept.stands id)) ∙ sym looked ∙ e
 
-pub has_stamp-looked_up : (b : Inside) (now : List Entry) (stamp : ℕ) (result answer : Bool) → IsKept b → history_of b ≡ now → result ≡ sorted.contains nat_cmp b.stamps stamp → result ≡ answer → has_stamp now stamp ≡ answer
+pub has_stamp-looked_up : (b : Inside) (now : List Entry) (stamp : ℕ) (result answer : Bool) → IsBook b → history_of b ≡ now → result ≡ sorted.contains nat_cmp b.stamps stamp → result ≡ answer → has_stamp now stamp ≡ answer
 has_stamp-looked_up b now stamp result answer kept is looked e =
     ap (λ h. has_stamp h stamp) (sym is) ∙ sym (kept.stamps stamp) ∙ sym looked ∙ e
 
-pub receipt_of-looked_up : (b : Inside) (now : List Entry) (id : Id) (found : Option Standing) → IsKept b → history_of b ≡ now → found ≡ tree.get id_cmp b.standings id → receipt_in found ≡ receipt_of now id
+pub receipt_of-looked_up : (b : Inside) (now : List Entry) (id : Id) (found : Option Standing) → IsBook b → history_of b ≡ now → found ≡ tree.get id_cmp b.standings id → receipt_in found ≡ receipt_of now id
 receipt_of-looked_up b now id found kept is looked =
     ap receipt_in (looked ∙ kept.stands id) ∙ sym (receipt_of-standing_of (history_of b) kept.legal id) ∙ ap (λ h. receipt_of h id) is
 

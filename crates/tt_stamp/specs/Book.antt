@@ -23,7 +23,7 @@ abbrev pub history_of : Inside → List Entry
 history_of b = reverse b.history.items
 
 -- the history is legal, what is kept beside it is what it leaves, and there is room for the receipts of all that wait
-pub record IsKept (b : Inside) : Type 0 where
+pub record IsBook (b : Inside) : Type 0 where
   pub legal : IsLegalHistory (history_of b)
   pub waits : b.waiting.entries ≡ waiting_of (history_of b)
   pub stands : (id : Id) → tree.get id_cmp b.standings id ≡ standing_of (history_of b) id

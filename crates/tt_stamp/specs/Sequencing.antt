@@ -89,6 +89,7 @@ TellsTry step before found after =
 abbrev pub dealt_left : View → View
 dealt_left v = view_of v.seats (drop 1 v.numbers) v.first.seen
 
+-- the new seat has that number alone, and knows what the seat has seen
 abbrev pub dealt_right : View → View
 dealt_right v = view_of v.seats (take 1 v.numbers) v.first.seen
 

@@ -4,6 +4,10 @@ use Rattle.atomic_table.specs.Seated.{TableId}
 use Rattle.tt_stamp.specs.Stamp.{IsLeastStamp, IsTooFar}
 use Rattle.tt_stamp.specs.declared.stampings.Stamping.{Stamping}
 
+-- the most seats of a sequencer
+abbrev pub max_seats : ℕ
+max_seats = 32
+
 -- the stamps alone
 abbrev pub stamps_of : List Stamping → List ℕ
 stamps_of run = map (λ entry. entry.stamp) run

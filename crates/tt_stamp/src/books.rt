@@ -36,11 +36,11 @@ impl Model for Book {
 
     ghost Value = { List Entry };
 
-    ghost use Rattle.tt_stamp.specs.Book.{history_of, IsKept};
+    ghost use Rattle.tt_stamp.specs.Book.{history_of, IsBook};
 
     ghost view = { history_of };
 
-    ghost invariant = { IsKept };
+    ghost invariant = { IsBook };
 }
 
 impl Book {
@@ -110,7 +110,8 @@ impl Book {
     pub fn release(&mut self, reading: &Reading) -> usize
         ensures receipts { self.new ≡ with_receipts (release_of (waiting_of self.old) reading.now.lo) self.old }
         ensures count { result ≡ length (release_of (waiting_of self.old) reading.now.lo) }
-        ensures exactly { IsRelease (waiting_of self.old) reading.now.lo (release_of (waiting_of self.old) reading.now.lo) }
+        ensures exactly { (receipts : List Receipt) × IsRelease (waiting_of self.old) reading.now.lo receipts
+            × (self.new ≡ with_receipts receipts self.old) × (result ≡ length receipts) }
     {
         let earliest = reading.earliest();
         let before = self.waiting();
@@ -118,6 +119,13 @@ impl Book {
             self.pass(receipt);
         }
         before - self.waiting()
+    }
+
+    /// How many commits a release with this reading lets go.
+    pub fn releasable(&self, reading: &Reading) -> usize
+        ensures value { result ≡ length (release_of (waiting_of self.now) reading.now.lo) }
+    {
+        self.waiting.range(..reading.earliest()).count()
     }
 
     // The receipt of the waiting commit with the least stamp, if that stamp is below the earliest.

@@ -13,7 +13,7 @@
 //! by a reading that was taken before the call.
 //!
 //! The modules: `rows` for one thread, `sequencers` for several (`rule` has what the shared word is kept by, `stampings`
-//! what seats know), `books` with `commits`, `steps`, and `faults`.
+//! what seats know, `asks` what a try asks), `books` with `commits`, `steps`, and `faults`.
 #![tactic(auto)]
 
 mod asks;

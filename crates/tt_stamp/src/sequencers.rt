@@ -4,7 +4,7 @@ ghost use Rattle.std.specs.Prelude.{◌≡◌, ℕ, ◌<◌, ◌≤◌, ◌↔�
 ghost use Rattle.std.specs.List.{range_with_len};
 ghost use Rattle.tt_span.specs.Time.{max_time};
 ghost use Rattle.tt_stamp.specs.Stamp.{IsTooFar, HasNoStamp, least_above};
-ghost use Rattle.tt_stamp.specs.Stamping.{IsLegalRun, Looks, Gives, Unites, new_seat, stamps_of, last_of, is_in, entries_of};
+ghost use Rattle.tt_stamp.specs.Stamping.{IsLegalRun, Looks, Gives, Unites, new_seat, stamps_of, last_of, is_in, entries_of, max_seats};
 ghost use Rattle.tt_stamp.specs.Sequencing.{met};
 ghost use Rattle.tt_stamp.specs.declared.stampings.Stamping.{Stamping};
 
@@ -43,8 +43,9 @@ impl Model for Sequencer {
     ghost invariant = { λ s. s.table.shared.table_id.words ≡ 1 };
 }
 
-/// What a thread draws stamps with. It has no bytes. Contracts see what it knows: its numbers, the stamps that it has
-/// seen, and its own among them, newest first.
+/// What a thread draws stamps with. It has no bytes. Contracts see its sequencer, how many seats that has, and what the
+/// seat knows: its numbers, the stamps that it has seen, and its own among them, newest first. What it has seen is legal
+/// at all times, after a refusal too.
 #[derive(Drop)]
 pub struct Seat {
     token: Token<Ask, View>,
@@ -62,12 +63,22 @@ impl Model for Seat {
     ghost invariant = { λ s. IsAtRest s.token.me };
 }
 
+impl Seat {
+    // Whatever call came last, what a seat has seen is legal, and has just its own entries under its numbers.
+    pub(crate) fn laws(&self)
+        ensures legal { IsLegalRun self.now.seats self.now.seen }
+        ensures mine { entries_of self.now.numbers self.now.seen ≡ self.now.own }
+    {
+        let _ = &self.token;
+    }
+}
+
 impl Sequencer {
     /// Opens a sequencer that has given no stamp, with its seats, which have one number each, from 0 on.
     ///
     /// Refuses, in this order: 904 `Seats` where there are to be none, or more than [`MAX_SEATS`], 1 `Memory`.
     pub fn open(alloc: Global, seats: usize) -> Result<(Sequencer, Vec<Seat>), StampFault>
-        ensures seats { IsErrOf result StampFault.Seats ↔ ((seats ≡ 0) ⊎ (32 < seats)) }
+        ensures seats { IsErrOf result StampFault.Seats ↔ ((seats ≡ 0) ⊎ (max_seats < seats)) }
         ensures faults { IfErr result (λ e. (e ≡ StampFault.Seats) ⊎ (e ≡ StampFault.Memory)) }
         ensures opened { IfOk result (λ r. r.1.items ≡ map (new_seat r.0 seats) (range_with_len 0 seats)) }
         ensures of_it { IfOk result (λ r. All (λ seat. seat.table ≡ r.0) r.1.items) }
@@ -109,9 +120,12 @@ impl Sequencer {
         ensures used_up { IsErrOf result StampFault.UsedUp →
             Looks seat.old seat.new × HasNoStamp (stamps_of seat.new.seen) reading.now.hi floor }
         ensures faults { IfErr result (λ e. (e ≡ StampFault.FloorTooFar) ⊎ (e ≡ StampFault.UsedUp)) }
+        ensures legal { IsLegalRun seat.new.seats seat.new.seen }
+        ensures mine { entries_of seat.new.numbers seat.new.seen ≡ seat.new.own }
     {
         let latest = reading.latest();
         if floor > latest + MAX_AHEAD {
+            seat.laws();
             return Err(StampFault::FloorTooFar);
         }
         let mut word = self.look(seat);
@@ -133,6 +147,8 @@ impl Sequencer {
         requires { seat.old.table ≡ self.now }
         ensures looks { Looks seat.old seat.new }
         ensures value { result ≡ last_of seat.new.seen }
+        ensures legal { IsLegalRun seat.new.seats seat.new.seen }
+        ensures mine { entries_of seat.new.numbers seat.new.seen ≡ seat.new.own }
     {
         self.look(seat).checked_sub(1)
     }
@@ -142,7 +158,7 @@ impl Sequencer {
     pub fn join(&self, first: Seat, second: Seat) -> Seat
         requires first { first.table ≡ self.now }
         requires second { second.table ≡ self.now }
-        ensures { Unites first second result }
+        ensures unites { Unites first second result }
     {
         let Seat { mut token } = first;
         let Seat { token: other } = second;
@@ -189,6 +205,6 @@ impl Sequencer {
 
 /// Once all numbers are joined in one seat, what it has seen are its own stamps alone.
 pub fn seat_laws()
-    ensures { (seats : ℕ) (numbers : List ℕ) (seen : List Stamping) → ((n : ℕ) → n < seats → is_in numbers n ≡ true) →
+    ensures alone { (seats : ℕ) (numbers : List ℕ) (seen : List Stamping) → ((n : ℕ) → n < seats → is_in numbers n ≡ true) →
         IsLegalRun seats seen → entries_of numbers seen ≡ seen }
 {}

@@ -2,11 +2,11 @@
 
 ghost use Rattle.std.specs.Prelude.{◌≡◌, ◌≤◌, ◌↔◌, ℕ, [], Some, None, IfOk, OnErr, IsErrOf, length};
 ghost use mathlib.Core.List.{IsPrefix};
+ghost use Rattle.tt_stream.specs.Counts.{HasFailed};
 ghost use Rattle.tt_span.specs.Interval.{Interval};
-ghost use Rattle.tt_publish.specs.Clock.{HasFailed};
 ghost use Rattle.tt_publish.specs.Known.{ReadsLast, MissesLast};
 ghost use Rattle.tt_stamp.specs.Stamp.{IsTooFar, HasNoStamp};
-ghost use Rattle.tt_stamp.specs.Stamping.{Looks, Gives, stamps_of};
+ghost use Rattle.tt_stamp.specs.Stamping.{IsLegalRun, Looks, Gives, stamps_of, entries_of};
 ghost use Rattle.tt_stamp.specs.History.{waiting_of, release_of, with_receipts};
 
 use crate::books::Book;
@@ -42,6 +42,8 @@ pub fn begin_step<R: Wait, C: Clock>(
         × HasNoStamp (stamps_of seat.new.seen) reading.hi floor }
     ensures no_seats { ¬ IsErrOf result (BeginFault.Stamp StampFault.Seats) }
     ensures no_memory { ¬ IsErrOf result (BeginFault.Stamp StampFault.Memory) }
+    ensures legal { IsLegalRun seat.new.seats seat.new.seen }
+    ensures mine { entries_of seat.new.numbers seat.new.seen ≡ seat.new.own }
 
     ensures unread_keeps { (fault : ReadFault) → IsErrOf result (BeginFault.Read fault) → seat.new ≡ seat.old }
     ensures nothing { IsErrOf result (BeginFault.Read ReadFault.Nothing) ↔ (watch.new.items ≡ []) }
@@ -54,6 +56,7 @@ pub fn begin_step<R: Wait, C: Clock>(
     ensures same { (watch.new.source ≡ watch.old.source) × (watch.new.drift ≡ watch.old.drift) }
     ensures seen { IsPrefix watch.old.items watch.new.items }
 {
+    seat.laws();
     let reading = watch.now(clock).map_err(BeginFault::Read)?;
     sequencer
         .stamp(rt, seat, &reading, floor)

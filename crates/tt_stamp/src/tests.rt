@@ -43,6 +43,31 @@ fn id(session: u32, number: u64) -> Id {
     Id { session, number }
 }
 
+fn receipt(id: Id, stamp: u64, earliest: u64) -> Receipt {
+    Receipt {
+        id,
+        stamp,
+        earliest,
+    }
+}
+
+#[test]
+fn commits_wait_until_their_stamps_have_passed(rt: HostRuntime) -> Result<(), Fail> {
+    let mut book = Book::new(rt.alloc());
+    assert_eq!(rt; book.queue(id(0, 1), 200), Ok(()));
+    assert_eq!(rt; book.queue(id(0, 1), 300), Err(BookFault::IdThere));
+    assert_eq!(rt; book.queue(id(0, 2), 200), Err(BookFault::StampThere));
+    assert_eq!(rt; book.queue(id(0, 2), 150), Ok(()));
+    assert_eq!(rt; book.release(&reading(200, 300)?), 1);
+    assert!(rt; book.is_released(id(0, 2)).is_some());
+    assert_eq!(rt; book.is_released(id(0, 1)), None);
+    assert_eq!(rt; book.release(&reading(201, 301)?), 1);
+    assert_eq!(rt; book.release(&reading(201, 301)?), 0);
+    let last = receipt(id(0, 1), 200, 201);
+    assert_eq!(rt; book.is_released(id(0, 1)), Some(last));
+    Ok(())
+}
+
 // Two commits, of which the second has the smaller stamp.
 fn two_waiting(alloc: Global) -> Result<Book, Fail> {
     let mut book = Book::new(alloc);
@@ -52,40 +77,26 @@ fn two_waiting(alloc: Global) -> Result<Book, Fail> {
 }
 
 #[test]
-fn commits_wait_until_their_stamps_have_passed(rt: HostRuntime) -> Result<(), Fail> {
+fn those_below_the_earliest_may_go(rt: HostRuntime) -> Result<(), Fail> {
     let mut book = two_waiting(rt.alloc())?;
-    assert_eq!(rt; book.release(&reading(200, 300)?), 1);
-    assert!(rt; book.is_released(id(0, 2)).is_some());
-    assert_eq!(rt; book.is_released(id(0, 1)), None);
-    assert_eq!(rt; book.release(&reading(201, 301)?), 1);
-    assert_eq!(rt; book.release(&reading(201, 301)?), 0);
-    assert_eq!(rt; book.waiting(), 0);
-    Ok(())
-}
-
-#[test]
-fn a_receipt_names_the_reading_that_released(rt: HostRuntime) -> Result<(), Fail> {
-    let mut book = two_waiting(rt.alloc())?;
-    book.release(&reading(201, 301)?);
-    let receipt = Receipt {
-        id: id(0, 1),
-        stamp: 200,
-        earliest: 201,
-    };
-    assert_eq!(rt; book.is_released(id(0, 1)), Some(receipt));
-    assert_eq!(rt; book.history().len(), 4);
-    assert_eq!(rt; book.history()[3], Entry::Passed(receipt));
+    assert_eq!(rt; book.releasable(&reading(150, 300)?), 0);
+    assert_eq!(rt; book.releasable(&reading(200, 300)?), 1);
+    assert_eq!(rt; book.releasable(&reading(201, 300)?), 2);
+    book.release(&reading(200, 300)?);
+    assert_eq!(rt; book.releasable(&reading(200, 300)?), 0);
+    assert_eq!(rt; book.waiting(), 1);
     Ok(())
 }
 
 #[test]
 fn ids_and_stamps_are_taken_for_good(rt: HostRuntime) -> Result<(), Fail> {
     let mut book = two_waiting(rt.alloc())?;
-    assert_eq!(rt; book.queue(id(0, 1), 300), Err(BookFault::IdThere));
-    assert_eq!(rt; book.queue(id(0, 3), 200), Err(BookFault::StampThere));
     book.release(&reading(201, 301)?);
     assert_eq!(rt; book.queue(id(0, 1), 300), Err(BookFault::IdThere));
     assert_eq!(rt; book.queue(id(0, 3), 200), Err(BookFault::StampThere));
+    assert_eq!(rt; book.history().len(), 4);
+    let last = receipt(id(0, 1), 200, 201);
+    assert_eq!(rt; book.history()[3], Entry::Passed(last));
     Ok(())
 }
 

@@ -2,4 +2,4 @@ use Rattle.tt_stamp.proofs.Runs.{entries_of-all}
 use Rattle.tt_stamp.proofs.sequencers.seat_laws.Goals as goal
 
 pub returns : goal.returns
-returns c = entries_of-all
+returns c = record { alone = entries_of-all }

@@ -3,7 +3,7 @@ use Rattle.tt_stamp.specs.History.{IsNextReceipt}
 use Rattle.tt_stamp.specs.Book.{history_of}
 use Rattle.tt_stamp.specs.declared.commits.Entry.{Entry}
 use Rattle.tt_stamp.proofs.Histories.{has_id-waits, is_some-standing_of}
-use Rattle.tt_stamp.proofs.Standings.{IsKept-passed, popped}
+use Rattle.tt_stamp.proofs.Standings.{IsBook-passed, popped}
 use Rattle.tt_stamp.proofs.books.Book.pass.Goals as goal
 
 pub mark_released-requires : goal.mark_released-requires
@@ -17,4 +17,4 @@ invariant_of-self c =
     let past = history_of c.self.inside in
     let next = subst (λ (h : List Entry). IsNextReceipt h c.args.receipt) (sym c.self.view_is) c.requires in
     let first = popped _ c.pop_first.new.self.entries c.pop_first.result _ (subst (λ w. Contains w (c.args.receipt.stamp, c.args.receipt.id)) (sym c.self.invariant.waits) next.waits) (c.pop_first.ensures.variant.1) c.pop_first.ensures.removal in
-    IsKept-passed c.self.inside _ c.args.receipt (first.0) c.self.invariant next c.push_reserved.ensures.items (first.1) c.mark_released.ensures refl (omega (arith, c.push_reserved.ensures.len, c.push_reserved.ensures.capacity, c.self.invariant.room, ap length (first.1)))
+    IsBook-passed c.self.inside _ c.args.receipt (first.0) c.self.invariant next c.push_reserved.ensures.items (first.1) c.mark_released.ensures refl (omega (arith, c.push_reserved.ensures.len, c.push_reserved.ensures.capacity, c.self.invariant.room, ap length (first.1)))

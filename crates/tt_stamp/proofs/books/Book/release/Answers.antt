@@ -30,4 +30,9 @@ returns-clause-count c =
     omega (arith, c.loop-receipt.invariant.counted, ap length (empty_from_none _ (sym c.in_default.ensures.first)), c.waiting.ensures.value, c.waiting-before.ensures.value, same)
 
 pub returns-clause-exactly : goal.returns-clause-exactly
-returns-clause-exactly c = IsRelease-release_of c.args.self.now c.args.reading.now.lo
+returns-clause-exactly c = (
+  _,
+  IsRelease-release_of c.args.self.now c.args.reading.now.lo,
+  returns-clause-receipts c,
+  returns-clause-count c,
+)

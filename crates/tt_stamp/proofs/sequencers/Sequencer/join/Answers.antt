@@ -27,5 +27,8 @@ returns c =
     let new = c.load.new.seat in
     let looked = subst (λ (v : View). HasLooked v c.load.result new.me.0) (ap (λ (m : Me Ask View). m.0) c.meet.ensures.both) (c.load.ensures.2.0) in
     let united = Unites-from_look first.table_id second.table_id new.table_id first.me.0 second.me.0 new.me.0 c.load.result (c.load.ensures.0 ∙ c.meet.ensures.table) c.first.invariant.one c.second.invariant.one c.first.invariant.opened looked in
-    subst (λ (s : SeatState). Unites s c.args.second (state_of new.table_id new.me.0)) c.first.view_is
-    (subst (λ (s : SeatState). Unites (state_of first.table_id first.me.0) s (state_of new.table_id new.me.0)) c.second.view_is united)
+    record {
+      unites =
+          subst (λ (s : SeatState). Unites s c.args.second (state_of new.table_id new.me.0)) c.first.view_is
+          (subst (λ (s : SeatState). Unites (state_of first.table_id first.me.0) s (state_of new.table_id new.me.0)) c.second.view_is united);
+    }
