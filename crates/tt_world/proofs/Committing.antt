@@ -88,12 +88,14 @@ stamp_least laws configs past at m w s h =
     let event : Event = record { at = at; action = does.Stamp m w } in
     let made = stamping_made (stamping_of config before m w) s (stamped_not_bad (first_bad configs before event) (reply_to configs before (does.Stamp m w)) s h) in
     let stamped = stamped_of (stamps_of config before m) (arrival_of before m w) (reading_since config before m w) s made in
+    let answer = subst (IsAnswer (stamps_of config before m) stamped.reading.hi stamped.arrival.floor) stamped.answer (laws (stamps_of config before m) stamped.reading.hi stamped.arrival.floor) in
     record {
       arrival = stamped.arrival;
       reading = stamped.reading;
       asked = stamped.asked;
       read_since = stamped.read_since;
-      least = (subst (IsAnswer (stamps_of config before m) stamped.reading.hi stamped.arrival.floor) stamped.answer (laws (stamps_of config before m) stamped.reading.hi stamped.arrival.floor)).1;
+      near = answer.0;
+      least = answer.1;
     }
 
 -- ---- releases

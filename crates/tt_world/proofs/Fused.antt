@@ -1,6 +1,6 @@
 -- What a daemon's fusion answers is what the machine's fusion is defined to be.
 use Rattle.std.proofs.Common.{◌≡◌, ℕ, ◌+◌, ◌-◌, ◌<◌, ◌≤◌, true, false, List, [], ◌∷◌, ◌++◌, map, length, append-nil, subst, Some, None, ap, refl, sym, ◌∙◌, inl, inr, arith}
-use Rattle.std.specs.Prelude.{nat_lt, Result, Ok, Err, IsOk, IfOk, IsErrOf, MatchResult}
+use Rattle.std.specs.Prelude.{nat_lt, Result, Ok, Err, IsOk, IfOk, OnErr, IsErrOf, MatchResult}
 use Rattle.std.proofs.lemmas.List.{map-append}
 use Rattle.std.proofs.lemmas.List.Elements.{All-append, All-cons}
 use Rattle.std.proofs.lemmas.Bool.{lt-ltb, le-ltb}
@@ -16,6 +16,7 @@ use Rattle.tt_daemon.specs.declared.faults.DaemonFault.{DaemonFault}
 use Rattle.tt_daemon.specs.declared.faults.DaemonFault.TheVariants.{ClockBack, Unknown, NoPoint}
 use Rattle.tt_world.specs.declared.events.Reply.{Reply}
 use Rattle.tt_world.specs.declared.events.Reply.TheVariants.{Published, Refused}
+use Rattle.tt_world.specs.declared.faults.WorldFault.{WorldFault}
 use Rattle.tt_world.specs.declared.publications.Publication.{Publication}
 use Rattle.tt_world.specs.declared.publications.Shown.{Shown}
 use Rattle.tt_world.specs.State.{MachineState}
@@ -77,6 +78,15 @@ pub fusion-made : (machine : MachineState) (clock : ℕ) (r : Result Fusion Daem
     fusion.clock ≡ clock → span ≡ fusion.span → fusion_on machine clock ≡ Ok (record { clock = clock; span = span })
 fusion-made machine clock r fusion span answered made clock_is span_is =
     answered ∙ ap publication_of made ∙ ap (λ (k : ℕ). Ok (record { clock = k; span = fusion.span })) clock_is ∙ ap (λ (i : Interval). Ok (record { clock = clock; span = i })) (sym span_is)
+
+is_made : (r : Result Publication ℕ) (publication : Publication) → r ≡ Ok publication → IsOk r
+is_made r publication e = rw e refl
+
+-- memory was wanting for a fusion that was made
+pub wants-made : (machine : MachineState) (clock : ℕ) (r : Result Fusion DaemonFault) (fusion : Fusion) (answer : Result Reply WorldFault) → Answers machine clock r → r ≡ Ok fusion → OnErr answer (IsOk (fusion_on machine clock))
+wants-made machine clock r fusion (Ok reply) answers made = tt
+wants-made machine clock r fusion (Err fault) answers made =
+    is_made (fusion_on machine clock) (record { clock = fusion.clock; span = fusion.span }) (fusion-answered machine clock r answers ∙ ap publication_of made)
 
 -- what the machine's fusion is, where the daemon's was refused
 pub fusion-refused : (machine : MachineState) (clock : ℕ) (r : Result Fusion DaemonFault) (fault : DaemonFault) (number : ℕ) → fusion_on machine clock ≡ publication_of r → r ≡ Err fault →

@@ -20,7 +20,7 @@ pub record IsGood (configs : List Configuration) (past : List Event) (event : Ev
   pub thing_there : lacks_its_thing configs past event.action ≡ false
 
 -- a reason that does not apply, and the reasons after it
-passed : (b : Bool) (number : ℕ) (rest : Option ℕ) → cond b (Some number) rest ≡ None → (b ≡ false) × (rest ≡ None)
+pub passed : (b : Bool) (number : ℕ) (rest : Option ℕ) → cond b (Some number) rest ≡ None → (b ≡ false) × (rest ≡ None)
 passed true number rest h = absurd cc
 passed false number rest h = (refl, h)
 

@@ -35,3 +35,4 @@ pub mod Committing
 pub mod Committed
 pub mod GoesOn
 pub mod OnRun
+pub mod Legal

@@ -1,15 +1,12 @@
 -- Receipts among the entries of a book.
 use Rattle.std.proofs.Common.{◌≡◌, ℕ, ◌+◌, ◌-◌, ◌<◌, ◌≤◌, List, [], ◌∷◌, ◌++◌, length, length-append, take, drop, map, get_or, ap, sym, ◌∙◌, arith}
-use Rattle.std.specs.Prelude.{filter, nat_lt}
 use Rattle.std.proofs.Math.ListN.{length-map}
 use Rattle.std.proofs.Math.Seq.{drop-append_seam}
 use Rattle.std.proofs.lemmas.List.{take_more, take_all, get_or-map}
-use Rattle.std.proofs.lemmas.List.Sums.{length-filter, count_by-le-length}
 use Rattle.tt_stamp.specs.declared.commits.Id.{Id}
 use Rattle.tt_stamp.specs.declared.commits.Receipt.{Receipt}
 use Rattle.tt_stamp.specs.declared.commits.Entry.{Entry}
 use Rattle.tt_stamp.specs.declared.commits.Entry.TheVariants.{Queued, Passed}
-use Rattle.tt_stamp.specs.History.{release_of}
 
 -- the entries of receipts
 abbrev pub entries_of : List Receipt → List Entry
@@ -34,16 +31,6 @@ no-other entries receipts i d id stamp receipt inside all here =
     let within : i < length receipts = omega (arith, ap (λ (es : List Entry). length es) all, length-map receipts (λ (r : Receipt). Passed r)) in
     let same : Passed (get_or receipts i receipt) ≡ Queued id stamp = sym (passed-at receipts i receipt d within) ∙ ap (λ (es : List Entry). get_or es i d) (sym all) ∙ here in
     cc
-
--- no more commits are released than wait
-pub release-fits : (waiting : List (ℕ × Id)) (earliest : ℕ) → length (release_of waiting earliest) ≤ length waiting
-release-fits waiting earliest =
-    omega (
-      arith,
-      length-map {B = Receipt} (filter (λ (commit : ℕ × Id). nat_lt commit.0 earliest) waiting) (λ (commit : ℕ × Id). record { id = commit.1; stamp = commit.0; earliest = earliest }),
-      length-filter (λ (commit : ℕ × Id). nat_lt commit.0 earliest) waiting,
-      count_by-le-length (λ (commit : ℕ × Id). nat_lt commit.0 earliest) waiting,
-    )
 
 -- the last entries of a history that ends with receipts
 pub last-entries : (history before : List Entry) (receipts : List Receipt) (count : ℕ) → history ≡ before ++ entries_of receipts → count ≡ length receipts →

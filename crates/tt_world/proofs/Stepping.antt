@@ -28,7 +28,7 @@ use Rattle.tt_world.specs.Commits.{arrival_of, reading_of, reading_since, stamp_
 use Rattle.tt_world.specs.Bad.{has_machine, names_unknown, is_request, can_be_delivered, lacks_packet, goes_back, is_unreadable, lacks_publication, is_arrived, is_stamped, lacks_its_thing}
 use Rattle.tt_world.specs.Reply.{reply_to_packet, reply_to}
 use Rattle.tt_world.specs.State.{MachineState, WorldState, source_of, worker_of, machine_of, polled_clock_of, state_of}
-use Rattle.tt_world.specs.Step.{Outcome, Turn, refused, after_turn, after_poll, send_on, after_put, answer_on, forge_on, deliver_to, deliver_on, spans_on, fuse_on, publish_turn, fusion_on, with_shown, new_worker, read_from, read_on, arrive_turn, arrive_on, stamp_with, stamp_on, queue_with, queue_on, release_with, release_on, acted}
+use Rattle.tt_world.specs.Step.{Outcome, Turn, HasRoom, refused, after_turn, after_poll, send_on, after_put, answer_on, forge_on, deliver_to, deliver_on, spans_on, fuse_on, publish_turn, fusion_on, with_shown, new_worker, read_from, read_on, arrive_turn, arrive_on, stamp_with, stamp_on, queue_with, queue_on, release_with, release_on, acted}
 use Rattle.tt_world.proofs.Ranges.{get_or-made, slice_get-made, slice_get-made_past, set-made, map-same}
 use Rattle.tt_world.proofs.Waiting.{happens}
 use Rattle.tt_world.proofs.Kept.{machine_of-answer, machine_of-forge}
@@ -157,11 +157,11 @@ module _ (configs : List Configuration) (past : List Event) where
 
   -- ---- a machine polls
 
-  module _ (few : length (packets_of past) < 2 ^ 64 - 1) (lasts : Lasts configs past) where
-    after_poll-poll_of : (at m s clock : ℕ) → s < (config_at configs m).sources → (ltb clock (clock_of past m) || ltb max_time clock) ≡ false
+  module _ (lasts : Lasts configs past) where
+    after_poll-poll_of : length (packets_of past) < 2 ^ 64 - 1 → (at m s clock : ℕ) → s < (config_at configs m).sources → (ltb clock (clock_of past m) || ltb max_time clock) ≡ false
         → after_poll (state_of configs past) at m s clock (machine_at m) (poll_of (machine_at m).table s clock)
         ≡ record { world = state_of configs (happens at (Send m s clock) ∷ past); reply = replies.Sent (length (packets_of past)) }
-    after_poll-poll_of at m s clock there fresh =
+    after_poll-poll_of few at m s clock there fresh =
         let config = config_at configs m in
         let count : length (machine_at m).table.sources ≡ config.sources = length-map-range_with_len (λ i. source_of past m i) 0 config.sources in
         let unused : eqb (sends_of past m) (2 ^ 64 - 1) ≡ false = ne_eqb _ _ (λ same. omega (arith, sends_of-le-packets past m)) in
@@ -169,14 +169,18 @@ module _ (configs : List Configuration) (past : List Event) where
         (poll_of-polled (machine_at m).table s clock (lt-ltb s _ (omega arith)) (in_time_for_table clock (clock_of past m) (polled_clock_of past m) (lasts.rises m) fresh) unused)
         ∙ after_turn-state_of at m (Send m s clock) _ (with_table-polled config past at m s clock there) (λ j other. machine_of-send_other (config_at configs j) past at m s clock j other) refl
 
-    acted-send : (at m s clock : ℕ) → acted (state_of configs past) at (Send m s clock) ≡ as_judged at (Send m s clock) (bad_action (Send m s clock))
-    acted-send at m s clock =
+    -- a poll passes every test
+    good_send : (m s clock : ℕ) → m < length configs → not (ltb s (config_at configs m).sources) ≡ false → (ltb clock (clock_of past m) || ltb max_time clock) ≡ false → bad_action (Send m s clock) ≡ None
+    good_send m s clock there named fresh = let t : ltb m (length configs) ≡ true = lt-ltb m (length configs) there in rw (t, named, fresh) refl
+
+    acted-send : (at m s clock : ℕ) → (bad_action (Send m s clock) ≡ None → length (packets_of past) < 2 ^ 64 - 1) → acted (state_of configs past) at (Send m s clock) ≡ as_judged at (Send m s clock) (bad_action (Send m s clock))
+    acted-send at m s clock few =
         let back : Bool = ltb clock (clock_of past m) || ltb max_time clock in
         at_machine m (λ o. send_on (state_of configs past) at m s clock o)
         (λ b. as_judged at (Send m s clock) (cond (not (b && ltb s (config_at configs m).sources)) (Some 1206) (cond back (Some 1202) None)))
         (λ there. test at (Send m s clock) 1206 (not (ltb s (config_at configs m).sources)) _ (cond back (Some 1202) None)
         (λ named. test at (Send m s clock) 1202 back _ None
-        (λ fresh. after_poll-poll_of at m s clock (ltb-true s _ (not-false _ named)) fresh)))
+        (λ fresh. after_poll-poll_of (few (good_send m s clock there named fresh)) at m s clock (ltb-true s _ (not-false _ named)) fresh)))
         refl
 
     -- ---- a packet reaches its machine
@@ -383,15 +387,15 @@ module _ (configs : List Configuration) (past : List Event) where
 
   -- ---- any of them
 
-  pub acted-state_of : length (packets_of past) < 2 ^ 64 - 1 → Lasts configs past → (at : ℕ) (action : Action)
+  pub acted-state_of : Lasts configs past → (at : ℕ) (action : Action) → (bad_action action ≡ None → HasRoom (state_of configs past) action)
       → acted (state_of configs past) at action ≡ as_judged at action (bad_action action)
-  acted-state_of few lasts at (Send m s clock) = acted-send few lasts at m s clock
-  acted-state_of few lasts at (Answer k span) = acted-answer at k span
-  acted-state_of few lasts at (Forge m s payload) = acted-forge at m s payload
-  acted-state_of few lasts at (Deliver k clock) = acted-deliver few lasts at k clock
-  acted-state_of few lasts at (Fuse m clock) = acted-fuse at m clock
-  acted-state_of few lasts at (Read m w clock k) = acted-read at m w clock k
-  acted-state_of few lasts at (Arrive m w id floor) = acted-arrive at m w id floor
-  acted-state_of few lasts at (Stamp m w) = acted-stamp at m w
-  acted-state_of few lasts at (Queue m w) = acted-queue at m w
-  acted-state_of few lasts at (Release m w) = acted-release at m w
+  acted-state_of lasts at (Send m s clock) room = acted-send lasts at m s clock room
+  acted-state_of lasts at (Answer k span) room = acted-answer at k span
+  acted-state_of lasts at (Forge m s payload) room = acted-forge at m s payload
+  acted-state_of lasts at (Deliver k clock) room = acted-deliver lasts at k clock
+  acted-state_of lasts at (Fuse m clock) room = acted-fuse at m clock
+  acted-state_of lasts at (Read m w clock k) room = acted-read at m w clock k
+  acted-state_of lasts at (Arrive m w id floor) room = acted-arrive at m w id floor
+  acted-state_of lasts at (Stamp m w) room = acted-stamp at m w
+  acted-state_of lasts at (Queue m w) room = acted-queue at m w
+  acted-state_of lasts at (Release m w) room = acted-release at m w

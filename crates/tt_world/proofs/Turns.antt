@@ -1,19 +1,26 @@
 -- What a call on a machine that is there makes of a run.
-use Rattle.std.proofs.Common.{◌≡◌, ℕ, ◌+◌, ◌<◌, ◌≤◌, Bool, true, false, cond, List, [], ◌∷◌, ◌++◌, length, get_or, slice_get, slice_set, Option, Some, None, ap, subst, sym, ◌∙◌, append-nil, refl}
+use Rattle.std.proofs.Common.{◌≡◌, ℕ, ◌+◌, ◌-◌, ◌<◌, ◌≤◌, Bool, true, false, cond, List, [], ◌∷◌, ◌++◌, length, get_or, slice_get, slice_set, Option, Some, None, ap, subst, sym, ◌∙◌, append-nil, refl, arith}
 use Rattle.std.proofs.lemmas.Option.{slice_get_read, slice_get_within, same_Some}
 use Rattle.std.proofs.lemmas.Bool.{lt-ltb, le-ltb}
-use Rattle.std.proofs.lemmas.List.{get_or_default}
-use Rattle.tt_source.specs.Table.{TableState, poll_of, take_of}
+use Rattle.std.proofs.lemmas.List.{get_or_default, set-get_or}
+use Rattle.tt_source.specs.Table.{TableState, poll_of, take_of, known_of}
 use Rattle.tt_source.specs.declared.faults.SourceFault.{SourceFault}
 use Rattle.std.specs.Prelude.{nat_lt, Result, Ok, Err}
 use Rattle.tt_source.specs.Fault.{number_of}
 use Rattle.tt_world.specs.declared.events.Reply.{Reply}
 use Rattle.tt_world.specs.declared.events.Reply.TheVariants.{Sent, Refused}
+use Rattle.tt_world.specs.declared.faults.WorldFault.{WorldFault}
+use Rattle.tt_world.specs.declared.faults.WorldFault.TheVariants.{Memory}
 use Rattle.tt_world.specs.declared.packets.Packet.{Packet}
 use Rattle.tt_world.specs.declared.packets.Packet.TheVariants.{Asked}
 use Rattle.tt_world.specs.declared.publications.Publication.{Publication}
 use Rattle.tt_span.specs.Interval.{Interval}
+use Rattle.tt_fuse.specs.Depth.{slow_fusion}
 use Rattle.tt_stamp.specs.declared.commits.Id.{Id}
+use Rattle.tt_stamp.specs.declared.faults.BookFault.{BookFault}
+use Rattle.tt_stamp.specs.declared.faults.BookFault.TheVariants.{Full, IdThere, StampThere}
+use Rattle.tt_stamp.specs.declared.faults.BookFault.TheVariants as book
+use Rattle.tt_stamp.specs.Fault.{book_number_of}
 use Rattle.tt_stamp.specs.Stamp.{stamp_of}
 use Rattle.tt_stamp.specs.History.{first_queue_fault}
 use Rattle.tt_world.specs.declared.workers.Arrival.{Arrival}
@@ -21,9 +28,9 @@ use Rattle.tt_world.specs.declared.workers.Task.{Task}
 use Rattle.tt_world.specs.declared.workers.Task.TheVariants as tasks
 use Rattle.tt_world.specs.declared.workers.Worker.{Worker}
 use Rattle.tt_world.specs.Packet.{machine_of_packet, source_of_packet, bytes_of, is_asked}
-use Rattle.tt_world.specs.Publications.{Showing, showing_of}
+use Rattle.tt_world.specs.Publications.{Showing, showing_of, published}
 use Rattle.tt_world.specs.State.{MachineState, WorldState}
-use Rattle.tt_world.specs.Step.{Outcome, Turn, refused, is_back_on, send_on, after_poll, with_table, fuse_on, after_turn, publish_turn, fusion_on, spans_on, read_on, read_from, read_turn, readable_on, worker_at, deliver_on, take_turn}
+use Rattle.tt_world.specs.Step.{Outcome, Turn, IsTaken, Does, refused, is_back_on, send_on, after_poll, with_table, fuse_on, after_turn, publish_turn, fusion_on, spans_on, read_on, read_from, read_turn, readable_on, worker_at, deliver_on, take_turn}
 use Rattle.tt_world.specs.Step.{IsWorker, arrive_on, arrive_turn, stamp_on, stamp_with, stamp_turn, given_in, queue_on, queue_with, queue_turn, release_on, release_with, release_turn}
 
 -- what is kept after a turn, by its parts
@@ -216,3 +223,52 @@ release_on-released world at m w p reading machine next reply found inside read 
     let t : nat_lt w (length machine.workers) ≡ true = lt-ltb w (length machine.workers) inside in
     rw (found, t) (ap (λ (o : Option Interval). release_with world at m machine o) read
     ∙ ap (λ (x : Turn). after_turn world at m x []) (sym turn) ∙ after_turn-nothing world at m p next reply same)
+
+-- ---- what is not bad
+
+-- a machine that is put back as it was found
+pub put_back : (machines : List MachineState) (p : ℕ) (found next : MachineState) → found ≡ get_or machines p found → next ≡ found → slice_set machines p next ≡ machines
+put_back machines p found next at same = ap (slice_set machines p) (same ∙ at) ∙ set-get_or machines p found
+
+-- want of memory, for an event that is not bad, leaves everything
+pub Does-memory : (outcome : Outcome) (old new : WorldState) (answer : Result Reply WorldFault) → answer ≡ Err Memory → new ≡ old → IsTaken outcome.reply → Does outcome old answer new
+Does-memory outcome old new answer wants same taken = subst (λ (r : Result Reply WorldFault). Does outcome old r new) (sym wants) (same, taken)
+
+-- the reply of a fusion that was made, or refused, is not to a bad event
+IsTaken-publish_turn : (machine : MachineState) (clock : ℕ) (few : Bool) (fused : Option Interval) → IsTaken (publish_turn machine clock (cond few (Err 701) (published clock fused))).reply
+IsTaken-publish_turn machine clock true fused number e = let same : 701 ≡ number = cc in omega (arith, same)
+IsTaken-publish_turn machine clock false None number e = let same : 504 ≡ number = cc in omega (arith, same)
+IsTaken-publish_turn machine clock false (Some span) number e = absurd cc
+
+pub IsTaken-fuse_on : (world : WorldState) (at m clock : ℕ) (machine : MachineState) → slice_get world.machines m ≡ Some machine → is_back_on machine clock ≡ false →
+    IsTaken (fuse_on world at m clock (slice_get world.machines m)).reply
+IsTaken-fuse_on world at m clock machine found forward =
+    rw (found, forward) (IsTaken-publish_turn machine clock (nat_lt (known_of machine.table) (machine.config.sources - machine.config.faulty)) (slow_fusion (spans_on machine clock) machine.config.faulty))
+
+-- a number of a lower crate
+few_number : (fault : BookFault) → book_number_of fault < 1201
+few_number Full = omega arith
+few_number IdThere = omega arith
+few_number StampThere = omega arith
+few_number book.Memory = omega arith
+
+-- the reply of a commit that was queued, or refused, is not to a bad event
+IsTaken-queue_turn : (machine : MachineState) (w : ℕ) (id : Id) (stamp : ℕ) (o : Option BookFault) → IsTaken (queue_turn machine w id stamp o).reply
+IsTaken-queue_turn machine w id stamp None number e = absurd cc
+IsTaken-queue_turn machine w id stamp (Some fault) number e =
+    let same : book_number_of fault ≡ number = cc in
+    omega (arith, few_number fault, same)
+
+pub IsTaken-queue_on : (world : WorldState) (at m w : ℕ) (id : Id) (stamp : ℕ) (machine : MachineState) → slice_get world.machines m ≡ Some machine → w < length machine.workers →
+    (worker_at machine w).task ≡ Some (tasks.Stamped id stamp) → IsTaken (queue_on world at m w (slice_get world.machines m)).reply
+IsTaken-queue_on world at m w id stamp machine found inside task =
+    let t : nat_lt w (length machine.workers) ≡ true = lt-ltb w (length machine.workers) inside in
+    rw (found, t) (subst (λ (o : Option Task). IsTaken (queue_with world at m w machine o).reply) (sym task)
+    (IsTaken-queue_turn machine w id stamp (first_queue_fault machine.book id stamp)))
+
+-- the reply of a release is not to a bad event
+pub IsTaken-release_on : (world : WorldState) (at m w : ℕ) (reading : Interval) (machine : MachineState) → slice_get world.machines m ≡ Some machine → w < length machine.workers →
+    (worker_at machine w).reading ≡ Some reading → IsTaken (release_on world at m w (slice_get world.machines m)).reply
+IsTaken-release_on world at m w reading machine found inside read =
+    let t : nat_lt w (length machine.workers) ≡ true = lt-ltb w (length machine.workers) inside in
+    rw (found, t) (subst (λ (o : Option Interval). IsTaken (release_with world at m machine o).reply) (sym read) (λ number e. absurd cc))

@@ -13,7 +13,7 @@ use Rattle.tt_world.specs.declared.publications.Shown.{Shown}
 use Rattle.tt_world.specs.declared.workers.Arrival.{Arrival}
 use Rattle.tt_stamp.specs.declared.commits.Id.{Id}
 use Rattle.tt_stamp.specs.declared.commits.Receipt.{Receipt}
-use Rattle.tt_stamp.specs.Stamp.{IsLeastStamp}
+use Rattle.tt_stamp.specs.Stamp.{IsTooFar, IsLeastStamp}
 use Rattle.tt_daemon.specs.Config.{Configuration, IsConfiguration}
 use Rattle.tt_world.specs.Config.{config_at}
 use Rattle.tt_world.specs.Publications.{spans_of, known_of}
@@ -72,12 +72,13 @@ NoFusionRefused configs events replies =
     MeetsAssumptions configs (record { at = at; action = does.Fuse m clock } ∷ reverse before) →
     (number : ℕ) × (span : Interval) × (slice_get replies (length before) ≡ Some (Published number span))
 
--- a commit was asked for, its worker has read the time since, and the stamp is the least that may be given to it by that reading, after the stamps that the machine has given
+-- a commit was asked for, its worker has read the time since, the floor is not too far above that reading's latest, and the stamp is the least that may be given to it by that reading, after the stamps that the machine has given
 pub record IsLeastFor (config : Configuration) (past : List Event) (m w s : ℕ) : Type 0 where
   pub arrival : Arrival
   pub reading : Interval
   pub asked : arrival_of past m w ≡ Some arrival
   pub read_since : reading_since config past m w ≡ Some reading
+  pub near : ¬ IsTooFar reading.hi arrival.floor
   pub least : IsLeastStamp (stamps_of config past m) reading.hi arrival.floor s
 
 -- every stamp is the least that its rules allow, whatever the run

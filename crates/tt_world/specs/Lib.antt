@@ -10,6 +10,5 @@ pub mod Assumptions
 pub mod State
 pub mod Step
 pub mod Fault
-pub mod Machines
 pub mod Headline
 pub mod Trace

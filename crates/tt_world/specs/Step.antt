@@ -1,5 +1,5 @@
 -- What one event makes of what is kept, and the reply to it.
-use Rattle.std.specs.Prelude.{◌≡◌, ℕ, ◌+◌, ◌-◌, ◌<◌, ◌||◌, not, nat_lt, Bool, if◌then◌else◌, List, [], ◌∷◌, ◌++◌, map, length, slice_get, slice_set, slice_index_or, Option, Some, None, Result, Ok, Err}
+use Rattle.std.specs.Prelude.{◌≡◌, ℕ, ◌+◌, ◌-◌, ◌^◌, ◌<◌, ◌||◌, not, nat_lt, Bool, if◌then◌else◌, List, [], ◌∷◌, ◌++◌, map, length, slice_get, slice_set, slice_index_or, Option, Some, None, Result, Ok, Err}
 use Rattle.tt_span.specs.Time.{max_time}
 use Rattle.tt_span.specs.Interval.{Interval}
 use Rattle.tt_source.specs.Fault.{number_of}
@@ -69,6 +69,7 @@ after_poll world at m i clock machine (Ok table) =
 after_poll world at m i clock machine (Err fault) =
     after_turn world at m (record { machine = record machine { clock = clock }; reply = replies.Refused (number_of fault) }) []
 
+-- machine m, if it is there, polls source i, if it asks that; a clock that went back is refused
 abbrev pub send_on : WorldState → ℕ → ℕ → ℕ → ℕ → Option MachineState → Outcome
 send_on world at m i clock None = refused world 1206
 send_on world at m i clock (Some machine) =
@@ -86,6 +87,7 @@ abbrev pub answer_on : WorldState → ℕ → List Packet → Outcome
 answer_on world at [] = refused world 1203
 answer_on world at (packet ∷ packets) = after_put world at (packet ∷ packets)
 
+-- bytes that source i made up are put on their way to machine m, if it is there and asks that source
 abbrev pub forge_on : WorldState → ℕ → ℕ → ℕ → List ℕ → Option MachineState → Outcome
 forge_on world at m i payload None = refused world 1206
 forge_on world at m i payload (Some machine) =
@@ -97,12 +99,14 @@ abbrev pub take_turn : MachineState → ℕ → Result TableState SourceFault �
 take_turn machine clock (Ok table) = record { machine = with_table machine clock table; reply = replies.Taken }
 take_turn machine clock (Err fault) = record { machine = record machine { clock = clock }; reply = replies.Refused (number_of fault) }
 
+-- a packet reaches its machine, if that is there; a clock that went back is refused
 abbrev pub deliver_to : WorldState → ℕ → ℕ → Packet → Option MachineState → Outcome
 deliver_to world at clock packet None = refused world 1203
 deliver_to world at clock packet (Some machine) =
     if is_back_on machine clock then refused world 1202
     else after_turn world at (machine_of_packet packet) (take_turn machine clock (take_of machine.table (source_of_packet packet) clock (bytes_of packet))) []
 
+-- a packet reaches its machine, if it was put and is no request
 abbrev pub deliver_on : WorldState → ℕ → ℕ → Option Packet → Outcome
 deliver_on world at clock None = refused world 1203
 deliver_on world at clock (Some packet) =
@@ -134,6 +138,7 @@ with_shown outcome showings = record {
   reply = outcome.reply;
 }
 
+-- machine m, if it is there, fuses and publishes, and that is shown; a clock that went back is refused
 abbrev pub fuse_on : WorldState → ℕ → ℕ → ℕ → Option MachineState → Outcome
 fuse_on world at m clock None = refused world 1206
 fuse_on world at m clock (Some machine) =
@@ -170,11 +175,13 @@ read_turn machine w clock k publication = record {
   reply = replies.Read (reading_at machine.config.drift publication clock);
 }
 
+-- worker w of machine m reads from publication k, if that is there
 abbrev pub read_from : WorldState → ℕ → ℕ → ℕ → ℕ → ℕ → MachineState → Option Publication → Outcome
 read_from world at m w clock k machine None = refused world 1204
 read_from world at m w clock k machine (Some publication) =
     after_turn world at m (read_turn machine w clock k publication) []
 
+-- worker w of machine m, if it is there, reads from publication k, if it can; a clock that went back is refused
 abbrev pub read_on : WorldState → ℕ → ℕ → ℕ → ℕ → ℕ → Option MachineState → Outcome
 read_on world at m w clock k None = refused world 1206
 read_on world at m w clock k (Some machine) =
@@ -194,6 +201,7 @@ arrive_turn machine w arrival = record {
   reply = replies.Arrived;
 }
 
+-- worker w of machine m, if it is there, is asked for a commit
 abbrev pub arrive_on : WorldState → ℕ → ℕ → ℕ → Arrival → Option MachineState → Outcome
 arrive_on world at m w arrival None = refused world 1206
 arrive_on world at m w arrival (Some machine) =
@@ -213,6 +221,7 @@ stamp_turn machine w id (Ok stamp) = record {
 }
 stamp_turn machine w id (Err fault) = record { machine = machine; reply = replies.Refused (stamp_number_of fault) }
 
+-- worker w of machine m stamps its task by a reading, if it has a task without a stamp, and such a reading
 abbrev pub stamp_with : WorldState → ℕ → ℕ → ℕ → MachineState → Option Task → Option Interval → Outcome
 stamp_with world at m w machine None reading = refused world 1205
 stamp_with world at m w machine (Some (tasks.Stamped id stamp)) reading = refused world 1205
@@ -220,6 +229,7 @@ stamp_with world at m w machine (Some (tasks.Arrived arrival)) None = refused wo
 stamp_with world at m w machine (Some (tasks.Arrived arrival)) (Some reading) =
     after_turn world at m (stamp_turn machine w arrival.id (stamp_of (given_in machine.row) reading.hi arrival.floor)) []
 
+-- worker w of machine m, if it is there, stamps its task by its last reading since the arrival
 abbrev pub stamp_on : WorldState → ℕ → ℕ → ℕ → Option MachineState → Outcome
 stamp_on world at m w None = refused world 1206
 stamp_on world at m w (Some machine) =
@@ -234,12 +244,14 @@ queue_turn machine w id stamp None = record {
 }
 queue_turn machine w id stamp (Some fault) = record { machine = machine; reply = replies.Refused (book_number_of fault) }
 
+-- worker w of machine m queues its task, if that has a stamp
 abbrev pub queue_with : WorldState → ℕ → ℕ → ℕ → MachineState → Option Task → Outcome
 queue_with world at m w machine None = refused world 1205
 queue_with world at m w machine (Some (tasks.Arrived arrival)) = refused world 1205
 queue_with world at m w machine (Some (tasks.Stamped id stamp)) =
     after_turn world at m (queue_turn machine w id stamp (first_queue_fault machine.book id stamp)) []
 
+-- worker w of machine m, if it is there, queues its task
 abbrev pub queue_on : WorldState → ℕ → ℕ → ℕ → Option MachineState → Outcome
 queue_on world at m w None = refused world 1206
 queue_on world at m w (Some machine) =
@@ -253,10 +265,12 @@ release_turn machine reading = record {
   reply = replies.Released (release_of (waiting_of machine.book) reading.lo);
 }
 
+-- machine m releases with a reading, if there is one
 abbrev pub release_with : WorldState → ℕ → ℕ → MachineState → Option Interval → Outcome
 release_with world at m machine None = refused world 1205
 release_with world at m machine (Some reading) = after_turn world at m (release_turn machine reading) []
 
+-- worker w of machine m, if it is there, releases with its last reading
 abbrev pub release_on : WorldState → ℕ → ℕ → ℕ → Option MachineState → Outcome
 release_on world at m w None = refused world 1206
 release_on world at m w (Some machine) =
@@ -282,9 +296,26 @@ stepped world event =
     if nat_lt event.at world.time || nat_lt max_time event.at then refused world 1201
     else acted world event.at event.action
 
--- the reason is that of an outcome in which nothing changed
+-- where the action polls, fewer packets were put than a nonce can count
+abbrev pub HasRoom : WorldState → Action → Type 0
+HasRoom world (Send m i clock) = length world.packets < 2 ^ 64 - 1
+HasRoom world (Answer packet span) = Unit {0}
+HasRoom world (Forge m i payload) = Unit {0}
+HasRoom world (Deliver packet clock) = Unit {0}
+HasRoom world (Fuse m clock) = Unit {0}
+HasRoom world (Read m w clock k) = Unit {0}
+HasRoom world (Arrive m w id floor) = Unit {0}
+HasRoom world (Stamp m w) = Unit {0}
+HasRoom world (Queue m w) = Unit {0}
+HasRoom world (Release m w) = Unit {0}
+
+-- the reply is none to a bad event: it has no number of this crate
+abbrev pub IsTaken : Reply → Type 0
+IsTaken reply = (number : ℕ) → reply ≡ replies.Refused number → number < 1201
+
+-- the reason is that of an outcome in which nothing changed; memory is wanting only for what is not bad
 abbrev pub IsRefusal : WorldFault → WorldState → Outcome → Type 0
-IsRefusal faults.Memory world outcome = Unit {0}
+IsRefusal faults.Memory world outcome = IsTaken outcome.reply
 IsRefusal faults.TimeBack world outcome = outcome ≡ refused world 1201
 IsRefusal faults.ClockBack world outcome = outcome ≡ refused world 1202
 IsRefusal faults.NoPacket world outcome = outcome ≡ refused world 1203

@@ -3,7 +3,7 @@
 use crate::tests::{
     answer, deliver, fuse, machine, published, read, reading, refused, replies, send, span,
 };
-use crate::{Action, Event, Receipts, Reply, run};
+use crate::{Action, Event, Receipts, Reply, World, run};
 use std::alloc::Global;
 use std::test::Fail;
 use tt_daemon::Config;
@@ -333,5 +333,31 @@ fn an_older_task_is_given_up(rt: HostRuntime) -> Result<(), Fail> {
         released(rt.alloc(), 2, 6, 7)?,
     ];
     assert!(rt; replies(rt.alloc(), &[machine(1, 0, 0)?], &events, &expected));
+    Ok(())
+}
+
+/// Whether the first worker, when it is asked for the commit of this number and reads [5, 5], gives it this stamp.
+fn is_stamped(world: &mut World, number: u64, expected: u64) -> Result<bool, Fail> {
+    let arrived = world.step(&arrive(5, 0, 0, number, 0))? == Reply::Arrived;
+    let has_read = world.step(&read(5, 0, 0, 0, 1))? == reading(5, 5);
+    let stamped = world.step(&stamp(5, 0, 0))? == Reply::Stamped(expected);
+    Ok(arrived && has_read && stamped)
+}
+
+#[test]
+fn a_full_book_refuses_one_more(rt: HostRuntime) -> Result<(), Fail> {
+    let mut world = World::new(rt.alloc(), &[machine(1, 0, 0)?])?;
+    assert_eq!(rt; world.step(&send(5, 0, 0, 0))?, Reply::Sent(0));
+    assert_eq!(rt; world.step(&answer(5, 0, 5, 5))?, Reply::Put(1));
+    assert_eq!(rt; world.step(&deliver(5, 1, 0))?, Reply::Taken);
+    assert_eq!(rt; world.step(&fuse(5, 0, 0))?, published(1, 5, 5));
+    for number in 0..65_536 {
+        assert!(rt; is_stamped(&mut world, number, number + 5)?);
+        assert_eq!(rt; world.step(&queue(5, 0, 0))?, Reply::Queued);
+    }
+    assert!(rt; is_stamped(&mut world, 65_536, 65_541)?);
+    assert_eq!(rt; world.step(&queue(5, 0, 0))?, refused(1001));
+    // The task is left.
+    assert_eq!(rt; world.step(&queue(5, 0, 0))?, refused(1001));
     Ok(())
 }

@@ -11,14 +11,16 @@
 //! its own; a [`World`] takes the events one by one. What they promise, for every list of events:
 //!
 //! - Each reply is the one that is defined by searching back over the events before it.
-//! - Every reading holds the true time of its event, while at most so many sources of each machine lie as may and
-//!   its clock keeps its drift bound (Spanner's `TT.now()`, OSDI 2012, section 3).
+//! - Every reading holds the true time of its event, while no more sources of each machine lie than may and its
+//!   clock keeps its drift bound (Spanner's `TT.now()`, OSDI 2012, section 3).
 //! - Every published span is the shortest that is right whichever sources lie (Marzullo and Owicki, 1983).
 //! - While the same is assumed, no fusion is refused at which enough sources are known.
 //! - Every stamp is the least that is no less than the reading's latest and the floor, and above all stamps of the
 //!   machine (the start rule, OSDI 2012, section 4.1.2).
 //! - While the same is assumed, a commit that is released before another arrives, on whatever machine, has the smaller
 //!   stamp (commit wait and external consistency, OSDI 2012, sections 4.1.2 and 4.2.1).
+//! - The book of each machine is a legal history: a commit waits there when it was queued and no later receipt
+//!   names it ([`run_laws`]).
 //! - Every publication is shown with the spans that were fused and the canonical certificate of their fusion.
 //!
 //! Modules:
@@ -42,10 +44,10 @@ mod runs;
 mod workers;
 mod world;
 
-pub use events::{Action, Event, Payload, Receipts, Reply};
+pub use events::{Action, Event, MAX_PAYLOAD, Payload, Receipts, Reply};
 pub use faults::WorldFault;
 pub use publications::Shown;
-pub use runs::{Trace, run};
+pub use runs::{Trace, run, run_laws};
 pub use world::{MAX_MACHINES, World};
 
 #[cfg(test)]

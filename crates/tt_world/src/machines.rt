@@ -1,6 +1,6 @@
 //! What is kept of one machine.
 
-ghost use Rattle.std.specs.Prelude.{◌≡◌, List, [], ℕ, ◌+◌, ◌++◌, ◌<◌, ◌≤◌, length, map, OnOk, OnErr, IfOk, IfErr, IsErrOf, IsTrue, Some, None, Ok, Err};
+ghost use Rattle.std.specs.Prelude.{◌≡◌, List, [], ℕ, ◌+◌, ◌++◌, ◌<◌, ◌≤◌, length, map, OnOk, OnErr, IfOk, IfErr, IsErrOf, IsOk, IsTrue, Some, None, Ok, Err};
 ghost use Rattle.std.specs.Vec.{vec_len, vec_capacity};
 ghost use Rattle.tt_span.specs.Time.{max_time};
 ghost use Rattle.tt_source.specs.Table.{poll_of, take_of};
@@ -134,7 +134,7 @@ impl Machine {
     }
 
     /// Fuses what is known of all sources, and publishes it: the fusion is shown after the others, as one of the
-    /// machine of this number. Want of memory changes nothing.
+    /// machine of this number. Memory is wanted only where the fusion was made; want of it changes nothing.
     pub fn fuse(
         &mut self,
         machine: u8,
@@ -148,13 +148,15 @@ impl Machine {
             ++ showing_of machine (length self.old.publications + 1) (spans_on self.old clock) self.old.config.faulty (fusion_on self.old clock)) }
         ensures certified { CertificatesProve shown.old.items → CertificatesProve shown.new.items }
         ensures memory { IfErr result (λ e. e ≡ WorldFault.Memory) }
+        // Memory is wanting only where the fusion is not refused.
+        ensures memory_last { OnErr result (IsOk (fusion_on self.old clock)) }
         ensures unchanged { OnErr result ((self.new ≡ self.old) × (shown.new.items ≡ shown.old.items)) }
     {
-        self.publications.reserve(1)?;
-        shown.reserve(1)?;
-        self.clock = clock;
         match self.daemon.fuse(clock) {
             Ok(fused) => {
+                self.publications.reserve(1)?;
+                shown.reserve(1)?;
+                self.clock = clock;
                 let number = self.publications.len() as u64 + 1;
                 let span = fused.span();
                 self.publications.push_reserved(Publication { clock, span });
@@ -165,7 +167,10 @@ impl Machine {
                 });
                 Ok(Reply::Published(number, span))
             }
-            Err(refusal) => Ok(Reply::Refused(refusal.number())),
+            Err(refusal) => {
+                self.clock = clock;
+                Ok(Reply::Refused(refusal.number()))
+            }
         }
     }
 
@@ -276,7 +281,7 @@ impl Machine {
         ensures memory { IfErr result (λ e. e ≡ WorldFault.Memory) }
         ensures unchanged { OnErr result (self.new ≡ self.old) }
     {
-        let mut receipts = Vec::with_capacity(alloc, self.book.waiting())?;
+        let mut receipts = Vec::with_capacity(alloc, self.book.releasable(reading))?;
         let count = self.book.release(reading);
         book_laws();
         let history = self.book.history();

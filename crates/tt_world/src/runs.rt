@@ -1,11 +1,16 @@
 //! Whole runs.
 
-ghost use Rattle.std.specs.Prelude.{◌≡◌, ℕ, ◌<◌, ◌⊎◌, ◌↔◌, [], length, map, reverse, IfOk, IfErr, IsErrOf};
+ghost use Rattle.std.specs.Prelude.{◌≡◌, ℕ, ◌<◌, ◌⊎◌, ◌↔◌, List, [], length, map, reverse, IfOk, IfErr, IsErrOf};
 ghost use Rattle.tt_world.specs.Headline.{ReadingsHold, FusionsAreShortest, NoFusionRefused, StampsAreLeast, ExternallyConsistent, CertificatesProve};
 ghost use Rattle.tt_world.specs.Reply.{replies_from};
 ghost use Rattle.tt_world.specs.Bad.{accepted};
 ghost use Rattle.tt_world.specs.Publications.{shown_of};
 ghost use Rattle.tt_world.specs.Trace.{outline};
+ghost use Rattle.tt_world.specs.Commits.{book_of};
+ghost use Rattle.tt_world.specs.Config.{config_at};
+ghost use Rattle.tt_world.specs.declared.events.Event.{Event};
+ghost use Rattle.tt_daemon.specs.Config.{Configuration};
+ghost use Rattle.tt_stamp.specs.History.{IsLegalHistory};
 
 use crate::events::{Event, Reply};
 use crate::faults::WorldFault;
@@ -15,7 +20,7 @@ use std::alloc::Global;
 use std::marker::Model;
 use tt_daemon::Config;
 use tt_fuse::fusion_laws;
-use tt_stamp::stamp_laws;
+use tt_stamp::{book_laws, stamp_laws};
 
 /// What a run answers: the reply to each event, and what was published, both in the order of the events.
 #[derive(Drop)]
@@ -48,15 +53,15 @@ impl Trace {
     }
 }
 
-/// Runs a list of events on these machines, from the beginning, and answers the replies and what was published. Every list is taken; bad
-/// events are replied to with their numbers. Refuses by 1207 `Machines` where there is no machine, or more than
-/// eight, and by 1 `Memory` where memory was refused; there is no trace then.
+/// Runs a list of events on these machines, from the beginning, and answers the replies and what was published.
+/// Every list is taken; bad events are replied to with their numbers. Refuses by 1207 `Machines` where there is no
+/// machine, or more than eight, and by 1 `Memory` where memory was refused; there is no trace then.
 pub fn run(alloc: Global, configs: &[Config], events: &[Event]) -> Result<Trace, WorldFault>
     // The reply to each event is the one that is defined by searching back over the events before it.
     ensures replies { IfOk result (λ trace. trace.replies ≡ replies_from configs.now [] events.now) }
 
-    // Every reading holds the true time of its event, while at most so many sources of each machine lie as may, and
-    // its clock keeps the drift bound.
+    // Every reading holds the true time of its event, while no more sources of each machine lie than may, and its
+    // clock keeps the drift bound.
     ensures readings_hold { IfOk result (λ trace. ReadingsHold configs.now events.now trace.replies) }
 
     // Every fused interval is the shortest that is right whichever sources lie. Nothing is assumed.
@@ -93,4 +98,14 @@ pub fn run(alloc: Global, configs: &[Config], events: &[Event]) -> Result<Trace,
         replies,
         shown: world.into_shown(),
     })
+}
+
+/// What the definitions of a run make of the book of each machine is a legal history, whatever the events: each
+/// commit was queued where it might be, and each receipt was the next one. So a commit waits there when it was
+/// queued and no later receipt names it.
+pub fn run_laws()
+    ensures legal_books { (configs : List Configuration) (past : List Event) (m : ℕ) →
+        IsLegalHistory (book_of (config_at configs m) (accepted configs past) m) }
+{
+    book_laws();
 }

@@ -541,6 +541,52 @@ fn spans_without_a_common_time_are_not_fused(rt: HostRuntime) -> Result<(), Fail
 }
 
 #[test]
+fn a_refused_fusion_leaves_the_publication(rt: HostRuntime) -> Result<(), Fail> {
+    let events = [
+        send(50, 0, 0, 0),
+        send(50, 0, 1, 0),
+        answer(50, 0, 40, 60),
+        answer(50, 1, 50, 70),
+        deliver(50, 2, 0),
+        deliver(50, 3, 0),
+        fuse(50, 0, 0),
+        send(60, 0, 0, 10),
+        send(60, 0, 1, 10),
+        send(60, 0, 2, 10),
+        answer(60, 4, 0, 1),
+        answer(60, 5, 3, 4),
+        answer(60, 6, 6, 7),
+        deliver(60, 7, 10),
+        deliver(60, 8, 10),
+        deliver(60, 9, 10),
+        fuse(60, 0, 10),
+        read(60, 0, 0, 10, 1),
+    ];
+    let expected = [
+        Reply::Sent(0),
+        Reply::Sent(1),
+        Reply::Put(2),
+        Reply::Put(3),
+        Reply::Taken,
+        Reply::Taken,
+        published(1, 40, 70),
+        Reply::Sent(4),
+        Reply::Sent(5),
+        Reply::Sent(6),
+        Reply::Put(7),
+        Reply::Put(8),
+        Reply::Put(9),
+        Reply::Taken,
+        Reply::Taken,
+        Reply::Taken,
+        refused(504),
+        reading(50, 80),
+    ];
+    assert!(rt; replies(rt.alloc(), &[machine(3, 1, 0)?], &events, &expected));
+    Ok(())
+}
+
+#[test]
 fn each_machine_counts_its_own_publications(rt: HostRuntime) -> Result<(), Fail> {
     let events = [
         send(5, 0, 0, 0),
@@ -619,20 +665,29 @@ fn steps_one_event_at_a_time(rt: HostRuntime) -> Result<(), Fail> {
 
 #[test]
 fn six_more_events_of_one_liar_are_refused(rt: HostRuntime) -> Result<(), Fail> {
-    let mut world = World::new(rt.alloc(), &[machine(3, 1, 200)?])?;
-    for event in &three_answers(span(40, 60), span(45, 55), span(100, 105)) {
-        world.step(event)?;
-    }
     let action = Action::Stamp {
         machine: 0,
         worker: 0,
     };
-    assert_eq!(rt; world.step(&read(50, 0, 0, 0, 2))?, refused(1204));
-    assert_eq!(rt; world.step(&deliver(50, 3, 0))?, refused(406));
-    assert_eq!(rt; world.step(&send(49, 0, 0, 0))?, refused(1201));
-    assert_eq!(rt; world.step(&send(50, 1, 0, 0))?, refused(1206));
-    assert_eq!(rt; world.step(&deliver(50, 0, 0))?, refused(1203));
-    assert_eq!(rt; world.step(&Event { at: 50, action })?, refused(1205));
+    let mut events = Vec::new(rt.alloc());
+    for event in three_answers(span(40, 60), span(45, 55), span(100, 105)) {
+        events.push(event)?;
+    }
+    events.push(read(50, 0, 0, 0, 2))?;
+    events.push(deliver(50, 3, 0))?;
+    events.push(send(49, 0, 0, 0))?;
+    events.push(send(50, 1, 0, 0))?;
+    events.push(deliver(50, 0, 0))?;
+    events.push(Event { at: 50, action })?;
+    let mut expected = Vec::new(rt.alloc());
+    for reply in three_taken(45, 55) {
+        expected.push(reply)?;
+    }
+    for number in [1204, 406, 1201, 1206, 1203, 1205] {
+        expected.push(refused(number))?;
+    }
+    assert_eq!(rt; expected.len(), 17);
+    assert!(rt; replies(rt.alloc(), &[machine(3, 1, 200)?], &events, &expected));
     Ok(())
 }
 

@@ -1,15 +1,16 @@
 //! A whole run, event by event.
 
-ghost use Rattle.std.specs.Prelude.{◌≡◌, ℕ, ◌+◌, ◌<◌, ◌≤◌, slice_get, List, [], ◌∷◌, length, map, ◌↔◌, ◌⊎◌, IfOk, IfErr, OnErr, IsErrOf};
+ghost use Rattle.std.specs.Prelude.{◌≡◌, ℕ, ◌+◌, ◌<◌, ◌≤◌, slice_get, List, [], ◌∷◌, length, map, ◌↔◌, ◌⊎◌, ◌-◌, ◌^◌, IfOk, IfErr, OnOk, OnErr, IsErrOf, None};
 ghost use Rattle.tt_daemon.specs.Config.{Configuration};
 ghost use Rattle.tt_world.specs.declared.events.Event.{Event};
 ghost use Rattle.tt_world.specs.declared.events.Reply.{Reply};
 ghost use Rattle.tt_world.specs.Headline.{AreConfigurations, CertificatesProve};
 ghost use Rattle.tt_world.specs.Trace.{outline};
+ghost use Rattle.tt_world.specs.Bad.{first_bad, accepted};
 ghost use Rattle.tt_world.specs.Reply.{reply_of};
 ghost use Rattle.tt_world.specs.State.{WorldState, StandsFor};
 ghost use Rattle.tt_world.specs.Packet.{answer_to};
-ghost use Rattle.tt_world.specs.Step.{Does, IsWorker, send_on, answer_on, forge_on, deliver_on, fuse_on, read_on, arrive_on, stamp_on, queue_on, release_on, stepped};
+ghost use Rattle.tt_world.specs.Step.{Does, HasRoom, IsWorker, send_on, answer_on, forge_on, deliver_on, fuse_on, read_on, arrive_on, stamp_on, queue_on, release_on, stepped};
 
 use crate::events::{Action, Event, Payload, Reply};
 use crate::faults::WorldFault;
@@ -54,7 +55,8 @@ impl Model for World {
 impl World {
     /// A machine polls a source.
     fn send(&mut self, at: u64, machine: u8, source: u8, clock: u64) -> Result<Reply, WorldFault>
-        ensures { Does (send_on self.old at machine source clock (slice_get self.old.machines machine)) self.old result self.new }
+        ensures does { Does (send_on self.old at machine source clock (slice_get self.old.machines machine)) self.old result self.new }
+        ensures room { OnOk result (length self.old.packets < 2 ^ 64 - 1) }
     {
         let place = usize::from(machine);
         if place >= self.machines.len() {
@@ -134,13 +136,7 @@ impl World {
     ) -> Result<Reply, WorldFault>
         ensures { Does (read_on self.old at machine worker clock number (slice_get self.old.machines machine)) self.old result self.new }
     {
-        let place = usize::from(machine);
-        if place >= self.machines.len() {
-            return Err(WorldFault::UnknownNumber);
-        }
-        if usize::from(worker) >= self.machines[place].workers() {
-            return Err(WorldFault::UnknownNumber);
-        }
+        let place = self.place_of(machine, worker)?;
         if self.machines[place].is_back(clock) {
             return Err(WorldFault::ClockBack);
         }
@@ -266,7 +262,8 @@ impl World {
 
     /// What an event makes, or why it is bad.
     fn act(&mut self, event: &Event) -> Result<Reply, WorldFault>
-        ensures { Does (stepped self.old event.now) self.old result self.new }
+        ensures does { Does (stepped self.old event.now) self.old result self.new }
+        ensures room { OnOk result (HasRoom self.old event.now.action) }
     {
         let at = event.at;
         if at < self.time || at > MAX_TIME {
@@ -297,15 +294,7 @@ impl World {
                 worker,
                 id,
                 floor,
-            } => self.arrive(
-                at,
-                *machine,
-                *worker,
-                Arrival {
-                    id: *id,
-                    floor: *floor,
-                },
-            ),
+            } => self.arrive(at, *machine, *worker, Arrival::new(*id, *floor)),
             Action::Stamp { machine, worker } => self.stamp(at, *machine, *worker),
             Action::Queue { machine, worker } => self.queue(at, *machine, *worker),
             Action::Release { machine, worker } => self.release(at, *machine, *worker),
@@ -339,15 +328,18 @@ impl World {
     /// What an event makes, and the reply to it. Every event is taken: one that is bad is replied to with its
     /// number, the first that applies of 1201 `TimeBack`, 1206 `UnknownNumber`, 1203 `NoPacket`, 1202 `ClockBack`,
     /// 1204 `NoPublication` and 1205 `NothingThere`, and changes nothing. A reply with a number of a lower crate moves
-    /// the true time and, where the event reads it, the machine's clock alone. Refuses by 1 `Memory` where memory was refused; the world is then as before.
+    /// the true time and, where the event reads it, the machine's clock alone. Refuses by 1 `Memory` where memory was
+    /// refused, for events alone that are not bad; the world is then as before.
     pub fn step(&mut self, event: &Event) -> Result<Reply, WorldFault>
         // Of every run that the world stands for, this is the next reply, and the world stands for the longer run.
         ensures reply { IfOk result (λ reply. (configs : List Configuration) (past : List Event) → StandsFor configs past self.old →
             (reply ≡ reply_of configs past event.now) × StandsFor configs (event.now ∷ past) self.new) }
         ensures memory { IfErr result (λ e. e ≡ WorldFault.Memory) }
+        // Memory is wanting only for an event that is not bad: a bad one has its number even then.
+        ensures memory_last { OnErr result ((configs : List Configuration) (past : List Event) → StandsFor configs past self.old →
+            first_bad configs (accepted configs past) event.now ≡ None) }
         ensures unchanged { OnErr result (self.new ≡ self.old) }
     {
-        self.packets.reserve(1)?;
         match self.act(event) {
             Ok(reply) => Ok(reply),
             Err(fault) => fault.as_reply(),

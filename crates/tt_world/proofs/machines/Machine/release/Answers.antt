@@ -9,7 +9,7 @@ use Rattle.tt_world.specs.declared.events.Reply.TheVariants.{Released}
 use Rattle.tt_world.specs.contracts.machines.Machine.{the_view}
 use Rattle.tt_world.specs.State.{MachineState}
 use Rattle.tt_world.specs.Step.{Turn, release_turn}
-use Rattle.tt_world.proofs.Passing.{entries_of, release-fits, last-entries}
+use Rattle.tt_world.proofs.Passing.{entries_of, last-entries}
 use Rattle.tt_world.proofs.machines.Machine.release.Goals as goal
 
 -- a machine after a release, by its parts
@@ -26,7 +26,7 @@ copy_receipts-requires c =
     let last = last-entries h (reverse c.self.inside.book) receipts n ends c.release-count.ensures.count in
     let counted : length (take (length h - (length h - n)) (drop (length h - n) h)) ≡ n =
     ap (λ (es : List Entry). length es) last ∙ length-map receipts (λ (r : Receipt). Passed r) ∙ sym c.release-count.ensures.count in
-    omega (arith, counted, release-fits (waiting_of c.self.inside.book) c.args.reading.now.lo, c.release-count.ensures.count, c.waiting.ensures.value, c.in_ok-receipts.ensures.exact, c.in_ok-receipts.ensures.len)
+    omega (arith, counted, c.release-count.ensures.count, c.releasable.ensures.value, c.in_ok-receipts.ensures.exact, c.in_ok-receipts.ensures.len)
 
 pub returns-clause-released : goal.returns-clause-released
 returns-clause-released c =

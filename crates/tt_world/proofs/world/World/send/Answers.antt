@@ -9,8 +9,8 @@ use Rattle.tt_world.specs.contracts.world.World.{the_view}
 use Rattle.tt_world.proofs.Turns.{same_item, found_at, send_on-no_source, send_on-back, send_on-sent, send_on-refused, outcome}
 use Rattle.tt_world.proofs.world.World.send.Goals as goal
 
-pub returns-then-from-sources : goal.returns-then-from-sources
-returns-then-from-sources c =
+pub returns-then-from-sources-clause-does : goal.returns-then-from-sources-clause-does
+returns-then-from-sources-clause-does c =
     let w : WorldState = the_view c.self.inside in
     let m = c.args.machine in
     let p = c.from-place.result in
@@ -25,8 +25,8 @@ returns-then-from-sources c =
           ∙ ap (λ (v : WorldState). refused v 1206) c.self.view_is,
     )
 
-pub returns-then-is_back : goal.returns-then-is_back
-returns-then-is_back c =
+pub returns-then-is_back-clause-does : goal.returns-then-is_back-clause-does
+returns-then-is_back-clause-does c =
     let w : WorldState = the_view c.self.inside in
     let m = c.args.machine in
     let p = c.from-place.result in
@@ -42,8 +42,8 @@ returns-then-is_back c =
           ∙ ap (λ (v : WorldState). refused v 1202) c.self.view_is,
     )
 
-pub returns-in-Ok : goal.returns-in-Ok
-returns-in-Ok c =
+pub returns-in-Ok-clause-does : goal.returns-in-Ok-clause-does
+returns-in-Ok-clause-does c =
     let w : WorldState = the_view c.self.inside in
     let m = c.args.machine in
     let p = c.from-place.result in
@@ -64,8 +64,8 @@ returns-in-Ok c =
     ∙ send_on-sent w c.args.at m p c.args.source c.args.clock c.len-number.result c.in-Ok.nonce x c.poll.new.self c.push.new.self.items found source forward
     c.in-Ok.ensures.polled.0 c.in-Ok.ensures.polled.1 c.in-Ok.ensures.polled.2 count put c.from-place.ensures
 
-pub returns-in-Err : goal.returns-in-Err
-returns-in-Err c =
+pub returns-in-Err-clause-does : goal.returns-in-Err-clause-does
+returns-in-Err-clause-does c =
     let w : WorldState = the_view c.self.inside in
     let m = c.args.machine in
     let p = c.from-place.result in
