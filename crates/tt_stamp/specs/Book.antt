@@ -1,5 +1,5 @@
 -- What a book keeps beside its history, so that each question takes a look-up.
-use Rattle.std.specs.Prelude.{ℕ, ◌≡◌, ◌+◌, ◌≤◌, if◌then◌else◌, List, [], ◌∷◌, reverse, Option, Some, None, vec_len, vec_capacity}
+use Rattle.std.specs.Prelude.{ℕ, ◌≡◌, ◌+◌, ◌≤◌, if◌then◌else◌, List, [], ◌∷◌, length, reverse, Option, Some, None, vec_len, vec_capacity}
 use Rattle.std.specs.Ordering.{nat_cmp}
 use Rattle.std.specs.BTreeMap as tree
 use Rattle.std.specs.BTreeSet as sorted
@@ -12,11 +12,11 @@ use Rattle.tt_stamp.specs.declared.commits.Standing.{Standing}
 use Rattle.tt_stamp.specs.declared.commits.Standing.TheVariants.{Waits, Released}
 use Rattle.tt_stamp.specs.declared.books.Book.TheInside.{Inside}
 
--- where a commit stands after a history, if it was queued
+-- where a commit stands after a history, if it was queued; a receipt has as many entries before it as its place says
 abbrev pub standing_of : List Entry → Id → Option Standing
 standing_of [] id = None
 standing_of (Queued other stamp ∷ past) id = if same_id other id then Some Waits else standing_of past id
-standing_of (Passed receipt ∷ past) id = if same_id receipt.id id then Some (Released receipt) else standing_of past id
+standing_of (Passed receipt ∷ past) id = if same_id receipt.id id then Some (Released (length past)) else standing_of past id
 
 -- the history of a book, newest first
 abbrev pub history_of : Inside → List Entry

@@ -3,6 +3,8 @@
 ghost use Rattle.std.specs.Prelude.{◌≡◌, ◌≢◌, ℕ, ◌+◌, ◌<◌, ◌≤◌, ◌↔◌, List, [], ◌∷◌, ◌++◌, length, reverse, map, Contains, Some, None, Ok, Err, IsOk, IfOk, OnOk, OnErr, IsErrOf, IfSome, IfNone, MatchOption, IsOkUnless, IsSome, if◌then◌else◌, slice_get};
 ghost use Rattle.std.specs.BTreeMap as tree;
 ghost use Rattle.std.specs.BTreeMap.{is_at};
+ghost use Rattle.std.specs.BTreeSet as sorted;
+ghost use Rattle.std.specs.Ordering.{nat_cmp};
 ghost use Rattle.tt_stamp.specs.History.{MayQueue, Waits, IsNextReceipt, IsLegalHistory, IsRelease, IsIdThere, IsStampThere, waiting_of, released_of, release_of, with_receipts, first_queue_fault, receipt_of, max_waiting};
 ghost use Rattle.tt_stamp.specs.Ids.{id_cmp};
 ghost use Rattle.tt_stamp.specs.declared.commits.Id.{Id};
@@ -71,34 +73,30 @@ impl Book {
         if self.waiting() >= MAX_WAITING {
             return Err(BookFault::Full);
         }
-        if self.standings.contains_key(&id) {
-            return Err(BookFault::IdThere);
+        match self.standings.insert(id, Standing::Waits) {
+            Ok(None) => {}
+            Ok(Some(standing)) => {
+                set_standing(&mut self.standings, id, standing);
+                return Err(BookFault::IdThere);
+            }
+            Err(_) => return Err(no_memory_for(&self.stamps, stamp)),
         }
-        if self.stamps.contains(&stamp) {
-            return Err(BookFault::StampThere);
+        match self.stamps.insert(stamp) {
+            Ok(true) => {}
+            Ok(false) => {
+                let _ = self.standings.remove(&id);
+                return Err(BookFault::StampThere);
+            }
+            Err(_) => {
+                let _ = self.standings.remove(&id);
+                return Err(BookFault::Memory);
+            }
         }
-        match self.append(id, stamp) {
-            Ok(()) => Ok(()),
-            Err(AllocError) => Err(BookFault::Memory),
-        }
-    }
-
-    // Appends the entry of a commit that may be queued.
-    fn append(&mut self, id: Id, stamp: u64) -> Result<(), AllocError>
-        requires { MayQueue self.old id stamp }
-        ensures ok { OnOk result (self.new ≡ Entry.Queued id stamp ∷ self.old) }
-        ensures err { OnErr result (self.new ≡ self.old) }
-    {
-        self.history.reserve(self.waiting.len() + 2)?;
-        self.standings.insert(id, Standing::Waits)?;
-        if self.stamps.insert(stamp).is_err() {
-            let _ = self.standings.remove(&id);
-            return Err(AllocError);
-        }
-        if self.waiting.insert(stamp, id).is_err() {
+        let room = self.history.reserve(self.waiting.len() + 2);
+        if room.is_err() || self.waiting.insert(stamp, id).is_err() {
             let _ = self.standings.remove(&id);
             let _ = self.stamps.remove(&stamp);
-            return Err(AllocError);
+            return Err(BookFault::Memory);
         }
         self.history.push_reserved(Entry::Queued { id, stamp });
         Ok(())
@@ -150,7 +148,8 @@ impl Book {
         ensures { self.new ≡ Entry.Passed receipt ∷ self.old }
     {
         let _ = self.waiting.pop_first();
-        mark_released(&mut self.standings, receipt);
+        let place = self.history.len();
+        set_standing(&mut self.standings, receipt.id, Standing::Released(place));
         self.history.push_reserved(Entry::Passed(receipt));
     }
 
@@ -160,10 +159,13 @@ impl Book {
         ensures found { IfSome result (λ receipt. (receipt.id ≡ id) × Contains (released_of self.now) receipt) }
         ensures none { IfNone result ((receipt : Receipt) → Contains (released_of self.now) receipt → receipt.id ≢ id) }
     {
-        match self.standings.get(&id)? {
-            Standing::Waits => None,
-            Standing::Released(receipt) => Some(*receipt),
-        }
+        let Standing::Released(place) = *self.standings.get(&id)? else {
+            return None;
+        };
+        let Entry::Passed(receipt) = self.history[place] else {
+            unreachable!()
+        };
+        Some(receipt)
     }
 
     /// How many commits wait: at most [`MAX_WAITING`].
@@ -197,11 +199,22 @@ pub fn book_laws()
         reverse (with_receipts receipts past) ≡ reverse past ++ map (λ receipt. Entry.Passed receipt) receipts }
 {}
 
-// Writes that a commit, which waited, was released.
-fn mark_released(standings: &mut BTreeMap<Id, Standing>, receipt: Receipt)
-    requires { IsSome (tree.get id_cmp standings.old receipt.id) }
-    ensures { (id : Id) → tree.get id_cmp standings.new id ≡
-        (if is_at (id_cmp receipt.id) id then Some (Standing.Released receipt) else tree.get id_cmp standings.old id) }
+// Writes where a commit stands that is there.
+fn set_standing(standings: &mut BTreeMap<Id, Standing>, id: Id, standing: Standing)
+    requires { IsSome (tree.get id_cmp standings.old id) }
+    ensures { (other : Id) → tree.get id_cmp standings.new other ≡
+        (if is_at (id_cmp id) other then Some standing else tree.get id_cmp standings.old other) }
 {
-    *standings.get_mut(&receipt.id).unwrap() = Standing::Released(receipt);
+    *standings.get_mut(&id).unwrap() = standing;
+}
+
+// Why a commit with a new id is not queued, where there is no memory for the id.
+fn no_memory_for(stamps: &BTreeSet<u64>, stamp: u64) -> BookFault
+    ensures { result ≡ (if sorted.contains nat_cmp stamps.now stamp then BookFault.StampThere else BookFault.Memory) }
+{
+    if stamps.contains(&stamp) {
+        BookFault::StampThere
+    } else {
+        BookFault::Memory
+    }
 }
