@@ -1,5 +1,5 @@
 -- What a release takes from the commits that wait.
-use Rattle.std.proofs.Common.{◌++◌, reverse, append-nil, append_assoc, ◌≡◌, ℕ, ◌+◌, ◌<◌, ◌≤◌, ◌==◌, nat_lt, cond, not, Bool, List, [], ◌∷◌, length, map, filter, slice_get, All, Contains, Some, None, ⊎_elim, refl, sym, ap, ◌∙◌, subst, arith}
+use Rattle.std.proofs.Common.{◌++◌, reverse, append-nil, append_assoc, ◌≡◌, ℕ, ◌<◌, ◌≤◌, ◌==◌, nat_lt, cond, not, Bool, List, [], ◌∷◌, length, map, filter, slice_get, All, Contains, Some, ⊎_elim, refl, sym, ap, ◌∙◌, subst, arith}
 use Rattle.std.specs.declared.cmp.Ordering.TheVariants.{Less, Equal, Greater}
 use Rattle.std.specs.Ordering.{nat_cmp, is_le}
 use Rattle.std.specs.declared.ops.Bound.TheVariants.{Unbounded, Excluded}
@@ -14,6 +14,7 @@ use Rattle.std.proofs.lemmas.Option.{same_Some, none-some}
 use Rattle.std.proofs.lemmas.List.Elements.{filter_agree, All-contains, All-from_recursion, All-head}
 use Rattle.std.proofs.lemmas.Map.Keys.{IsStrictlyIncreasing-from_sorted}
 use Rattle.tt_stamp.specs.History.{waiting_of, stamp_on, IsNextReceipt, IsRelease, release_of, with_receipts}
+use Rattle.tt_stamp.specs.Book.{IsReleaseTurn}
 use Rattle.tt_stamp.specs.declared.commits.Id.{Id}
 use Rattle.tt_stamp.specs.declared.commits.Receipt.{Receipt}
 use Rattle.tt_stamp.specs.declared.commits.Entry.{Entry}
@@ -108,7 +109,6 @@ remove_entry-head first waiting stamp id e =
 -- ---- one step of a release
 pub record IsReleaseStep (waiting rest : List Commit) (earliest : ℕ) (receipt : Receipt) : Type 0 where
   pub receipts : release_of waiting earliest ≡ receipt ∷ release_of rest earliest
-  pub fewer : length waiting ≡ length rest + 1
 
 step_at : (waiting : List Commit) (earliest : ℕ) (receipt : Receipt) → Ascends waiting → Contains waiting (receipt.stamp, receipt.id) → All (λ (c : Commit). receipt.stamp ≤ c.0) waiting → slice_get (release_of waiting earliest) 0 ≡ Some receipt → IsReleaseStep waiting (remove_entry (λ s. receipt.stamp == s) waiting) earliest receipt
 step_at [] earliest receipt asc there least e = absurd (Contains-nil _ there)
@@ -121,7 +121,6 @@ step_at (first ∷ waiting) earliest receipt asc there least e =
     let same = same_Some (receipt_for earliest first) receipt (sym (ap (λ rs. slice_get rs 0) whole) ∙ e) in
     let step : IsReleaseStep (first ∷ waiting) (remove_entry (λ s. receipt.stamp == s) (first ∷ waiting)) earliest receipt = record {
       receipts = whole ∙ ap (λ r. r ∷ release_of waiting earliest) same ∙ ap (λ w. receipt ∷ release_of w earliest) (sym rest);
-      fewer = omega (arith, ap length rest);
     } in
     step)
     (λ (later : earliest ≤ first.0). absurd (none-some receipt (sym (ap (λ rs. slice_get rs 0) (release_of-past_head first waiting earliest asc later)) ∙ e)))
@@ -130,10 +129,6 @@ step_at (first ∷ waiting) earliest receipt asc there least e =
 pub IsReleaseStep-next : (past : List Entry) (earliest : ℕ) (receipt : Receipt) → IsNextReceipt past receipt → slice_get (release_of (waiting_of past) earliest) 0 ≡ Some receipt → IsReleaseStep (waiting_of past) (waiting_of (Passed receipt ∷ past)) earliest receipt
 IsReleaseStep-next past earliest receipt next e =
     step_at (waiting_of past) earliest receipt (Ascends-waiting_of past) next.waits next.least e
-
-pub empty_from_none : {X : Type 0} (xs : List X) → slice_get xs 0 ≡ None → xs ≡ []
-empty_from_none [] e = refl
-empty_from_none (x ∷ xs) e = absurd (none-some x (sym e))
 
 -- ---- what is computed is the release
 abbrev Right : List Commit → ℕ → Receipt → Type 0
@@ -201,22 +196,29 @@ IsRelease-release_of past earliest = record {
   ascending = IsStrictlyIncreasing-from_sorted _ (sorted_released (waiting_of past) earliest (Ascends-waiting_of past));
 }
 
--- ---- one turn of the loop of a release
-pub record IsReleaseTurn (past now : List Entry) (earliest : ℕ) : Type 0 where
-  pub same_end : with_receipts (release_of (waiting_of past) earliest) past ≡ with_receipts (release_of (waiting_of now) earliest) now
-  pub receipts : length (release_of (waiting_of past) earliest) ≡ length (release_of (waiting_of now) earliest) + 1
-  pub fewer : length (waiting_of past) ≡ length (waiting_of now) + 1
-
+-- ---- one turn of a release
 turn_at : (past : List Entry) (earliest : ℕ) (receipt : Receipt) → IsReleaseStep (waiting_of past) (waiting_of (Passed receipt ∷ past)) earliest receipt → IsReleaseTurn past (Passed receipt ∷ past) earliest
 turn_at past earliest receipt step = record {
   same_end = ap (λ rs. with_receipts rs past) step.receipts;
-  receipts = omega (arith, ap length step.receipts);
-  fewer = step.fewer;
+  fewer = omega (arith, ap length step.receipts);
 }
 
 pub IsReleaseTurn-next : (past now : List Entry) (earliest : ℕ) (receipt : Receipt) → now ≡ Passed receipt ∷ past → IsNextReceipt past receipt → Some receipt ≡ slice_get (release_of (waiting_of past) earliest) 0 → IsReleaseTurn past now earliest
 IsReleaseTurn-next past now earliest receipt is next first =
     subst (λ (h : List Entry). IsReleaseTurn past h earliest) (sym is) (turn_at past earliest receipt (IsReleaseStep-next past earliest receipt next (sym first)))
+
+-- a commit waits where one is to be released
+pub waits-released : (waiting : List Commit) (earliest : ℕ) → 0 < length (release_of waiting earliest) → 0 < length waiting
+waits-released [] earliest h = absurd (omega (arith, h))
+waits-released (commit ∷ waiting) earliest h = omega arith
+
+-- the first that waits is released where one is
+pub sure-first : (waiting : List Commit) (earliest : ℕ) (commit : Commit) → Ascends waiting → slice_get waiting 0 ≡ Some commit → 0 < length (release_of waiting earliest) → commit.0 < earliest
+sure-first waiting earliest commit asc first h =
+    ⊎_elim
+    (λ (sure : commit.0 < earliest). sure)
+    (λ (later : earliest ≤ commit.0). absurd (omega (arith, h, ap length (release_of-first_later waiting earliest commit asc first later))))
+    (cases_lt (commit.0) earliest)
 
 -- ---- receipts stand at the end of the history
 pub reverse-with_receipts : (past : List Entry) (receipts : List Receipt) → reverse (with_receipts receipts past) ≡ reverse past ++ map (λ (r : Receipt). Passed r) receipts

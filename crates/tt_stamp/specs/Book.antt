@@ -4,7 +4,7 @@ use Rattle.std.specs.Ordering.{nat_cmp}
 use Rattle.std.specs.BTreeMap as tree
 use Rattle.std.specs.BTreeSet as sorted
 use Rattle.tt_stamp.specs.Ids.{same_id, id_cmp}
-use Rattle.tt_stamp.specs.History.{waiting_of, has_stamp, IsLegalHistory}
+use Rattle.tt_stamp.specs.History.{waiting_of, release_of, with_receipts, has_stamp, IsLegalHistory}
 use Rattle.tt_stamp.specs.declared.commits.Id.{Id}
 use Rattle.tt_stamp.specs.declared.commits.Entry.{Entry}
 use Rattle.tt_stamp.specs.declared.commits.Entry.TheVariants.{Queued, Passed}
@@ -29,3 +29,8 @@ pub record IsBook (b : Inside) : Type 0 where
   pub stands : (id : Id) → tree.get id_cmp b.standings id ≡ standing_of (history_of b) id
   pub stamps : (stamp : ℕ) → sorted.contains nat_cmp b.stamps stamp ≡ has_stamp (history_of b) stamp
   pub room : vec_len b.history + tree.btree_map_len b.waiting ≤ vec_capacity b.history
+
+-- one turn of a release: one receipt fewer is to come, and with those that are to come the history ends alike
+pub record IsReleaseTurn (past now : List Entry) (earliest : ℕ) : Type 0 where
+  pub same_end : with_receipts (release_of (waiting_of past) earliest) past ≡ with_receipts (release_of (waiting_of now) earliest) now
+  pub fewer : length (release_of (waiting_of past) earliest) ≡ length (release_of (waiting_of now) earliest) + 1

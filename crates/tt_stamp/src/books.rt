@@ -6,6 +6,7 @@ ghost use Rattle.std.specs.BTreeMap.{is_at};
 ghost use Rattle.std.specs.BTreeSet as sorted;
 ghost use Rattle.std.specs.Ordering.{nat_cmp};
 ghost use Rattle.tt_stamp.specs.History.{MayQueue, Waits, IsNextReceipt, IsLegalHistory, IsRelease, IsIdThere, IsStampThere, waiting_of, released_of, release_of, with_receipts, first_queue_fault, receipt_of, max_waiting};
+ghost use Rattle.tt_stamp.specs.Book.{IsReleaseTurn};
 ghost use Rattle.tt_stamp.specs.Ids.{id_cmp};
 ghost use Rattle.tt_stamp.specs.declared.commits.Id.{Id};
 ghost use Rattle.tt_stamp.specs.declared.commits.Entry.{Entry};
@@ -112,11 +113,11 @@ impl Book {
             × (self.new ≡ with_receipts receipts self.old) × (result ≡ length receipts) }
     {
         let earliest = reading.earliest();
-        let before = self.waiting();
-        while let Some(receipt) = self.next_receipt(earliest) {
-            self.pass(receipt);
+        let count = self.releasable(reading);
+        for _ in 0..count {
+            self.pass(earliest);
         }
-        before - self.waiting()
+        count
     }
 
     /// How many commits a release with this reading lets go.
@@ -126,31 +127,21 @@ impl Book {
         self.waiting.range(..reading.earliest()).count()
     }
 
-    // The receipt of the waiting commit with the least stamp, if that stamp is below the earliest.
-    fn next_receipt(&self, earliest: u64) -> Option<Receipt>
-        ensures first { result ≡ slice_get (release_of (waiting_of self.now) earliest) 0 }
-        ensures next { IfSome result (IsNextReceipt self.now) }
+    // Releases the waiting commit with the least stamp, which is below the earliest.
+    fn pass(&mut self, earliest: u64)
+        requires { 0 < length (release_of (waiting_of self.old) earliest) }
+        ensures { IsReleaseTurn self.old self.new earliest }
     {
-        let (stamp, id) = self.waiting.first_key_value()?;
-        if *stamp >= earliest {
-            return None;
-        }
-        Some(Receipt {
-            id: *id,
-            stamp: *stamp,
-            earliest,
-        })
-    }
-
-    // Appends the receipt of the commit that is to be released next.
-    fn pass(&mut self, receipt: Receipt)
-        requires { IsNextReceipt self.old receipt }
-        ensures { self.new ≡ Entry.Passed receipt ∷ self.old }
-    {
-        let _ = self.waiting.pop_first();
+        let Some((stamp, id)) = self.waiting.pop_first() else {
+            unreachable!()
+        };
         let place = self.history.len();
-        set_standing(&mut self.standings, receipt.id, Standing::Released(place));
-        self.history.push_reserved(Entry::Passed(receipt));
+        set_standing(&mut self.standings, id, Standing::Released(place));
+        self.history.push_reserved(Entry::Passed(Receipt {
+            id,
+            stamp,
+            earliest,
+        }));
     }
 
     /// The receipt of a commit, if it was released.
