@@ -1,7 +1,7 @@
 -- What is true of the histories of books.
 use Rattle.std.proofs.Common.{◌≡◌, ◌≢◌, ◌↔◌, ℕ, ◌<◌, ◌≤◌, ◌==◌, ◌||◌, cond, nat_le, Bool, true, false, List, [], ◌∷◌, ◌++◌, length, reverse, get_or, Contains, Option, Some, None, is_some, MatchOption, Result, Err, ⊎_elim, refl, sym, ap, ◌∙◌, subst, arith}
 use Rattle.std.specs.List.{AllByRecursion}
-use Rattle.std.proofs.lemmas.Bool.{true≢false, false≢true, cases_Bool, or_cases, eqb-true, eq-eqb, lt-leb, leb-false}
+use Rattle.std.proofs.lemmas.Bool.{true≢false, false≢true, cases_Bool, or_cases, eqb-true, eq-eqb, lt-leb, le-leb, leb-true, leb-false}
 use Rattle.std.proofs.Math.ListN.{get_or-append}
 use Rattle.std.proofs.Math.Seq.{get_or-append_seam}
 use Rattle.std.proofs.lemmas.List.{reverse-append, length-reverse}
@@ -263,4 +263,48 @@ pub first_queue_fault-none-iff : (past : List Entry) (id : Id) (stamp : ℕ) →
 first_queue_fault-none-iff past id stamp = (
   λ none. no_fault past id stamp _ _ _ refl refl refl none,
   λ may. first_queue_fault-none past id stamp may.room (has_id-new past id stamp may) (has_stamp-new past id stamp may),
+)
+
+-- ---- each fault comes exactly where it is the first
+abbrev fault_by : (full there_id there_stamp : Bool) → Option BookFault
+fault_by full there_id there_stamp = cond full (Some Full) (cond there_id (Some IdThere) (cond there_stamp (Some StampThere) None))
+
+full_by : (full there_id there_stamp : Bool) → fault_by full there_id there_stamp ≡ Some Full → full ≡ true
+full_by true there_id there_stamp e = refl
+full_by false true there_stamp e = absurd cc
+full_by false false true e = absurd cc
+full_by false false false e = absurd cc
+
+id_by : (full there_id there_stamp : Bool) → fault_by full there_id there_stamp ≡ Some IdThere → (full ≡ false) × (there_id ≡ true)
+id_by true there_id there_stamp e = absurd cc
+id_by false true there_stamp e = (refl, refl)
+id_by false false true e = absurd cc
+id_by false false false e = absurd cc
+
+stamp_by : (full there_id there_stamp : Bool) → fault_by full there_id there_stamp ≡ Some StampThere → (full ≡ false) × (there_id ≡ false) × (there_stamp ≡ true)
+stamp_by true there_id there_stamp e = absurd cc
+stamp_by false true there_stamp e = absurd cc
+stamp_by false false true e = (refl, refl, refl)
+stamp_by false false false e = absurd cc
+
+has_id-not_there : (past : List Entry) (id : Id) → ¬ IsIdThere past id → has_id past id ≡ false
+has_id-not_there past id new = ⊎_elim (λ e. absurd (new (there-has_id past id e))) (λ e. e) (cases_Bool (has_id past id))
+
+pub first_queue_fault-full-iff : (past : List Entry) (id : Id) (stamp : ℕ) → (first_queue_fault past id stamp ≡ Some Full) ↔ (max_waiting ≤ length (waiting_of past))
+first_queue_fault-full-iff past id stamp = (
+  λ e. leb-true _ _ (full_by _ (has_id past id) (has_stamp past stamp) e),
+  λ full. fault_at past id stamp true _ _ (le-leb _ _ full) refl refl,
+)
+
+pub first_queue_fault-id-iff : (past : List Entry) (id : Id) (stamp : ℕ) → (first_queue_fault past id stamp ≡ Some IdThere) ↔ ((length (waiting_of past) < max_waiting) × IsIdThere past id)
+first_queue_fault-id-iff past id stamp = (
+  λ e. let is = id_by (nat_le max_waiting (length (waiting_of past))) (has_id past id) (has_stamp past stamp) e in (leb-false _ _ is.0, there-has_id past id is.1),
+  λ h. first_queue_fault-id past id stamp h.0 (has_id-there past id h.1),
+)
+
+pub first_queue_fault-stamp-iff : (past : List Entry) (id : Id) (stamp : ℕ) → (first_queue_fault past id stamp ≡ Some StampThere) ↔ ((length (waiting_of past) < max_waiting) × (¬ IsIdThere past id) × IsStampThere past stamp)
+first_queue_fault-stamp-iff past id stamp = (
+  λ e. let is = stamp_by (nat_le max_waiting (length (waiting_of past))) (has_id past id) (has_stamp past stamp) e in
+      (leb-false _ _ is.0, λ there. true≢false (sym (has_id-there past id there) ∙ is.1), there-has_stamp past stamp is.2),
+  λ h. first_queue_fault-stamp past id stamp h.0 (has_id-not_there past id h.1) (has_stamp-there past stamp h.2),
 )

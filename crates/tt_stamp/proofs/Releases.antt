@@ -1,11 +1,11 @@
 -- What a release takes from the commits that wait.
-use Rattle.std.proofs.Common.{◌++◌, reverse, append-nil, append_assoc, ◌≡◌, ℕ, ◌<◌, ◌≤◌, ◌==◌, nat_lt, cond, not, Bool, List, [], ◌∷◌, length, map, filter, slice_get, All, Contains, Some, ⊎_elim, refl, sym, ap, ◌∙◌, subst, arith}
+use Rattle.std.proofs.Common.{◌++◌, reverse, append-nil, append_assoc, ◌≡◌, ℕ, zero, suc, ◌<◌, ◌≤◌, ◌==◌, nat_lt, cond, not, Bool, List, [], ◌∷◌, length, map, filter, slice_get, All, Contains, Some, ⊎_elim, refl, sym, ap, ◌∙◌, subst, arith}
 use Rattle.std.specs.declared.cmp.Ordering.TheVariants.{Less, Equal, Greater}
 use Rattle.std.specs.Ordering.{nat_cmp, is_le}
 use Rattle.std.specs.declared.ops.Bound.TheVariants.{Unbounded, Excluded}
 use Rattle.std.specs.BTreeMap.Range.{range_contains, entries_between}
 use Rattle.std.specs.List.{AllByRecursion}
-use Rattle.std.specs.List.Sorted.{IsStrictlySortedBy}
+use Rattle.std.specs.List.Sorted.{IsStrictlyIncreasing, IsStrictlySortedBy}
 use Rattle.std.specs.Map.{remove_entry}
 use Rattle.std.proofs.lemmas.Bool.{eq-eqb, le-ltb, lt-ltb, cases_lt}
 use Rattle.std.proofs.Math.ListN.{length-map}
@@ -13,7 +13,7 @@ use Rattle.std.proofs.lemmas.List.{reverse-append}
 use Rattle.std.proofs.lemmas.Option.{same_Some, none-some}
 use Rattle.std.proofs.lemmas.List.Elements.{filter_agree, All-contains, All-from_recursion, All-head}
 use Rattle.std.proofs.lemmas.Map.Keys.{IsStrictlyIncreasing-from_sorted}
-use Rattle.tt_stamp.specs.History.{waiting_of, stamp_on, IsNextReceipt, IsRelease, release_of, with_receipts}
+use Rattle.tt_stamp.specs.History.{waiting_of, stamp_on, IsNextReceipt, IsLegalHistory, IsRelease, release_of, with_receipts}
 use Rattle.tt_stamp.specs.Book.{IsReleaseTurn}
 use Rattle.tt_stamp.specs.declared.commits.Id.{Id}
 use Rattle.tt_stamp.specs.declared.commits.Receipt.{Receipt}
@@ -196,6 +196,22 @@ IsRelease-release_of past earliest = record {
   ascending = IsStrictlyIncreasing-from_sorted _ (sorted_released (waiting_of past) earliest (Ascends-waiting_of past));
 }
 
+-- ---- the stamps of the commits that wait rise
+above_waiting : (stamp : ℕ) (waiting : List Commit) → AllByRecursion (λ (c : Commit). stamp < c.0) waiting → AllByRecursion (λ (t : ℕ). nat_cmp stamp t ≡ Less) (map (λ (c : Commit). c.0) waiting)
+above_waiting stamp [] all = tt
+above_waiting stamp (commit ∷ waiting) all =
+    (nat_cmp-Less stamp (commit.0) all.0, above_waiting stamp waiting all.1)
+
+sorted_waiting : (waiting : List Commit) → Ascends waiting → IsStrictlySortedBy nat_cmp (map (λ (c : Commit). c.0) waiting)
+unfolding IsStrictlySortedBy
+sorted_waiting [] asc = tt
+sorted_waiting (commit ∷ waiting) asc =
+    (above_waiting (commit.0) waiting asc.0, sorted_waiting waiting asc.1)
+
+pub IsStrictlyIncreasing-waiting_of : (past : List Entry) → IsStrictlyIncreasing (map (λ (c : Commit). c.0) (waiting_of past))
+IsStrictlyIncreasing-waiting_of past =
+    IsStrictlyIncreasing-from_sorted _ (sorted_waiting (waiting_of past) (Ascends-waiting_of past))
+
 -- ---- one turn of a release
 turn_at : (past : List Entry) (earliest : ℕ) (receipt : Receipt) → IsReleaseStep (waiting_of past) (waiting_of (Passed receipt ∷ past)) earliest receipt → IsReleaseTurn past (Passed receipt ∷ past) earliest
 turn_at past earliest receipt step = record {
@@ -219,6 +235,32 @@ sure-first waiting earliest commit asc first h =
     (λ (sure : commit.0 < earliest). sure)
     (λ (later : earliest ≤ commit.0). absurd (omega (arith, h, ap length (release_of-first_later waiting earliest commit asc first later))))
     (cases_lt (commit.0) earliest)
+
+-- ---- the history after a release is legal
+first_there : (waiting : List Commit) → 0 < length waiting → (commit : Commit) × (slice_get waiting 0 ≡ Some commit)
+first_there [] h = absurd (omega (arith, h))
+first_there (commit ∷ waiting) h = (commit, refl)
+
+no_receipts : (receipts : List Receipt) → length receipts ≡ 0 → receipts ≡ []
+no_receipts [] e = refl
+no_receipts (r ∷ receipts) e = absurd (omega (arith, e))
+
+legal_after : (n : ℕ) (past : List Entry) (earliest : ℕ) → length (release_of (waiting_of past) earliest) ≡ n → IsLegalHistory past → IsLegalHistory (with_receipts (release_of (waiting_of past) earliest) past)
+legal_after zero past earliest e legal =
+    subst (λ (rs : List Receipt). IsLegalHistory (with_receipts rs past)) (sym (no_receipts (release_of (waiting_of past) earliest) e)) legal
+legal_after (suc n) past earliest e legal =
+    let waiting : List Commit = waiting_of past in
+    let some : 0 < length (release_of waiting earliest) = omega (arith, e) in
+    let first = first_there waiting (waits-released waiting earliest some) in
+    let sure = sure-first waiting earliest (first.0) (Ascends-waiting_of past) (first.1) some in
+    let next = IsNextReceipt-first past (first.0) earliest (first.1) sure in
+    let receipt : Receipt = receipt_for earliest (first.0) in
+    let step = IsReleaseStep-next past earliest receipt next (release_of-first_sure waiting earliest (first.0) (first.1) sure) in
+    subst (λ (rs : List Receipt). IsLegalHistory (with_receipts rs past)) (sym step.receipts)
+    (legal_after n (Passed receipt ∷ past) earliest (omega (arith, e, ap length step.receipts)) (next, legal))
+
+pub IsLegalHistory-release : (past : List Entry) (earliest : ℕ) → IsLegalHistory past → IsLegalHistory (with_receipts (release_of (waiting_of past) earliest) past)
+IsLegalHistory-release past earliest legal = legal_after _ past earliest refl legal
 
 -- ---- receipts stand at the end of the history
 pub reverse-with_receipts : (past : List Entry) (receipts : List Receipt) → reverse (with_receipts receipts past) ≡ reverse past ++ map (λ (r : Receipt). Passed r) receipts

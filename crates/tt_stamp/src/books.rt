@@ -1,6 +1,7 @@
 //! The commits that wait until their stamps have surely passed.
 
 ghost use Rattle.std.specs.Prelude.{◌≡◌, ◌≢◌, ℕ, ◌+◌, ◌<◌, ◌≤◌, ◌↔◌, List, [], ◌∷◌, ◌++◌, length, reverse, map, Contains, Some, None, Ok, Err, IsOk, IfOk, OnOk, OnErr, IsErrOf, IfSome, IfNone, MatchOption, IsOkUnless, IsSome, if◌then◌else◌, slice_get};
+ghost use Rattle.std.specs.List.Sorted.{IsStrictlyIncreasing};
 ghost use Rattle.std.specs.BTreeMap as tree;
 ghost use Rattle.std.specs.BTreeMap.{is_at};
 ghost use Rattle.std.specs.BTreeSet as sorted;
@@ -176,18 +177,33 @@ impl Book {
     }
 }
 
-/// A commit may be queued exactly where no fault is found; after a legal history those commits wait that were queued
-/// and that no later receipt names; the receipts of a release are one for each waiting commit
-/// whose stamp is below the earliest, least stamp first; and they stand at the end of the history.
+/// Laws of histories.
+///
+/// A commit may be queued exactly where no fault is found, and each fault is found exactly where its reason holds and
+/// none before it in the order. After a legal history those commits wait that were queued and that no later receipt
+/// names; the stamps of those that wait rise strictly. The receipts of a release are one for each waiting commit whose
+/// stamp is below the earliest, least stamp first; they stand at the end of the history, which stays legal.
 pub fn book_laws()
     ensures queue { (past : List Entry) (id : Id) (stamp : ℕ) →
         (first_queue_fault past id stamp ≡ None) ↔ MayQueue past id stamp }
+    ensures full { (past : List Entry) (id : Id) (stamp : ℕ) →
+        (first_queue_fault past id stamp ≡ Some BookFault.Full) ↔ (max_waiting ≤ length (waiting_of past)) }
+    ensures id_there { (past : List Entry) (id : Id) (stamp : ℕ) →
+        (first_queue_fault past id stamp ≡ Some BookFault.IdThere)
+        ↔ ((length (waiting_of past) < max_waiting) × IsIdThere past id) }
+    ensures stamp_there { (past : List Entry) (id : Id) (stamp : ℕ) →
+        (first_queue_fault past id stamp ≡ Some BookFault.StampThere)
+        ↔ ((length (waiting_of past) < max_waiting) × (¬ IsIdThere past id) × IsStampThere past stamp) }
     ensures waiting { (past : List Entry) (id : Id) (stamp : ℕ) → IsLegalHistory past →
         Contains (waiting_of past) (stamp, id) ↔ Waits past id stamp }
+    ensures rising { (past : List Entry) →
+        IsStrictlyIncreasing (map (λ commit. commit.0) (waiting_of past)) }
     ensures release { (past : List Entry) (earliest : ℕ) →
         IsRelease (waiting_of past) earliest (release_of (waiting_of past) earliest) }
     ensures history { (past : List Entry) (receipts : List Receipt) →
         reverse (with_receipts receipts past) ≡ reverse past ++ map (λ receipt. Entry.Passed receipt) receipts }
+    ensures legal { (past : List Entry) (earliest : ℕ) → IsLegalHistory past →
+        IsLegalHistory (with_receipts (release_of (waiting_of past) earliest) past) }
 {}
 
 // Writes where a commit stands that is there.
