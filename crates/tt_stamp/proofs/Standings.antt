@@ -1,5 +1,5 @@
 -- What a book keeps beside its history, step by step.
-use Rattle.std.proofs.Common.{◌≡◌, ℕ, ◌+◌, ◌<◌, ◌≤◌, ◌==◌, ◌||◌, cond, not, Bool, true, false, List, [], ◌∷◌, ◌++◌, length, reverse, get_or, All, Contains, Option, Some, None, is_some, IsSome, IfSome, IfNone, Result, Ok, Err, is_err, OnOk, OnErr, vec_len, vec_capacity, refl, sym, ap, ◌∙◌, subst, arith}
+use Rattle.std.proofs.Common.{◌≡◌, ℕ, ◌+◌, ◌<◌, ◌≤◌, ◌==◌, ◌||◌, cond, not, Bool, true, false, List, [], ◌∷◌, ◌++◌, length, reverse, get_or, All, Contains, Option, Some, None, is_some, IfNone, Result, Ok, Err, is_err, OnOk, OnErr, vec_len, vec_capacity, refl, sym, ap, ◌∙◌, subst, arith}
 use Rattle.std.proofs.lemmas.Bool.{true≢false, false≢true, eqb-true}
 use Rattle.std.proofs.lemmas.List.{reverse-append, reverse-reverse, length-reverse}
 use Rattle.std.specs.BTreeMap as tree
@@ -104,11 +104,6 @@ on_err (Err x) P e h = h
 pub on_ok : {T E : Type 0} (r : Result T E) (P : Type 0) → is_err r ≡ false → OnOk r P → P
 on_ok (Ok x) P e h = h
 on_ok (Err x) P e h = absurd (true≢false e)
-
-pub popped : (old new : List (ℕ × Id)) (o : Option (ℕ × Id)) (c : ℕ × Id) → Contains old c → (0 < length old → IsSome o) → IfSome o (λ p. old ≡ p ∷ new) → (p : ℕ × Id) × (old ≡ p ∷ new)
-popped old new None c there some taken =
-    absurd (false≢true (some (omega (arith, there.1))))
-popped old new (Some p) c there some taken = (p, taken)
 
 not_not : (b : Bool) → not (not b) ≡ b
 not_not true = refl

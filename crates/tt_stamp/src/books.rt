@@ -1,12 +1,12 @@
 //! The commits that wait until their stamps have surely passed.
 
-ghost use Rattle.std.specs.Prelude.{◌≡◌, ◌≢◌, ℕ, ◌+◌, ◌<◌, ◌≤◌, ◌↔◌, List, [], ◌∷◌, ◌++◌, length, reverse, map, Contains, Some, None, Ok, Err, IsOk, IfOk, OnOk, OnErr, IsErrOf, IfSome, IfNone, MatchOption, IsOkUnless, IsSome, if◌then◌else◌, slice_get};
+ghost use Rattle.std.specs.Prelude.{◌≡◌, ◌≢◌, ℕ, ◌+◌, ◌<◌, ◌≤◌, ◌↔◌, List, [], ◌∷◌, ◌++◌, length, reverse, map, Contains, Some, None, Ok, Err, IsOk, OnOk, OnErr, IfSome, IfNone, MatchOption, IsOkUnless, IsSome, if◌then◌else◌};
 ghost use Rattle.std.specs.List.Sorted.{IsStrictlyIncreasing};
 ghost use Rattle.std.specs.BTreeMap as tree;
 ghost use Rattle.std.specs.BTreeMap.{is_at};
 ghost use Rattle.std.specs.BTreeSet as sorted;
 ghost use Rattle.std.specs.Ordering.{nat_cmp};
-ghost use Rattle.tt_stamp.specs.History.{MayQueue, Waits, IsNextReceipt, IsLegalHistory, IsRelease, IsIdThere, IsStampThere, waiting_of, released_of, release_of, with_receipts, first_queue_fault, receipt_of, max_waiting};
+ghost use Rattle.tt_stamp.specs.History.{MayQueue, Waits, IsLegalHistory, IsRelease, IsIdThere, IsStampThere, waiting_of, released_of, release_of, with_receipts, first_queue_fault, receipt_of, max_waiting};
 ghost use Rattle.tt_stamp.specs.Book.{IsReleaseTurn};
 ghost use Rattle.tt_stamp.specs.Ids.{id_cmp};
 ghost use Rattle.tt_stamp.specs.declared.commits.Id.{Id};

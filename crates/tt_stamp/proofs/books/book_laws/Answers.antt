@@ -1,5 +1,6 @@
-use Rattle.tt_stamp.proofs.Histories.{first_queue_fault-none-iff, first_queue_fault-full-iff, first_queue_fault-id-iff, first_queue_fault-stamp-iff}
-use Rattle.tt_stamp.proofs.Releases.{IsRelease-release_of, IsLegalHistory-release, IsStrictlyIncreasing-waiting_of, reverse-with_receipts}
+use Rattle.tt_stamp.proofs.Histories.{first_queue_fault-full-iff, first_queue_fault-id-iff, first_queue_fault-stamp-iff}
+use Rattle.tt_stamp.proofs.Releases.{IsStrictlyIncreasing-waiting_of}
+use Rattle.tt_stamp.proofs.Laws.{first_queue_fault-none-iff, IsRelease-release_of, IsLegalHistory-release, reverse-with_receipts}
 use Rattle.tt_stamp.proofs.Waits.{waits_iff}
 use Rattle.tt_stamp.proofs.books.book_laws.Goals as goal
 
