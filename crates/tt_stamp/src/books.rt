@@ -78,6 +78,7 @@ impl Book {
         match self.standings.insert(id, Standing::Waits) {
             Ok(None) => {}
             Ok(Some(standing)) => {
+                // It stays where it stood.
                 set_standing(&mut self.standings, id, standing);
                 return Err(BookFault::IdThere);
             }
