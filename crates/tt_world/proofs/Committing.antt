@@ -168,19 +168,15 @@ releasing_with configs past m w receipt book (Some reading) e contained = record
 }
 
 releasing_by : (configs : List Configuration) (past : List Event) (action : Action) (receipts : List Receipt) (receipt : Receipt) → reply_to configs past action ≡ Released receipts → Contains receipts receipt → IsReleasing configs past receipt
-releasing_by configs past (does.Send m i clock) receipts receipt h contained = absurd cc
-releasing_by configs past (does.Answer p span) receipts receipt h contained = absurd cc
-releasing_by configs past (does.Forge m i payload) receipts receipt h contained = absurd cc
 releasing_by configs past (does.Deliver p clock) receipts receipt h contained = absurd (no_release_of_packet past clock (slice_get (packets_of past) p) receipts h)
 releasing_by configs past (does.Fuse m clock) receipts receipt h contained =
     absurd (no_release_fused (length (publications_of (config_at configs m) past m)) (fusion_of (config_at configs m) past m clock) receipts h)
-releasing_by configs past (does.Read m w clock k) receipts receipt h contained = absurd cc
-releasing_by configs past (does.Arrive m w id floor) receipts receipt h contained = absurd cc
 releasing_by configs past (does.Stamp m w) receipts receipt h contained = absurd (no_release_stamped (stamping_of (config_at configs m) past m w) receipts h)
 releasing_by configs past (does.Queue m w) receipts receipt h contained = absurd (no_release_queued (queueing_of (config_at configs m) past m w) receipts h)
 releasing_by configs past (does.Release m w) receipts receipt h contained =
     let same = same_receipts (released_with (book_of (config_at configs m) past m) (reading_of (config_at configs m) past m w)) receipts h in
     releasing_with configs past m w receipt (book_of (config_at configs m) past m) (reading_of (config_at configs m) past m w) refl (subst (λ (rs : List Receipt). Contains rs receipt) (sym same) contained)
+releasing_by configs past _ receipts receipt h contained = absurd cc
 
 -- a commit that is released
 pub releasing : (configs : List Configuration) (past : List Event) (event : Event) (receipts : List Receipt) (receipt : Receipt) → reply_of configs past event ≡ Released receipts → Contains receipts receipt → IsReleasing configs (accepted configs past) receipt

@@ -6,7 +6,7 @@ use Rattle.tt_span.specs.Interval.{Holds}
 use Rattle.tt_span.specs.Drift.{Moment, KeepsDrift}
 use Rattle.tt_world.specs.declared.events.Event.{Event}
 use Rattle.tt_world.specs.declared.events.Action.{Action}
-use Rattle.tt_world.specs.declared.events.Action.TheVariants.{Send, Answer, Forge, Deliver, Fuse, Read, Arrive, Stamp, Queue, Release}
+use Rattle.tt_world.specs.declared.events.Action.TheVariants.{Fuse}
 use Rattle.tt_world.specs.declared.publications.Publication.{Publication}
 use Rattle.tt_daemon.specs.Config.{Configuration, IsConfiguration}
 use Rattle.tt_world.specs.Config.{config_at}
@@ -50,10 +50,6 @@ some_if true clock other h = (refl, cc)
 some_if false clock other h = absurd cc
 
 fusing_of : (configs : List Configuration) (past : List Event) (m : ℕ) (action : Action) (clock : ℕ) → fuses_at m action ≡ Some clock → IsFusing configs past m action clock
-fusing_of configs past m (Send machine source c) clock h = absurd cc
-fusing_of configs past m (Answer packet span) clock h = absurd cc
-fusing_of configs past m (Forge machine source payload) clock h = absurd cc
-fusing_of configs past m (Deliver packet c) clock h = absurd cc
 fusing_of configs past m (Fuse machine c) clock h =
     let parts = some_if (eqb machine m) c clock h in
     let same : machine ≡ m = eqb-true machine m parts.0 in
@@ -61,11 +57,7 @@ fusing_of configs past m (Fuse machine c) clock h =
       reads = ap (λ (k : ℕ). reading_on k c) same ∙ ap (λ (k : ℕ). reading_on m k) parts.1;
       few = subst (λ (k : ℕ). false_count (config_at configs machine) past machine ≤ (config_at configs machine).faulty → false_count (config_at configs k) past k ≤ (config_at configs k).faulty) same (λ few. few);
     }
-fusing_of configs past m (Read machine worker c publication) clock h = absurd cc
-fusing_of configs past m (Arrive machine worker id floor) clock h = absurd cc
-fusing_of configs past m (Stamp machine worker) clock h = absurd cc
-fusing_of configs past m (Queue machine worker) clock h = absurd cc
-fusing_of configs past m (Release machine worker) clock h = absurd cc
+fusing_of configs past m _ clock h = absurd cc
 
 -- the premises of a run up to its last event, for machine m
 record IsKept (configs : List Configuration) (past : List Event) (m : ℕ) : Type 0 where

@@ -12,7 +12,7 @@ use Rattle.tt_poll.specs.Reading.{read_of}
 use Rattle.tt_source.specs.Table.{statement_of_message}
 use Rattle.tt_world.specs.declared.events.Event.{Event}
 use Rattle.tt_world.specs.declared.events.Action.{Action}
-use Rattle.tt_world.specs.declared.events.Action.TheVariants.{Send, Answer, Forge, Deliver, Fuse, Read, Arrive, Stamp, Queue, Release}
+use Rattle.tt_world.specs.declared.events.Action.TheVariants.{Send, Answer, Forge, Deliver, Fuse, Read}
 use Rattle.tt_world.specs.declared.packets.Packet.{Packet}
 use Rattle.tt_world.specs.declared.packets.Packet.TheVariants.{Asked, Answered, Forged}
 use Rattle.tt_daemon.specs.Config.{Configuration}
@@ -35,15 +35,7 @@ no_fewer n packets more h = omega (arith, length-append packets more)
 sends_more : (past : List Event) (m : ℕ) (action : Action) → sends_of past m ≤ length (packets_of past)
     → cond (is_send_of m action) (sends_of past m + 1) (sends_of past m) ≤ length (packets_of past ++ put_by (sends_of past) (packets_of past) action)
 sends_more past m (Send machine source clock) h = one_more (sends_of past m) (packets_of past) _ (eqb machine m) h
-sends_more past m (Answer packet span) h = no_fewer (sends_of past m) (packets_of past) _ h
-sends_more past m (Forge machine source payload) h = no_fewer (sends_of past m) (packets_of past) _ h
-sends_more past m (Deliver packet clock) h = no_fewer (sends_of past m) (packets_of past) _ h
-sends_more past m (Fuse machine clock) h = no_fewer (sends_of past m) (packets_of past) _ h
-sends_more past m (Read machine worker clock publication) h = no_fewer (sends_of past m) (packets_of past) _ h
-sends_more past m (Arrive machine worker id floor) h = no_fewer (sends_of past m) (packets_of past) _ h
-sends_more past m (Stamp machine worker) h = no_fewer (sends_of past m) (packets_of past) _ h
-sends_more past m (Queue machine worker) h = no_fewer (sends_of past m) (packets_of past) _ h
-sends_more past m (Release machine worker) h = no_fewer (sends_of past m) (packets_of past) _ h
+sends_more past m _ h = no_fewer (sends_of past m) (packets_of past) _ h
 
 pub sends_of-le-packets : (past : List Event) (m : ℕ) → sends_of past m ≤ length (packets_of past)
 sends_of-le-packets [] m = omega arith
@@ -75,17 +67,12 @@ polled_more : (past : List Event) (m at : ℕ) (action : Action) → goes_back (
     → polled_clock_of past m ≤ clock_of past m → polled_clock_of (happens at action ∷ past) m ≤ clock_of (happens at action ∷ past) m
 polled_more past m at (Send machine source clock) fresh h =
     below_reading (λ b. b) (eqb machine m) clock (polled_clock_of past m) (clock_of past m) refl (not_below (clock_of past) machine clock m fresh) h
-polled_more past m at (Answer packet span) fresh h = h
-polled_more past m at (Forge machine source payload) fresh h = h
 polled_more past m at (Deliver packet clock) fresh h = below_delivery past m clock (slice_get (packets_of past) packet) fresh h
 polled_more past m at (Fuse machine clock) fresh h =
     below_reading (λ b. false) (eqb machine m) clock (polled_clock_of past m) (clock_of past m) refl (not_below (clock_of past) machine clock m fresh) h
 polled_more past m at (Read machine worker clock publication) fresh h =
     below_reading (λ b. false) (eqb machine m) clock (polled_clock_of past m) (clock_of past m) refl (not_below (clock_of past) machine clock m fresh) h
-polled_more past m at (Arrive machine worker id floor) fresh h = h
-polled_more past m at (Stamp machine worker) fresh h = h
-polled_more past m at (Queue machine worker) fresh h = h
-polled_more past m at (Release machine worker) fresh h = h
+polled_more past m at _ fresh h = h
 
 -- ---- packets go to machines that are there, from sources that they ask
 
@@ -111,13 +98,7 @@ module _ (configs : List Configuration) where
   known_put sends packets (Send machine source clock) named all = All-one (HasItsSource configs) _ (not-false (has_source configs machine source) named)
   known_put sends packets (Answer packet span) named all = known_answer packets packet span (slice_get packets packet) refl all
   known_put sends packets (Forge machine source payload) named all = All-one (HasItsSource configs) _ (not-false (has_source configs machine source) named)
-  known_put sends packets (Deliver packet clock) named all = All-nil (HasItsSource configs)
-  known_put sends packets (Fuse machine clock) named all = All-nil (HasItsSource configs)
-  known_put sends packets (Read machine worker clock publication) named all = All-nil (HasItsSource configs)
-  known_put sends packets (Arrive machine worker id floor) named all = All-nil (HasItsSource configs)
-  known_put sends packets (Stamp machine worker) named all = All-nil (HasItsSource configs)
-  known_put sends packets (Queue machine worker) named all = All-nil (HasItsSource configs)
-  known_put sends packets (Release machine worker) named all = All-nil (HasItsSource configs)
+  known_put sends packets _ named all = All-nil (HasItsSource configs)
 
   -- ---- both, after every run
 

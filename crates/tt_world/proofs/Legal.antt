@@ -16,7 +16,7 @@ use Rattle.tt_stamp.specs.declared.faults.BookFault.{BookFault}
 use Rattle.tt_stamp.specs.History.{waiting_of, stamp_on, MayQueue, IsNextReceipt, IsLegalHistory, IsRelease, release_of, with_receipts, first_queue_fault}
 use Rattle.tt_world.specs.declared.events.Event.{Event}
 use Rattle.tt_world.specs.declared.events.Action.{Action}
-use Rattle.tt_world.specs.declared.events.Action.TheVariants.{Send, Answer, Forge, Deliver, Fuse, Read, Arrive, Stamp, Queue, Release}
+use Rattle.tt_world.specs.declared.events.Action.TheVariants.{Queue, Release}
 use Rattle.tt_world.specs.declared.workers.Arrival.{Arrival}
 use Rattle.tt_daemon.specs.Config.{Configuration}
 use Rattle.tt_world.specs.Commits.{arrival_of, reading_of, stamp_held, with_queued, released_with, book_after, book_of}
@@ -130,18 +130,11 @@ module _ (laws : BookLaws) where
   legal_either false here other h o = o
 
   legal_after : (config : Configuration) (past : List Event) (m : ℕ) (book : List Entry) (action : Action) → IsLegalHistory book → IsLegalHistory (book_after config past m book action)
-  legal_after config past m book (Send machine source clock) legal = legal
-  legal_after config past m book (Answer packet span) legal = legal
-  legal_after config past m book (Forge machine source payload) legal = legal
-  legal_after config past m book (Deliver packet clock) legal = legal
-  legal_after config past m book (Fuse machine clock) legal = legal
-  legal_after config past m book (Read machine worker clock publication) legal = legal
-  legal_after config past m book (Arrive machine worker id floor) legal = legal
-  legal_after config past m book (Stamp machine worker) legal = legal
   legal_after config past m book (Queue machine worker) legal =
       legal_either (machine == m) _ book (legal_queued book (arrival_of past m worker) (stamp_held config past m worker) legal) legal
   legal_after config past m book (Release machine worker) legal =
       legal_either (machine == m) _ book (legal_released book (reading_of config past m worker) legal) legal
+  legal_after config past m book _ legal = legal
 
   -- the book of a machine is a legal history, whatever the events
   pub legal_book : (config : Configuration) (past : List Event) (m : ℕ) → IsLegalHistory (book_of config past m)

@@ -7,7 +7,7 @@ use Rattle.std.proofs.lemmas.Option.{slice_get_within}
 use Rattle.tt_span.specs.Interval.{Interval, Holds, IsInterval}
 use Rattle.tt_world.specs.declared.events.Event.{Event}
 use Rattle.tt_world.specs.declared.events.Action.{Action}
-use Rattle.tt_world.specs.declared.events.Action.TheVariants.{Send, Answer, Forge, Deliver, Fuse, Read, Arrive, Stamp, Queue, Release}
+use Rattle.tt_world.specs.declared.events.Action.TheVariants.{Send, Answer, Forge}
 use Rattle.tt_world.specs.declared.packets.Packet.{Packet}
 use Rattle.tt_world.specs.declared.packets.Packet.TheVariants.{Asked, Answered, Forged}
 use Rattle.tt_daemon.specs.Config.{Configuration}
@@ -45,13 +45,7 @@ new_nonce sends packets m (Send machine source clock) k packet h e =
     subst (λ (p : Packet). nonce_of m p ≤ cond (eqb machine m) (sends m + 1) (sends m)) (get_one _ packet k e) (sent_nonce sends m machine (eqb machine m) refl)
 new_nonce sends packets m (Answer p span) k packet h e = answered_nonce m (sends m) k (slice_get packets p) span packet (h p) e
 new_nonce sends packets m (Forge machine source payload) k packet h e = subst (λ (p : Packet). nonce_of m p ≤ sends m) (get_one _ packet k e) (omega arith)
-new_nonce sends packets m (Deliver p clock) k packet h e = absurd cc
-new_nonce sends packets m (Fuse machine clock) k packet h e = absurd cc
-new_nonce sends packets m (Read machine worker clock publication) k packet h e = absurd cc
-new_nonce sends packets m (Arrive machine worker id floor) k packet h e = absurd cc
-new_nonce sends packets m (Stamp machine worker) k packet h e = absurd cc
-new_nonce sends packets m (Queue machine worker) k packet h e = absurd cc
-new_nonce sends packets m (Release machine worker) k packet h e = absurd cc
+new_nonce sends packets m _ k packet h e = absurd cc
 
 -- a packet that an event put, by its place among those that the event put
 pub put_place : (past : List Event) (event : Event) (p : ℕ) (packet : Packet) → length (packets_of past) ≤ p → slice_get (packets_of (event ∷ past)) p ≡ Some packet →
@@ -87,14 +81,7 @@ honest_answer at k (Some (Forged machine source payload)) span packet valid h e 
 honest_put : (sends : ℕ → ℕ) (packets : List Packet) (at : ℕ) (action : Action) (k : ℕ) (packet : Packet) → IsAction action → slice_get (put_by sends packets action) k ≡ Some packet → is_lie at action ≡ false → IsHonest at packet
 honest_put sends packets at (Send machine source clock) k packet valid e h = subst (IsHonest at) (get_one _ packet k e) tt
 honest_put sends packets at (Answer p span) k packet valid e h = honest_answer at k (slice_get packets p) span packet valid h e
-honest_put sends packets at (Forge machine source payload) k packet valid e h = absurd cc
-honest_put sends packets at (Deliver p clock) k packet valid e h = absurd cc
-honest_put sends packets at (Fuse machine clock) k packet valid e h = absurd cc
-honest_put sends packets at (Read machine worker clock publication) k packet valid e h = absurd cc
-honest_put sends packets at (Arrive machine worker id floor) k packet valid e h = absurd cc
-honest_put sends packets at (Stamp machine worker) k packet valid e h = absurd cc
-honest_put sends packets at (Queue machine worker) k packet valid e h = absurd cc
-honest_put sends packets at (Release machine worker) k packet valid e h = absurd cc
+honest_put sends packets at _ k packet valid e h = absurd cc
 
 -- the event that put packet p, and what the packet says where that was no lie
 pub record HasOrigin (past : List Event) (p : ℕ) (packet : Packet) : Type 0 where

@@ -8,7 +8,7 @@ use Rattle.tt_span.specs.Drift.{Moment}
 use Rattle.tt_source.specs.Table.{Sending}
 use Rattle.tt_world.specs.declared.events.Event.{Event}
 use Rattle.tt_world.specs.declared.events.Action.{Action}
-use Rattle.tt_world.specs.declared.events.Action.TheVariants.{Send, Answer, Forge, Deliver, Fuse, Read, Arrive, Stamp, Queue, Release}
+use Rattle.tt_world.specs.declared.events.Action.TheVariants.{Send}
 use Rattle.tt_world.specs.declared.packets.Packet.{Packet}
 use Rattle.tt_daemon.specs.Config.{Configuration}
 use Rattle.tt_world.specs.Past.{time_of, sends_of, put_by, packets_of, clock_reading, clock_of, moments_of}
@@ -40,15 +40,7 @@ sending_of packets nonce m i (Send machine source clock) sending h =
     let clock_is : clock ≡ sending.clock = ap (λ (s : Sending). s.clock) parts.1 in
     let nonce_is : nonce ≡ sending.nonce = ap (λ (s : Sending). s.nonce) parts.1 in
     (ap (λ (k : ℕ). reading_on k clock) same ∙ ap (λ (c : ℕ). reading_on m c) clock_is, sym nonce_is)
-sending_of packets nonce m i (Answer p span) sending h = absurd cc
-sending_of packets nonce m i (Forge machine source payload) sending h = absurd cc
-sending_of packets nonce m i (Deliver p clock) sending h = absurd cc
-sending_of packets nonce m i (Fuse machine clock) sending h = absurd cc
-sending_of packets nonce m i (Read machine worker clock publication) sending h = absurd cc
-sending_of packets nonce m i (Arrive machine worker id floor) sending h = absurd cc
-sending_of packets nonce m i (Stamp machine worker) sending h = absurd cc
-sending_of packets nonce m i (Queue machine worker) sending h = absurd cc
-sending_of packets nonce m i (Release machine worker) sending h = absurd cc
+sending_of packets nonce m i _ sending h = absurd cc
 
 same_event : (a b : Event) (o : Option Event) → o ≡ Some a → o ≡ Some b → a ≡ b
 same_event a b o h k = cc

@@ -145,21 +145,17 @@ read_holds_at laws configs configurations past events at m w clock k not_bad mee
 
 read_holds_by_action : FusionLaws → (configs : List Configuration) → AreConfigurations configs → (past : List Event) → AreEvents past → (at : ℕ) (action : Action) (reading : Interval) →
     first_bad configs (accepted configs past) (record { at = at; action = action }) ≡ None → reply_to configs (accepted configs past) action ≡ Read reading → MeetsAssumptions configs (record { at = at; action = action } ∷ past) → Holds reading at
-read_holds_by_action laws configs configurations past events at (does.Send m i clock) reading not_bad h meets = absurd cc
-read_holds_by_action laws configs configurations past events at (does.Answer p span) reading not_bad h meets = absurd cc
-read_holds_by_action laws configs configurations past events at (does.Forge m i payload) reading not_bad h meets = absurd cc
 read_holds_by_action laws configs configurations past events at (does.Deliver p clock) reading not_bad h meets = absurd (no_reading_of_packet (accepted configs past) clock (slice_get (packets_of (accepted configs past)) p) reading h)
 read_holds_by_action laws configs configurations past events at (does.Fuse m clock) reading not_bad h meets =
     absurd (no_reading_fused (length (publications_of (config_at configs m) (accepted configs past) m)) (fusion_of (config_at configs m) (accepted configs past) m clock) reading h)
 read_holds_by_action laws configs configurations past events at (does.Read m w clock k) reading not_bad h meets =
     subst (λ (i : Interval). Holds i at) (same_reading (reading_at (config_at configs m).drift (publication_at (publications_of (config_at configs m) (accepted configs past) m) k) clock) reading h)
     (read_holds_at laws configs configurations past events at m w clock k not_bad meets)
-read_holds_by_action laws configs configurations past events at (does.Arrive m w id floor) reading not_bad h meets = absurd cc
 read_holds_by_action laws configs configurations past events at (does.Stamp m w) reading not_bad h meets =
     absurd (no_reading_stamped (stamping_of (config_at configs m) (accepted configs past) m w) reading h)
 read_holds_by_action laws configs configurations past events at (does.Queue m w) reading not_bad h meets =
     absurd (no_reading_queued (queueing_of (config_at configs m) (accepted configs past) m w) reading h)
-read_holds_by_action laws configs configurations past events at (does.Release m w) reading not_bad h meets = absurd cc
+read_holds_by_action laws configs configurations past events at _ reading not_bad h meets = absurd cc
 
 -- a reading holds the true time, if the run keeps the assumptions up to then
 pub reading_holds : FusionLaws → (configs : List Configuration) → AreConfigurations configs → (past : List Event) → AreEvents past → (event : Event) (reading : Interval) → reply_of configs past event ≡ Read reading → MeetsAssumptions configs (event ∷ past) → Holds reading event.at

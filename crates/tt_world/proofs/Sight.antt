@@ -7,7 +7,7 @@ use Rattle.std.proofs.lemmas.Option.{same_Some}
 use Rattle.tt_span.specs.Interval.{Interval, Holds}
 use Rattle.tt_world.specs.declared.events.Event.{Event}
 use Rattle.tt_world.specs.declared.events.Action.{Action}
-use Rattle.tt_world.specs.declared.events.Action.TheVariants.{Send, Answer, Forge, Deliver, Fuse, Read, Arrive, Stamp, Queue, Release}
+use Rattle.tt_world.specs.declared.events.Action.TheVariants.{Read, Arrive}
 use Rattle.tt_stamp.specs.declared.commits.Id.{Id}
 use Rattle.tt_daemon.specs.Config.{Configuration}
 use Rattle.tt_world.specs.Config.{config_at}
@@ -39,21 +39,13 @@ taken_holds laws configs configurations past at m w clock k sound =
 
 read_by_holds : FusionLaws → (configs : List Configuration) → AreConfigurations configs → (past : List Event) (at : ℕ) (action : Action) (m w : ℕ) (r : Interval) → IsSound configs (record { at = at; action = action } ∷ past) →
     read_by (config_at configs m) past m w action ≡ Some r → Holds r at
-read_by_holds laws configs configurations past at (Send machine source clock) m w r sound h = absurd cc
-read_by_holds laws configs configurations past at (Answer packet span) m w r sound h = absurd cc
-read_by_holds laws configs configurations past at (Forge machine source payload) m w r sound h = absurd cc
-read_by_holds laws configs configurations past at (Deliver packet clock) m w r sound h = absurd cc
-read_by_holds laws configs configurations past at (Fuse machine clock) m w r sound h = absurd cc
 read_by_holds laws configs configurations past at (Read machine worker clock k) m w r sound h =
     let parts = some_if (eqb machine m && eqb worker w) (reading_at (config_at configs m).drift (publication_at (publications_of (config_at configs m) past m) k) clock) r h in
     let here = and_parts (eqb machine m) (eqb worker w) parts.0 in
     subst (λ (i : Interval). Holds i at) parts.1
     (subst (λ (j : ℕ). Holds (reading_at (config_at configs j).drift (publication_at (publications_of (config_at configs j) past j) k) clock) at) (eqb-true machine m here.0)
     (taken_holds laws configs configurations past at machine worker clock k sound))
-read_by_holds laws configs configurations past at (Arrive machine worker id floor) m w r sound h = absurd cc
-read_by_holds laws configs configurations past at (Stamp machine worker) m w r sound h = absurd cc
-read_by_holds laws configs configurations past at (Queue machine worker) m w r sound h = absurd cc
-read_by_holds laws configs configurations past at (Release machine worker) m w r sound h = absurd cc
+read_by_holds laws configs configurations past at _ m w r sound h = absurd cc
 
 -- ---- the last reading
 

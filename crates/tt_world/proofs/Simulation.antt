@@ -8,7 +8,7 @@ use Rattle.tt_source.specs.declared.faults.SourceFault.{SourceFault}
 use Rattle.tt_source.specs.declared.faults.SourceFault.TheVariants.{NoSource, ClockBack, NoncesUsedUp, BadMessage, NotMine, NotOutstanding}
 use Rattle.tt_world.specs.declared.events.Event.{Event}
 use Rattle.tt_world.specs.declared.events.Action.{Action}
-use Rattle.tt_world.specs.declared.events.Action.TheVariants.{Send, Answer, Forge, Deliver, Fuse, Read, Arrive, Stamp, Queue, Release}
+use Rattle.tt_world.specs.declared.events.Action.TheVariants.{Send}
 use Rattle.tt_world.specs.declared.events.Reply.{Reply}
 use Rattle.tt_daemon.specs.Config.{Configuration}
 use Rattle.tt_world.specs.Config.{config_at}
@@ -88,15 +88,7 @@ module _ (configs : List Configuration) (past : List Event) where
       let taken : number < 1201 = IsTaken-after_poll (state_of configs past) at m s clock (machine_of (config_at configs m) past m) _ number
       (ap (λ (o : Outcome). o.reply) (sym (stepped-polled at m s clock good) ∙ did)) in
       absurd (omega (arith, taken, above))
-  room_if_refused number at (Answer packet span) above did good = tt
-  room_if_refused number at (Forge m s payload) above did good = tt
-  room_if_refused number at (Deliver packet clock) above did good = tt
-  room_if_refused number at (Fuse m clock) above did good = tt
-  room_if_refused number at (Read m w clock k) above did good = tt
-  room_if_refused number at (Arrive m w id floor) above did good = tt
-  room_if_refused number at (Stamp m w) above did good = tt
-  room_if_refused number at (Queue m w) above did good = tt
-  room_if_refused number at (Release m w) above did good = tt
+  room_if_refused number at _ above did good = tt
 
 -- the same after any run, bad events among them
 pub simulation-refused : (configs : List Configuration) (past : List Event) (event : Event) (number : ℕ) → 1201 ≤ number

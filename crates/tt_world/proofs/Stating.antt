@@ -20,7 +20,7 @@ use Rattle.tt_source.specs.declared.faults.SourceFault.{SourceFault}
 use Rattle.tt_source.specs.declared.faults.SourceFault.TheVariants.{NotMine}
 use Rattle.tt_world.specs.declared.events.Event.{Event}
 use Rattle.tt_world.specs.declared.events.Action.{Action}
-use Rattle.tt_world.specs.declared.events.Action.TheVariants.{Send, Answer, Forge, Deliver, Fuse, Read, Arrive, Stamp, Queue, Release}
+use Rattle.tt_world.specs.declared.events.Action.TheVariants.{Answer, Deliver}
 use Rattle.tt_world.specs.declared.packets.Packet.{Packet}
 use Rattle.tt_world.specs.declared.packets.Packet.TheVariants.{Asked, Answered, Forged}
 use Rattle.tt_daemon.specs.Config.{Configuration}
@@ -116,16 +116,8 @@ taken_of_packet packets m i waiting place clock s (Some packet) e h =
     }
 
 taken_of : (packets : List Packet) (m i : ℕ) (waiting : Option Sending) (action : Action) (s : Statement) → stated_by packets m i waiting action ≡ Some s → IsTaken packets m i waiting action s
-taken_of packets m i waiting (Send machine source clock) s h = absurd cc
-taken_of packets m i waiting (Answer packet span) s h = absurd cc
-taken_of packets m i waiting (Forge machine source payload) s h = absurd cc
 taken_of packets m i waiting (Deliver place clock) s h = taken_of_packet packets m i waiting place clock s (slice_get packets place) refl h
-taken_of packets m i waiting (Fuse machine clock) s h = absurd cc
-taken_of packets m i waiting (Read machine worker clock publication) s h = absurd cc
-taken_of packets m i waiting (Arrive machine worker id floor) s h = absurd cc
-taken_of packets m i waiting (Stamp machine worker) s h = absurd cc
-taken_of packets m i waiting (Queue machine worker) s h = absurd cc
-taken_of packets m i waiting (Release machine worker) s h = absurd cc
+taken_of packets m i waiting _ s h = absurd cc
 
 -- the packet of a statement was put
 packet_put_after : (past : List Event) (event : Event) (m i p : ℕ) (stated : Option Statement) → stated_by (packets_of past) m i (outstanding past m i) event.action ≡ stated → (packet_of_statement past m i ≡ Some p → p < length (packets_of past)) →

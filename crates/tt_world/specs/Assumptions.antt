@@ -5,7 +5,7 @@ use Rattle.std.specs.Option.{option_and_then}
 use Rattle.tt_span.specs.Drift.{KeepsDrift}
 use Rattle.tt_world.specs.declared.events.Event.{Event}
 use Rattle.tt_world.specs.declared.events.Action.{Action}
-use Rattle.tt_world.specs.declared.events.Action.TheVariants.{Send, Answer, Forge, Deliver, Fuse, Read, Arrive, Stamp, Queue, Release}
+use Rattle.tt_world.specs.declared.events.Action.TheVariants.{Answer, Forge, Deliver, Fuse}
 use Rattle.tt_daemon.specs.Config.{Configuration}
 use Rattle.tt_world.specs.Config.{config_at}
 use Rattle.tt_world.specs.Past.{packets_of, moments_of}
@@ -22,16 +22,8 @@ origin_of (event ∷ past) p =
 
 -- the packet that an event delivers, if it delivers one
 abbrev pub delivered_by : Action → Option ℕ
-delivered_by (Send machine source clock) = None
-delivered_by (Answer packet span) = None
-delivered_by (Forge machine source payload) = None
 delivered_by (Deliver packet clock) = Some packet
-delivered_by (Fuse machine clock) = None
-delivered_by (Read machine worker clock publication) = None
-delivered_by (Arrive machine worker id floor) = None
-delivered_by (Stamp machine worker) = None
-delivered_by (Queue machine worker) = None
-delivered_by (Release machine worker) = None
+delivered_by _ = None
 
 -- the packet that made the statement of source i on machine m, if there is a statement
 abbrev pub packet_of_statement : List Event → ℕ → ℕ → Option ℕ
@@ -42,16 +34,9 @@ packet_of_statement (event ∷ past) m i =
 
 -- whether an action at a true time puts a lie on its way: bytes that were made up, or an answer whose span does not hold that time
 abbrev pub is_lie : ℕ → Action → Bool
-is_lie at (Send machine source clock) = false
 is_lie at (Answer packet span) = not (nat_le span.lo at && nat_le at span.hi)
 is_lie at (Forge machine source payload) = true
-is_lie at (Deliver packet clock) = false
-is_lie at (Fuse machine clock) = false
-is_lie at (Read machine worker clock publication) = false
-is_lie at (Arrive machine worker id floor) = false
-is_lie at (Stamp machine worker) = false
-is_lie at (Queue machine worker) = false
-is_lie at (Release machine worker) = false
+is_lie at _ = false
 
 -- whether an event, if there is one, puts a lie on its way
 abbrev pub is_lying : Option Event → Bool
@@ -68,16 +53,8 @@ false_count config past m = count_by (λ i. is_false_statement past m i) (range_
 
 -- where an action fuses, no more statements of that machine are false than may be
 abbrev pub HasFewFalse : List Configuration → List Event → Action → Type 0
-HasFewFalse configs past (Send machine source clock) = Unit {0}
-HasFewFalse configs past (Answer packet span) = Unit {0}
-HasFewFalse configs past (Forge machine source payload) = Unit {0}
-HasFewFalse configs past (Deliver packet clock) = Unit {0}
 HasFewFalse configs past (Fuse machine clock) = false_count (config_at configs machine) past machine ≤ (config_at configs machine).faulty
-HasFewFalse configs past (Read machine worker clock publication) = Unit {0}
-HasFewFalse configs past (Arrive machine worker id floor) = Unit {0}
-HasFewFalse configs past (Stamp machine worker) = Unit {0}
-HasFewFalse configs past (Queue machine worker) = Unit {0}
-HasFewFalse configs past (Release machine worker) = Unit {0}
+HasFewFalse configs past _ = Unit {0}
 
 -- at every fusion that was not bad few statements were false
 abbrev pub FewLie : List Configuration → List Event → Type 0

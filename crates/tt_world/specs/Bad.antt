@@ -51,16 +51,9 @@ can_be_delivered (Some packet) = not (is_asked packet)
 
 -- the event wants a packet that was not put, or one of the other kind
 abbrev pub lacks_packet : List Packet → Action → Bool
-lacks_packet packets (Send machine source clock) = false
 lacks_packet packets (Answer packet span) = not (is_request (slice_get packets packet))
-lacks_packet packets (Forge machine source payload) = false
 lacks_packet packets (Deliver packet clock) = not (can_be_delivered (slice_get packets packet))
-lacks_packet packets (Fuse machine clock) = false
-lacks_packet packets (Read machine worker clock publication) = false
-lacks_packet packets (Arrive machine worker id floor) = false
-lacks_packet packets (Stamp machine worker) = false
-lacks_packet packets (Queue machine worker) = false
-lacks_packet packets (Release machine worker) = false
+lacks_packet packets _ = false
 
 -- a reading of a clock that went back, where clocks says what each clock showed last, or one past the greatest time
 abbrev pub goes_back : (ℕ → ℕ) → Option ClockReading → Bool
@@ -73,17 +66,9 @@ is_unreadable publications seen k = k == 0 || nat_lt publications k || nat_lt k 
 
 -- the event reads from a publication that is not there, or older than one that its worker has read from
 abbrev pub lacks_publication : List Configuration → List Event → Action → Bool
-lacks_publication configs past (Send machine source clock) = false
-lacks_publication configs past (Answer packet span) = false
-lacks_publication configs past (Forge machine source payload) = false
-lacks_publication configs past (Deliver packet clock) = false
-lacks_publication configs past (Fuse machine clock) = false
 lacks_publication configs past (Read machine worker clock publication) =
     is_unreadable (length (publications_of (config_at configs machine) past machine)) (seen_of past machine worker) publication
-lacks_publication configs past (Arrive machine worker id floor) = false
-lacks_publication configs past (Stamp machine worker) = false
-lacks_publication configs past (Queue machine worker) = false
-lacks_publication configs past (Release machine worker) = false
+lacks_publication configs past _ = false
 
 -- a task is there and has no stamp yet
 abbrev pub is_arrived : Option Task → Bool
@@ -99,18 +84,12 @@ is_stamped (Some (Stamped id stamp)) = true
 
 -- the event wants a task or a reading of its worker that is not there: to stamp, a task without a stamp and a reading since the worker was asked for it; to queue, a task with a stamp; to release, any reading
 abbrev pub lacks_its_thing : List Configuration → List Event → Action → Bool
-lacks_its_thing configs past (Send machine source clock) = false
-lacks_its_thing configs past (Answer packet span) = false
-lacks_its_thing configs past (Forge machine source payload) = false
-lacks_its_thing configs past (Deliver packet clock) = false
-lacks_its_thing configs past (Fuse machine clock) = false
-lacks_its_thing configs past (Read machine worker clock publication) = false
-lacks_its_thing configs past (Arrive machine worker id floor) = false
 lacks_its_thing configs past (Stamp machine worker) =
     not (is_arrived (task_of (config_at configs machine) past machine worker))
     || not (is_some (reading_since (config_at configs machine) past machine worker))
 lacks_its_thing configs past (Queue machine worker) = not (is_stamped (task_of (config_at configs machine) past machine worker))
 lacks_its_thing configs past (Release machine worker) = not (is_some (reading_of (config_at configs machine) past machine worker))
+lacks_its_thing configs past _ = false
 
 -- true time falls, or passes the greatest time
 abbrev pub breaks_time : List Event → Event → Bool

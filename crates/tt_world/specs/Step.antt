@@ -299,15 +299,7 @@ stepped world event =
 -- where the action polls, fewer packets were put than a nonce can count
 abbrev pub HasRoom : WorldState → Action → Type 0
 HasRoom world (Send m i clock) = length world.packets < 2 ^ 64 - 1
-HasRoom world (Answer packet span) = Unit {0}
-HasRoom world (Forge m i payload) = Unit {0}
-HasRoom world (Deliver packet clock) = Unit {0}
-HasRoom world (Fuse m clock) = Unit {0}
-HasRoom world (Read m w clock k) = Unit {0}
-HasRoom world (Arrive m w id floor) = Unit {0}
-HasRoom world (Stamp m w) = Unit {0}
-HasRoom world (Queue m w) = Unit {0}
-HasRoom world (Release m w) = Unit {0}
+HasRoom world _ = Unit {0}
 
 -- the reply is none to a bad event: it has no number of this crate
 abbrev pub IsTaken : Reply → Type 0
