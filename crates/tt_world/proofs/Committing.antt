@@ -16,6 +16,7 @@ use Rattle.tt_stamp.specs.declared.faults.StampFault.{StampFault}
 use Rattle.tt_stamp.specs.declared.faults.BookFault.{BookFault}
 use Rattle.tt_stamp.specs.Stamp.{IsAnswer, stamp_of}
 use Rattle.tt_stamp.specs.History.{waiting_of, release_of}
+use Rattle.tt_world.specs.declared.faults.WorldFault.{WorldFault}
 use Rattle.tt_world.specs.declared.events.Event.{Event}
 use Rattle.tt_world.specs.declared.events.Action.{Action}
 use Rattle.tt_world.specs.declared.events.Action.TheVariants as does
@@ -41,7 +42,7 @@ StampLaws = (given : List ℕ) (latest floor : ℕ) → IsAnswer given latest fl
 
 -- ---- commits that are asked for
 
-arrived_not_bad : (reason : Option ℕ) (reply : Reply) → reply_unless_bad reason reply ≡ Arrived → reason ≡ None
+arrived_not_bad : (reason : Option WorldFault) (reply : Reply) → reply_unless_bad reason reply ≡ Arrived → reason ≡ None
 arrived_not_bad None reply h = refl
 arrived_not_bad (Some number) reply h = absurd cc
 
@@ -51,7 +52,7 @@ arrival_not_bad configs past event h = arrived_not_bad (first_bad configs (accep
 
 -- ---- stamps
 
-stamped_not_bad : (reason : Option ℕ) (reply : Reply) (s : ℕ) → reply_unless_bad reason reply ≡ Stamped s → reply ≡ Stamped s
+stamped_not_bad : (reason : Option WorldFault) (reply : Reply) (s : ℕ) → reply_unless_bad reason reply ≡ Stamped s → reply ≡ Stamped s
 stamped_not_bad None reply s h = h
 stamped_not_bad (Some number) reply s h = absurd cc
 
@@ -100,7 +101,7 @@ stamp_least laws configs past at m w s h =
 
 -- ---- releases
 
-released_not_bad : (reason : Option ℕ) (reply : Reply) (receipts : List Receipt) → reply_unless_bad reason reply ≡ Released receipts → reply ≡ Released receipts
+released_not_bad : (reason : Option WorldFault) (reply : Reply) (receipts : List Receipt) → reply_unless_bad reason reply ≡ Released receipts → reply ≡ Released receipts
 released_not_bad None reply receipts h = h
 released_not_bad (Some number) reply receipts h = absurd cc
 

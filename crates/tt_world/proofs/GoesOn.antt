@@ -1,17 +1,17 @@
 -- From what one event makes of what is kept, to the runs that it stands for.
-use Rattle.std.proofs.Common.{◌≡◌, ◌≤◌, List, ◌∷◌, None, ap, sym, subst, ◌∙◌, refl, ℕ, arith}
+use Rattle.std.proofs.Common.{◌≡◌, List, ◌∷◌, ap, sym, subst, ◌∙◌, refl, arith}
 use Rattle.std.specs.Prelude.{Result, Ok, IfOk, IfErr, OnErr}
 use Rattle.tt_world.specs.declared.events.Event.{Event}
 use Rattle.tt_world.specs.declared.events.Reply.{Reply}
-use Rattle.tt_world.specs.declared.events.Reply.TheVariants.{Refused}
 use Rattle.tt_world.specs.declared.faults.WorldFault.{WorldFault}
-use Rattle.tt_world.specs.declared.faults.WorldFault.TheVariants.{TimeBack, ClockBack, NoPacket, NoPublication, NothingThere, UnknownNumber, Machines, Memory}
+use Rattle.tt_world.specs.declared.faults.WorldFault.TheVariants as bad
+use Rattle.tt_world.specs.Fault.{bad_reply}
 use Rattle.tt_daemon.specs.Config.{Configuration}
-use Rattle.tt_world.specs.Bad.{first_bad, accepted}
-use Rattle.tt_world.specs.Reply.{reply_of}
+use Rattle.tt_world.specs.Bad.{accepted}
+use Rattle.tt_world.specs.Reply.{TakesMemory, reply_of}
 use Rattle.tt_world.specs.State.{WorldState, state_of, StandsFor}
-use Rattle.tt_world.specs.Step.{Outcome, stepped, refused, IsTaken, HasRoom, IsRefusal, refusal_reply}
-use Rattle.tt_world.proofs.Simulation.{simulation, simulation-refused, good_if_taken}
+use Rattle.tt_world.specs.Step.{Outcome, stepped, refused, WantsMemory, HasRoom, IsRefusal, refusal_reply}
+use Rattle.tt_world.proofs.Simulation.{IsReason, simulation, simulation-refused, memory_is_taken}
 
 -- an event that made of the run what is defined
 kept_on : (old new : WorldState) (event : Event) (reply : Reply) → stepped old event ≡ record { world = new; reply = reply } →
@@ -31,32 +31,26 @@ goes_on old new event reply room did configs past stands =
 -- what a step promises of its answer
 pub record Promises (old new : WorldState) (event : Event) (answer : Result Reply WorldFault) : Type 0 where
   pub reply : IfOk answer (λ reply. (configs : List Configuration) (past : List Event) → StandsFor configs past old → (reply ≡ reply_of configs past event) × StandsFor configs (event ∷ past) new)
-  pub memory : IfErr answer (λ e. e ≡ Memory)
-  pub memory_last : OnErr answer ((configs : List Configuration) (past : List Event) → StandsFor configs past old → first_bad configs (accepted configs past) event ≡ None)
+  pub memory : IfErr answer (λ e. e ≡ bad.Memory)
+  pub memory_only : OnErr answer ((configs : List Configuration) (past : List Event) → StandsFor configs past old → TakesMemory (reply_of configs past event))
   pub unchanged : OnErr answer (new ≡ old)
 
-bad_event : (old new : WorldState) (event : Event) (number : ℕ) → 1201 ≤ number → new ≡ old → stepped old event ≡ refused old number → Promises old new event (Ok (Refused number))
-bad_event old new event number above same did = record {
+bad_event : (old new : WorldState) (event : Event) (fault : WorldFault) → IsReason fault → new ≡ old → stepped old event ≡ refused old fault → Promises old new event (Ok (bad_reply fault))
+bad_event old new event fault reason same did = record {
   reply = λ configs past stands.
-      kept_on old new event (Refused number) (did ∙ ap (λ (w : WorldState). refused w number) (sym same)) configs past stands
-      (simulation-refused configs past event number above (subst (λ (w : WorldState). stepped w event ≡ refused w number) stands did));
+      kept_on old new event (bad_reply fault) (did ∙ ap (λ (w : WorldState). refused w fault) (sym same)) configs past stands
+      (simulation-refused configs past event fault reason (subst (λ (w : WorldState). stepped w event ≡ refused w fault) stands did));
   memory = tt;
-  memory_last = tt;
+  memory_only = tt;
   unchanged = tt;
 }
 
--- an event that was bad, or for which memory was wanting
-pub refusal_promises : (old new : WorldState) (event : Event) (fault : WorldFault) → new ≡ old → IsRefusal fault old (stepped old event) → Promises old new event (refusal_reply fault)
-refusal_promises old new event TimeBack same did = bad_event old new event 1201 (omega arith) same did
-refusal_promises old new event ClockBack same did = bad_event old new event 1202 (omega arith) same did
-refusal_promises old new event NoPacket same did = bad_event old new event 1203 (omega arith) same did
-refusal_promises old new event NoPublication same did = bad_event old new event 1204 (omega arith) same did
-refusal_promises old new event NothingThere same did = bad_event old new event 1205 (omega arith) same did
-refusal_promises old new event UnknownNumber same did = bad_event old new event 1206 (omega arith) same did
-refusal_promises old new event Machines same did = bad_event old new event 1207 (omega arith) same did
-refusal_promises old new event Memory same did = record {
+-- an event that was bad, or for which memory was refused
+pub refusal_promises : (old new : WorldState) (event : Event) (fault : WorldFault) → new ≡ old → IsRefusal event.action fault old (stepped old event) → Promises old new event (refusal_reply fault)
+refusal_promises old new event bad.Memory same did = record {
   reply = tt;
   memory = refl;
-  memory_last = λ configs past stands. good_if_taken configs past event (subst (λ (w : WorldState). IsTaken (stepped w event).reply) stands did);
+  memory_only = λ configs past stands. memory_is_taken configs past event (subst (λ (w : WorldState). WantsMemory event.action (stepped w event).reply) stands did);
   unchanged = same;
 }
+refusal_promises old new event fault same did = bad_event old new event fault (omega arith, omega arith) same did

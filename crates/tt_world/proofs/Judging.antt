@@ -1,9 +1,11 @@
 -- What is known of an event that is not bad.
-use Rattle.std.proofs.Common.{◌≡◌, ℕ, ◌≤◌, Bool, true, false, cond, List, [], ◌∷◌, Option, Some, None, refl, ap}
+use Rattle.std.proofs.Common.{◌≡◌, ◌≤◌, Bool, true, false, cond, List, [], ◌∷◌, Option, Some, None, refl, ap}
 use Rattle.std.specs.Prelude.{is_some}
 use Rattle.std.specs.List.{AllByRecursion}
 use Rattle.std.proofs.lemmas.Bool.{or_parts, ltb-false}
 use Rattle.tt_span.specs.Time.{max_time}
+use Rattle.tt_world.specs.declared.faults.WorldFault.{WorldFault}
+use Rattle.tt_world.specs.declared.faults.WorldFault.TheVariants as bad
 use Rattle.tt_world.specs.declared.events.Event.{Event}
 use Rattle.tt_daemon.specs.Config.{Configuration}
 use Rattle.tt_world.specs.Past.{time_of, packets_of, clock_reading, clock_of}
@@ -20,18 +22,18 @@ pub record IsGood (configs : List Configuration) (past : List Event) (event : Ev
   pub thing_there : lacks_its_thing configs past event.action ≡ false
 
 -- a reason that does not apply, and the reasons after it
-pub passed : (b : Bool) (number : ℕ) (rest : Option ℕ) → cond b (Some number) rest ≡ None → (b ≡ false) × (rest ≡ None)
-passed true number rest h = absurd cc
-passed false number rest h = (refl, h)
+pub passed : (b : Bool) (fault : WorldFault) (rest : Option WorldFault) → cond b (Some fault) rest ≡ None → (b ≡ false) × (rest ≡ None)
+passed true fault rest h = absurd cc
+passed false fault rest h = (refl, h)
 
 pub good_of : (configs : List Configuration) (past : List Event) (event : Event) → first_bad configs past event ≡ None → IsGood configs past event
 good_of configs past event h =
-    let time = passed (breaks_time past event) 1201 _ h in
-    let named = passed (names_unknown configs event.action) 1206 _ time.1 in
-    let packet = passed (lacks_packet (packets_of past) event.action) 1203 _ named.1 in
-    let clock = passed (goes_back (clock_of past) (clock_reading (packets_of past) event.action)) 1202 _ packet.1 in
-    let publication = passed (lacks_publication configs past event.action) 1204 _ clock.1 in
-    let thing = passed (lacks_its_thing configs past event.action) 1205 _ publication.1 in
+    let time = passed (breaks_time past event) bad.TimeBack _ h in
+    let named = passed (names_unknown configs event.action) bad.UnknownNumber _ time.1 in
+    let packet = passed (lacks_packet (packets_of past) event.action) bad.NoPacket _ named.1 in
+    let clock = passed (goes_back (clock_of past) (clock_reading (packets_of past) event.action)) bad.ClockBack _ packet.1 in
+    let publication = passed (lacks_publication configs past event.action) bad.NoPublication _ clock.1 in
+    let thing = passed (lacks_its_thing configs past event.action) bad.NothingThere _ publication.1 in
     let times = or_parts _ _ time.0 in
     record {
       not_before = ltb-false event.at (time_of past) times.0;
@@ -48,7 +50,7 @@ abbrev pub AreGood : List Configuration → List Event → Type 0
 AreGood configs [] = Unit {0}
 AreGood configs (event ∷ past) = IsGood configs past event × AreGood configs past
 
-good_if_kept : (configs : List Configuration) (past : List Event) (event : Event) (reason : Option ℕ) → first_bad configs past event ≡ reason → AreGood configs past → AreGood configs (cond (is_some reason) past (event ∷ past))
+good_if_kept : (configs : List Configuration) (past : List Event) (event : Event) (reason : Option WorldFault) → first_bad configs past event ≡ reason → AreGood configs past → AreGood configs (cond (is_some reason) past (event ∷ past))
 good_if_kept configs past event None h good = (good_of configs past event h, good)
 good_if_kept configs past event (Some number) h good = good
 
@@ -56,7 +58,7 @@ pub good_accepted : (configs : List Configuration) (past : List Event) → AreGo
 good_accepted configs [] = tt
 good_accepted configs (event ∷ past) = good_if_kept configs (accepted configs past) event (first_bad configs (accepted configs past) event) refl (good_accepted configs past)
 
-all_if_kept : (P : Event → Type 0) (past : List Event) (event : Event) (reason : Option ℕ) → P event → AllByRecursion P past → AllByRecursion P (cond (is_some reason) past (event ∷ past))
+all_if_kept : (P : Event → Type 0) (past : List Event) (event : Event) (reason : Option WorldFault) → P event → AllByRecursion P past → AllByRecursion P (cond (is_some reason) past (event ∷ past))
 all_if_kept P past event None here rest = (here, rest)
 all_if_kept P past event (Some number) here rest = rest
 
@@ -67,4 +69,4 @@ all_accepted P configs (event ∷ past) h = all_if_kept P (accepted configs past
 
 -- an event that is not bad is kept
 pub accepted-good : (configs : List Configuration) (past : List Event) (event : Event) → first_bad configs (accepted configs past) event ≡ None → accepted configs (event ∷ past) ≡ event ∷ accepted configs past
-accepted-good configs past event h = ap (λ (reason : Option ℕ). cond (is_some reason) (accepted configs past) (event ∷ accepted configs past)) h
+accepted-good configs past event h = ap (λ (reason : Option WorldFault). cond (is_some reason) (accepted configs past) (event ∷ accepted configs past)) h

@@ -10,6 +10,8 @@ use Rattle.tt_span.specs.Time.{max_time}
 use Rattle.tt_span.specs.Interval.{Interval}
 use Rattle.tt_poll.specs.Reading.{read_of}
 use Rattle.tt_source.specs.Table.{statement_of_message}
+use Rattle.tt_world.specs.declared.faults.WorldFault.{WorldFault}
+use Rattle.tt_world.specs.declared.faults.WorldFault.TheVariants as bad
 use Rattle.tt_world.specs.declared.events.Event.{Event}
 use Rattle.tt_world.specs.declared.events.Action.{Action}
 use Rattle.tt_world.specs.declared.events.Action.TheVariants.{Send, Answer, Forge, Deliver, Fuse, Read}
@@ -107,9 +109,9 @@ module _ (configs : List Configuration) where
     pub rises : (m : ℕ) → polled_clock_of past m ≤ clock_of past m
     pub known : All (HasItsSource configs) (packets_of past)
 
-  -- the number of the first test that an event fails
-  abbrev first_failed : Bool → Bool → Bool → Bool → Bool → Bool → Option ℕ
-  first_failed t u v w x y = cond t (Some 1201) (cond u (Some 1206) (cond v (Some 1203) (cond w (Some 1202) (cond x (Some 1204) (cond y (Some 1205) None)))))
+  -- the first test that an event fails
+  abbrev first_failed : Bool → Bool → Bool → Bool → Bool → Bool → Option WorldFault
+  first_failed t u v w x y = cond t (Some bad.TimeBack) (cond u (Some bad.UnknownNumber) (cond v (Some bad.NoPacket) (cond w (Some bad.ClockBack) (cond x (Some bad.NoPublication) (cond y (Some bad.NothingThere) None)))))
 
   -- an event that passes every test passes these two
   tests_passed : (t u v w x y : Bool) → first_failed t u v w x y ≡ None → (u ≡ false) × (w ≡ false)
@@ -128,7 +130,7 @@ module _ (configs : List Configuration) where
             (known_put (sends_of past) (packets_of past) event.action passed.0 before.known);
       }
 
-  lasts_unless_bad : (past : List Event) (event : Event) (o : Option ℕ) → first_bad configs past event ≡ o → Lasts past → Lasts (cond (is_some o) past (event ∷ past))
+  lasts_unless_bad : (past : List Event) (event : Event) (o : Option WorldFault) → first_bad configs past event ≡ o → Lasts past → Lasts (cond (is_some o) past (event ∷ past))
   lasts_unless_bad past event None is before = lasts_more past event is before
   lasts_unless_bad past event (Some number) is before = before
 

@@ -13,6 +13,7 @@ use Rattle.tt_source.specs.declared.faults.SourceFault.{SourceFault}
 use Rattle.tt_fuse.specs.Fusion.{IsFusion}
 use Rattle.tt_stamp.specs.declared.faults.StampFault.{StampFault}
 use Rattle.tt_stamp.specs.declared.faults.BookFault.{BookFault}
+use Rattle.tt_world.specs.declared.faults.WorldFault.{WorldFault}
 use Rattle.tt_world.specs.declared.events.Event.{Event}
 use Rattle.tt_world.specs.declared.events.Action.{Action}
 use Rattle.tt_world.specs.declared.events.Action.TheVariants as does
@@ -40,11 +41,11 @@ use Rattle.tt_world.proofs.FusionTimes.{WasRight, publications_right}
 
 -- ---- replies
 
-read_not_bad : (reason : Option ℕ) (reply : Reply) (reading : Interval) → reply_unless_bad reason reply ≡ Read reading → (reason ≡ None) × (reply ≡ Read reading)
+read_not_bad : (reason : Option WorldFault) (reply : Reply) (reading : Interval) → reply_unless_bad reason reply ≡ Read reading → (reason ≡ None) × (reply ≡ Read reading)
 read_not_bad None reply reading h = (refl, h)
 read_not_bad (Some number) reply reading h = absurd cc
 
-published_not_bad : (reason : Option ℕ) (reply : Reply) (number : ℕ) (span : Interval) → reply_unless_bad reason reply ≡ Published number span → (reason ≡ None) × (reply ≡ Published number span)
+published_not_bad : (reason : Option WorldFault) (reply : Reply) (number : ℕ) (span : Interval) → reply_unless_bad reason reply ≡ Published number span → (reason ≡ None) × (reply ≡ Published number span)
 published_not_bad None reply number span h = (refl, h)
 published_not_bad (Some other) reply number span h = absurd cc
 
@@ -197,5 +198,5 @@ fusion_not_refused laws configs configurations past events at m clock not_bad kn
     let count : ℕ = length (publications_of config (accepted configs past) m) in (
       count + 1,
       made.0.span,
-      ap (λ (reason : Option ℕ). reply_unless_bad reason (reply_to configs (accepted configs past) (does.Fuse m clock))) not_bad ∙ ap (fusion_reply count) made.1,
+      ap (λ (reason : Option WorldFault). reply_unless_bad reason (reply_to configs (accepted configs past) (does.Fuse m clock))) not_bad ∙ ap (fusion_reply count) made.1,
     )

@@ -1,11 +1,12 @@
 -- One event makes of what a run has left what the run with that event leaves, and the reply is the one that is defined.
-use Rattle.std.proofs.Common.{◌≡◌, ℕ, ◌<◌, ◌≤◌, cond, Bool, true, false, List, ◌∷◌, length, is_some, Option, Some, None, Result, refl, sym, ap, ◌∙◌, arith, ltb-true}
+use Rattle.std.proofs.Common.{◌≡◌, ◌⊎◌, inl, inr, ℕ, ◌<◌, cond, Bool, true, false, List, ◌∷◌, length, is_some, Option, Some, None, Result, refl, sym, subst, ap, ◌∙◌, arith, ltb-true}
 use Rattle.std.specs.Prelude.{Ok, Err}
 use Rattle.std.proofs.lemmas.Bool.{and_parts, not-false}
 use Rattle.tt_source.specs.Fault.{number_of}
 use Rattle.tt_source.specs.Table.{TableState, poll_of}
 use Rattle.tt_source.specs.declared.faults.SourceFault.{SourceFault}
 use Rattle.tt_source.specs.declared.faults.SourceFault.TheVariants.{NoSource, ClockBack, NoncesUsedUp, BadMessage, NotMine, NotOutstanding}
+use Rattle.tt_world.specs.declared.faults.WorldFault.TheVariants as bad
 use Rattle.tt_world.specs.declared.events.Event.{Event}
 use Rattle.tt_world.specs.declared.events.Action.{Action}
 use Rattle.tt_world.specs.declared.events.Action.TheVariants.{Send}
@@ -13,9 +14,11 @@ use Rattle.tt_world.specs.declared.events.Reply.{Reply}
 use Rattle.tt_daemon.specs.Config.{Configuration}
 use Rattle.tt_world.specs.Config.{config_at}
 use Rattle.tt_world.specs.Bad.{has_source, breaks_time, first_bad, accepted}
-use Rattle.tt_world.specs.Reply.{reply_unless_bad, reply_to, reply_of}
+use Rattle.tt_world.specs.Fault.{bad_reply}
+use Rattle.tt_world.specs.Reply.{IsBadReply, TakesMemory, reply_unless_bad, reply_to, reply_of}
+use Rattle.tt_world.specs.declared.faults.WorldFault.{WorldFault}
 use Rattle.tt_world.specs.State.{MachineState, WorldState, machine_of, state_of}
-use Rattle.tt_world.specs.Step.{Outcome, IsTaken, HasRoom, refused, after_poll, acted, stepped}
+use Rattle.tt_world.specs.Step.{Outcome, WantsMemory, HasRoom, refused, after_poll, acted, stepped}
 use Rattle.tt_world.proofs.Lasting.{Lasts, Lasts-accepted}
 use Rattle.tt_world.proofs.Ranges.{slice_get-made}
 use Rattle.tt_world.proofs.Waiting.{happens}
@@ -28,16 +31,20 @@ stepped-state_of : (configs : List Configuration) (past : List Event) (event : E
     → (first_bad configs past event ≡ None → HasRoom (state_of configs past) event.action) → Lasts configs past
     → stepped (state_of configs past) event ≡ judged (state_of configs past) (state_of configs (event ∷ past)) (reply_to configs past event.action) (first_bad configs past event)
 stepped-state_of configs past event room lasts =
-    judged-cond (state_of configs past) (state_of configs (event ∷ past)) (reply_to configs past event.action) 1201 (breaks_time past event) _
+    judged-cond (state_of configs past) (state_of configs (event ∷ past)) (reply_to configs past event.action) bad.TimeBack (breaks_time past event) _
     (bad_action configs past event.action)
     (λ later. acted-state_of configs past lasts event.at event.action
-    (λ good. room (ap (λ (b : Bool). cond b (Some 1201) (bad_action configs past event.action)) later ∙ good)))
+    (λ good. room (ap (λ (b : Bool). cond b (Some bad.TimeBack) (bad_action configs past event.action)) later ∙ good)))
 
-judged-accepted : (configs : List Configuration) (past : List Event) (event : Event) (reply : Reply) (o : Option ℕ)
+judged-accepted : (configs : List Configuration) (past : List Event) (event : Event) (reply : Reply) (o : Option WorldFault)
     → judged (state_of configs past) (state_of configs (event ∷ past)) reply o
     ≡ record { world = state_of configs (cond (is_some o) past (event ∷ past)); reply = reply_unless_bad o reply }
 judged-accepted configs past event reply None = refl
-judged-accepted configs past event reply (Some number) = refl
+judged-accepted configs past event reply (Some fault) = refl
+
+-- the fault is a reason why an event is bad
+abbrev pub IsReason : WorldFault → Type 0
+IsReason fault = IsBadReply (bad_reply fault)
 
 -- an event after any run, bad events among them, as long as no machine can have used up its nonces
 pub simulation : (configs : List Configuration) (past : List Event) (event : Event)
@@ -59,11 +66,9 @@ few_number NotMine = omega arith
 few_number NotOutstanding = omega arith
 
 -- the reply of a poll that was made is not to a bad event
-pub IsTaken-after_poll : (world : WorldState) (at m s clock : ℕ) (machine : MachineState) (r : Result TableState SourceFault) → IsTaken (after_poll world at m s clock machine r).reply
-IsTaken-after_poll world at m s clock machine (Ok table) number e = absurd cc
-IsTaken-after_poll world at m s clock machine (Err fault) number e =
-    let same : number_of fault ≡ number = cc in
-    omega (arith, few_number fault, same)
+pub not_bad-after_poll : (world : WorldState) (at m s clock : ℕ) (machine : MachineState) (r : Result TableState SourceFault) → ¬ IsBadReply (after_poll world at m s clock machine r).reply
+not_bad-after_poll world at m s clock machine (Ok table) h = h
+not_bad-after_poll world at m s clock machine (Err fault) h = let few : number_of fault < 1201 = few_number fault in omega (arith, few, h.0)
 
 module _ (configs : List Configuration) (past : List Event) where
   -- a poll that is not bad reaches its table
@@ -73,49 +78,76 @@ module _ (configs : List Configuration) (past : List Event) where
   stepped-polled at m s clock good =
       let world : WorldState = state_of configs past in
       let event : Event = happens at (Send m s clock) in
-      let time = passed (breaks_time past event) 1201 _ good in
+      let time = passed (breaks_time past event) bad.TimeBack _ good in
       let is = good_of configs past event good in
       let named = and_parts _ _ (not-false (has_source configs m s) is.named) in
       let there : m < length configs = ltb-true m (length configs) named.0 in
-      ap (λ (b : Bool). cond b (refused world 1201) (acted world at (Send m s clock))) time.0
+      ap (λ (b : Bool). cond b (refused world bad.TimeBack) (acted world at (Send m s clock))) time.0
       ∙ send_on-polled world at m s clock (machine_of (config_at configs m) past m) _ (slice_get-made (λ k. machine_of (config_at configs k) past k) (length configs) m there)
       (ltb-true s (config_at configs m).sources named.1) is.clock_on refl
 
   -- what is refused has no need of room
-  room_if_refused : (number at : ℕ) (action : Action) → 1201 ≤ number → stepped (state_of configs past) (happens at action) ≡ refused (state_of configs past) number
+  room_if_refused : (fault : WorldFault) (at : ℕ) (action : Action) → IsReason fault → stepped (state_of configs past) (happens at action) ≡ refused (state_of configs past) fault
       → first_bad configs past (happens at action) ≡ None → HasRoom (state_of configs past) action
-  room_if_refused number at (Send m s clock) above did good =
-      let taken : number < 1201 = IsTaken-after_poll (state_of configs past) at m s clock (machine_of (config_at configs m) past m) _ number
-      (ap (λ (o : Outcome). o.reply) (sym (stepped-polled at m s clock good) ∙ did)) in
-      absurd (omega (arith, taken, above))
-  room_if_refused number at _ above did good = tt
+  room_if_refused fault at (Send m s clock) reason did good =
+      absurd (not_bad-after_poll (state_of configs past) at m s clock (machine_of (config_at configs m) past m) _
+      (subst IsBadReply (ap (λ (o : Outcome). o.reply) (sym did ∙ stepped-polled at m s clock good)) reason))
+  room_if_refused fault at _ reason did good = tt
 
 -- the same after any run, bad events among them
-pub simulation-refused : (configs : List Configuration) (past : List Event) (event : Event) (number : ℕ) → 1201 ≤ number
-    → stepped (state_of configs (accepted configs past)) event ≡ refused (state_of configs (accepted configs past)) number
+pub simulation-refused : (configs : List Configuration) (past : List Event) (event : Event) (fault : WorldFault) → IsReason fault
+    → stepped (state_of configs (accepted configs past)) event ≡ refused (state_of configs (accepted configs past)) fault
     → stepped (state_of configs (accepted configs past)) event ≡ record { world = state_of configs (accepted configs (event ∷ past)); reply = reply_of configs past event }
-simulation-refused configs past event number above did = simulation configs past event (room_if_refused configs (accepted configs past) number event.at event.action above did)
+simulation-refused configs past event fault reason did = simulation configs past event (room_if_refused configs (accepted configs past) fault event.at event.action reason did)
 
--- an event whose reply has no number of this crate was not bad
-bad-number : (t u v w x y : Bool) (number : ℕ) → cond t (Some 1201) (cond u (Some 1206) (cond v (Some 1203) (cond w (Some 1202) (cond x (Some 1204) (cond y (Some 1205) None))))) ≡ Some number → 1201 ≤ number
-bad-number true u v w x y number h = let e : 1201 ≡ number = cc in omega (arith, e)
-bad-number false true v w x y number h = let e : 1206 ≡ number = cc in omega (arith, e)
-bad-number false false true w x y number h = let e : 1203 ≡ number = cc in omega (arith, e)
-bad-number false false false true x y number h = let e : 1202 ≡ number = cc in omega (arith, e)
-bad-number false false false false true y number h = let e : 1204 ≡ number = cc in omega (arith, e)
-bad-number false false false false false true number h = let e : 1205 ≡ number = cc in omega (arith, e)
-bad-number false false false false false false number h = absurd cc
+-- ---- where memory is taken
 
-good_by : (configs : List Configuration) (past : List Event) (event : Event) (o : Option ℕ) → first_bad configs past event ≡ o → Lasts configs past → IsTaken (stepped (state_of configs past) event).reply → first_bad configs past event ≡ None
-good_by configs past event None is lasts taken = is
-good_by configs past event (Some number) is lasts taken =
-    let did = stepped-state_of configs past event (λ good. absurd (some-none number (sym is ∙ good))) lasts
-    ∙ ap (judged (state_of configs past) (state_of configs (event ∷ past)) (reply_to configs past event.action)) is in
-    let below : number < 1201 = taken number (ap (λ (o : Outcome). o.reply) did) in
-    absurd (omega (arith, below, bad-number _ _ _ _ _ _ number is))
-  where
-    some-none : (n : ℕ) → Some n ≡ None → ⊥
-    some-none n e = cc
+-- the reasons why an event can be bad
+reason_of : (t u v w x y : Bool) (fault : WorldFault)
+    → cond t (Some bad.TimeBack) (cond u (Some bad.UnknownNumber) (cond v (Some bad.NoPacket) (cond w (Some bad.ClockBack) (cond x (Some bad.NoPublication) (cond y (Some bad.NothingThere) None))))) ≡ Some fault → IsReason fault
+reason_of true u v w x y fault h = let e : bad.TimeBack ≡ fault = cc in subst IsReason e (omega arith, omega arith)
+reason_of false true v w x y fault h = let e : bad.UnknownNumber ≡ fault = cc in subst IsReason e (omega arith, omega arith)
+reason_of false false true w x y fault h = let e : bad.NoPacket ≡ fault = cc in subst IsReason e (omega arith, omega arith)
+reason_of false false false true x y fault h = let e : bad.ClockBack ≡ fault = cc in subst IsReason e (omega arith, omega arith)
+reason_of false false false false true y fault h = let e : bad.NoPublication ≡ fault = cc in subst IsReason e (omega arith, omega arith)
+reason_of false false false false false true fault h = let e : bad.NothingThere ≡ fault = cc in subst IsReason e (omega arith, omega arith)
+reason_of false false false false false false fault h = absurd cc
 
-pub good_if_taken : (configs : List Configuration) (past : List Event) (event : Event) → IsTaken (stepped (state_of configs (accepted configs past)) event).reply → first_bad configs (accepted configs past) event ≡ None
-good_if_taken configs past event taken = good_by configs (accepted configs past) event (first_bad configs (accepted configs past) event) refl (Lasts-accepted configs past) taken
+-- a bad event's reply is not one for which memory is wanted
+bad_wants_none : (action : Action) (fault : WorldFault) → IsReason fault → WantsMemory action (bad_reply fault) → ⊥
+bad_wants_none (Send m s clock) fault reason wants = wants reason
+bad_wants_none _ fault reason wants = wants
+
+module _ (configs : List Configuration) (past : List Event) (lasts : Lasts configs past) (at : ℕ) where
+  -- an event for which memory was wanted is not bad
+  good_if_wanted : (action : Action) (o : Option WorldFault) → first_bad configs past (happens at action) ≡ o → WantsMemory action (stepped (state_of configs past) (happens at action)).reply → first_bad configs past (happens at action) ≡ None
+  good_if_wanted action None is wants = is
+  good_if_wanted action (Some fault) is wants =
+      let did = stepped-state_of configs past (happens at action) (λ good. absurd (some-none fault (sym is ∙ good))) lasts
+      ∙ ap (judged (state_of configs past) (state_of configs (happens at action ∷ past)) (reply_to configs past action)) is in
+      absurd (bad_wants_none action fault (reason_of _ _ _ _ _ _ fault is) (subst (WantsMemory action) (ap (λ (o : Outcome). o.reply) did) wants))
+    where
+      some-none : (fault : WorldFault) → Some fault ≡ None → ⊥
+      some-none fault e = cc
+
+  -- an action takes memory whatever comes of it, or it needs no room
+  takes_or_has_room : (action : Action) → TakesMemory (reply_to configs past action) ⊎ (HasRoom (state_of configs past) action × ((reply : Reply) → WantsMemory action reply → TakesMemory reply))
+  takes_or_has_room (Send m s clock) = inl tt
+  takes_or_has_room _ = inr (tt, λ reply takes. takes)
+
+  -- the reply to an event that is not bad, where memory was wanted for it
+  takes_if_good : (action : Action) → first_bad configs past (happens at action) ≡ None → WantsMemory action (stepped (state_of configs past) (happens at action)).reply → TakesMemory (reply_to configs past action)
+  takes_if_good action good wants = elim (takes_or_has_room action) [
+    | inl takes ↦ takes
+    | inr other ↦
+      let did = stepped-state_of configs past (happens at action) (λ _. other.0) lasts
+      ∙ ap (judged (state_of configs past) (state_of configs (happens at action ∷ past)) (reply_to configs past action)) good in
+      other.1 _ (subst (WantsMemory action) (ap (λ (o : Outcome). o.reply) did) wants)
+  ]
+
+pub memory_is_taken : (configs : List Configuration) (past : List Event) (event : Event) → WantsMemory event.action (stepped (state_of configs (accepted configs past)) event).reply → TakesMemory (reply_of configs past event)
+memory_is_taken configs past event wants =
+    let lasts = Lasts-accepted configs past in
+    let good = good_if_wanted configs (accepted configs past) lasts event.at event.action _ refl wants in
+    subst TakesMemory (ap (λ (o : Option WorldFault). reply_unless_bad o (reply_to configs (accepted configs past) event.action)) (sym good))
+    (takes_if_good configs (accepted configs past) lasts event.at event.action good wants)

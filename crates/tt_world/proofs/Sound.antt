@@ -1,7 +1,8 @@
 -- A run that keeps the assumptions, and what came before in it.
-use Rattle.std.proofs.Common.{◌≡◌, ℕ, ◌≤◌, cond, List, [], ◌∷◌, ◌++◌, Option, Some, None, refl, ap, subst, sym, arith}
+use Rattle.std.proofs.Common.{◌≡◌, ◌≤◌, cond, List, [], ◌∷◌, ◌++◌, Option, Some, None, refl, ap, subst, sym, arith}
 use Rattle.std.specs.Prelude.{is_some}
 use Rattle.std.specs.List.{AllByRecursion}
+use Rattle.tt_world.specs.declared.faults.WorldFault.{WorldFault}
 use Rattle.tt_world.specs.declared.events.Event.{Event}
 use Rattle.tt_daemon.specs.Config.{Configuration}
 use Rattle.tt_world.specs.Config.{config_at}
@@ -54,7 +55,7 @@ pub record IsAfter (events past : List Event) : Type 0 where
   pub later : List Event
   pub all : events ≡ later ++ past
 
-kept_after : (past events : List Event) (event : Event) (reason : Option ℕ) → IsAfter events past → IsAfter (cond (is_some reason) events (event ∷ events)) past
+kept_after : (past events : List Event) (event : Event) (reason : Option WorldFault) → IsAfter events past → IsAfter (cond (is_some reason) events (event ∷ events)) past
 kept_after past events event None after = record { later = event ∷ after.later; all = ap (λ (es : List Event). event ∷ es) after.all }
 kept_after past events event (Some number) after = after
 

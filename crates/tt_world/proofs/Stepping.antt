@@ -8,6 +8,8 @@ use Rattle.tt_span.specs.Time.{max_time}
 use Rattle.tt_span.specs.Interval.{Interval}
 use Rattle.tt_source.specs.Table.{poll_of}
 use Rattle.tt_stamp.specs.declared.commits.Id.{Id}
+use Rattle.tt_world.specs.declared.faults.WorldFault.{WorldFault}
+use Rattle.tt_world.specs.declared.faults.WorldFault.TheVariants as bad
 use Rattle.tt_world.specs.declared.events.Event.{Event}
 use Rattle.tt_world.specs.declared.events.Action.{Action}
 use Rattle.tt_world.specs.declared.events.Action.TheVariants.{Send, Answer, Forge, Deliver, Fuse, Read, Arrive, Stamp, Queue, Release}
@@ -41,16 +43,16 @@ use Rattle.tt_world.proofs.Stamping.{stamp_turn-machine_of, machine_of-stamp_oth
 use Rattle.tt_world.proofs.Queueing.{queue_turn-machine_of, machine_of-queue_other, release_turn-machine_of, machine_of-release_other}
 use Rattle.tt_world.proofs.Lasting.{sends_of-le-packets, HasItsSource, All-slice_get, Lasts}
 
--- what an event makes of it, by the number of the reason why it is bad
-abbrev pub judged : WorldState → WorldState → Reply → Option ℕ → Outcome
+-- what an event makes of it, by the reason why it is bad
+abbrev pub judged : WorldState → WorldState → Reply → Option WorldFault → Outcome
 judged before after reply None = record { world = after; reply = reply }
-judged before after reply (Some number) = refused before number
+judged before after reply (Some fault) = refused before fault
 
 -- one test more: it is refused, or the rest decides
-pub judged-cond : (before after : WorldState) (reply : Reply) (number : ℕ) (t : Bool) (made : Outcome) (o : Option ℕ)
-    → (t ≡ false → made ≡ judged before after reply o) → cond t (refused before number) made ≡ judged before after reply (cond t (Some number) o)
-judged-cond before after reply number true made o rest = refl
-judged-cond before after reply number false made o rest = rest refl
+pub judged-cond : (before after : WorldState) (reply : Reply) (fault : WorldFault) (t : Bool) (made : Outcome) (o : Option WorldFault)
+    → (t ≡ false → made ≡ judged before after reply o) → cond t (refused before fault) made ≡ judged before after reply (cond t (Some fault) o)
+judged-cond before after reply fault true made o rest = refl
+judged-cond before after reply fault false made o rest = rest refl
 
 not-not : (b : Bool) → not (not b) ≡ b
 not-not true = refl
@@ -115,27 +117,27 @@ module _ (configs : List Configuration) (past : List Event) where
       (sym (map-same (machine_then at action) machine_at (length configs) same)) (same_shown action none)
 
   -- what an action makes, by the reason why it is bad
-  abbrev pub as_judged : ℕ → Action → Option ℕ → Outcome
+  abbrev pub as_judged : ℕ → Action → Option WorldFault → Outcome
   as_judged at action o = judged (state_of configs past) (state_of configs (happens at action ∷ past)) (reply_to configs past action) o
 
-  -- the number of the first reason why an action is bad, apart from its true time
-  abbrev pub bad_action : Action → Option ℕ
+  -- the first reason why an action is bad, apart from its true time
+  abbrev pub bad_action : Action → Option WorldFault
   bad_action action =
-      cond (names_unknown configs action) (Some 1206)
-      (cond (lacks_packet (packets_of past) action) (Some 1203)
-      (cond (goes_back (clock_of past) (clock_reading (packets_of past) action)) (Some 1202)
-      (cond (lacks_publication configs past action) (Some 1204)
-      (cond (lacks_its_thing configs past action) (Some 1205) None))))
+      cond (names_unknown configs action) (Some bad.UnknownNumber)
+      (cond (lacks_packet (packets_of past) action) (Some bad.NoPacket)
+      (cond (goes_back (clock_of past) (clock_reading (packets_of past) action)) (Some bad.ClockBack)
+      (cond (lacks_publication configs past action) (Some bad.NoPublication)
+      (cond (lacks_its_thing configs past action) (Some bad.NothingThere) None))))
 
   -- one test more of an action
-  test : (at : ℕ) (action : Action) (number : ℕ) (t : Bool) (made : Outcome) (o : Option ℕ)
-      → (t ≡ false → made ≡ as_judged at action o) → cond t (refused (state_of configs past) number) made ≡ as_judged at action (cond t (Some number) o)
-  test at action number t made o rest = judged-cond (state_of configs past) (state_of configs (happens at action ∷ past)) (reply_to configs past action) number t made o rest
+  test : (at : ℕ) (action : Action) (fault : WorldFault) (t : Bool) (made : Outcome) (o : Option WorldFault)
+      → (t ≡ false → made ≡ as_judged at action o) → cond t (refused (state_of configs past) fault) made ≡ as_judged at action (cond t (Some fault) o)
+  test at action fault t made o rest = judged-cond (state_of configs past) (state_of configs (happens at action ∷ past)) (reply_to configs past action) fault t made o rest
 
   -- ---- a source answers, or makes up bytes
 
   answer_on-answer_to : (at : ℕ) (span : Interval) (o : Option Packet) (made : Outcome) → after_put (state_of configs past) at (answer_to o span) ≡ made
-      → answer_on (state_of configs past) at (answer_to o span) ≡ cond (not (is_request o)) (refused (state_of configs past) 1203) made
+      → answer_on (state_of configs past) at (answer_to o span) ≡ cond (not (is_request o)) (refused (state_of configs past) bad.NoPacket) made
   answer_on-answer_to at span None made h = refl
   answer_on-answer_to at span (Some (Asked request)) made h = h
   answer_on-answer_to at span (Some (Answered answer)) made h = refl
@@ -145,13 +147,13 @@ module _ (configs : List Configuration) (past : List Event) where
   acted-answer at k span =
       answer_on-answer_to at span (slice_get (packets_of past) k) _
       (after_put-state_of at (Answer k span) (λ j. machine_of-answer (config_at configs j) past at k span j) refl)
-      ∙ test at (Answer k span) 1203 (not (is_request (slice_get (packets_of past) k))) _ None (λ found. refl)
+      ∙ test at (Answer k span) bad.NoPacket (not (is_request (slice_get (packets_of past) k))) _ None (λ found. refl)
 
   acted-forge : (at m s : ℕ) (payload : List ℕ) → acted (state_of configs past) at (Forge m s payload) ≡ as_judged at (Forge m s payload) (bad_action (Forge m s payload))
   acted-forge at m s payload =
       at_machine m (λ o. forge_on (state_of configs past) at m s payload o)
-      (λ b. as_judged at (Forge m s payload) (cond (not (b && ltb s (config_at configs m).sources)) (Some 1206) None))
-      (λ there. test at (Forge m s payload) 1206 (not (ltb s (config_at configs m).sources)) _ None
+      (λ b. as_judged at (Forge m s payload) (cond (not (b && ltb s (config_at configs m).sources)) (Some bad.UnknownNumber) None))
+      (λ there. test at (Forge m s payload) bad.UnknownNumber (not (ltb s (config_at configs m).sources)) _ None
       (λ named. after_put-state_of at (Forge m s payload) (λ j. machine_of-forge (config_at configs j) past at m s payload j) refl))
       refl
 
@@ -177,9 +179,9 @@ module _ (configs : List Configuration) (past : List Event) where
     acted-send at m s clock few =
         let back : Bool = ltb clock (clock_of past m) || ltb max_time clock in
         at_machine m (λ o. send_on (state_of configs past) at m s clock o)
-        (λ b. as_judged at (Send m s clock) (cond (not (b && ltb s (config_at configs m).sources)) (Some 1206) (cond back (Some 1202) None)))
-        (λ there. test at (Send m s clock) 1206 (not (ltb s (config_at configs m).sources)) _ (cond back (Some 1202) None)
-        (λ named. test at (Send m s clock) 1202 back _ None
+        (λ b. as_judged at (Send m s clock) (cond (not (b && ltb s (config_at configs m).sources)) (Some bad.UnknownNumber) (cond back (Some bad.ClockBack) None)))
+        (λ there. test at (Send m s clock) bad.UnknownNumber (not (ltb s (config_at configs m).sources)) _ (cond back (Some bad.ClockBack) None)
+        (λ named. test at (Send m s clock) bad.ClockBack back _ None
         (λ fresh. after_poll-poll_of (few (good_send m s clock there named fresh)) at m s clock (ltb-true s _ (not-false _ named)) fresh)))
         refl
 
@@ -188,14 +190,14 @@ module _ (configs : List Configuration) (past : List Event) where
     deliver_to-machine_at : (at k clock : ℕ) (p : Packet) → slice_get (packets_of past) k ≡ Some p
         → deliver_to (state_of configs past) at clock p (slice_get (state_of configs past).machines (machine_of_packet p))
         ≡ judged (state_of configs past) (state_of configs (happens at (Deliver k clock) ∷ past)) (reply_to_packet past clock (Some p))
-        (cond (ltb clock (clock_of past (machine_of_packet p)) || ltb max_time clock) (Some 1202) None)
+        (cond (ltb clock (clock_of past (machine_of_packet p)) || ltb max_time clock) (Some bad.ClockBack) None)
     deliver_to-machine_at at k clock p is =
         let m = machine_of_packet p in
         let named = and_parts _ _ (All-slice_get (HasItsSource configs) (packets_of past) k p lasts.known is) in
         let there : m < length configs = ltb-true m (length configs) named.0 in
         let asks : source_of_packet p < (config_at configs m).sources = ltb-true _ _ named.1 in
         ap (deliver_to (state_of configs past) at clock p) (slice_get-made machine_at (length configs) m there)
-        ∙ judged-cond (state_of configs past) _ (reply_to_packet past clock (Some p)) 1202 (ltb clock (clock_of past m) || ltb max_time clock) _ None
+        ∙ judged-cond (state_of configs past) _ (reply_to_packet past clock (Some p)) bad.ClockBack (ltb clock (clock_of past m) || ltb max_time clock) _ None
         (λ fresh.
         ap (λ (turn : Turn). after_turn (state_of configs past) at m turn [])
         (take_turn-take_of (config_at configs m) past at k clock p is asks (in_time_for_table clock (clock_of past m) (polled_clock_of past m) (lasts.rises m) fresh))
@@ -204,11 +206,11 @@ module _ (configs : List Configuration) (past : List Event) where
     deliver_on-packet : (at k clock : ℕ) (o : Option Packet) → slice_get (packets_of past) k ≡ o
         → deliver_on (state_of configs past) at clock o
         ≡ judged (state_of configs past) (state_of configs (happens at (Deliver k clock) ∷ past)) (reply_to_packet past clock o)
-        (cond (not (can_be_delivered o)) (Some 1203) (cond (goes_back (clock_of past) (option_map (λ p. record { machine = machine_of_packet p; clock = clock }) o)) (Some 1202) None))
+        (cond (not (can_be_delivered o)) (Some bad.NoPacket) (cond (goes_back (clock_of past) (option_map (λ p. record { machine = machine_of_packet p; clock = clock }) o)) (Some bad.ClockBack) None))
     deliver_on-packet at k clock None is = refl
     deliver_on-packet at k clock (Some p) is =
-        ap (λ (b : Bool). cond b (refused (state_of configs past) 1203) (deliver_to (state_of configs past) at clock p (slice_get (state_of configs past).machines (machine_of_packet p)))) (sym (not-not (is_asked p)))
-        ∙ judged-cond (state_of configs past) _ (reply_to_packet past clock (Some p)) 1203 (not (not (is_asked p))) _ _ (λ kind. deliver_to-machine_at at k clock p is)
+        ap (λ (b : Bool). cond b (refused (state_of configs past) bad.NoPacket) (deliver_to (state_of configs past) at clock p (slice_get (state_of configs past).machines (machine_of_packet p)))) (sym (not-not (is_asked p)))
+        ∙ judged-cond (state_of configs past) _ (reply_to_packet past clock (Some p)) bad.NoPacket (not (not (is_asked p))) _ _ (λ kind. deliver_to-machine_at at k clock p is)
 
     acted-deliver : (at k clock : ℕ) → acted (state_of configs past) at (Deliver k clock) ≡ as_judged at (Deliver k clock) (bad_action (Deliver k clock))
     acted-deliver at k clock = deliver_on-packet at k clock (slice_get (packets_of past) k) refl
@@ -233,22 +235,22 @@ module _ (configs : List Configuration) (past : List Event) where
   acted-fuse at m clock =
       let back : Bool = ltb clock (clock_of past m) || ltb max_time clock in
       at_machine m (λ o. fuse_on (state_of configs past) at m clock o)
-      (λ b. as_judged at (Fuse m clock) (cond (not b) (Some 1206) (cond back (Some 1202) None)))
-      (λ there. test at (Fuse m clock) 1202 back _ None (λ fresh. with_shown-publish_turn at m clock))
+      (λ b. as_judged at (Fuse m clock) (cond (not b) (Some bad.UnknownNumber) (cond back (Some bad.ClockBack) None)))
+      (λ there. test at (Fuse m clock) bad.ClockBack back _ None (λ fresh. with_shown-publish_turn at m clock))
       refl
 
   -- ---- a worker acts
 
   -- a worker that is there is found, and no other
-  at_worker : (at m w : ℕ) (action : Action) (f : Worker → Outcome) (o : Option ℕ)
+  at_worker : (at m w : ℕ) (action : Action) (f : Worker → Outcome) (o : Option WorldFault)
       → (w < (config_at configs m).workers → f (worker_of (config_at configs m) past m w) ≡ as_judged at action o)
-      → cond (not (ltb w (length (machine_at m).workers))) (refused (state_of configs past) 1206) (f (get_or (machine_at m).workers w new_worker))
-      ≡ as_judged at action (cond (not (ltb w (config_at configs m).workers)) (Some 1206) o)
+      → cond (not (ltb w (length (machine_at m).workers))) (refused (state_of configs past) bad.UnknownNumber) (f (get_or (machine_at m).workers w new_worker))
+      ≡ as_judged at action (cond (not (ltb w (config_at configs m).workers)) (Some bad.UnknownNumber) o)
   at_worker at m w action f o found =
       let config = config_at configs m in
-      ap (λ (n : ℕ). cond (not (ltb w n)) (refused (state_of configs past) 1206) (f (get_or (machine_at m).workers w new_worker)))
+      ap (λ (n : ℕ). cond (not (ltb w n)) (refused (state_of configs past) bad.UnknownNumber) (f (get_or (machine_at m).workers w new_worker)))
       (length-map-range_with_len (λ v. worker_of config past m v) 0 config.workers)
-      ∙ test at action 1206 (not (ltb w config.workers)) _ o
+      ∙ test at action bad.UnknownNumber (not (ltb w config.workers)) _ o
       (λ named.
       let there : w < config.workers = ltb-true w config.workers (not-false _ named) in
       ap f (get_or-made (λ v. worker_of config past m v) config.workers w new_worker there) ∙ found there)
@@ -273,26 +275,26 @@ module _ (configs : List Configuration) (past : List Event) where
 
   read_on-machine_at : (at m w clock k : ℕ)
       → read_on (state_of configs past) at m w clock k (Some (machine_at m))
-      ≡ as_judged at (Read m w clock k) (cond (not (ltb w (config_at configs m).workers)) (Some 1206)
-      (cond (ltb clock (clock_of past m) || ltb max_time clock) (Some 1202)
-      (cond (is_unreadable (length (publications_of (config_at configs m) past m)) (seen_of past m w) k) (Some 1204) None)))
+      ≡ as_judged at (Read m w clock k) (cond (not (ltb w (config_at configs m).workers)) (Some bad.UnknownNumber)
+      (cond (ltb clock (clock_of past m) || ltb max_time clock) (Some bad.ClockBack)
+      (cond (is_unreadable (length (publications_of (config_at configs m) past m)) (seen_of past m w) k) (Some bad.NoPublication) None)))
   read_on-machine_at at m w clock k =
       let world = state_of configs past in
       let back : Bool = ltb clock (clock_of past m) || ltb max_time clock in
       let publications = publications_of (config_at configs m) past m in
       let unreadable : ℕ → Bool = λ s. is_unreadable (length publications) s k in
       let made : Outcome = read_from world at m w clock k (machine_at m) (slice_get publications (k - 1)) in
-      at_worker at m w (Read m w clock k) (λ worker. cond back (refused world 1202) (cond (unreadable worker.seen) (refused world 1204) made)) _
+      at_worker at m w (Read m w clock k) (λ worker. cond back (refused world bad.ClockBack) (cond (unreadable worker.seen) (refused world bad.NoPublication) made)) _
       (λ there.
-      test at (Read m w clock k) 1202 back _ _
-      (λ fresh. test at (Read m w clock k) 1204 (unreadable (seen_of past m w)) _ None (λ readable. read_from-publication at m w clock k there readable)))
+      test at (Read m w clock k) bad.ClockBack back _ _
+      (λ fresh. test at (Read m w clock k) bad.NoPublication (unreadable (seen_of past m w)) _ None (λ readable. read_from-publication at m w clock k there readable)))
 
   acted-read : (at m w clock k : ℕ) → acted (state_of configs past) at (Read m w clock k) ≡ as_judged at (Read m w clock k) (bad_action (Read m w clock k))
   acted-read at m w clock k =
       at_machine m (λ o. read_on (state_of configs past) at m w clock k o)
-      (λ b. as_judged at (Read m w clock k) (cond (not (b && ltb w (config_at configs m).workers)) (Some 1206)
-      (cond (ltb clock (clock_of past m) || ltb max_time clock) (Some 1202)
-      (cond (is_unreadable (length (publications_of (config_at configs m) past m)) (seen_of past m w) k) (Some 1204) None))))
+      (λ b. as_judged at (Read m w clock k) (cond (not (b && ltb w (config_at configs m).workers)) (Some bad.UnknownNumber)
+      (cond (ltb clock (clock_of past m) || ltb max_time clock) (Some bad.ClockBack)
+      (cond (is_unreadable (length (publications_of (config_at configs m) past m)) (seen_of past m w) k) (Some bad.NoPublication) None))))
       (λ there. read_on-machine_at at m w clock k)
       refl
 
@@ -303,7 +305,7 @@ module _ (configs : List Configuration) (past : List Event) where
   acted-arrive at m w id floor =
       let arrival : Arrival = record { id = id; floor = floor } in
       at_machine m (λ o. arrive_on (state_of configs past) at m w arrival o)
-      (λ b. as_judged at (Arrive m w id floor) (cond (not (b && ltb w (config_at configs m).workers)) (Some 1206) None))
+      (λ b. as_judged at (Arrive m w id floor) (cond (not (b && ltb w (config_at configs m).workers)) (Some bad.UnknownNumber) None))
       (λ there.
       at_worker at m w (Arrive m w id floor) (λ worker. after_turn (state_of configs past) at m (arrive_turn (machine_at m) w arrival) []) None
       (λ found.
@@ -314,8 +316,8 @@ module _ (configs : List Configuration) (past : List Event) where
   -- ---- a worker stamps its task
 
   -- why a stamping is bad, by the worker's task and its reading
-  abbrev bad_stamping : Option Task → Option Interval → Option ℕ
-  bad_stamping task since = cond (not (is_arrived task) || not (is_some since)) (Some 1205) None
+  abbrev bad_stamping : Option Task → Option Interval → Option WorldFault
+  bad_stamping task since = cond (not (is_arrived task) || not (is_some since)) (Some bad.NothingThere) None
 
   stamp_with-by : (at m w : ℕ) → w < (config_at configs m).workers → (queued : Bool) (asked : Option Arrival) (held : Option ℕ) (since : Option Interval)
       → is_queued (config_at configs m) past m w ≡ queued → arrival_of past m w ≡ asked → reading_since (config_at configs m) past m w ≡ since
@@ -333,7 +335,7 @@ module _ (configs : List Configuration) (past : List Event) where
   acted-stamp at m w =
       let config = config_at configs m in
       at_machine m (λ o. stamp_on (state_of configs past) at m w o)
-      (λ b. as_judged at (Stamp m w) (cond (not (b && ltb w config.workers)) (Some 1206) (bad_stamping (task_of config past m w) (reading_since config past m w))))
+      (λ b. as_judged at (Stamp m w) (cond (not (b && ltb w config.workers)) (Some bad.UnknownNumber) (bad_stamping (task_of config past m w) (reading_since config past m w))))
       (λ there.
       at_worker at m w (Stamp m w) (λ worker. stamp_with (state_of configs past) at m w (machine_at m) worker.task worker.since) _
       (λ found. stamp_with-by at m w found (is_queued config past m w) (arrival_of past m w) (stamp_held config past m w) (reading_since config past m w) refl refl refl))
@@ -342,8 +344,8 @@ module _ (configs : List Configuration) (past : List Event) where
   -- ---- a worker queues its task
 
   -- why a queueing is bad, by the worker's task
-  abbrev bad_queueing : Option Task → Option ℕ
-  bad_queueing task = cond (not (is_stamped task)) (Some 1205) None
+  abbrev bad_queueing : Option Task → Option WorldFault
+  bad_queueing task = cond (not (is_stamped task)) (Some bad.NothingThere) None
 
   queue_with-by : (at m w : ℕ) → w < (config_at configs m).workers → (queued : Bool) (asked : Option Arrival) (held : Option ℕ)
       → arrival_of past m w ≡ asked → stamp_held (config_at configs m) past m w ≡ held
@@ -360,7 +362,7 @@ module _ (configs : List Configuration) (past : List Event) where
   acted-queue at m w =
       let config = config_at configs m in
       at_machine m (λ o. queue_on (state_of configs past) at m w o)
-      (λ b. as_judged at (Queue m w) (cond (not (b && ltb w config.workers)) (Some 1206) (bad_queueing (task_of config past m w))))
+      (λ b. as_judged at (Queue m w) (cond (not (b && ltb w config.workers)) (Some bad.UnknownNumber) (bad_queueing (task_of config past m w))))
       (λ there.
       at_worker at m w (Queue m w) (λ worker. queue_with (state_of configs past) at m w (machine_at m) worker.task) _
       (λ found. queue_with-by at m w found (is_queued config past m w) (arrival_of past m w) (stamp_held config past m w) refl refl))
@@ -369,7 +371,7 @@ module _ (configs : List Configuration) (past : List Event) where
   -- ---- a worker releases
 
   release_with-by : (at m w : ℕ) (reading : Option Interval) → reading_of (config_at configs m) past m w ≡ reading
-      → release_with (state_of configs past) at m (machine_at m) reading ≡ as_judged at (Release m w) (cond (not (is_some reading)) (Some 1205) None)
+      → release_with (state_of configs past) at m (machine_at m) reading ≡ as_judged at (Release m w) (cond (not (is_some reading)) (Some bad.NothingThere) None)
   release_with-by at m w None is = refl
   release_with-by at m w (Some reading) is =
       ap (λ (turn : Turn). after_turn (state_of configs past) at m turn []) (release_turn-machine_of (config_at configs m) past at m w reading is)
@@ -379,7 +381,7 @@ module _ (configs : List Configuration) (past : List Event) where
   acted-release at m w =
       let config = config_at configs m in
       at_machine m (λ o. release_on (state_of configs past) at m w o)
-      (λ b. as_judged at (Release m w) (cond (not (b && ltb w config.workers)) (Some 1206) (cond (not (is_some (reading_of config past m w))) (Some 1205) None)))
+      (λ b. as_judged at (Release m w) (cond (not (b && ltb w config.workers)) (Some bad.UnknownNumber) (cond (not (is_some (reading_of config past m w))) (Some bad.NothingThere) None)))
       (λ there.
       at_worker at m w (Release m w) (λ worker. release_with (state_of configs past) at m (machine_at m) worker.reading) _
       (λ found. release_with-by at m w (reading_of config past m w) refl))

@@ -1,26 +1,25 @@
 -- What a call on a machine that is there makes of a run.
-use Rattle.std.proofs.Common.{◌≡◌, ℕ, ◌+◌, ◌-◌, ◌<◌, ◌≤◌, Bool, true, false, cond, List, [], ◌∷◌, ◌++◌, length, get_or, slice_get, slice_set, Option, Some, None, ap, subst, sym, ◌∙◌, append-nil, refl, arith}
+use Rattle.std.proofs.Common.{◌≡◌, ℕ, ◌+◌, ◌-◌, ◌<◌, ◌≤◌, Bool, true, false, cond, List, [], ◌∷◌, ◌++◌, length, get_or, slice_get, slice_set, Option, Some, None, ap, subst, sym, ◌∙◌, append-nil, refl}
 use Rattle.std.proofs.lemmas.Option.{slice_get_read, slice_get_within, same_Some}
 use Rattle.std.proofs.lemmas.Bool.{lt-ltb, le-ltb}
 use Rattle.std.proofs.lemmas.List.{get_or_default, set-get_or}
-use Rattle.tt_source.specs.Table.{TableState, poll_of, take_of, known_of}
+use Rattle.tt_source.specs.Table.{TableState, poll_of, take_of}
 use Rattle.tt_source.specs.declared.faults.SourceFault.{SourceFault}
-use Rattle.std.specs.Prelude.{nat_lt, Result, Ok, Err}
+use Rattle.std.specs.Prelude.{nat_lt, IsOk, Result, Ok, Err}
 use Rattle.tt_source.specs.Fault.{number_of}
+use Rattle.tt_world.specs.declared.faults.WorldFault.TheVariants as bad
 use Rattle.tt_world.specs.declared.events.Reply.{Reply}
 use Rattle.tt_world.specs.declared.events.Reply.TheVariants.{Sent, Refused}
 use Rattle.tt_world.specs.declared.faults.WorldFault.{WorldFault}
-use Rattle.tt_world.specs.declared.faults.WorldFault.TheVariants.{Memory}
 use Rattle.tt_world.specs.declared.packets.Packet.{Packet}
 use Rattle.tt_world.specs.declared.packets.Packet.TheVariants.{Asked}
 use Rattle.tt_world.specs.declared.publications.Publication.{Publication}
 use Rattle.tt_span.specs.Interval.{Interval}
-use Rattle.tt_fuse.specs.Depth.{slow_fusion}
 use Rattle.tt_stamp.specs.declared.commits.Id.{Id}
 use Rattle.tt_stamp.specs.declared.faults.BookFault.{BookFault}
 use Rattle.tt_stamp.specs.declared.faults.BookFault.TheVariants.{Full, IdThere, StampThere}
 use Rattle.tt_stamp.specs.declared.faults.BookFault.TheVariants as book
-use Rattle.tt_stamp.specs.Fault.{book_number_of}
+use Rattle.tt_stamp.specs.declared.commits.Entry.{Entry}
 use Rattle.tt_stamp.specs.Stamp.{stamp_of}
 use Rattle.tt_stamp.specs.History.{first_queue_fault}
 use Rattle.tt_world.specs.declared.workers.Arrival.{Arrival}
@@ -28,9 +27,11 @@ use Rattle.tt_world.specs.declared.workers.Task.{Task}
 use Rattle.tt_world.specs.declared.workers.Task.TheVariants as tasks
 use Rattle.tt_world.specs.declared.workers.Worker.{Worker}
 use Rattle.tt_world.specs.Packet.{machine_of_packet, source_of_packet, bytes_of, is_asked}
-use Rattle.tt_world.specs.Publications.{Showing, showing_of, published}
+use Rattle.tt_world.specs.Publications.{Showing, showing_of}
+use Rattle.tt_world.specs.declared.events.Action.{Action}
+use Rattle.tt_world.specs.Reply.{TakesMemory}
 use Rattle.tt_world.specs.State.{MachineState, WorldState}
-use Rattle.tt_world.specs.Step.{Outcome, Turn, IsTaken, Does, refused, is_back_on, send_on, after_poll, with_table, fuse_on, after_turn, publish_turn, fusion_on, spans_on, read_on, read_from, read_turn, readable_on, worker_at, deliver_on, take_turn}
+use Rattle.tt_world.specs.Step.{Outcome, Turn, WantsMemory, Does, refused, is_back_on, send_on, after_poll, with_table, fuse_on, after_turn, publish_turn, fusion_on, spans_on, read_on, read_from, read_turn, readable_on, worker_at, deliver_on, take_turn}
 use Rattle.tt_world.specs.Step.{IsWorker, arrive_on, arrive_turn, stamp_on, stamp_with, stamp_turn, given_in, queue_on, queue_with, queue_turn, release_on, release_with, release_turn}
 
 -- what is kept after a turn, by its parts
@@ -42,11 +43,11 @@ pub there : (world : WorldState) (m : ℕ) (machine : MachineState) → m < leng
 there world m machine inside e = slice_get_read world.machines (length world.machines) m machine refl inside e
 
 pub send_on-no_source : (world : WorldState) (at m i clock : ℕ) (machine : MachineState) → slice_get world.machines m ≡ Some machine → machine.config.sources ≤ i →
-    send_on world at m i clock (slice_get world.machines m) ≡ refused world 1206
+    send_on world at m i clock (slice_get world.machines m) ≡ refused world bad.UnknownNumber
 send_on-no_source world at m i clock machine e h = let t : nat_lt i machine.config.sources ≡ false = le-ltb _ _ h in rw (e, t) refl
 
 pub send_on-back : (world : WorldState) (at m i clock : ℕ) (machine : MachineState) → slice_get world.machines m ≡ Some machine → i < machine.config.sources → is_back_on machine clock ≡ true →
-    send_on world at m i clock (slice_get world.machines m) ≡ refused world 1202
+    send_on world at m i clock (slice_get world.machines m) ≡ refused world bad.ClockBack
 send_on-back world at m i clock machine e h b = let t : nat_lt i machine.config.sources ≡ true = lt-ltb _ _ h in rw (e, t, b) refl
 
 pub send_on-polled : (world : WorldState) (at m i clock : ℕ) (machine : MachineState) (r : Result TableState SourceFault) → slice_get world.machines m ≡ Some machine → i < machine.config.sources →
@@ -64,27 +65,27 @@ fuse_on-made : (world : WorldState) (at m clock : ℕ) (machine : MachineState) 
 fuse_on-made world at m clock machine turn e b p = rw (e, b, p) refl
 
 pub read_on-no_worker : (world : WorldState) (at m w clock k : ℕ) (machine : MachineState) → slice_get world.machines m ≡ Some machine → length machine.workers ≤ w →
-    read_on world at m w clock k (slice_get world.machines m) ≡ refused world 1206
+    read_on world at m w clock k (slice_get world.machines m) ≡ refused world bad.UnknownNumber
 read_on-no_worker world at m w clock k machine e h = let t : nat_lt w (length machine.workers) ≡ false = le-ltb _ _ h in rw (e, t) refl
 
 pub read_on-back : (world : WorldState) (at m w clock k : ℕ) (machine : MachineState) → slice_get world.machines m ≡ Some machine → w < length machine.workers → is_back_on machine clock ≡ true →
-    read_on world at m w clock k (slice_get world.machines m) ≡ refused world 1202
+    read_on world at m w clock k (slice_get world.machines m) ≡ refused world bad.ClockBack
 read_on-back world at m w clock k machine e h b = let t : nat_lt w (length machine.workers) ≡ true = lt-ltb _ _ h in rw (e, t, b) refl
 
 -- a worker's last tests, taken together
 none_chosen : (b : Bool) (o : Option Publication) (world : WorldState) (at m w clock k : ℕ) (machine : MachineState) → cond b None o ≡ None →
-    cond b (refused world 1204) (read_from world at m w clock k machine o) ≡ refused world 1204
+    cond b (refused world bad.NoPublication) (read_from world at m w clock k machine o) ≡ refused world bad.NoPublication
 none_chosen true o world at m w clock k machine h = refl
 none_chosen false None world at m w clock k machine h = refl
 none_chosen false (Some p) world at m w clock k machine h = cc
 
 some_chosen : (b : Bool) (o : Option Publication) (p : Publication) (world : WorldState) (at m w clock k : ℕ) (machine : MachineState) → cond b None o ≡ Some p →
-    cond b (refused world 1204) (read_from world at m w clock k machine o) ≡ read_from world at m w clock k machine (Some p)
+    cond b (refused world bad.NoPublication) (read_from world at m w clock k machine o) ≡ read_from world at m w clock k machine (Some p)
 some_chosen true o p world at m w clock k machine h = cc
 some_chosen false o p world at m w clock k machine h = ap (read_from world at m w clock k machine) h
 
 pub read_on-unreadable : (world : WorldState) (at m w clock k : ℕ) (machine : MachineState) → slice_get world.machines m ≡ Some machine → w < length machine.workers → is_back_on machine clock ≡ false →
-    readable_on machine w k ≡ None → read_on world at m w clock k (slice_get world.machines m) ≡ refused world 1204
+    readable_on machine w k ≡ None → read_on world at m w clock k (slice_get world.machines m) ≡ refused world bad.NoPublication
 read_on-unreadable world at m w clock k machine e h b n =
     let t : nat_lt w (length machine.workers) ≡ true = lt-ltb w (length machine.workers) h in
     rw (e, t, b) (none_chosen _ _ world at m w clock k machine n)
@@ -154,15 +155,15 @@ send_on-refused world at m p i clock number machine next fault found source forw
 
 -- a packet that is there and no request, on a machine that is not there
 pub deliver_on-no_machine : (world : WorldState) (at clock : ℕ) (packet : Packet) → is_asked packet ≡ false → slice_get world.machines (machine_of_packet packet) ≡ None →
-    deliver_on world at clock (Some packet) ≡ refused world 1203
+    deliver_on world at clock (Some packet) ≡ refused world bad.NoPacket
 deliver_on-no_machine world at clock packet asked e = rw (asked, e) refl
 
 -- a request is not delivered
-pub deliver_on-asked : (world : WorldState) (at clock : ℕ) (packet : Packet) → is_asked packet ≡ true → deliver_on world at clock (Some packet) ≡ refused world 1203
+pub deliver_on-asked : (world : WorldState) (at clock : ℕ) (packet : Packet) → is_asked packet ≡ true → deliver_on world at clock (Some packet) ≡ refused world bad.NoPacket
 deliver_on-asked world at clock packet asked = rw asked refl
 
 pub deliver_on-back : (world : WorldState) (at clock : ℕ) (packet : Packet) (machine : MachineState) → is_asked packet ≡ false → slice_get world.machines (machine_of_packet packet) ≡ Some machine →
-    is_back_on machine clock ≡ true → deliver_on world at clock (Some packet) ≡ refused world 1202
+    is_back_on machine clock ≡ true → deliver_on world at clock (Some packet) ≡ refused world bad.ClockBack
 deliver_on-back world at clock packet machine asked e b = rw (asked, e, b) refl
 
 pub deliver_on-taken : (world : WorldState) (at p clock : ℕ) (packet : Packet) (machine next : MachineState) (reply : Reply) → is_asked packet ≡ false → slice_get world.machines (machine_of_packet packet) ≡ Some machine →
@@ -230,45 +231,41 @@ release_on-released world at m w p reading machine next reply found inside read 
 pub put_back : (machines : List MachineState) (p : ℕ) (found next : MachineState) → found ≡ get_or machines p found → next ≡ found → slice_set machines p next ≡ machines
 put_back machines p found next at same = ap (slice_set machines p) (same ∙ at) ∙ set-get_or machines p found
 
--- want of memory, for an event that is not bad, leaves everything
-pub Does-memory : (outcome : Outcome) (old new : WorldState) (answer : Result Reply WorldFault) → answer ≡ Err Memory → new ≡ old → IsTaken outcome.reply → Does outcome old answer new
-Does-memory outcome old new answer wants same taken = subst (λ (r : Result Reply WorldFault). Does outcome old r new) (sym wants) (same, taken)
+-- an allocation that failed leaves everything
+pub Does-memory : (action : Action) (outcome : Outcome) (old new : WorldState) (answer : Result Reply WorldFault) → answer ≡ Err bad.Memory → new ≡ old → WantsMemory action outcome.reply → Does action outcome old answer new
+Does-memory action outcome old new answer wants same taken = subst (λ (r : Result Reply WorldFault). Does action outcome old r new) (sym wants) (same, taken)
 
--- the reply of a fusion that was made, or refused, is not to a bad event
-IsTaken-publish_turn : (machine : MachineState) (clock : ℕ) (few : Bool) (fused : Option Interval) → IsTaken (publish_turn machine clock (cond few (Err 701) (published clock fused))).reply
-IsTaken-publish_turn machine clock true fused number e = let same : 701 ≡ number = cc in omega (arith, same)
-IsTaken-publish_turn machine clock false None number e = let same : 504 ≡ number = cc in omega (arith, same)
-IsTaken-publish_turn machine clock false (Some span) number e = absurd cc
+-- the reply of a fusion that was made
+TakesMemory-publish_turn : (machine : MachineState) (clock : ℕ) (made : Result Publication ℕ) → IsOk made → TakesMemory (publish_turn machine clock made).reply
+TakesMemory-publish_turn machine clock (Ok publication) h = tt
+TakesMemory-publish_turn machine clock (Err number) h = absurd cc
 
-pub IsTaken-fuse_on : (world : WorldState) (at m clock : ℕ) (machine : MachineState) → slice_get world.machines m ≡ Some machine → is_back_on machine clock ≡ false →
-    IsTaken (fuse_on world at m clock (slice_get world.machines m)).reply
-IsTaken-fuse_on world at m clock machine found forward =
-    rw (found, forward) (IsTaken-publish_turn machine clock (nat_lt (known_of machine.table) (machine.config.sources - machine.config.faulty)) (slow_fusion (spans_on machine clock) machine.config.faulty))
+pub TakesMemory-fuse_on : (world : WorldState) (at m clock : ℕ) (machine : MachineState) → slice_get world.machines m ≡ Some machine → is_back_on machine clock ≡ false → IsOk (fusion_on machine clock) →
+    TakesMemory (fuse_on world at m clock (slice_get world.machines m)).reply
+TakesMemory-fuse_on world at m clock machine found forward made =
+    rw (found, forward) (TakesMemory-publish_turn machine clock (fusion_on machine clock) made)
 
--- a number of a lower crate
-few_number : (fault : BookFault) → book_number_of fault < 1201
-few_number Full = omega arith
-few_number IdThere = omega arith
-few_number StampThere = omega arith
-few_number book.Memory = omega arith
-
--- the reply of a commit that was queued, or refused, is not to a bad event
-IsTaken-queue_turn : (machine : MachineState) (w : ℕ) (id : Id) (stamp : ℕ) (o : Option BookFault) → IsTaken (queue_turn machine w id stamp o).reply
-IsTaken-queue_turn machine w id stamp None number e = absurd cc
-IsTaken-queue_turn machine w id stamp (Some fault) number e =
-    let same : book_number_of fault ≡ number = cc in
-    omega (arith, few_number fault, same)
-
-pub IsTaken-queue_on : (world : WorldState) (at m w : ℕ) (id : Id) (stamp : ℕ) (machine : MachineState) → slice_get world.machines m ≡ Some machine → w < length machine.workers →
-    (worker_at machine w).task ≡ Some (tasks.Stamped id stamp) → IsTaken (queue_on world at m w (slice_get world.machines m)).reply
-IsTaken-queue_on world at m w id stamp machine found inside task =
+-- the reply of a commit that was queued
+pub TakesMemory-queue_on : (world : WorldState) (at m w : ℕ) (id : Id) (stamp : ℕ) (machine : MachineState) → slice_get world.machines m ≡ Some machine → w < length machine.workers →
+    (worker_at machine w).task ≡ Some (tasks.Stamped id stamp) → first_queue_fault machine.book id stamp ≡ None → TakesMemory (queue_on world at m w (slice_get world.machines m)).reply
+TakesMemory-queue_on world at m w id stamp machine found inside task may =
     let t : nat_lt w (length machine.workers) ≡ true = lt-ltb w (length machine.workers) inside in
-    rw (found, t) (subst (λ (o : Option Task). IsTaken (queue_with world at m w machine o).reply) (sym task)
-    (IsTaken-queue_turn machine w id stamp (first_queue_fault machine.book id stamp)))
+    rw (found, t) (subst (λ (o : Option Task). TakesMemory (queue_with world at m w machine o).reply) (sym task)
+    (subst (λ (o : Option BookFault). TakesMemory (queue_turn machine w id stamp o).reply) (sym may) tt))
 
--- the reply of a release is not to a bad event
-pub IsTaken-release_on : (world : WorldState) (at m w : ℕ) (reading : Interval) (machine : MachineState) → slice_get world.machines m ≡ Some machine → w < length machine.workers →
-    (worker_at machine w).reading ≡ Some reading → IsTaken (release_on world at m w (slice_get world.machines m)).reply
-IsTaken-release_on world at m w reading machine found inside read =
+-- the reply of a release
+pub TakesMemory-release_on : (world : WorldState) (at m w : ℕ) (reading : Interval) (machine : MachineState) → slice_get world.machines m ≡ Some machine → w < length machine.workers →
+    (worker_at machine w).reading ≡ Some reading → TakesMemory (release_on world at m w (slice_get world.machines m)).reply
+TakesMemory-release_on world at m w reading machine found inside read =
     let t : nat_lt w (length machine.workers) ≡ true = lt-ltb w (length machine.workers) inside in
-    rw (found, t) (subst (λ (o : Option Interval). IsTaken (release_with world at m machine o).reply) (sym read) (λ number e. absurd cc))
+    rw (found, t) (subst (λ (o : Option Interval). TakesMemory (release_with world at m machine o).reply) (sym read) tt)
+
+-- nothing but its own three reasons refuses a commit
+pub no-memory : (past : List Entry) (id : Id) (stamp : ℕ) → first_queue_fault past id stamp ≡ Some book.Memory → ⊥
+no-memory past id stamp h = by_tests _ _ _ h
+  where
+    by_tests : (full there stamped : Bool) → cond full (Some Full) (cond there (Some IdThere) (cond stamped (Some StampThere) None)) ≡ Some book.Memory → ⊥
+    by_tests true there stamped h = cc
+    by_tests false true stamped h = cc
+    by_tests false false true h = cc
+    by_tests false false false h = cc

@@ -1,6 +1,8 @@
 -- Which events are bad: these change nothing, and are not in the list of what has happened.
 use Rattle.std.specs.Prelude.{ℕ, ◌==◌, ◌&&◌, ◌||◌, not, nat_lt, Bool, true, false, if◌then◌else◌, List, [], ◌∷◌, length, slice_get, is_some, Option, Some, None}
 use Rattle.tt_span.specs.Time.{max_time}
+use Rattle.tt_world.specs.declared.faults.WorldFault.{WorldFault}
+use Rattle.tt_world.specs.declared.faults.WorldFault.TheVariants as bad
 use Rattle.tt_world.specs.declared.events.Event.{Event}
 use Rattle.tt_world.specs.declared.events.Action.{Action}
 use Rattle.tt_world.specs.declared.events.Action.TheVariants.{Send, Answer, Forge, Deliver, Fuse, Read, Arrive, Stamp, Queue, Release}
@@ -95,15 +97,15 @@ lacks_its_thing configs past _ = false
 abbrev pub breaks_time : List Event → Event → Bool
 breaks_time past event = nat_lt event.at (time_of past) || nat_lt max_time event.at
 
--- the number of the first reason why an event is bad after what has happened, if there is one
-abbrev pub first_bad : List Configuration → List Event → Event → Option ℕ
+-- the first reason why an event is bad after what has happened, if there is one
+abbrev pub first_bad : List Configuration → List Event → Event → Option WorldFault
 first_bad configs past event =
-    if breaks_time past event then Some 1201
-    else if names_unknown configs event.action then Some 1206
-    else if lacks_packet (packets_of past) event.action then Some 1203
-    else if goes_back (clock_of past) (clock_reading (packets_of past) event.action) then Some 1202
-    else if lacks_publication configs past event.action then Some 1204
-    else if lacks_its_thing configs past event.action then Some 1205
+    if breaks_time past event then Some bad.TimeBack
+    else if names_unknown configs event.action then Some bad.UnknownNumber
+    else if lacks_packet (packets_of past) event.action then Some bad.NoPacket
+    else if goes_back (clock_of past) (clock_reading (packets_of past) event.action) then Some bad.ClockBack
+    else if lacks_publication configs past event.action then Some bad.NoPublication
+    else if lacks_its_thing configs past event.action then Some bad.NothingThere
     else None
 
 -- the events that were not bad, each judged after those before it; the newest first

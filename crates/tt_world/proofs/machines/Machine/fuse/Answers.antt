@@ -107,8 +107,8 @@ returns-in-Err-clause-shown c =
     shown-refused m c.args.machine clock c.number.result c.args.shown.now.items c.args.shown.now.items refused refl
     ∙ ap (λ (v : MachineState). map outline c.args.shown.now.items ++ shows c.args.machine clock v) c.self.view_is
 
-pub returns-in_err-reserve-in-Ok-clause-memory_last : goal.returns-in_err-reserve-in-Ok-clause-memory_last
-returns-in_err-reserve-in-Ok-clause-memory_last c =
+pub returns-in_err-reserve-in-Ok-clause-memory_only : goal.returns-in_err-reserve-in-Ok-clause-memory_only
+returns-in_err-reserve-in-Ok-clause-memory_only c =
     let m : MachineState = the_view c.self.inside in
     let clock = c.args.clock in
     let forward : IsForward (daemon_of m) clock = record {
@@ -126,8 +126,8 @@ returns-in_err-reserve-in-Ok-clause-memory_last c =
     } in
     subst (λ (v : MachineState). OnErr c.from_residual.result (IsOk (fusion_on v clock))) c.self.view_is (wants-made m clock c.fuse.result c.in-Ok.fused c.from_residual.result answers c.in-Ok.is)
 
-pub returns-in_err-reserve-in-Ok-2-clause-memory_last : goal.returns-in_err-reserve-in-Ok-2-clause-memory_last
-returns-in_err-reserve-in-Ok-2-clause-memory_last c =
+pub returns-in_err-reserve-in-Ok-2-clause-memory_only : goal.returns-in_err-reserve-in-Ok-2-clause-memory_only
+returns-in_err-reserve-in-Ok-2-clause-memory_only c =
     let m : MachineState = the_view c.self.inside in
     let clock = c.args.clock in
     let forward : IsForward (daemon_of m) clock = record {

@@ -12,4 +12,4 @@ pub returns-in-Err : goal.returns-in-Err
 returns-in-Err c =
     let promises = refusal_promises c.args.self.now c.act.new.self c.args.event.now c.in-Err.fault c.in-Err.ensures.does.0 c.in-Err.ensures.does.1 in
     let kept = subst (λ (r : Result Reply WorldFault). Promises c.args.self.now c.act.new.self c.args.event.now r) (sym c.as_reply.ensures) promises in
-    record { reply = kept.reply; memory = kept.memory; memory_last = kept.memory_last; unchanged = kept.unchanged }
+    record { reply = kept.reply; memory = kept.memory; memory_only = kept.memory_only; unchanged = kept.unchanged }
