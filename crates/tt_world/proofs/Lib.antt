@@ -16,6 +16,8 @@ pub mod Queueing
 pub mod Lasting
 pub mod Stepping
 pub mod Simulation
+pub mod Breaking
+pub mod Laws
 pub mod Places
 pub mod Ageing
 pub mod Judging

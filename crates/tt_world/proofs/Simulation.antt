@@ -57,7 +57,7 @@ simulation configs past event room =
 -- ---- what a bad event leaves
 
 -- a number of a lower crate
-few_number : (fault : SourceFault) → number_of fault < 1201
+pub few_number : (fault : SourceFault) → number_of fault < 1201
 few_number NoSource = omega arith
 few_number ClockBack = omega arith
 few_number NoncesUsedUp = omega arith
@@ -113,6 +113,9 @@ reason_of false false false false true y fault h = let e : bad.NoPublication ≡
 reason_of false false false false false true fault h = let e : bad.NothingThere ≡ fault = cc in subst IsReason e (omega arith, omega arith)
 reason_of false false false false false false fault h = absurd cc
 
+pub reason_at : (configs : List Configuration) (past : List Event) (event : Event) (fault : WorldFault) → first_bad configs past event ≡ Some fault → IsReason fault
+reason_at configs past event fault is = reason_of _ _ _ _ _ _ fault is
+
 -- a bad event's reply is not one for which memory is wanted
 bad_wants_none : (action : Action) (fault : WorldFault) → IsReason fault → WantsMemory action (bad_reply fault) → ⊥
 bad_wants_none (Send m s clock) fault reason wants = wants reason
@@ -125,7 +128,7 @@ module _ (configs : List Configuration) (past : List Event) (lasts : Lasts confi
   good_if_wanted action (Some fault) is wants =
       let did = stepped-state_of configs past (happens at action) (λ good. absurd (some-none fault (sym is ∙ good))) lasts
       ∙ ap (judged (state_of configs past) (state_of configs (happens at action ∷ past)) (reply_to configs past action)) is in
-      absurd (bad_wants_none action fault (reason_of _ _ _ _ _ _ fault is) (subst (WantsMemory action) (ap (λ (o : Outcome). o.reply) did) wants))
+      absurd (bad_wants_none action fault (reason_at configs past (happens at action) fault is) (subst (WantsMemory action) (ap (λ (o : Outcome). o.reply) did) wants))
     where
       some-none : (fault : WorldFault) → Some fault ≡ None → ⊥
       some-none fault e = cc

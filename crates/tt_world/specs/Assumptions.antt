@@ -1,16 +1,18 @@
 -- What is assumed of a run: each clock keeps its drift bound, and few statements are false.
-use Rattle.std.specs.Prelude.{ℕ, ◌<◌, ◌≤◌, ◌&&◌, not, nat_lt, nat_le, Bool, true, false, if◌then◌else◌, List, [], ◌∷◌, length, count_by, is_some, Option, Some, None}
+use Rattle.std.specs.Prelude.{◌≡◌, ℕ, ◌<◌, ◌≤◌, ◌&&◌, not, nat_lt, nat_le, Bool, true, false, if◌then◌else◌, List, [], ◌∷◌, length, count_by, is_some, Option, Some, None}
 use Rattle.std.specs.List.{range_with_len}
-use Rattle.std.specs.Option.{option_and_then}
-use Rattle.tt_span.specs.Drift.{KeepsDrift}
+use Rattle.std.specs.Option.{option_and_then, option_or}
+use Rattle.tt_span.specs.Drift.{Moment, KeepsDrift, distance, widening}
+use Rattle.tt_world.specs.declared.breaches.Breach.{Breach}
+use Rattle.tt_world.specs.declared.breaches.Breach.TheVariants.{Drift, FalseStatements}
 use Rattle.tt_world.specs.declared.events.Event.{Event}
 use Rattle.tt_world.specs.declared.events.Action.{Action}
 use Rattle.tt_world.specs.declared.events.Action.TheVariants.{Answer, Forge, Deliver, Fuse}
 use Rattle.tt_daemon.specs.Config.{Configuration}
 use Rattle.tt_world.specs.Config.{config_at}
-use Rattle.tt_world.specs.Past.{packets_of, moments_of}
+use Rattle.tt_world.specs.Past.{packets_of, ClockReading, clock_reading, moments_of}
 use Rattle.tt_world.specs.Sources.{stated_by, outstanding}
-use Rattle.tt_world.specs.Bad.{accepted}
+use Rattle.tt_world.specs.Bad.{first_bad, accepted}
 
 -- the event that put packet p on its way, if it was put
 abbrev pub origin_of : List Event → ℕ → Option Event
@@ -69,3 +71,35 @@ ClocksKeepDrift configs past = (m : ℕ) → m < length configs → KeepsDrift (
 pub record MeetsAssumptions (configs : List Configuration) (past : List Event) : Type 0 where
   pub clocks : ClocksKeepDrift configs (accepted configs past)
   pub sources : FewLie configs (accepted configs past)
+
+-- whether a moment agrees with each of these within the drift
+abbrev pub agrees_with_all : ℕ → Moment → List Moment → Bool
+agrees_with_all ppm moment [] = true
+agrees_with_all ppm moment (other ∷ others) =
+    nat_le (distance (distance moment.clock other.clock) (distance moment.time other.time)) (widening ppm (distance moment.clock other.clock))
+    && agrees_with_all ppm moment others
+
+-- the clock that breaks its drift bound by a reading at this true time, if there is one and it does
+abbrev pub drift_breach : List Configuration → List Event → ℕ → Option ClockReading → Option Breach
+drift_breach configs past at None = None
+drift_breach configs past at (Some reading) =
+    if agrees_with_all (config_at configs reading.machine).drift (record { clock = reading.clock; time = at }) (moments_of past reading.machine) then None
+    else Some (Drift reading.machine)
+
+-- the machine that fuses too many false statements in an action, if one does
+abbrev pub falsity_breach : List Configuration → List Event → Action → Option Breach
+falsity_breach configs past (Fuse machine clock) =
+    if nat_le (false_count (config_at configs machine) past machine) (config_at configs machine).faulty then None else Some (FalseStatements machine)
+falsity_breach configs past _ = None
+
+-- the first assumption that an event breaks after a list of events, bad ones among them: the drift bound first, then that few statements are false; a bad event breaks none
+abbrev pub breach_of : List Configuration → List Event → Event → Option Breach
+breach_of configs past event =
+    let before = accepted configs past in
+    if is_some (first_bad configs before event) then None
+    else option_or (drift_breach configs before event.at (clock_reading (packets_of before) event.action)) (falsity_breach configs before event.action)
+
+-- none of the events breaks an assumption
+abbrev pub NoBreach : List Configuration → List Event → Type 0
+NoBreach configs [] = Unit {0}
+NoBreach configs (event ∷ past) = (breach_of configs past event ≡ None) × NoBreach configs past

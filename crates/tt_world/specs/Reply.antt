@@ -1,5 +1,5 @@
 -- The reply to each event.
-use Rattle.std.specs.Prelude.{ℕ, ◌+◌, ◌≤◌, List, [], ◌∷◌, length, slice_get, Option, Some, None, Result, Ok, Err}
+use Rattle.std.specs.Prelude.{◌≡◌, ℕ, ◌+◌, ◌≤◌, List, [], ◌∷◌, length, slice_get, Option, Some, None, Result, Ok, Err}
 use Rattle.tt_poll.specs.Reading.{read_of}
 use Rattle.tt_source.specs.Fault.{number_of}
 use Rattle.tt_source.specs.Statement.{Statement}
@@ -20,7 +20,7 @@ use Rattle.tt_daemon.specs.Config.{Configuration}
 use Rattle.tt_world.specs.Config.{config_at}
 use Rattle.tt_world.specs.Packet.{machine_of_packet, source_of_packet, bytes_of}
 use Rattle.tt_world.specs.Past.{packets_of}
-use Rattle.tt_world.specs.Sources.{outstanding}
+use Rattle.tt_world.specs.Sources.{stated_by, outstanding}
 use Rattle.tt_world.specs.Publications.{fusion_of, publications_of, publication_at, reading_at}
 use Rattle.tt_world.specs.Commits.{reading_of, stamping_of, queueing_of, book_of, released_with}
 use Rattle.tt_world.specs.declared.faults.WorldFault.{WorldFault}
@@ -102,3 +102,10 @@ reply_of configs past event =
 abbrev pub replies_from : List Configuration → List Event → List Event → List Reply
 replies_from configs past [] = []
 replies_from configs past (event ∷ events) = reply_of configs past event ∷ replies_from configs (event ∷ past) events
+
+-- the event is not bad, and makes a statement for a source of a machine
+abbrev pub MakesStatement : List Configuration → List Event → Event → Type 0
+MakesStatement configs past event =
+    let before = accepted configs past in
+    (first_bad configs before event ≡ None)
+    × ((m i : ℕ) × (statement : Statement) × (stated_by (packets_of before) m i (outstanding before m i) event.action ≡ Some statement))
