@@ -42,7 +42,3 @@ last-entries history before receipts count ends counted =
     let all : length (entries_of receipts) ≤ length history - (length history - count) =
     omega (arith, ap (λ (es : List Entry). length es) ends, length-append before (entries_of receipts), length-map receipts (λ (r : Receipt). Passed r), counted) in
     ap (λ (es : List Entry). take (length history - (length history - count)) es) dropped ∙ take_all (length history - (length history - count)) (entries_of receipts) all
-
--- a history that ends with receipts has as many entries at least
-pub ends-fit : (history before : List Entry) (receipts : List Receipt) → history ≡ before ++ entries_of receipts → length receipts ≤ length history
-ends-fit history before receipts ends = omega (arith, ap (λ (es : List Entry). length es) ends, length-append before (entries_of receipts), length-map receipts (λ (r : Receipt). Passed r))

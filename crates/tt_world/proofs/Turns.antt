@@ -17,9 +17,7 @@ use Rattle.tt_world.specs.declared.publications.Publication.{Publication}
 use Rattle.tt_span.specs.Interval.{Interval}
 use Rattle.tt_stamp.specs.declared.commits.Id.{Id}
 use Rattle.tt_stamp.specs.declared.faults.BookFault.{BookFault}
-use Rattle.tt_stamp.specs.declared.faults.BookFault.TheVariants.{Full, IdThere, StampThere}
 use Rattle.tt_stamp.specs.declared.faults.BookFault.TheVariants as book
-use Rattle.tt_stamp.specs.declared.commits.Entry.{Entry}
 use Rattle.tt_stamp.specs.Stamp.{stamp_of}
 use Rattle.tt_stamp.specs.History.{first_queue_fault}
 use Rattle.tt_world.specs.declared.workers.Arrival.{Arrival}
@@ -63,10 +61,6 @@ fuse_on-made : (world : WorldState) (at m clock : ℕ) (machine : MachineState) 
     turn ≡ publish_turn machine clock (fusion_on machine clock) →
     fuse_on world at m clock (slice_get world.machines m) ≡ outcome at (world.packets ++ []) (slice_set world.machines m turn.machine) (world.shown ++ shows m clock machine) turn.reply
 fuse_on-made world at m clock machine turn e b p = rw (e, b, p) refl
-
-pub read_on-no_worker : (world : WorldState) (at m w clock k : ℕ) (machine : MachineState) → slice_get world.machines m ≡ Some machine → length machine.workers ≤ w →
-    read_on world at m w clock k (slice_get world.machines m) ≡ refused world bad.UnknownNumber
-read_on-no_worker world at m w clock k machine e h = let t : nat_lt w (length machine.workers) ≡ false = le-ltb _ _ h in rw (e, t) refl
 
 pub read_on-back : (world : WorldState) (at m w clock k : ℕ) (machine : MachineState) → slice_get world.machines m ≡ Some machine → w < length machine.workers → is_back_on machine clock ≡ true →
     read_on world at m w clock k (slice_get world.machines m) ≡ refused world bad.ClockBack
@@ -152,19 +146,6 @@ send_on-refused world at m p i clock number machine next fault found source forw
     ∙ ap (λ (x : MachineState). after_turn world at m (record { machine = x; reply = Refused (number_of fault) }) []) (sym same_next)
     ∙ ap (λ (k : ℕ). after_turn world at m (record { machine = next; reply = Refused k }) []) (sym count)
     ∙ after_turn-nothing world at m p next (Refused number) same
-
--- a packet that is there and no request, on a machine that is not there
-pub deliver_on-no_machine : (world : WorldState) (at clock : ℕ) (packet : Packet) → is_asked packet ≡ false → slice_get world.machines (machine_of_packet packet) ≡ None →
-    deliver_on world at clock (Some packet) ≡ refused world bad.NoPacket
-deliver_on-no_machine world at clock packet asked e = rw (asked, e) refl
-
--- a request is not delivered
-pub deliver_on-asked : (world : WorldState) (at clock : ℕ) (packet : Packet) → is_asked packet ≡ true → deliver_on world at clock (Some packet) ≡ refused world bad.NoPacket
-deliver_on-asked world at clock packet asked = rw asked refl
-
-pub deliver_on-back : (world : WorldState) (at clock : ℕ) (packet : Packet) (machine : MachineState) → is_asked packet ≡ false → slice_get world.machines (machine_of_packet packet) ≡ Some machine →
-    is_back_on machine clock ≡ true → deliver_on world at clock (Some packet) ≡ refused world bad.ClockBack
-deliver_on-back world at clock packet machine asked e b = rw (asked, e, b) refl
 
 pub deliver_on-taken : (world : WorldState) (at p clock : ℕ) (packet : Packet) (machine next : MachineState) (reply : Reply) → is_asked packet ≡ false → slice_get world.machines (machine_of_packet packet) ≡ Some machine →
     is_back_on machine clock ≡ false → record { machine = next; reply = reply } ≡ take_turn machine clock (take_of machine.table (source_of_packet packet) clock (bytes_of packet)) → p ≡ machine_of_packet packet →
@@ -259,13 +240,3 @@ pub TakesMemory-release_on : (world : WorldState) (at m w : ℕ) (reading : Inte
 TakesMemory-release_on world at m w reading machine found inside read =
     let t : nat_lt w (length machine.workers) ≡ true = lt-ltb w (length machine.workers) inside in
     rw (found, t) (subst (λ (o : Option Interval). TakesMemory (release_with world at m machine o).reply) (sym read) tt)
-
--- nothing but its own three reasons refuses a commit
-pub no-memory : (past : List Entry) (id : Id) (stamp : ℕ) → first_queue_fault past id stamp ≡ Some book.Memory → ⊥
-no-memory past id stamp h = by_tests _ _ _ h
-  where
-    by_tests : (full there stamped : Bool) → cond full (Some Full) (cond there (Some IdThere) (cond stamped (Some StampThere) None)) ≡ Some book.Memory → ⊥
-    by_tests true there stamped h = cc
-    by_tests false true stamped h = cc
-    by_tests false false true h = cc
-    by_tests false false false h = cc
