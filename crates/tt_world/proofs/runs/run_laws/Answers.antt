@@ -1,11 +1,11 @@
-use Rattle.tt_world.proofs.Legal.{legal_book}
+use Rattle.tt_world.proofs.Histories.Legal.{legal_book}
 use Rattle.tt_world.specs.Config.{config_at}
 use Rattle.tt_world.specs.Bad.{accepted}
-use Rattle.tt_world.proofs.Fusing.{FusionLaws}
-use Rattle.tt_world.proofs.Running.{readings-hold}
-use Rattle.tt_world.proofs.Committed.{externally-consistent}
-use Rattle.tt_world.proofs.Breaking.{meets-no_breach}
-use Rattle.tt_world.proofs.Laws.{accepted-reply, taken-makes}
+use Rattle.tt_world.proofs.Histories.Fusing.{FusionLaws}
+use Rattle.tt_world.proofs.Headline.Running.{readings-hold}
+use Rattle.tt_world.proofs.Headline.Committed.{externally-consistent}
+use Rattle.tt_world.proofs.Headline.Breaking.{meets-no_breach}
+use Rattle.tt_world.proofs.Headline.Laws.{accepted-reply, taken-makes}
 use Rattle.tt_world.proofs.runs.run_laws.Goals as goal
 use Rattle.tt_world.proofs.runs.run_laws.Goals.{After-book_laws}
 

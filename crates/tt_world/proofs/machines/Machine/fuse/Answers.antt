@@ -6,8 +6,8 @@ use Rattle.tt_world.specs.contracts.machines.Machine.{the_view}
 use Rattle.tt_world.specs.State.{MachineState}
 use Rattle.tt_world.specs.Step.{fusion_on, publish_turn}
 use Rattle.tt_world.specs.Trace.{outline}
-use Rattle.tt_world.proofs.Turns.{shows}
-use Rattle.tt_world.proofs.Fused.{Answers, daemon_of, fusion-answered, fusion-made, fusion-refused, turn-published, turn-refused, shown-published, shown-refused, certified-more, wants-made}
+use Rattle.tt_world.proofs.Simulation.Turns.{shows}
+use Rattle.tt_world.proofs.Simulation.Fused.{Answers, daemon_of, fusion-answered, fusion-made, fusion-refused, turn-published, turn-refused, shown-published, shown-refused, certified-more, wants-made}
 use Rattle.tt_world.proofs.machines.Machine.fuse.Goals as goal
 
 pub returns-in_ok-reserve-in-Ok-2-clause-fused : goal.returns-in_ok-reserve-in-Ok-2-clause-fused

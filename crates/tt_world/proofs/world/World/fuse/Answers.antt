@@ -7,7 +7,7 @@ use Rattle.tt_world.specs.State.{MachineState, WorldState}
 use Rattle.tt_world.specs.Step.{is_back_on, fuse_on}
 use Rattle.tt_world.specs.Reply.{TakesMemory}
 use Rattle.tt_world.specs.contracts.world.World.{the_view}
-use Rattle.tt_world.proofs.Turns.{same_item, found_at, fuse_on-fused, Does-memory, TakesMemory-fuse_on, put_back}
+use Rattle.tt_world.proofs.Simulation.Turns.{same_item, found_at, fuse_on-fused, Does-memory, TakesMemory-fuse_on, put_back}
 use Rattle.tt_world.proofs.world.World.fuse.Goals as goal
 
 pub returns : goal.returns

@@ -3,7 +3,7 @@ use Rattle.std.proofs.lemmas.Option.{slice_get_within}
 use Rattle.tt_world.specs.State.{MachineState, WorldState}
 use Rattle.tt_world.specs.Step.{Turn, IsWorker, is_back_on, read_on, readable_on, after_turn, refused}
 use Rattle.tt_world.specs.contracts.world.World.{the_view}
-use Rattle.tt_world.proofs.Turns.{same_item, worker-there, read_on-back, read_on-unreadable, read_on-read, after_turn-nothing}
+use Rattle.tt_world.proofs.Simulation.Turns.{same_item, worker-there, read_on-back, read_on-unreadable, read_on-read, after_turn-nothing}
 use Rattle.tt_world.specs.declared.faults.WorldFault.TheVariants as bad
 use Rattle.tt_world.proofs.world.World.read.Goals as goal
 

@@ -5,7 +5,7 @@ use Rattle.tt_world.specs.State.{MachineState, WorldState}
 use Rattle.tt_world.specs.Step.{release_on, IsWorker, worker_at}
 use Rattle.tt_world.specs.Reply.{TakesMemory}
 use Rattle.tt_world.specs.contracts.world.World.{the_view}
-use Rattle.tt_world.proofs.Turns.{worker-there, worker-kept, release_on-released, Does-memory, TakesMemory-release_on, put_back}
+use Rattle.tt_world.proofs.Simulation.Turns.{worker-there, worker-kept, release_on-released, Does-memory, TakesMemory-release_on, put_back}
 use Rattle.tt_world.proofs.world.World.release.Goals as goal
 
 pub returns : goal.returns

@@ -2,7 +2,7 @@ use Rattle.std.proofs.Common.{sym, subst}
 use Rattle.std.specs.Prelude.{Result}
 use Rattle.tt_world.specs.declared.events.Reply.{Reply}
 use Rattle.tt_world.specs.declared.faults.WorldFault.{WorldFault}
-use Rattle.tt_world.proofs.GoesOn.{Promises, goes_on, refusal_promises}
+use Rattle.tt_world.proofs.Simulation.GoesOn.{Promises, goes_on, refusal_promises}
 use Rattle.tt_world.proofs.world.World.step.Goals as goal
 
 pub returns-in-Ok-clause-reply : goal.returns-in-Ok-clause-reply

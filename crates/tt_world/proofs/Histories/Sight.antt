@@ -15,11 +15,11 @@ use Rattle.tt_world.specs.Past.{time_of}
 use Rattle.tt_world.specs.Publications.{publications_of, publication_at, reading_at}
 use Rattle.tt_world.specs.Commits.{arrived_by, read_by, reading_of, reading_since}
 use Rattle.tt_world.specs.Headline.{AreConfigurations}
-use Rattle.tt_world.proofs.Judging.{AreGood}
-use Rattle.tt_world.proofs.Fusing.{FusionLaws}
-use Rattle.tt_world.proofs.FusionTimes.{publications_right}
-use Rattle.tt_world.proofs.Promises.{machine_of_worker, read_holds}
-use Rattle.tt_world.proofs.Sound.{IsSound, sound_before}
+use Rattle.tt_world.proofs.Histories.Judging.{AreGood}
+use Rattle.tt_world.proofs.Histories.Fusing.{FusionLaws}
+use Rattle.tt_world.proofs.Histories.FusionTimes.{publications_right}
+use Rattle.tt_world.proofs.Headline.Promises.{machine_of_worker, read_holds}
+use Rattle.tt_world.proofs.Histories.Sound.{IsSound, sound_before}
 
 -- ---- a reading when it is taken
 

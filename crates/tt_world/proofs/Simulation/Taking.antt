@@ -21,9 +21,9 @@ use Rattle.tt_world.specs.Publications.{publications_of}
 use Rattle.tt_world.specs.Reply.{delivery_reply}
 use Rattle.tt_world.specs.State.{MachineState, polled_clock_of, source_of, machine_of}
 use Rattle.tt_world.specs.Step.{take_turn}
-use Rattle.tt_world.proofs.Ranges.{get_or-made, set-made, map-same}
-use Rattle.tt_world.proofs.Waiting.{happens}
-use Rattle.tt_world.proofs.Kept.{kept, after_delivery, machine_of-deliver, machine_if_delivered}
+use Rattle.tt_world.proofs.Simulation.Ranges.{get_or-made, set-made, map-same}
+use Rattle.tt_world.proofs.Simulation.Waiting.{happens}
+use Rattle.tt_world.proofs.Simulation.Kept.{kept, after_delivery, machine_of-deliver, machine_if_delivered}
 
 pub take_of-taken : (table : TableState) (i clock : ℕ) (bytes : List ℕ) → ltb i (length table.sources) ≡ true → is_back table clock ≡ false
     → take_of table i clock bytes ≡ after_statement table i clock (statement_of_message table.machine i (source_at table i).waiting clock (read_of bytes))

@@ -11,9 +11,9 @@ use Rattle.tt_world.specs.declared.events.Reply.TheVariants.{Published}
 use Rattle.tt_daemon.specs.Config.{Configuration}
 use Rattle.tt_world.specs.Reply.{reply_of, replies_from}
 use Rattle.tt_world.specs.Headline.{AreConfigurations, IsAction, AreEvents, ReadingsHold, FusionsAreShortest, NoFusionRefused}
-use Rattle.tt_world.proofs.Places.{all_append, all_by_recursion}
-use Rattle.tt_world.proofs.Fusing.{FusionLaws}
-use Rattle.tt_world.proofs.Promises.{reading_holds, fusion_shortest, fusion_not_refused}
+use Rattle.tt_world.proofs.Histories.Places.{all_append, all_by_recursion}
+use Rattle.tt_world.proofs.Histories.Fusing.{FusionLaws}
+use Rattle.tt_world.proofs.Headline.Promises.{reading_holds, fusion_shortest, fusion_not_refused}
 
 reverse_onto : (event : Event) (before past : List Event) → reverse before ++ event ∷ past ≡ reverse (event ∷ before) ++ past
 reverse_onto event before past = sym (append_assoc (reverse before) (event ∷ []) past) ∙ ap (λ (events : List Event). events ++ past) (sym (reverse-append (event ∷ []) before))

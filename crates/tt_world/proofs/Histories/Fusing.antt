@@ -19,11 +19,11 @@ use Rattle.tt_world.specs.Sources.{statement_of}
 use Rattle.tt_world.specs.Publications.{spans_of, known_of, published, fusion_of}
 use Rattle.tt_world.specs.Assumptions.{is_false_statement, false_count}
 use Rattle.tt_world.specs.Headline.{IsAction}
-use Rattle.tt_world.proofs.Places.{holds_in, count_by-map}
-use Rattle.tt_world.proofs.Ageing.{statement_holds, statement_valid}
-use Rattle.tt_world.proofs.Judging.{IsGood, AreGood}
-use Rattle.tt_world.proofs.Clocks.{reading_on, reading_of}
-use Rattle.tt_world.proofs.Stating.{IsStated, statement_known}
+use Rattle.tt_world.proofs.Histories.Places.{holds_in, count_by-map}
+use Rattle.tt_world.proofs.Histories.Ageing.{statement_holds, statement_valid}
+use Rattle.tt_world.proofs.Histories.Judging.{IsGood, AreGood}
+use Rattle.tt_world.proofs.Histories.Clocks.{reading_on, reading_of}
+use Rattle.tt_world.proofs.Histories.Stating.{IsStated, statement_known}
 
 -- what the proofs need of the fusion: the slow fusion finds it, or that there is none
 pub record FusionLaws : Type 0 where

@@ -31,17 +31,17 @@ use Rattle.tt_world.specs.Bad.{has_machine, names_unknown, is_request, can_be_de
 use Rattle.tt_world.specs.Reply.{reply_to_packet, reply_to}
 use Rattle.tt_world.specs.State.{MachineState, WorldState, source_of, worker_of, machine_of, polled_clock_of, state_of}
 use Rattle.tt_world.specs.Step.{Outcome, Turn, HasRoom, refused, after_turn, after_poll, send_on, after_put, answer_on, forge_on, deliver_to, deliver_on, spans_on, fuse_on, publish_turn, fusion_on, with_shown, new_worker, read_from, read_on, arrive_turn, arrive_on, stamp_with, stamp_on, queue_with, queue_on, release_with, release_on, acted}
-use Rattle.tt_world.proofs.Ranges.{get_or-made, slice_get-made, slice_get-made_past, set-made, map-same}
-use Rattle.tt_world.proofs.Waiting.{happens}
-use Rattle.tt_world.proofs.Kept.{machine_of-answer, machine_of-forge}
-use Rattle.tt_world.proofs.Polling.{poll_of-polled, with_table-polled, machine_of-send_other}
-use Rattle.tt_world.proofs.Taking.{take_turn-take_of, machine_of-deliver_other}
-use Rattle.tt_world.proofs.Publishing.{spans_on-machine_of, fusion_on-machine_of, publish_turn-fusion_on, machine_of-fuse_other}
-use Rattle.tt_world.proofs.Seeing.{read_turn-machine_of, machine_of-read_other}
-use Rattle.tt_world.proofs.Asking.{arrive_turn-machine_of, machine_of-arrive_other}
-use Rattle.tt_world.proofs.Stamping.{stamp_turn-machine_of, machine_of-stamp_other}
-use Rattle.tt_world.proofs.Queueing.{queue_turn-machine_of, machine_of-queue_other, release_turn-machine_of, machine_of-release_other}
-use Rattle.tt_world.proofs.Lasting.{sends_of-le-packets, HasItsSource, All-slice_get, Lasts}
+use Rattle.tt_world.proofs.Simulation.Ranges.{get_or-made, slice_get-made, slice_get-made_past, set-made, map-same}
+use Rattle.tt_world.proofs.Simulation.Waiting.{happens}
+use Rattle.tt_world.proofs.Simulation.Kept.{machine_of-answer, machine_of-forge}
+use Rattle.tt_world.proofs.Simulation.Polling.{poll_of-polled, with_table-polled, machine_of-send_other}
+use Rattle.tt_world.proofs.Simulation.Taking.{take_turn-take_of, machine_of-deliver_other}
+use Rattle.tt_world.proofs.Simulation.Publishing.{spans_on-machine_of, fusion_on-machine_of, publish_turn-fusion_on, machine_of-fuse_other}
+use Rattle.tt_world.proofs.Simulation.Seeing.{read_turn-machine_of, machine_of-read_other}
+use Rattle.tt_world.proofs.Simulation.Asking.{arrive_turn-machine_of, machine_of-arrive_other}
+use Rattle.tt_world.proofs.Simulation.Stamping.{stamp_turn-machine_of, machine_of-stamp_other}
+use Rattle.tt_world.proofs.Simulation.Queueing.{queue_turn-machine_of, machine_of-queue_other, release_turn-machine_of, machine_of-release_other}
+use Rattle.tt_world.proofs.Histories.Lasting.{sends_of-le-packets, HasItsSource, All-slice_get, Lasts}
 
 -- what an event makes of it, by the reason why it is bad
 abbrev pub judged : WorldState → WorldState → Reply → Option WorldFault → Outcome

@@ -11,7 +11,7 @@ use Rattle.tt_world.specs.Bad.{accepted}
 use Rattle.tt_world.specs.Reply.{TakesMemory, reply_of}
 use Rattle.tt_world.specs.State.{WorldState, state_of, StandsFor}
 use Rattle.tt_world.specs.Step.{Outcome, stepped, refused, WantsMemory, HasRoom, IsRefusal, refusal_reply}
-use Rattle.tt_world.proofs.Simulation.{IsReason, simulation, simulation-refused, memory_is_taken}
+use Rattle.tt_world.proofs.Simulation.Events.{IsReason, simulation, simulation-refused, memory_is_taken}
 
 -- an event that made of the run what is defined
 kept_on : (old new : WorldState) (event : Event) (reply : Reply) → stepped old event ≡ record { world = new; reply = reply } →

@@ -9,7 +9,7 @@ use Rattle.tt_world.specs.declared.events.Reply.{Reply}
 use Rattle.tt_daemon.specs.Config.{Configuration}
 use Rattle.tt_world.specs.Bad.{accepted}
 use Rattle.tt_world.specs.Reply.{reply_of, replies_from}
-use Rattle.tt_world.proofs.Sound.{IsAfter, accepted_after}
+use Rattle.tt_world.proofs.Histories.Sound.{IsAfter, accepted_after}
 
 -- the events before place i of a run that goes on from a past, the newest first
 abbrev pub before_place : List Event → List Event → ℕ → List Event

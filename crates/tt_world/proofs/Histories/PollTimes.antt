@@ -14,10 +14,10 @@ use Rattle.tt_daemon.specs.Config.{Configuration}
 use Rattle.tt_world.specs.Past.{time_of, sends_of, put_by, packets_of, clock_reading, clock_of, moments_of}
 use Rattle.tt_world.specs.Sources.{sent_by, last_send}
 use Rattle.tt_world.specs.Assumptions.{origin_of}
-use Rattle.tt_world.proofs.Places.{IsIn, get_front}
-use Rattle.tt_world.proofs.Judging.{IsGood, AreGood}
-use Rattle.tt_world.proofs.Clocks.{reading_on, clock_on, reading_of, moment_stays}
-use Rattle.tt_world.proofs.Origins.{nonce_of, nonces_sent, origin-old, origin-new}
+use Rattle.tt_world.proofs.Histories.Places.{IsIn, get_front}
+use Rattle.tt_world.proofs.Histories.Judging.{IsGood, AreGood}
+use Rattle.tt_world.proofs.Histories.Clocks.{reading_on, clock_on, reading_of, moment_stays}
+use Rattle.tt_world.proofs.Histories.Origins.{nonce_of, nonces_sent, origin-old, origin-new}
 
 -- a poll of machine m: the true time when it was sent, and that no packet with its nonce or a later one was put before
 pub record IsPoll (past : List Event) (m : ℕ) (sending : Sending) : Type 0 where

@@ -15,8 +15,8 @@ use Rattle.tt_world.specs.Packet.{answer_to}
 use Rattle.tt_world.specs.Past.{time_of, is_send_of, sends_of, put_by, packets_of}
 use Rattle.tt_world.specs.Assumptions.{origin_of, is_lie}
 use Rattle.tt_world.specs.Headline.{IsAction}
-use Rattle.tt_world.proofs.Places.{get_front, get_back, get_one}
-use Rattle.tt_world.proofs.Judging.{AreGood}
+use Rattle.tt_world.proofs.Histories.Places.{get_front, get_back, get_one}
+use Rattle.tt_world.proofs.Histories.Judging.{AreGood}
 
 -- the nonce in a packet of machine m, 0 in any other
 abbrev pub nonce_of : ℕ → Packet → ℕ

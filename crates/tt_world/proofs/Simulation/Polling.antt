@@ -10,9 +10,9 @@ use Rattle.tt_world.specs.Sources.{outstanding, statement_of}
 use Rattle.tt_world.specs.Publications.{publications_of}
 use Rattle.tt_world.specs.State.{source_of, machine_of}
 use Rattle.tt_world.specs.Step.{with_table}
-use Rattle.tt_world.proofs.Ranges.{get_or-made, set-made}
-use Rattle.tt_world.proofs.Waiting.{happens}
-use Rattle.tt_world.proofs.Kept.{kept, machine_of-send, machine_if_sent}
+use Rattle.tt_world.proofs.Simulation.Ranges.{get_or-made, set-made}
+use Rattle.tt_world.proofs.Simulation.Waiting.{happens}
+use Rattle.tt_world.proofs.Simulation.Kept.{kept, machine_of-send, machine_if_sent}
 
 -- the table after a poll
 abbrev pub polled_table : TableState → ℕ → ℕ → TableState

@@ -23,8 +23,8 @@ use Rattle.tt_world.specs.Sources.{outstanding, stated_in, statement_of}
 use Rattle.tt_world.specs.Publications.{publications_of, seen_of, published_at, publication_at, reading_at}
 use Rattle.tt_world.specs.Commits.{arrival_of, reading_of, reading_since, stamp_given, stamps_after, stamps_of, stamping_of, stamp_held, with_queued, released_with, book_of, queueing_of, is_queued, task_with}
 use Rattle.tt_world.specs.State.{MachineState, is_taken, polled_clock_of, source_of, worker_of, machine_of}
-use Rattle.tt_world.proofs.Ranges.{map-same}
-use Rattle.tt_world.proofs.Waiting.{happens, outstanding-send, outstanding-deliver}
+use Rattle.tt_world.proofs.Simulation.Ranges.{map-same}
+use Rattle.tt_world.proofs.Simulation.Waiting.{happens, outstanding-send, outstanding-deliver}
 
 -- a machine with another table, clock and publications
 abbrev pub kept : MachineState → ℕ → ℕ → List SourceState → ℕ → List Publication → MachineState

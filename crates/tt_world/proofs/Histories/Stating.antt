@@ -30,12 +30,12 @@ use Rattle.tt_world.specs.Sources.{last_send, stated_in, stated_by, is_answered,
 use Rattle.tt_world.specs.Bad.{can_be_delivered, lacks_packet}
 use Rattle.tt_world.specs.Assumptions.{origin_of, delivered_by, packet_of_statement, is_lie, is_lying, is_false_statement}
 use Rattle.tt_world.specs.Headline.{IsAction}
-use Rattle.tt_world.proofs.Places.{IsIn}
-use Rattle.tt_world.proofs.Judging.{IsGood, AreGood}
-use Rattle.tt_world.proofs.Clocks.{reading_on, clock_on, reading_of, moment_stays}
-use Rattle.tt_world.proofs.Origins.{nonce_of, IsHonest, has_origin, origin-old}
-use Rattle.tt_world.proofs.Answering.{answer_valid, answer_back}
-use Rattle.tt_world.proofs.PollTimes.{last_poll}
+use Rattle.tt_world.proofs.Histories.Places.{IsIn}
+use Rattle.tt_world.proofs.Histories.Judging.{IsGood, AreGood}
+use Rattle.tt_world.proofs.Histories.Clocks.{reading_on, clock_on, reading_of, moment_stays}
+use Rattle.tt_world.proofs.Histories.Origins.{nonce_of, IsHonest, has_origin, origin-old}
+use Rattle.tt_world.proofs.Histories.Answering.{answer_valid, answer_back}
+use Rattle.tt_world.proofs.Histories.PollTimes.{last_poll}
 
 -- what was said where a message made a statement
 record IsSaid (m i : ℕ) (waiting : Option Sending) (clock : ℕ) (message : Result Message PollFault) (s : Statement) : Type 0 where

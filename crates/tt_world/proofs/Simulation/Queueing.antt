@@ -19,9 +19,9 @@ use Rattle.tt_world.specs.Commits.{arrival_of, reading_of, stamp_held, with_queu
 use Rattle.tt_world.specs.Reply.{queueing_reply}
 use Rattle.tt_world.specs.State.{MachineState, worker_of, machine_of}
 use Rattle.tt_world.specs.Step.{Turn, new_worker, queue_turn, release_turn}
-use Rattle.tt_world.proofs.Ranges.{get_or-made, set-made, map-same}
-use Rattle.tt_world.proofs.Waiting.{happens}
-use Rattle.tt_world.proofs.Kept.{worker_if_queued, machine_of-queue, machine_if_queued, machine_of-release, machine_if_released}
+use Rattle.tt_world.proofs.Simulation.Ranges.{get_or-made, set-made, map-same}
+use Rattle.tt_world.proofs.Simulation.Waiting.{happens}
+use Rattle.tt_world.proofs.Simulation.Kept.{worker_if_queued, machine_of-queue, machine_if_queued, machine_of-release, machine_if_released}
 
 module _ (config : Configuration) (past : List Event) (at m w : ℕ) where
   -- ---- it queues

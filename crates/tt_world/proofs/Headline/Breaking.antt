@@ -17,8 +17,8 @@ use Rattle.tt_world.specs.Packet.{machine_of_packet}
 use Rattle.tt_world.specs.Past.{packets_of, ClockReading, clock_reading, moment_at, moments_of}
 use Rattle.tt_world.specs.Bad.{has_source, has_worker, has_machine, names_unknown, first_bad, accepted}
 use Rattle.tt_world.specs.Assumptions.{false_count, HasFewFalse, FewLie, ClocksKeepDrift, MeetsAssumptions, agrees_with_all, drift_breach, falsity_breach, NoBreach}
-use Rattle.tt_world.proofs.Judging.{good_of}
-use Rattle.tt_world.proofs.Lasting.{HasItsSource, All-slice_get, Lasts, Lasts-accepted}
+use Rattle.tt_world.proofs.Histories.Judging.{good_of}
+use Rattle.tt_world.proofs.Histories.Lasting.{HasItsSource, All-slice_get, Lasts, Lasts-accepted}
 
 -- ---- the drift bound
 

@@ -23,7 +23,7 @@ use Rattle.tt_world.specs.Past.{is_send_of, sends_of, put_by, packets_of, clock_
 use Rattle.tt_world.specs.Sources.{outstanding}
 use Rattle.tt_world.specs.Bad.{has_source, names_unknown, goes_back, first_bad, accepted}
 use Rattle.tt_world.specs.State.{is_taken, polled_clock_of}
-use Rattle.tt_world.proofs.Waiting.{happens}
+use Rattle.tt_world.proofs.Simulation.Waiting.{happens}
 
 -- ---- polls are packets
 

@@ -7,8 +7,8 @@ use Rattle.tt_world.specs.declared.events.Event.{Event}
 use Rattle.tt_daemon.specs.Config.{Configuration}
 use Rattle.tt_world.specs.Past.{packets_of, ClockReading, clock_reading, clock_after, clock_of, moment_at, moments_of}
 use Rattle.tt_world.specs.Bad.{goes_back}
-use Rattle.tt_world.proofs.Places.{IsIn, in_back}
-use Rattle.tt_world.proofs.Judging.{IsGood}
+use Rattle.tt_world.proofs.Histories.Places.{IsIn, in_back}
+use Rattle.tt_world.proofs.Histories.Judging.{IsGood}
 
 -- a reading, and the machine whose clock it is
 abbrev pub reading_on : ℕ → ℕ → Option ClockReading

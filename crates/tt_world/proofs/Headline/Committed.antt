@@ -11,14 +11,14 @@ use Rattle.tt_world.specs.Bad.{accepted}
 use Rattle.tt_world.specs.Reply.{reply_of, replies_from}
 use Rattle.tt_world.specs.Assumptions.{MeetsAssumptions}
 use Rattle.tt_world.specs.Headline.{AreConfigurations, IsAction, AreEvents, StampsAreLeast, IsArrival, ExternallyConsistent}
-use Rattle.tt_world.proofs.Places.{all_by_recursion}
-use Rattle.tt_world.proofs.Judging.{good_of, accepted-good}
-use Rattle.tt_world.proofs.Fusing.{FusionLaws}
-use Rattle.tt_world.proofs.Running.{reply_at}
-use Rattle.tt_world.proofs.Sound.{IsSound, sound_accepted, sound_if_after, time_if_after}
-use Rattle.tt_world.proofs.Sight.{reading_not_ahead, arrival_time_of, arrival_on, arrival-here, reading_since_holds}
-use Rattle.tt_world.proofs.Placing.{before_place, before_place-reverse, before_place-next, accepted_before, all_before_place, placed, replied_at}
-use Rattle.tt_world.proofs.Committing.{StampLaws, arrival_not_bad, stamp_least, releasing}
+use Rattle.tt_world.proofs.Histories.Places.{all_by_recursion}
+use Rattle.tt_world.proofs.Histories.Judging.{good_of, accepted-good}
+use Rattle.tt_world.proofs.Histories.Fusing.{FusionLaws}
+use Rattle.tt_world.proofs.Headline.Running.{reply_at}
+use Rattle.tt_world.proofs.Histories.Sound.{IsSound, sound_accepted, sound_if_after, time_if_after}
+use Rattle.tt_world.proofs.Histories.Sight.{reading_not_ahead, arrival_time_of, arrival_on, arrival-here, reading_since_holds}
+use Rattle.tt_world.proofs.Histories.Placing.{before_place, before_place-reverse, before_place-next, accepted_before, all_before_place, placed, replied_at}
+use Rattle.tt_world.proofs.Headline.Committing.{StampLaws, arrival_not_bad, stamp_least, releasing}
 
 -- every stamp of a run is the least that its rules allow, whatever the run
 pub stamps-least : StampLaws → (configs : List Configuration) (events : List Event) → AreConfigurations configs → StampsAreLeast configs events (replies_from configs [] events)

@@ -11,9 +11,9 @@ use Rattle.tt_world.specs.declared.workers.Worker.{Worker}
 use Rattle.tt_daemon.specs.Config.{Configuration}
 use Rattle.tt_world.specs.State.{MachineState, worker_of, machine_of}
 use Rattle.tt_world.specs.Step.{new_worker, arrive_turn}
-use Rattle.tt_world.proofs.Ranges.{get_or-made, set-made}
-use Rattle.tt_world.proofs.Waiting.{happens}
-use Rattle.tt_world.proofs.Kept.{worker_if_asked, machine_of-arrive, machine_if_asked}
+use Rattle.tt_world.proofs.Simulation.Ranges.{get_or-made, set-made}
+use Rattle.tt_world.proofs.Simulation.Waiting.{happens}
+use Rattle.tt_world.proofs.Simulation.Kept.{worker_if_asked, machine_of-arrive, machine_if_asked}
 
 module _ (config : Configuration) (past : List Event) (at m w : ℕ) (id : Id) (floor : ℕ) where
   -- the commit that the worker is asked for

@@ -19,10 +19,10 @@ use Rattle.tt_world.specs.Commits.{arrival_of, reading_since, stamping_after, st
 use Rattle.tt_world.specs.Reply.{stamping_reply}
 use Rattle.tt_world.specs.State.{MachineState, worker_of, machine_of}
 use Rattle.tt_world.specs.Step.{Turn, new_worker, given_in, stamp_turn}
-use Rattle.tt_world.proofs.Ranges.{get_or-made, set-made, map-same}
-use Rattle.tt_world.proofs.Waiting.{happens}
-use Rattle.tt_world.proofs.Kept.{worker_if_stamped, machine_of-stamp, machine_if_stamped}
-use Rattle.tt_world.proofs.Greatest.{stamp_of-greatest, greatest_of-given}
+use Rattle.tt_world.proofs.Simulation.Ranges.{get_or-made, set-made, map-same}
+use Rattle.tt_world.proofs.Simulation.Waiting.{happens}
+use Rattle.tt_world.proofs.Simulation.Kept.{worker_if_stamped, machine_of-stamp, machine_if_stamped}
+use Rattle.tt_world.proofs.Simulation.Greatest.{stamp_of-greatest, greatest_of-given}
 
 module _ (config : Configuration) (past : List Event) (at m w : ℕ) where
   module _ (a : Arrival) (reading : Interval) (there : w < config.workers)

@@ -12,9 +12,9 @@ use Rattle.tt_world.specs.Publications.{spans_of, known_of, published, fusion_of
 use Rattle.tt_world.specs.Reply.{fusion_reply}
 use Rattle.tt_world.specs.State.{MachineState, source_of, machine_of}
 use Rattle.tt_world.specs.Step.{spans_on, fusion_on, publish_turn}
-use Rattle.tt_world.proofs.Ranges.{map-map, count_by-map}
-use Rattle.tt_world.proofs.Waiting.{happens}
-use Rattle.tt_world.proofs.Kept.{machine_of-fuse, machine_if_fused}
+use Rattle.tt_world.proofs.Simulation.Ranges.{map-map, count_by-map}
+use Rattle.tt_world.proofs.Simulation.Waiting.{happens}
+use Rattle.tt_world.proofs.Simulation.Kept.{machine_of-fuse, machine_if_fused}
 
 -- what is published by so many known sources with these spans
 abbrev fusion_by : Configuration → ℕ → ℕ → List Interval → Result Publication ℕ

@@ -10,9 +10,9 @@ use Rattle.tt_daemon.specs.Config.{Configuration}
 use Rattle.tt_world.specs.Publications.{publications_of, seen_of, publication_at}
 use Rattle.tt_world.specs.State.{MachineState, worker_of, machine_of}
 use Rattle.tt_world.specs.Step.{new_worker, read_turn}
-use Rattle.tt_world.proofs.Ranges.{get_or-made, set-made}
-use Rattle.tt_world.proofs.Waiting.{happens}
-use Rattle.tt_world.proofs.Kept.{reading_from, worker_if_reads, machine_of-read, machine_if_read}
+use Rattle.tt_world.proofs.Simulation.Ranges.{get_or-made, set-made}
+use Rattle.tt_world.proofs.Simulation.Waiting.{happens}
+use Rattle.tt_world.proofs.Simulation.Kept.{reading_from, worker_if_reads, machine_of-read, machine_if_read}
 
 module _ (config : Configuration) (past : List Event) (at m w clock k : ℕ) where
   -- the reading

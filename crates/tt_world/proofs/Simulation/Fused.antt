@@ -23,7 +23,7 @@ use Rattle.tt_world.specs.State.{MachineState}
 use Rattle.tt_world.specs.Step.{Turn, fusion_on, spans_on, publish_turn}
 use Rattle.tt_world.specs.Trace.{outline}
 use Rattle.tt_world.specs.Headline.{CertificatesProve}
-use Rattle.tt_world.proofs.Turns.{shows}
+use Rattle.tt_world.proofs.Simulation.Turns.{shows}
 
 -- the daemon of a machine
 abbrev pub daemon_of : MachineState → DaemonState

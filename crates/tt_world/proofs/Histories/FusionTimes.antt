@@ -14,11 +14,11 @@ use Rattle.tt_world.specs.Past.{packets_of, clock_reading, time_of, clock_of, mo
 use Rattle.tt_world.specs.Publications.{fusion_of, one_if_made, fuses_at, published_at, publications_of}
 use Rattle.tt_world.specs.Assumptions.{false_count, HasFewFalse, FewLie}
 use Rattle.tt_world.specs.Headline.{IsAction}
-use Rattle.tt_world.proofs.Places.{IsIn, all_append, all_weaker}
-use Rattle.tt_world.proofs.Ageing.{drift_kept_before}
-use Rattle.tt_world.proofs.Judging.{IsGood, AreGood}
-use Rattle.tt_world.proofs.Clocks.{reading_on, reading_of, clock_on, moment_stays}
-use Rattle.tt_world.proofs.Fusing.{FusionLaws, true_time_possible, made_is_fusion}
+use Rattle.tt_world.proofs.Histories.Places.{IsIn, all_append, all_weaker}
+use Rattle.tt_world.proofs.Histories.Ageing.{drift_kept_before}
+use Rattle.tt_world.proofs.Histories.Judging.{IsGood, AreGood}
+use Rattle.tt_world.proofs.Histories.Clocks.{reading_on, reading_of, clock_on, moment_stays}
+use Rattle.tt_world.proofs.Histories.Fusing.{FusionLaws, true_time_possible, made_is_fusion}
 
 -- a publication of machine m held the true time when it was made
 pub record WasRight (past : List Event) (m : ℕ) (publication : Publication) : Type 0 where

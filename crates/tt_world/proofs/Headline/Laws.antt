@@ -29,8 +29,8 @@ use Rattle.tt_world.specs.Publications.{published}
 use Rattle.tt_world.specs.Commits.{arrival_of, reading_since, stamp_held, is_queued, task_with, stamps_of, stamping_after}
 use Rattle.tt_world.specs.Bad.{can_be_delivered, is_arrived, first_bad, accepted}
 use Rattle.tt_world.specs.Reply.{IsBadReply, delivery_reply, reply_to_packet, fusion_reply, stamping_reply, queueing_reply, reply_to, reply_unless_bad, reply_of, MakesStatement}
-use Rattle.tt_world.proofs.Judging.{IsGood, good_of}
-use Rattle.tt_world.proofs.Simulation.{few_number, reason_at}
+use Rattle.tt_world.proofs.Histories.Judging.{IsGood, good_of}
+use Rattle.tt_world.proofs.Simulation.Events.{few_number, reason_at}
 
 -- ---- an accepted event has no bad reply
 

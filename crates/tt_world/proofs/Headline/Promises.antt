@@ -32,12 +32,12 @@ use Rattle.tt_world.specs.Commits.{stamping_of, queueing_of}
 use Rattle.tt_world.specs.Reply.{delivery_reply, reply_to_packet, fusion_reply, stamping_reply, queueing_reply, reply_to, reply_unless_bad, reply_of}
 use Rattle.tt_world.specs.Assumptions.{FewLie, ClocksKeepDrift, MeetsAssumptions}
 use Rattle.tt_world.specs.Headline.{AreConfigurations, IsAction, AreEvents}
-use Rattle.tt_world.proofs.Places.{holds_in, all_by_recursion}
-use Rattle.tt_world.proofs.Ageing.{aged_holds, drift_kept_before}
-use Rattle.tt_world.proofs.Judging.{IsGood, good_of, good_accepted, all_accepted, accepted-good}
-use Rattle.tt_world.proofs.Clocks.{reading_of}
-use Rattle.tt_world.proofs.Fusing.{FusionLaws, true_time_possible, made_is_fusion, fusion_made}
-use Rattle.tt_world.proofs.FusionTimes.{WasRight, publications_right}
+use Rattle.tt_world.proofs.Histories.Places.{holds_in, all_by_recursion}
+use Rattle.tt_world.proofs.Histories.Ageing.{aged_holds, drift_kept_before}
+use Rattle.tt_world.proofs.Histories.Judging.{IsGood, good_of, good_accepted, all_accepted, accepted-good}
+use Rattle.tt_world.proofs.Histories.Clocks.{reading_of}
+use Rattle.tt_world.proofs.Histories.Fusing.{FusionLaws, true_time_possible, made_is_fusion, fusion_made}
+use Rattle.tt_world.proofs.Histories.FusionTimes.{WasRight, publications_right}
 
 -- ---- replies
 

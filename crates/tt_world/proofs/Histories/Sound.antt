@@ -10,8 +10,8 @@ use Rattle.tt_world.specs.Past.{packets_of, clock_reading, time_of, moment_at, m
 use Rattle.tt_world.specs.Bad.{first_bad, accepted}
 use Rattle.tt_world.specs.Assumptions.{FewLie, ClocksKeepDrift, MeetsAssumptions}
 use Rattle.tt_world.specs.Headline.{IsAction}
-use Rattle.tt_world.proofs.Ageing.{drift_kept_before}
-use Rattle.tt_world.proofs.Judging.{AreGood, good_accepted, all_accepted}
+use Rattle.tt_world.proofs.Histories.Ageing.{drift_kept_before}
+use Rattle.tt_world.proofs.Histories.Judging.{AreGood, good_accepted, all_accepted}
 
 -- events, none of them bad, that keep the assumptions
 pub record IsSound (configs : List Configuration) (past : List Event) : Type 0 where
