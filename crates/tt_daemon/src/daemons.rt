@@ -82,6 +82,13 @@ impl Daemon {
         self.table.known()
     }
 
+    /// Whether source `i` has made a statement: not so where there is no such source.
+    pub fn is_known(&self, i: u8) -> bool
+        ensures known_source { result ≡ is_known_of self.now.table i }
+    {
+        self.table.is_known(i)
+    }
+
     /// Polls source `i` when the clock shows `clock`: the bytes of a request with the nonce after the last one,
     /// for which the source now waits in place of an earlier one. Its statement stays. Refuses, in this order: 401
     /// `NoSource` where `i` is no source, 402 `ClockBack`, 403 `NoncesUsedUp` where the last nonce was `u64::MAX`.
