@@ -15,11 +15,11 @@ use crate::slots::Slot;
 use crate::statements::Statement;
 use arrayvec::ArrayVec;
 use std::marker::Model;
-use tt_poll::{Answer, Message, REQUEST_LEN, Request, decode, encode_request};
+use tt_poll::{Answer, MAX_SOURCE, Message, REQUEST_LEN, Request, decode, encode_request};
 use tt_span::{Drift, MAX_TIME, Span};
 
-/// The greatest count of sources.
-pub const MAX_SOURCES: usize = 16;
+/// The greatest count of sources: as many as requests can name.
+const MAX_SOURCES: usize = MAX_SOURCE as usize + 1;
 
 /// What one machine knows of its sources, which are numbered from 0: of each at most one poll that waits for its
 /// answer, and one statement, the last answer that was taken. That a machine polls several sources is Spanner's
@@ -49,7 +49,7 @@ impl Model for Table {
 }
 
 impl Table {
-    /// The table of machine `machine`, at most 7, with `n` sources, from 1 to [`MAX_SOURCES`], of which nothing is
+    /// The table of machine `machine`, at most 7, with `n` sources, from 1 to 16, of which nothing is
     /// known. Its clock keeps `drift`. The first nonce is 1.
     pub fn new(machine: u8, n: usize, drift: Drift) -> Table
         requires machine_in { machine ≤ max_machine }
@@ -78,14 +78,6 @@ impl Table {
         }
     }
 
-    /// The machine, at most 7.
-    pub fn machine(&self) -> u8
-        ensures value { result ≡ self.now.machine }
-        ensures valid { IsTable self.now }
-    {
-        self.machine
-    }
-
     /// The last nonce that was used, 0 before the first.
     pub fn last(&self) -> u64
         ensures value { result ≡ self.now.last }
@@ -94,15 +86,7 @@ impl Table {
         self.last
     }
 
-    /// The drift that the machine's clock keeps.
-    pub fn drift(&self) -> Drift
-        ensures value { result ≡ self.now.drift }
-        ensures valid { IsTable self.now }
-    {
-        self.drift
-    }
-
-    /// How many sources there are, from 1 to [`MAX_SOURCES`].
+    /// How many sources there are, from 1 to 16.
     pub fn sources(&self) -> usize
         ensures value { result ≡ length self.now.sources }
         ensures valid { IsTable self.now }

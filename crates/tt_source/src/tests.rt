@@ -156,7 +156,6 @@ fn nonces_are_used_up(rt: HostRuntime) -> Result<(), Fail> {
     assert_eq!(rt; refusal(table.poll(0, 0)), Some(403));
     assert_eq!(rt; refusal(table.poll(0, MAX_TIME + 1)), Some(402));
     assert_eq!(rt; refusal(table.poll(16, 0)), Some(401));
-    assert_eq!(rt; (table.machine(), table.sources()), (7, 16));
-    assert_eq!(rt; table.drift().ppm(), 200);
+    assert_eq!(rt; table.sources(), 16);
     Ok(())
 }
