@@ -100,6 +100,10 @@ applies_in format bytes Span = length bytes == answer_len_of format && are_no_sp
 abbrev pub applies : List ℕ → PollFault → Bool
 applies bytes = applies_in Ttp1 bytes
 
+-- the same of bytes of TTP2
+abbrev pub applies2 : List ℕ → PollFault → Bool
+applies2 bytes = applies_in Ttp2 bytes
+
 -- the refusals of what the two formats share, in the order in which they are tested
 abbrev pub head_faults : List PollFault
 head_faults = Length ∷ Magic ∷ Kind ∷ Reserved ∷ Number ∷ Nonce ∷ []

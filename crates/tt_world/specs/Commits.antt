@@ -1,7 +1,7 @@
 -- What the workers of each machine were asked to commit, and what became of it, searched back. Each list has the newest event first, and only events that were not bad.
 use Rattle.std.specs.Prelude.{ℕ, ◌==◌, ◌&&◌, ◌||◌, not, Bool, false, if◌then◌else◌, List, [], ◌∷◌, is_some, Option, Some, None, Result, Ok, Err}
 use Rattle.std.specs.Option.{option_or}
-use Rattle.tt_span.specs.Interval.{Interval}
+use Rattle.tt_span.specs.Interval.{Interval, whole}
 use Rattle.tt_stamp.specs.declared.commits.Receipt.{Receipt}
 use Rattle.tt_stamp.specs.declared.commits.Entry.{Entry}
 use Rattle.tt_stamp.specs.declared.commits.Entry.TheVariants.{Queued}
@@ -50,7 +50,7 @@ reading_since config (event ∷ past) m w =
 abbrev pub stamping_after : List ℕ → Option Arrival → Option Interval → Option (Result ℕ StampFault)
 stamping_after given None reading = None
 stamping_after given (Some arrival) None = None
-stamping_after given (Some arrival) (Some reading) = Some (stamp_of given reading.hi arrival.floor)
+stamping_after given (Some arrival) (Some reading) = Some (stamp_of given reading.hi arrival.floor whole)
 
 -- the stamp that was given, if one was
 abbrev pub stamp_given : Option (Result ℕ StampFault) → Option ℕ

@@ -1,6 +1,6 @@
 -- What a whole run promises: events, the oldest first, and the replies to them.
 use Rattle.std.specs.Prelude.{◌≡◌, ℕ, ◌+◌, ◌-◌, ◌<◌, ◌≤◌, List, ◌∷◌, ◌++◌, length, reverse, take, slice_get, All, Contains, Some, None}
-use Rattle.tt_span.specs.Interval.{Interval, IsInterval, Holds}
+use Rattle.tt_span.specs.Interval.{Interval, IsInterval, Holds, whole}
 use Rattle.tt_fuse.specs.Fusion.{IsFusion}
 use Rattle.tt_cert.specs.Valid.{IsCertificate}
 use Rattle.tt_cert.specs.Canonical.{IsCanonical}
@@ -71,7 +71,7 @@ pub record IsLeastFor (config : Configuration) (past : List Event) (m w s : ℕ)
   pub asked : arrival_of past m w ≡ Some arrival
   pub read_since : reading_since config past m w ≡ Some reading
   pub near : ¬ IsTooFar reading.hi arrival.floor
-  pub least : IsLeastStamp (stamps_of config past m) reading.hi arrival.floor s
+  pub least : IsLeastStamp (stamps_of config past m) reading.hi arrival.floor whole s
 
 -- every stamp is the least that its rules allow, whatever the run
 abbrev pub StampsAreLeast : List Configuration → List Event → List Reply → Type 0

@@ -9,6 +9,10 @@ use Rattle.tt_world.specs.declared.packets.Packet.{Packet}
 use Rattle.tt_world.specs.declared.packets.Packet.TheVariants.{Asked, Forged}
 use Rattle.tt_world.specs.Packet.{machine_of_packet, answer_to}
 
+-- the number of the life that every machine is in
+abbrev pub first_life : ℕ
+first_life = 1
+
 -- the true time of the last event, 0 before the first
 abbrev pub time_of : List Event → ℕ
 time_of [] = 0
@@ -26,7 +30,7 @@ sends_of (event ∷ past) m = if is_send_of m event.action then sends_of past m 
 
 -- the packets that an event puts on their way: sends says how many polls a machine has sent, and packets have been put before
 abbrev pub put_by : (ℕ → ℕ) → List Packet → Action → List Packet
-put_by sends packets (Send machine source clock) = Asked (record { machine = machine; source = source; nonce = sends machine + 1 }) ∷ []
+put_by sends packets (Send machine source clock) = Asked (record { machine = machine; source = source; nonce = sends machine + 1; epoch = first_life }) ∷ []
 put_by sends packets (Answer packet span) = answer_to (slice_get packets packet) span
 put_by sends packets (Forge machine source payload) = Forged machine source payload ∷ []
 put_by sends packets _ = []

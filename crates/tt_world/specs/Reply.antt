@@ -1,6 +1,6 @@
 -- The reply to each event.
 use Rattle.std.specs.Prelude.{◌≡◌, ℕ, ◌+◌, ◌≤◌, List, [], ◌∷◌, length, slice_get, Option, Some, None, Result, Ok, Err}
-use Rattle.tt_poll.specs.Reading.{read_of}
+use Rattle.tt_poll.specs.Reading.{read_of2}
 use Rattle.tt_source.specs.Fault.{number_of}
 use Rattle.tt_source.specs.Statement.{Statement}
 use Rattle.tt_source.specs.Table.{statement_of_message}
@@ -19,7 +19,7 @@ use Rattle.tt_world.specs.declared.publications.Publication.{Publication}
 use Rattle.tt_daemon.specs.Config.{Configuration}
 use Rattle.tt_world.specs.Config.{config_at}
 use Rattle.tt_world.specs.Packet.{machine_of_packet, source_of_packet, bytes_of}
-use Rattle.tt_world.specs.Past.{packets_of}
+use Rattle.tt_world.specs.Past.{first_life, packets_of}
 use Rattle.tt_world.specs.Sources.{stated_by, outstanding}
 use Rattle.tt_world.specs.Publications.{fusion_of, publications_of, publication_at, reading_at}
 use Rattle.tt_world.specs.Commits.{reading_of, stamping_of, queueing_of, book_of, released_with}
@@ -39,7 +39,7 @@ reply_to_packet past clock None = bad_reply bad.NoPacket
 reply_to_packet past clock (Some packet) =
     let m = machine_of_packet packet in
     let i = source_of_packet packet in
-    delivery_reply (statement_of_message m i (outstanding past m i) clock (read_of (bytes_of packet)))
+    delivery_reply (statement_of_message m first_life i (outstanding past m i) clock (read_of2 (bytes_of packet)))
 
 -- the reply to a fusion, after so many publications
 abbrev pub fusion_reply : ℕ → Result Publication ℕ → Reply

@@ -2,7 +2,7 @@
 use Rattle.std.specs.Prelude.{ℕ, ◌+◌, ◌==◌, ◌&&◌, ◌||◌, Bool, false, if◌then◌else◌, List, [], ◌∷◌, slice_get, is_some, Option, Some, None}
 use Rattle.std.specs.Option.{option_or}
 use Rattle.std.specs.Result.{result_ok}
-use Rattle.tt_poll.specs.Reading.{read_of}
+use Rattle.tt_poll.specs.Reading.{read_of2}
 use Rattle.tt_source.specs.Statement.{Statement}
 use Rattle.tt_source.specs.Table.{Sending, statement_of_message}
 use Rattle.tt_world.specs.declared.events.Event.{Event}
@@ -10,7 +10,7 @@ use Rattle.tt_world.specs.declared.events.Action.{Action}
 use Rattle.tt_world.specs.declared.events.Action.TheVariants.{Send, Deliver}
 use Rattle.tt_world.specs.declared.packets.Packet.{Packet}
 use Rattle.tt_world.specs.Packet.{machine_of_packet, source_of_packet, bytes_of}
-use Rattle.tt_world.specs.Past.{sends_of, packets_of}
+use Rattle.tt_world.specs.Past.{first_life, sends_of, packets_of}
 
 -- the poll of source i of machine m that an event sends as that machine's poll of this nonce, if it does
 abbrev pub sent_by : ℕ → ℕ → ℕ → Action → Option Sending
@@ -27,7 +27,7 @@ abbrev pub stated_in : ℕ → ℕ → Option Sending → ℕ → Option Packet 
 stated_in m i waiting clock None = None
 stated_in m i waiting clock (Some packet) =
     if machine_of_packet packet == m && source_of_packet packet == i
-    then result_ok (statement_of_message m i waiting clock (read_of (bytes_of packet)))
+    then result_ok (statement_of_message m first_life i waiting clock (read_of2 (bytes_of packet)))
     else None
 
 -- what an event states for source i of machine m, if this is the poll that waits

@@ -14,7 +14,7 @@ use Rattle.tt_world.specs.declared.workers.Worker.{Worker}
 use Rattle.tt_daemon.specs.Config.{Configuration}
 use Rattle.tt_world.specs.Config.{config_at}
 use Rattle.tt_world.specs.Packet.{source_of_packet}
-use Rattle.tt_world.specs.Past.{time_of, sends_of, packets_of, clock_of}
+use Rattle.tt_world.specs.Past.{first_life, time_of, sends_of, packets_of, clock_of}
 use Rattle.tt_world.specs.Sources.{outstanding, stated_in, statement_of}
 use Rattle.tt_world.specs.Publications.{Showing, publications_of, seen_of, shown_of}
 use Rattle.tt_world.specs.Commits.{reading_of, reading_since, stamps_of, book_of, task_of}
@@ -83,6 +83,7 @@ machine_of config past m = record {
   config = config;
   table = record {
     machine = m;
+    epoch = first_life;
     drift = config.drift;
     last = sends_of past m;
     clock = polled_clock_of past m;

@@ -3,6 +3,7 @@
 ghost use Rattle.std.specs.Prelude.{◌≡◌, List, [], ℕ, ◌+◌, ◌++◌, ◌<◌, ◌≤◌, length, map, OnOk, OnErr, IfOk, IfErr, IsErrOf, IsOk, IsTrue, Some, None, Ok, Err};
 ghost use Rattle.std.specs.Vec.{vec_len, vec_capacity};
 ghost use Rattle.tt_span.specs.Time.{max_time};
+ghost use Rattle.tt_span.specs.Interval.{whole};
 ghost use Rattle.tt_source.specs.Table.{poll_of, take_of};
 ghost use Rattle.tt_daemon.specs.Config.{IsConfiguration};
 ghost use Rattle.tt_world.specs.Packet.{source_of_packet, bytes_of};
@@ -25,11 +26,14 @@ use arrayvec::ArrayVec;
 use std::alloc::Global;
 use std::marker::Model;
 use tt_daemon::{Config, Daemon, MAX_WORKERS};
-use tt_poll::{encode_answer, encode_request};
+use tt_poll::{encode_answer2, encode_request2};
 use tt_publish::Reading;
 use tt_source::SourceFault;
-use tt_span::MAX_TIME;
+use tt_span::{MAX_TIME, Span};
 use tt_stamp::{Book, BookFault, Entry, Id, Receipt, Row, book_laws};
+
+/// The number of the life that every machine is in.
+pub const FIRST_LIFE: u64 = 1;
 
 /// One machine: its daemon, what its clock showed last, what it has published, the greatest stamp that it has given,
 /// the book of its commits, and its workers.
@@ -46,6 +50,7 @@ pub struct Machine {
 impl Model for Machine {
     ghost use Rattle.std.specs.Prelude.{◌≡◌, ◌≤◌, length};
     ghost use Rattle.tt_span.specs.Time.{max_time};
+ghost use Rattle.tt_span.specs.Interval.{whole};
     ghost use Rattle.tt_world.specs.State.{MachineState, IsMachine};
 
     ghost Value = { MachineState };
@@ -65,7 +70,7 @@ impl Machine {
         let mut workers = ArrayVec::from([Worker::new(); MAX_WORKERS]);
         workers.truncate(config.workers());
         Machine {
-            daemon: Daemon::new(number, &config),
+            daemon: Daemon::new(number, &config, FIRST_LIFE),
             clock: 0,
             publications: Vec::new(alloc),
             row: Row::new(),
@@ -123,8 +128,8 @@ impl Machine {
         ensures { record { machine = self.new; reply = result } ≡ take_turn self.old clock (take_of self.old.table (source_of_packet packet.now) clock (bytes_of packet.now)) }
     {
         match packet {
-            Packet::Asked(request) => self.take(request.source(), clock, &encode_request(request)),
-            Packet::Answered(answer) => self.take(answer.source(), clock, &encode_answer(answer)),
+            Packet::Asked(request) => self.take(request.source(), clock, &encode_request2(request)),
+            Packet::Answered(answer) => self.take(answer.source(), clock, &encode_answer2(answer)),
             Packet::Forged {
                 source,
                 payload,
@@ -245,9 +250,9 @@ impl Machine {
     pub fn stamp(&mut self, worker: u8, arrival: &Arrival, reading: &Reading) -> Reply
         requires { worker < length self.old.workers }
         ensures { record { machine = self.new; reply = result }
-            ≡ stamp_turn self.old worker arrival.now.id (stamp_of (given_in self.old.row) reading.now.hi arrival.now.floor) }
+            ≡ stamp_turn self.old worker arrival.now.id (stamp_of (given_in self.old.row) reading.now.hi arrival.now.floor whole) }
     {
-        match self.row.stamp(reading, arrival.floor) {
+        match self.row.stamp(reading, arrival.floor, &Span::whole()) {
             Ok(stamp) => {
                 let id = arrival.id;
                 self.workers[usize::from(worker)].task = Some(Task::Stamped { id, stamp });

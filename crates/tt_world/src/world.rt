@@ -13,14 +13,14 @@ ghost use Rattle.tt_world.specs.Step.{Does, HasRoom, IsWorker, send_on, answer_o
 
 use crate::events::{Action, Event, Payload, Reply};
 use crate::faults::WorldFault;
-use crate::machines::Machine;
+use crate::machines::{FIRST_LIFE, Machine};
 use crate::packets::Packet;
 use crate::publications::Shown;
 use crate::workers::{Arrival, Task};
 use std::alloc::Global;
 use std::marker::Model;
 use tt_daemon::Config;
-use tt_poll::{Answer, Request};
+use tt_poll::{Answer2, Request2};
 use tt_span::{MAX_TIME, Span};
 
 /// How many machines a run has at most.
@@ -72,7 +72,7 @@ impl World {
         self.time = at;
         match self.machines[place].poll(source, clock) {
             Ok(nonce) => {
-                let request = Request::new(machine, source, nonce).unwrap();
+                let request = Request2::new(machine, source, nonce, FIRST_LIFE).unwrap();
                 self.packets.push(Packet::Asked(request)).unwrap();
                 Ok(Reply::Sent(number))
             }
@@ -225,10 +225,11 @@ impl World {
         let Some(Packet::Asked(request)) = self.packets.get(packet as usize) else {
             return Err(WorldFault::NoPacket);
         };
-        let answer = Answer::new(
+        let answer = Answer2::new(
             request.machine(),
             request.source(),
             request.nonce(),
+            request.epoch(),
             span,
         ).unwrap();
         let number = self.packets.len() as u64;

@@ -4,8 +4,8 @@ use Rattle.std.specs.Prelude.{slice_get, Contains}
 use Rattle.std.specs.List.{AllByRecursion}
 use Rattle.std.proofs.lemmas.Bool.{ltb-true}
 use Rattle.std.proofs.lemmas.List.Elements.{All-from_recursion, All-contains}
-use Rattle.tt_span.specs.Interval.{Interval}
-use Rattle.tt_poll.specs.Reading.{read_of}
+use Rattle.tt_span.specs.Interval.{Interval, whole}
+use Rattle.tt_poll.specs.Reading.{read_of2}
 use Rattle.tt_source.specs.Statement.{Statement}
 use Rattle.tt_source.specs.Table.{statement_of_message}
 use Rattle.tt_source.specs.declared.faults.SourceFault.{SourceFault}
@@ -28,7 +28,7 @@ use Rattle.tt_world.specs.declared.workers.Arrival.{Arrival}
 use Rattle.tt_daemon.specs.Config.{Configuration}
 use Rattle.tt_world.specs.Config.{config_at}
 use Rattle.tt_world.specs.Packet.{machine_of_packet, source_of_packet, bytes_of}
-use Rattle.tt_world.specs.Past.{packets_of}
+use Rattle.tt_world.specs.Past.{first_life, packets_of}
 use Rattle.tt_world.specs.Sources.{outstanding}
 use Rattle.tt_world.specs.Publications.{fusion_of, publications_of}
 use Rattle.tt_world.specs.Commits.{arrival_of, reading_of, reading_since, stamping_after, stamps_of, stamping_of, book_of, queueing_of, released_with}
@@ -38,7 +38,7 @@ use Rattle.tt_world.specs.Headline.{IsLeastFor}
 
 -- what the proofs need of stamps: the one that is computed is the answer
 abbrev pub StampLaws : Type 0
-StampLaws = (given : List ℕ) (latest floor : ℕ) → IsAnswer given latest floor (stamp_of given latest floor)
+StampLaws = (given : List ℕ) (latest floor : ℕ) (lease : Interval) → IsAnswer given latest floor lease (stamp_of given latest floor lease)
 
 -- ---- commits that are asked for
 
@@ -70,13 +70,13 @@ record IsStamped (given : List ℕ) (arrived : Option Arrival) (read : Option In
   reading : Interval
   asked : arrived ≡ Some arrival
   read_since : read ≡ Some reading
-  answer : stamp_of given reading.hi arrival.floor ≡ Ok s
+  answer : stamp_of given reading.hi arrival.floor whole ≡ Ok s
 
 stamped_of : (given : List ℕ) (arrived : Option Arrival) (read : Option Interval) (s : ℕ) → stamping_after given arrived read ≡ Some (Ok s) → IsStamped given arrived read s
 stamped_of given None read s h = absurd cc
 stamped_of given (Some arrival) None s h = absurd cc
 stamped_of given (Some arrival) (Some reading) s h =
-    record { arrival = arrival; reading = reading; asked = refl; read_since = refl; answer = same_answer (stamp_of given reading.hi arrival.floor) (Ok s) h }
+    record { arrival = arrival; reading = reading; asked = refl; read_since = refl; answer = same_answer (stamp_of given reading.hi arrival.floor whole) (Ok s) h }
   where
     same_answer : (a b : Result ℕ StampFault) → Some a ≡ Some b → a ≡ b
     same_answer a b h = cc
@@ -89,7 +89,7 @@ stamp_least laws configs past at m w s h =
     let event : Event = record { at = at; action = does.Stamp m w } in
     let made = stamping_made (stamping_of config before m w) s (stamped_not_bad (first_bad configs before event) (reply_to configs before (does.Stamp m w)) s h) in
     let stamped = stamped_of (stamps_of config before m) (arrival_of before m w) (reading_since config before m w) s made in
-    let answer = subst (IsAnswer (stamps_of config before m) stamped.reading.hi stamped.arrival.floor) stamped.answer (laws (stamps_of config before m) stamped.reading.hi stamped.arrival.floor) in
+    let answer = subst (IsAnswer (stamps_of config before m) stamped.reading.hi stamped.arrival.floor whole) stamped.answer (laws (stamps_of config before m) stamped.reading.hi stamped.arrival.floor whole) in
     record {
       arrival = stamped.arrival;
       reading = stamped.reading;
@@ -112,7 +112,7 @@ no_release_delivered (Err e) receipts h = cc
 no_release_of_packet : (past : List Event) (clock : ℕ) (packet : Option Packet) (receipts : List Receipt) → reply_to_packet past clock packet ≡ Released receipts → ⊥
 no_release_of_packet past clock None receipts h = cc
 no_release_of_packet past clock (Some packet) receipts h =
-    no_release_delivered (statement_of_message (machine_of_packet packet) (source_of_packet packet) (outstanding past (machine_of_packet packet) (source_of_packet packet)) clock (read_of (bytes_of packet))) receipts h
+    no_release_delivered (statement_of_message (machine_of_packet packet) first_life (source_of_packet packet) (outstanding past (machine_of_packet packet) (source_of_packet packet)) clock (read_of2 (bytes_of packet))) receipts h
 
 no_release_fused : (count : ℕ) (made : Result Publication ℕ) (receipts : List Receipt) → fusion_reply count made ≡ Released receipts → ⊥
 no_release_fused count (Ok publication) receipts h = cc

@@ -4,7 +4,7 @@ use Rattle.std.specs.Prelude.{Ok, Err}
 use Rattle.std.specs.Result.{result_ok}
 use Rattle.std.proofs.lemmas.Bool.{and_parts, eqb-true, eq-eqb}
 use Rattle.tt_span.specs.Interval.{Interval}
-use Rattle.tt_poll.specs.Reading.{read_of}
+use Rattle.tt_poll.specs.Reading.{read_of2}
 use Rattle.tt_source.specs.Statement.{Statement}
 use Rattle.tt_source.specs.Table.{statement_of_message}
 use Rattle.tt_source.specs.declared.faults.SourceFault.{SourceFault}
@@ -23,7 +23,7 @@ use Rattle.tt_world.specs.declared.workers.Arrival.{Arrival}
 use Rattle.tt_daemon.specs.Config.{Configuration}
 use Rattle.tt_world.specs.Config.{config_at}
 use Rattle.tt_world.specs.Packet.{machine_of_packet, source_of_packet, bytes_of}
-use Rattle.tt_world.specs.Past.{packets_of}
+use Rattle.tt_world.specs.Past.{first_life, packets_of}
 use Rattle.tt_world.specs.Sources.{outstanding, stated_in, stated_by}
 use Rattle.tt_world.specs.Publications.{published}
 use Rattle.tt_world.specs.Commits.{arrival_of, reading_since, stamp_held, is_queued, task_with, stamps_of, stamping_after}
@@ -51,6 +51,7 @@ stamping-good : (r : Result ℕ StampFault) → ¬ IsBadReply (stamping_reply (S
 stamping-good (Ok stamp) h = h
 stamping-good (Err stamp_fault.UsedUp) h = omega (arith, h.0)
 stamping-good (Err stamp_fault.FloorTooFar) h = omega (arith, h.0)
+stamping-good (Err stamp_fault.LeaseOver) h = omega (arith, h.0)
 stamping-good (Err stamp_fault.Seats) h = omega (arith, h.0)
 stamping-good (Err stamp_fault.Memory) h = omega (arith, h.0)
 
@@ -119,7 +120,7 @@ packet_states past clock None h = absurd cc
 packet_states past clock (Some packet) h =
     let m = machine_of_packet packet in
     let i = source_of_packet packet in
-    let s = stated-taken (statement_of_message m i (outstanding past m i) clock (read_of (bytes_of packet))) h in
+    let s = stated-taken (statement_of_message m first_life i (outstanding past m i) clock (read_of2 (bytes_of packet))) h in
     let same_machine : eqb m m ≡ true = eq-eqb m m refl in
     let same_source : eqb i i ≡ true = eq-eqb i i refl in
     (m, i, s.0, rw (same_machine, same_source) s.1)
@@ -136,10 +137,10 @@ states_packet past clock (Some packet) m i s h =
     subst (λ (k : ℕ). reply_to_packet past clock (Some packet) ≡ Taken) (eqb-true _ _ here.0)
     (at_own (machine_of_packet packet) (source_of_packet packet) m i (eqb-true _ _ here.0) (eqb-true _ _ here.1) mine.1)
   where
-    at_own : (a b m i : ℕ) → a ≡ m → b ≡ i → result_ok (statement_of_message m i (outstanding past m i) clock (read_of (bytes_of packet))) ≡ Some s
-        → delivery_reply (statement_of_message a b (outstanding past a b) clock (read_of (bytes_of packet))) ≡ Taken
+    at_own : (a b m i : ℕ) → a ≡ m → b ≡ i → result_ok (statement_of_message m first_life i (outstanding past m i) clock (read_of2 (bytes_of packet))) ≡ Some s
+        → delivery_reply (statement_of_message a first_life b (outstanding past a b) clock (read_of2 (bytes_of packet))) ≡ Taken
     at_own a b m i e f h =
-        let at : result_ok (statement_of_message a b (outstanding past a b) clock (read_of (bytes_of packet))) ≡ Some s = rw (e, f) h in
+        let at : result_ok (statement_of_message a first_life b (outstanding past a b) clock (read_of2 (bytes_of packet))) ≡ Some s = rw (e, f) h in
         taken-stated _ s at
 
 taken_states : (configs : List Configuration) (past : List Event) (action : Action) → reply_to configs past action ≡ Taken → States past action

@@ -6,7 +6,7 @@ use Rattle.std.proofs.lemmas.Bool.{and_parts, or_parts, not-false, ltb-true, ltb
 use Rattle.std.proofs.lemmas.List.Elements.{All-from_recursion}
 use Rattle.tt_span.specs.Interval.{Interval, Holds}
 use Rattle.tt_span.specs.Drift.{Moment, AgreesWith, KeepsDrift}
-use Rattle.tt_poll.specs.Reading.{read_of}
+use Rattle.tt_poll.specs.Reading.{read_of2}
 use Rattle.tt_source.specs.Statement.{Statement}
 use Rattle.tt_source.specs.Table.{statement_of_message}
 use Rattle.tt_source.specs.declared.faults.SourceFault.{SourceFault}
@@ -24,7 +24,7 @@ use Rattle.tt_world.specs.declared.publications.Publication.{Publication}
 use Rattle.tt_daemon.specs.Config.{Configuration}
 use Rattle.tt_world.specs.Config.{config_at}
 use Rattle.tt_world.specs.Packet.{machine_of_packet, source_of_packet, bytes_of}
-use Rattle.tt_world.specs.Past.{packets_of, clock_of, moments_of, time_of}
+use Rattle.tt_world.specs.Past.{first_life, packets_of, clock_of, moments_of, time_of}
 use Rattle.tt_world.specs.Sources.{outstanding}
 use Rattle.tt_world.specs.Publications.{spans_of, known_of, fusion_of, publications_of, seen_of, no_publication, publication_at, reading_at}
 use Rattle.tt_world.specs.Bad.{has_machine, has_worker, is_unreadable, first_bad, accepted}
@@ -56,7 +56,7 @@ no_reading_delivered (Err e) reading h = cc
 no_reading_of_packet : (past : List Event) (clock : ℕ) (packet : Option Packet) (reading : Interval) → reply_to_packet past clock packet ≡ Read reading → ⊥
 no_reading_of_packet past clock None reading h = cc
 no_reading_of_packet past clock (Some packet) reading h =
-    no_reading_delivered (statement_of_message (machine_of_packet packet) (source_of_packet packet) (outstanding past (machine_of_packet packet) (source_of_packet packet)) clock (read_of (bytes_of packet))) reading h
+    no_reading_delivered (statement_of_message (machine_of_packet packet) first_life (source_of_packet packet) (outstanding past (machine_of_packet packet) (source_of_packet packet)) clock (read_of2 (bytes_of packet))) reading h
 
 no_reading_fused : (count : ℕ) (made : Result Publication ℕ) (reading : Interval) → fusion_reply count made ≡ Read reading → ⊥
 no_reading_fused count (Ok publication) reading h = cc

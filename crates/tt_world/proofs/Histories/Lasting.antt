@@ -8,7 +8,7 @@ use Rattle.std.proofs.lemmas.List.Elements.{All-append, All-nil, All-cons}
 use Rattle.std.proofs.lemmas.Option.{slice_get_within, get_or_from_slice_get}
 use Rattle.tt_span.specs.Time.{max_time}
 use Rattle.tt_span.specs.Interval.{Interval}
-use Rattle.tt_poll.specs.Reading.{read_of}
+use Rattle.tt_poll.specs.Reading.{read_of2}
 use Rattle.tt_source.specs.Table.{statement_of_message}
 use Rattle.tt_world.specs.declared.faults.WorldFault.{WorldFault}
 use Rattle.tt_world.specs.declared.faults.WorldFault.TheVariants as bad
@@ -19,7 +19,7 @@ use Rattle.tt_world.specs.declared.packets.Packet.{Packet}
 use Rattle.tt_world.specs.declared.packets.Packet.TheVariants.{Asked, Answered, Forged}
 use Rattle.tt_daemon.specs.Config.{Configuration}
 use Rattle.tt_world.specs.Packet.{machine_of_packet, source_of_packet, bytes_of, answer_to}
-use Rattle.tt_world.specs.Past.{is_send_of, sends_of, put_by, packets_of, clock_reading, clock_after, clock_of}
+use Rattle.tt_world.specs.Past.{first_life, is_send_of, sends_of, put_by, packets_of, clock_reading, clock_after, clock_of}
 use Rattle.tt_world.specs.Sources.{outstanding}
 use Rattle.tt_world.specs.Bad.{has_source, names_unknown, goes_back, first_bad, accepted}
 use Rattle.tt_world.specs.State.{is_taken, polled_clock_of}
@@ -62,7 +62,7 @@ below_delivery : (past : List Event) (m c : ℕ) (o : Option Packet)
 below_delivery past m c None fresh h = h
 below_delivery past m c (Some p) fresh h =
     let s = source_of_packet p in
-    below_reading (λ b. is_some (cond (b && eqb s s) (result_ok (statement_of_message m s (outstanding past m s) c (read_of (bytes_of p)))) None))
+    below_reading (λ b. is_some (cond (b && eqb s s) (result_ok (statement_of_message m first_life s (outstanding past m s) c (read_of2 (bytes_of p)))) None))
     (eqb (machine_of_packet p) m) c (polled_clock_of past m) (clock_of past m) refl (not_below (clock_of past) (machine_of_packet p) c m fresh) h
 
 polled_more : (past : List Event) (m at : ℕ) (action : Action) → goes_back (clock_of past) (clock_reading (packets_of past) action) ≡ false

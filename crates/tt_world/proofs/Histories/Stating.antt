@@ -9,15 +9,15 @@ use Rattle.std.proofs.lemmas.List.{length-append}
 use Rattle.std.proofs.lemmas.Option.{slice_get_within}
 use Rattle.tt_span.specs.Interval.{Interval, IsInterval, Holds}
 use Rattle.tt_span.specs.Drift.{Moment}
-use Rattle.tt_poll.specs.Message.{PollAnswer}
-use Rattle.tt_poll.specs.Reading.{read_of}
+use Rattle.tt_poll.specs.Message.{PollAnswer2}
+use Rattle.tt_poll.specs.Reading.{read_of2}
 use Rattle.tt_poll.specs.declared.faults.PollFault.{PollFault}
-use Rattle.tt_poll.specs.declared.messages.Message.{Message}
-use Rattle.tt_poll.specs.declared.messages.Message.TheVariants as says
+use Rattle.tt_poll.specs.declared.messages.Message2.{Message2}
+use Rattle.tt_poll.specs.declared.messages.Message2.TheVariants as says
 use Rattle.tt_source.specs.Statement.{Statement}
 use Rattle.tt_source.specs.Table.{Sending, waiting_for, statement_of_answer, statement_of_message}
 use Rattle.tt_source.specs.declared.faults.SourceFault.{SourceFault}
-use Rattle.tt_source.specs.declared.faults.SourceFault.TheVariants.{NotMine}
+use Rattle.tt_source.specs.declared.faults.SourceFault.TheVariants.{NotMine, OtherEpoch}
 use Rattle.tt_world.specs.declared.events.Event.{Event}
 use Rattle.tt_world.specs.declared.events.Action.{Action}
 use Rattle.tt_world.specs.declared.events.Action.TheVariants.{Answer, Deliver}
@@ -25,7 +25,7 @@ use Rattle.tt_world.specs.declared.packets.Packet.{Packet}
 use Rattle.tt_world.specs.declared.packets.Packet.TheVariants.{Asked, Answered, Forged}
 use Rattle.tt_daemon.specs.Config.{Configuration}
 use Rattle.tt_world.specs.Packet.{machine_of_packet, source_of_packet, bytes_of, is_asked}
-use Rattle.tt_world.specs.Past.{time_of, sends_of, put_by, packets_of, clock_reading, clock_of, moments_of}
+use Rattle.tt_world.specs.Past.{first_life, time_of, sends_of, put_by, packets_of, clock_reading, clock_of, moments_of}
 use Rattle.tt_world.specs.Sources.{last_send, stated_in, stated_by, is_answered, outstanding, statement_of}
 use Rattle.tt_world.specs.Bad.{can_be_delivered, lacks_packet}
 use Rattle.tt_world.specs.Assumptions.{origin_of, delivered_by, packet_of_statement, is_lie, is_lying, is_false_statement}
@@ -38,8 +38,8 @@ use Rattle.tt_world.proofs.Histories.Answering.{answer_valid, answer_back}
 use Rattle.tt_world.proofs.Histories.PollTimes.{last_poll}
 
 -- what was said where a message made a statement
-record IsSaid (m i : ℕ) (waiting : Option Sending) (clock : ℕ) (message : Result Message PollFault) (s : Statement) : Type 0 where
-  answer : PollAnswer
+record IsSaid (m i : ℕ) (waiting : Option Sending) (clock : ℕ) (message : Result Message2 PollFault) (s : Statement) : Type 0 where
+  answer : PollAnswer2
   sending : Sending
   says_so : message ≡ Ok (says.Answer answer)
   waits : waiting ≡ Some sending
@@ -48,15 +48,16 @@ record IsSaid (m i : ℕ) (waiting : Option Sending) (clock : ℕ) (message : Re
   sent : s.sent ≡ sending.clock
   got : s.got ≡ clock
 
-mine : (b : Bool) (r : Result Statement SourceFault) (s : Statement) → result_ok (cond b r (Err NotMine)) ≡ Some s → result_ok r ≡ Some s
-mine true r s h = h
-mine false r s h = absurd cc
+mine : (b c : Bool) (r : Result Statement SourceFault) (s : Statement) → result_ok (cond (not b) (Err NotMine) (cond (not c) (Err OtherEpoch) r)) ≡ Some s → result_ok r ≡ Some s
+mine true true r s h = h
+mine true false r s h = absurd cc
+mine false c r s h = absurd cc
 
-awaited : (b : Bool) (sending : Sending) (answer : PollAnswer) (clock : ℕ) (s : Statement) → result_ok (statement_of_answer (cond b (Some sending) None) answer clock) ≡ Some s → (b ≡ true) × (s ≡ record { span = answer.span; sent = sending.clock; got = clock })
+awaited : (b : Bool) (sending : Sending) (answer : PollAnswer2) (clock : ℕ) (s : Statement) → result_ok (statement_of_answer (cond b (Some sending) None) answer clock) ≡ Some s → (b ≡ true) × (s ≡ record { span = answer.span; sent = sending.clock; got = clock })
 awaited true sending answer clock s h = (refl, cc)
 awaited false sending answer clock s h = absurd cc
 
-said_by_answer : (m i : ℕ) (waiting : Option Sending) (clock : ℕ) (answer : PollAnswer) (s : Statement) → result_ok (statement_of_answer (waiting_for waiting answer.nonce) answer clock) ≡ Some s → IsSaid m i waiting clock (Ok (says.Answer answer)) s
+said_by_answer : (m i : ℕ) (waiting : Option Sending) (clock : ℕ) (answer : PollAnswer2) (s : Statement) → result_ok (statement_of_answer (waiting_for waiting answer.nonce) answer clock) ≡ Some s → IsSaid m i waiting clock (Ok (says.Answer answer)) s
 said_by_answer m i None clock answer s h = absurd cc
 said_by_answer m i (Some sending) clock answer s h =
     let facts = awaited (eqb sending.nonce answer.nonce) sending answer clock s h in
@@ -71,11 +72,11 @@ said_by_answer m i (Some sending) clock answer s h =
       got = ap (λ (x : Statement). x.got) facts.1;
     }
 
-said : (m i : ℕ) (waiting : Option Sending) (clock : ℕ) (message : Result Message PollFault) (s : Statement) → result_ok (statement_of_message m i waiting clock message) ≡ Some s → IsSaid m i waiting clock message s
+said : (m i : ℕ) (waiting : Option Sending) (clock : ℕ) (message : Result Message2 PollFault) (s : Statement) → result_ok (statement_of_message m first_life i waiting clock message) ≡ Some s → IsSaid m i waiting clock message s
 said m i waiting clock (Err e) s h = absurd cc
 said m i waiting clock (Ok (says.Request request)) s h = absurd cc
 said m i waiting clock (Ok (says.Answer answer)) s h =
-    said_by_answer m i waiting clock answer s (mine (eqb answer.machine m && eqb answer.source i) (statement_of_answer (waiting_for waiting answer.nonce) answer clock) s h)
+    said_by_answer m i waiting clock answer s (mine (eqb answer.machine m && eqb answer.source i) (eqb answer.epoch first_life) (statement_of_answer (waiting_for waiting answer.nonce) answer clock) s h)
 
 -- what an event is that states something for source i of machine m
 record IsTaken (packets : List Packet) (m i : ℕ) (waiting : Option Sending) (action : Action) (s : Statement) : Type 0 where
@@ -86,7 +87,7 @@ record IsTaken (packets : List Packet) (m i : ℕ) (waiting : Option Sending) (a
   machine : machine_of_packet packet ≡ m
   reading : clock_reading packets action ≡ reading_on m s.got
   not_asked : lacks_packet packets action ≡ false → is_asked packet ≡ false
-  is_said : IsSaid m i waiting s.got (read_of (bytes_of packet)) s
+  is_said : IsSaid m i waiting s.got (read_of2 (bytes_of packet)) s
 
 only_if : (b : Bool) (o : Option Statement) (s : Statement) → cond b o None ≡ Some s → (b ≡ true) × (o ≡ Some s)
 only_if true o s h = (refl, h)
@@ -100,10 +101,10 @@ not_a_request o packet e h =
 taken_of_packet : (packets : List Packet) (m i : ℕ) (waiting : Option Sending) (place clock : ℕ) (s : Statement) (there : Option Packet) → slice_get packets place ≡ there → stated_in m i waiting clock there ≡ Some s → IsTaken packets m i waiting (Deliver place clock) s
 taken_of_packet packets m i waiting place clock s None e h = absurd cc
 taken_of_packet packets m i waiting place clock s (Some packet) e h =
-    let mine = only_if (eqb (machine_of_packet packet) m && eqb (source_of_packet packet) i) (result_ok (statement_of_message m i waiting clock (read_of (bytes_of packet)))) s h in
+    let mine = only_if (eqb (machine_of_packet packet) m && eqb (source_of_packet packet) i) (result_ok (statement_of_message m first_life i waiting clock (read_of2 (bytes_of packet)))) s h in
     let here = and_parts (eqb (machine_of_packet packet) m) (eqb (source_of_packet packet) i) mine.0 in
     let same : machine_of_packet packet ≡ m = eqb-true (machine_of_packet packet) m here.0 in
-    let facts = said m i waiting clock (read_of (bytes_of packet)) s mine.1 in
+    let facts = said m i waiting clock (read_of2 (bytes_of packet)) s mine.1 in
     record {
       place = place;
       packet = packet;
@@ -112,7 +113,7 @@ taken_of_packet packets m i waiting place clock s (Some packet) e h =
       machine = same;
       reading = ap (λ (o : Option Packet). option_map (λ (p : Packet). record { machine = machine_of_packet p; clock = clock }) o) e ∙ ap (λ (k : ℕ). reading_on k clock) same ∙ ap (λ (c : ℕ). reading_on m c) (sym facts.got);
       not_asked = not_a_request (slice_get packets place) packet e;
-      is_said = subst (λ (c : ℕ). IsSaid m i waiting c (read_of (bytes_of packet)) s) (sym facts.got) facts;
+      is_said = subst (λ (c : ℕ). IsSaid m i waiting c (read_of2 (bytes_of packet)) s) (sym facts.got) facts;
     }
 
 taken_of : (packets : List Packet) (m i : ℕ) (waiting : Option Sending) (action : Action) (s : Statement) → stated_by packets m i waiting action ≡ Some s → IsTaken packets m i waiting action s
@@ -190,7 +191,7 @@ stated_stays configs past event m i s good none old =
     }
 
 -- an honest packet that is read as an answer: its span held the true time, and it has the nonce of the answer or a later one
-honest_said : (m at : ℕ) (packet : Packet) (answer : PollAnswer) → IsHonest at packet → is_asked packet ≡ false → machine_of_packet packet ≡ m → read_of (bytes_of packet) ≡ Ok (says.Answer answer) → (answer.nonce ≤ nonce_of m packet) × Holds answer.span at
+honest_said : (m at : ℕ) (packet : Packet) (answer : PollAnswer2) → IsHonest at packet → is_asked packet ≡ false → machine_of_packet packet ≡ m → read_of2 (bytes_of packet) ≡ Ok (says.Answer answer) → (answer.nonce ≤ nonce_of m packet) × Holds answer.span at
 honest_said m at (Asked request) answer honest not_asked machine read = absurd cc
 honest_said m at (Answered given) answer honest not_asked machine read =
     let back = answer_back given answer honest.1 read in (

@@ -5,7 +5,7 @@ use Rattle.std.proofs.lemmas.Bool.{and_parts, not-false}
 use Rattle.tt_source.specs.Fault.{number_of}
 use Rattle.tt_source.specs.Table.{TableState, poll_of}
 use Rattle.tt_source.specs.declared.faults.SourceFault.{SourceFault}
-use Rattle.tt_source.specs.declared.faults.SourceFault.TheVariants.{NoSource, ClockBack, NoncesUsedUp, BadMessage, NotMine, NotOutstanding}
+use Rattle.tt_source.specs.declared.faults.SourceFault.TheVariants.{NoSource, ClockBack, NoncesUsedUp, BadMessage, NotMine, OtherEpoch, NotOutstanding}
 use Rattle.tt_world.specs.declared.faults.WorldFault.TheVariants as bad
 use Rattle.tt_world.specs.declared.events.Event.{Event}
 use Rattle.tt_world.specs.declared.events.Action.{Action}
@@ -63,6 +63,7 @@ few_number ClockBack = omega arith
 few_number NoncesUsedUp = omega arith
 few_number BadMessage = omega arith
 few_number NotMine = omega arith
+few_number OtherEpoch = omega arith
 few_number NotOutstanding = omega arith
 
 -- the reply of a poll that was made is not to a bad event

@@ -3,6 +3,7 @@ use Rattle.std.proofs.Common.{◌≡◌, ℕ, zero, suc, ◌+◌, List, [], ◌�
 use Rattle.std.specs.List.{range_with_len}
 use Rattle.tt_source.specs.Table.{TableState, SourceState, unknown, new_table}
 use Rattle.tt_world.specs.declared.publications.Publication.{Publication}
+use Rattle.tt_world.specs.Past.{first_life}
 use Rattle.tt_daemon.specs.Config.{Configuration}
 use Rattle.tt_stamp.specs.declared.commits.Entry.{Entry}
 use Rattle.tt_world.specs.declared.workers.Worker.{Worker}
@@ -24,10 +25,10 @@ table_of config m = (machine_of config [] m).table
 
 -- what is kept of a machine at first, by its parts
 pub fresh-machine : (config : Configuration) (m : ℕ) (table : TableState) (publications : List Publication) (book : List Entry) (workers : List Worker) →
-    table ≡ new_table m config.sources config.drift 0 → publications ≡ [] → book ≡ [] → workers ≡ replicate config.workers new_worker →
+    table ≡ new_table m config.sources config.drift 0 first_life → publications ≡ [] → book ≡ [] → workers ≡ replicate config.workers new_worker →
     machine config table publications book workers ≡ machine_of config [] m
 fresh-machine config m table publications book workers e f g h =
-    ap (λ (t : TableState). machine config t publications book workers) (e ∙ ap (λ (sources : List SourceState). record { machine = m; drift = config.drift; last = 0; clock = 0; sources = sources }) (sym (map-const unknown 0 config.sources)))
+    ap (λ (t : TableState). machine config t publications book workers) (e ∙ ap (λ (sources : List SourceState). record { machine = m; epoch = first_life; drift = config.drift; last = 0; clock = 0; sources = sources }) (sym (map-const unknown 0 config.sources)))
     ∙ ap (λ (p : List Publication). machine config (table_of config m) p book workers) f
     ∙ ap (λ (b : List Entry). machine config (table_of config m) [] b workers) g
     ∙ ap (λ (w : List Worker). machine config (table_of config m) [] [] w) (h ∙ sym (map-const new_worker 0 config.workers))

@@ -3,7 +3,7 @@ use Rattle.std.proofs.Common.{◌≡◌, ℕ, ◌<◌, Bool, true, false, cond, 
 use Rattle.std.specs.List.{range_with_len}
 use Rattle.std.specs.Option.{option_or}
 use Rattle.std.proofs.lemmas.Bool.{cases_eq}
-use Rattle.tt_span.specs.Interval.{Interval}
+use Rattle.tt_span.specs.Interval.{Interval, whole}
 use Rattle.tt_stamp.specs.declared.faults.StampFault.{StampFault}
 use Rattle.tt_stamp.specs.Stamp.{stamp_of, greatest_of}
 use Rattle.tt_world.specs.declared.events.Event.{Event}
@@ -36,7 +36,7 @@ module _ (config : Configuration) (past : List Event) (at m w : ℕ) where
     abbrev with_task : Option Task → Worker → Worker
     with_task task worker = record worker { task = task }
 
-    module _ (made : Result ℕ StampFault) (is : stamp_of (stamps_of config past m) reading.hi a.floor ≡ made) where
+    module _ (made : Result ℕ StampFault) (is : stamp_of (stamps_of config past m) reading.hi a.floor whole ≡ made) where
       stamping_is : stamping_of config past m w ≡ Some made
       stamping_is = ap₂ (stamping_after (stamps_of config past m)) asked since ∙ ap (λ (r : Result ℕ StampFault). Some r) is
 
@@ -50,7 +50,7 @@ module _ (config : Configuration) (past : List Event) (at m w : ℕ) where
           ∙ ap (λ (b : Bool). task_if false (Some a) b (stamping_of config past m w)) (eq-eqb w w refl)
           ∙ ap (task_if false (Some a) true) stamping_is
 
-    workers_if_given : (s : ℕ) → stamp_of (stamps_of config past m) reading.hi a.floor ≡ Ok s
+    workers_if_given : (s : ℕ) → stamp_of (stamps_of config past m) reading.hi a.floor whole ≡ Ok s
         → set (map (λ v. worker_of config past m v) (range_with_len 0 config.workers)) w
         (with_task (Some (Stamped a.id s)) (get_or (map (λ v. worker_of config past m v) (range_with_len 0 config.workers)) w new_worker))
         ≡ map (λ v. worker_if_stamped config past m v (eqb w v) (stamping_of config past m v)) (range_with_len 0 config.workers)
@@ -64,7 +64,7 @@ module _ (config : Configuration) (past : List Event) (at m w : ℕ) where
     same_if_refused v e true = refl
     same_if_refused v e false = refl
 
-    workers_if_refused : (e : StampFault) → stamp_of (stamps_of config past m) reading.hi a.floor ≡ Err e
+    workers_if_refused : (e : StampFault) → stamp_of (stamps_of config past m) reading.hi a.floor whole ≡ Err e
         → map (λ v. worker_of config past m v) (range_with_len 0 config.workers)
         ≡ map (λ v. worker_if_stamped config past m v (eqb w v) (stamping_of config past m v)) (range_with_len 0 config.workers)
     workers_if_refused e is =
@@ -80,23 +80,23 @@ module _ (config : Configuration) (past : List Event) (at m w : ℕ) where
     abbrev replied : Option ℕ → List Worker → Reply → Turn
     replied row workers reply = record { machine = record (machine_of config past m) { row = row; workers = workers }; reply = reply }
 
-    stamp_turn-by : (made : Result ℕ StampFault) → stamp_of (stamps_of config past m) reading.hi a.floor ≡ made
+    stamp_turn-by : (made : Result ℕ StampFault) → stamp_of (stamps_of config past m) reading.hi a.floor whole ≡ made
         → stamp_turn (machine_of config past m) w a.id made
         ≡ record { machine = machine_if_stamped config past w m true; reply = stamping_reply (stamping_of config past m w) }
     stamp_turn-by (Ok s) is =
         ap₂ (λ (row : Option ℕ) (workers : List Worker). replied row workers (replies.Stamped s))
-        (sym (ap greatest_of (row_is (Ok s) is) ∙ greatest_of-given (stamps_of config past m) reading.hi a.floor s is)) (workers_if_given s is)
+        (sym (ap greatest_of (row_is (Ok s) is) ∙ greatest_of-given (stamps_of config past m) reading.hi a.floor whole s is)) (workers_if_given s is)
         ∙ ap (λ (reply : Reply). record { machine = machine_if_stamped config past w m true; reply = reply }) (sym (ap stamping_reply (stamping_is (Ok s) is)))
     stamp_turn-by (Err e) is =
         ap₂ (λ (row : Option ℕ) (workers : List Worker). replied row workers (stamping_reply (Some (Err e))))
         (sym (ap greatest_of (row_is (Err e) is))) (workers_if_refused e is)
         ∙ ap (λ (reply : Reply). record { machine = machine_if_stamped config past w m true; reply = reply }) (sym (ap stamping_reply (stamping_is (Err e) is)))
 
-    pub stamp_turn-machine_of : stamp_turn (machine_of config past m) w a.id (stamp_of (given_in (greatest_of (stamps_of config past m))) reading.hi a.floor)
+    pub stamp_turn-machine_of : stamp_turn (machine_of config past m) w a.id (stamp_of (given_in (greatest_of (stamps_of config past m))) reading.hi a.floor whole)
         ≡ record { machine = machine_of config (happens at (Stamp m w) ∷ past) m; reply = stamping_reply (stamping_of config past m w) }
     stamp_turn-machine_of =
-        ap (stamp_turn (machine_of config past m) w a.id) (stamp_of-greatest (stamps_of config past m) reading.hi a.floor)
-        ∙ stamp_turn-by (stamp_of (stamps_of config past m) reading.hi a.floor) refl
+        ap (stamp_turn (machine_of config past m) w a.id) (stamp_of-greatest (stamps_of config past m) reading.hi a.floor whole)
+        ∙ stamp_turn-by (stamp_of (stamps_of config past m) reading.hi a.floor whole) refl
         ∙ ap (λ (machine : MachineState). record { machine = machine; reply = stamping_reply (stamping_of config past m w) })
         (sym (machine_of-stamp config past at m w m ∙ ap (machine_if_stamped config past w m) (eq-eqb m m refl)))
 
