@@ -1,0 +1,14 @@
+//! Time masters: what a source of time does with the requests that machines send it.
+//!
+//! A master knows the time from a reference that it reads, such as a GPS receiver or an atomic clock (Spanner's
+//! time masters, OSDI 2012, section 3), and how far the reference may be off, its uncertainty.
+//!
+//! - `acts`: [`Act`], what a master does with one request: it is honest, or one of the ways to be faulty.
+//! - `faults`: why a packet is not answered, and why a reference gave no time.
+#![tactic(auto)]
+
+mod acts;
+mod faults;
+
+pub use acts::Act;
+pub use faults::{MasterFault, RefFault};
