@@ -4,11 +4,17 @@
 //! time masters, OSDI 2012, section 3), and how far the reference may be off, its uncertainty.
 //!
 //! - `acts`: [`Act`], what a master does with one request: it is honest, or one of the ways to be faulty.
+//! - `references`: [`Reference`], the device that a master knows the time from. `memory`: [`MemoryReference`], one
+//!   that gives the times of a list.
 //! - `faults`: why a packet is not answered, and why a reference gave no time.
 #![tactic(auto)]
 
 mod acts;
 mod faults;
+mod memory;
+mod references;
 
 pub use acts::Act;
 pub use faults::{MasterFault, RefFault};
+pub use memory::MemoryReference;
+pub use references::Reference;
