@@ -6,15 +6,21 @@
 //! - `acts`: [`Act`], what a master does with one request: it is honest, or one of the ways to be faulty.
 //! - `references`: [`Reference`], the device that a master knows the time from. `memory`: [`MemoryReference`], one
 //!   that gives the times of a list.
+//! - `masters`: [`Master`], with its calls [`answer`](Master::answer) and [`play`](Master::play).
+//! - `hearing`: what a master makes of the bytes that came, and the packet that answers. `spans`: the span in it.
 //! - `faults`: why a packet is not answered, and why a reference gave no time.
 #![tactic(auto)]
 
 mod acts;
 mod faults;
+mod hearing;
+mod masters;
 mod memory;
 mod references;
+mod spans;
 
 pub use acts::Act;
 pub use faults::{MasterFault, RefFault};
+pub use masters::Master;
 pub use memory::MemoryReference;
 pub use references::Reference;

@@ -1,0 +1,53 @@
+-- What a master makes of the packets that come, and what it sends.
+use Rattle.std.specs.Prelude.{◌≡◌, ℕ, ◌==◌, if◌then◌else◌, List, replicate, Option, Some, None, Result, Ok, Err}
+use Rattle.tt_span.specs.Interval.{Interval, Holds}
+use Rattle.tt_poll.specs.declared.faults.PollFault.{PollFault}
+use Rattle.tt_poll.specs.declared.messages.Message.{Message}
+use Rattle.tt_poll.specs.declared.messages.Message.TheVariants as message
+use Rattle.tt_poll.specs.Message.{PollRequest, PollAnswer, IsAnswer}
+use Rattle.tt_poll.specs.Spelling.{spelling_of}
+use Rattle.tt_poll.specs.Reading.{read_of}
+use Rattle.tt_master.specs.declared.faults.MasterFault.{MasterFault}
+use Rattle.tt_master.specs.declared.faults.MasterFault.TheVariants.{BadMessage, OtherSource, NotRequest}
+use Rattle.tt_master.specs.declared.hearing.Heard.{Heard}
+
+-- a message as a master hears it: the source that it names, and the request where it is one
+abbrev pub heard_as : Message → Heard PollRequest
+heard_as (message.Request r) = record { source = r.source; request = Some r }
+heard_as (message.Answer a) = record { source = a.source; request = None }
+
+-- what a master hears in the bytes, if they are a message
+abbrev pub heard_in : Result Message PollFault → Option (Heard PollRequest)
+heard_in (Ok m) = Some (heard_as m)
+heard_in (Err _) = None
+
+-- the request, or the refusal of an answer
+abbrev pub unless_answer : {Q : Type 0} → Option Q → Result Q MasterFault
+unless_answer (Some request) = Ok request
+unless_answer None = Err NotRequest
+
+-- the request to this source that was heard, or the first refusal that applies: it is no message, or it names another
+-- source, or it is no request
+abbrev pub request_heard : {Q : Type 0} → ℕ → Option (Heard Q) → Result Q MasterFault
+request_heard source None = Err BadMessage
+request_heard source (Some heard) = if heard.source == source then unless_answer heard.request else Err OtherSource
+
+-- the request to this source that the bytes spell, or the first refusal that applies
+abbrev pub request_to : ℕ → List ℕ → Result PollRequest MasterFault
+request_to source bytes = request_heard source (heard_in (read_of bytes))
+
+-- the answer to the request that the true time lies in the span
+abbrev pub answer_to : PollRequest → Interval → PollAnswer
+answer_to request span = record { machine = request.machine; source = request.source; nonce = request.nonce; span = span }
+
+-- that answer as a packet
+abbrev pub packet_to : PollRequest → Interval → List ℕ
+packet_to request span = spelling_of (message.Answer (answer_to request span))
+
+-- the packet is a message that says that this time may be the true one
+abbrev pub SaysOf : List ℕ → ℕ → Type 0
+SaysOf packet time = (a : PollAnswer) × IsAnswer a × (packet ≡ spelling_of (message.Answer a)) × Holds a.span time
+
+-- so many bytes that are no message
+abbrev pub garbage : ℕ → List ℕ
+garbage len = replicate len 255
