@@ -56,11 +56,6 @@ pub(crate) fn request_to(source: u8, bytes: &[u8]) -> Result<Request, MasterFaul
 pub(crate) fn packet(request: &Request, span: Span) -> [u8; ANSWER_LEN]
     ensures { result ≡ packet_to request.now span }
 {
-    let answer = Answer::new(
-        request.machine(),
-        request.source(),
-        request.nonce(),
-        span,
-    );
+    let answer = Answer::new(request.machine(), request.source(), request.nonce(), span);
     encode_answer(&answer.unwrap())
 }

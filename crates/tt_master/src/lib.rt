@@ -24,3 +24,6 @@ pub use faults::{MasterFault, RefFault};
 pub use masters::Master;
 pub use memory::MemoryReference;
 pub use references::Reference;
+
+#[cfg(test)]
+mod tests;

@@ -73,7 +73,7 @@ impl<R: Reference> Master<R> {
         ensures refused { IfErr (request_in self.old.source bytes.now) (λ e. (result ≡ Err e) × (self.new ≡ self.old)) }
         ensures answered { IfOk (request_in self.old.source bytes.now) (λ request.
             AnswersByTime (λ time. R.gives self.old.reference time self.new.reference)
-              (λ time. packet_to request (span_of_act self.old.uncertainty Honest time)) result) }
+            (λ time. packet_to request (span_of_act self.old.uncertainty Honest time)) result) }
         ensures holds { IfOk result (λ packet. (time : ℕ) × R.gives self.old.reference (Some time) self.new.reference × SaysOf packet time) }
         ensures same { self.new ≡ record self.old { reference = self.new.reference } }
         ensures sound { ¬ IsErrOf result MasterFault.Reference → R.failed self.new.reference ≡ R.failed self.old.reference }
@@ -95,7 +95,7 @@ impl<R: Reference> Master<R> {
         ensures refused { IfErr (request_in self.old.source bytes.now) (λ e. (result ≡ Err e) × (self.new ≡ self.old)) }
         ensures timed { IsTimed act → IfOk (request_in self.old.source bytes.now) (λ request.
             AnswersByTime (λ time. R.gives self.old.reference time self.new.reference)
-              (λ time. Some (packet_to request (span_of_act self.old.uncertainty act time))) result) }
+            (λ time. Some (packet_to request (span_of_act self.old.uncertainty act time))) result) }
         ensures silent { act ≡ Silent → IfOk (request_in self.old.source bytes.now) (λ _. result ≡ Ok None) }
         ensures garbage { act ≡ Garbage → IfOk (request_in self.old.source bytes.now) (λ _. result ≡ Ok (Some (garbage 32))) }
         ensures repeats { act ≡ Repeat → IfOk (request_in self.old.source bytes.now) (λ _. result ≡ Ok self.old.played) }
