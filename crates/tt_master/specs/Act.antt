@@ -3,7 +3,7 @@ use Rattle.std.specs.Prelude.{ℕ, ◌+◌, ◌-◌}
 use Rattle.tt_span.specs.Time.{cut}
 use Rattle.tt_span.specs.Interval.{Interval}
 use Rattle.tt_master.specs.declared.acts.Act.{Act}
-use Rattle.tt_master.specs.declared.acts.Act.TheVariants.{Honest, Ahead, Behind, Silent, Garbage, Repeat}
+use Rattle.tt_master.specs.declared.acts.Act.TheVariants.{Honest, Ahead, Behind}
 
 -- the act asks the reference for the time
 abbrev pub IsTimed : Act → Type 0

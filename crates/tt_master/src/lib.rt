@@ -7,7 +7,8 @@
 //! - `references`: [`Reference`], the device that a master knows the time from. `memory`: [`MemoryReference`], one
 //!   that gives the times of a list.
 //! - `masters`: [`Master`], with its calls [`answer`](Master::answer) and [`play`](Master::play).
-//! - `hearing`: what a master makes of the bytes that came, and the packet that answers. `spans`: the span in it.
+//! - `hearing`: what a master makes of the bytes that came, and the packet that answers. `spans`: the span in it,
+//!   and what is known of it.
 //! - `faults`: why a packet is not answered, and why a reference gave no time.
 #![tactic(auto)]
 
@@ -24,6 +25,7 @@ pub use faults::{MasterFault, RefFault};
 pub use masters::Master;
 pub use memory::MemoryReference;
 pub use references::Reference;
+pub use spans::act_laws;
 
 #[cfg(test)]
 mod tests;

@@ -52,7 +52,7 @@ impl<R: Reference> Master<R> {
     pub fn new(source: u8, uncertainty: u64, reference: R) -> Self
         requires source_in { source ≤ max_source }
         requires uncertainty_in { uncertainty ≤ max_time }
-        ensures { result ≡ record { source = source; uncertainty = uncertainty; reference = reference; played = None } }
+        ensures value { result ≡ record { source = source; uncertainty = uncertainty; reference = reference; played = None } }
     {
         Master {
             source,

@@ -1,10 +1,11 @@
 //! The spans that masters answer.
 
-ghost use Rattle.std.specs.Prelude.{◌≡◌, ◌≤◌};
+ghost use Rattle.std.specs.Prelude.{◌≡◌, ◌+◌, ◌<◌, ◌≤◌, ◌↔◌, ℕ};
 ghost use Rattle.tt_span.specs.Time.{max_time};
-ghost use Rattle.tt_span.specs.Interval.{Holds};
+ghost use Rattle.tt_span.specs.Interval.{IsInterval, Holds};
+ghost use Rattle.tt_master.specs.declared.acts.Act.{Act};
 ghost use Rattle.tt_master.specs.declared.acts.Act.TheVariants.{Honest};
-ghost use Rattle.tt_master.specs.Act.{span_played as span_of_act};
+ghost use Rattle.tt_master.specs.Act.{later_by, earlier_by, span_played as span_of_act};
 
 use crate::acts::Act;
 use tt_span::{MAX_TIME, Span};
@@ -30,3 +31,14 @@ pub(crate) fn span_played(uncertainty: u64, act: Act, time: u64) -> Span
     };
     Span::new(lo.min(MAX_TIME), hi.min(MAX_TIME)).unwrap()
 }
+
+/// What masters answer is always a span. An honest one holds exactly the times from which the reference is off by at
+/// most the uncertainty. Of the times that are not at an end of all time, the span of any act holds exactly those
+/// that lie between the ends before the cut.
+pub fn act_laws()
+    ensures valid { (uncertainty : ℕ) (act : Act) (time : ℕ) → IsInterval (span_of_act uncertainty act time) }
+    ensures honest { (uncertainty time x : ℕ) → time ≤ max_time → x ≤ max_time →
+        Holds (span_of_act uncertainty Honest time) x ↔ ((time ≤ x + uncertainty) × (x ≤ time + uncertainty)) }
+    ensures moved { (uncertainty : ℕ) (act : Act) (time x : ℕ) → 0 < x → x < max_time →
+        Holds (span_of_act uncertainty act time) x ↔ ((time + later_by act ≤ x + uncertainty + earlier_by act) × (x + earlier_by act ≤ time + uncertainty + later_by act)) }
+{}
