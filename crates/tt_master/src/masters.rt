@@ -80,8 +80,7 @@ impl<R: Reference> Master<R> {
         ensures cause { IsErrOf result MasterFault.Reference → HasFailed (R.failed self.old.reference) (R.failed self.new.reference) }
     {
         let request = request_to(self.source, bytes)?;
-        let span = self.span(Act::Honest)?;
-        Ok(packet(&request, span))
+        Ok(packet(&request, self.span(Act::Honest)?))
     }
 
     /// What the master sends when it does the act on the packet that came, or None where it sends nothing: an honest
