@@ -14,7 +14,7 @@ abbrev pub answer_to : TableState → ℕ → Sending → Interval → Message
 answer_to t i sending span = Answer (record { machine = t.machine; source = i; nonce = sending.nonce; span = span })
 
 -- a poll that waits has a nonce that was used, and was sent in the table's past
-pub IsSending-waiting : (t : TableState) (i : ℕ) (sending : Sending) → IsTable t → i < length t.sources → (source_at t i).waiting ≡ Some sending → IsSending t.last t.clock sending
+IsSending-waiting : (t : TableState) (i : ℕ) (sending : Sending) → IsTable t → i < length t.sources → (source_at t i).waiting ≡ Some sending → IsSending t.last t.clock sending
 IsSending-waiting t i sending table there waits =
     let source : IsSourceState t.last t.clock (source_at t i) = All-get_or (IsSourceState t.last t.clock) t.sources i unknown there table.past in
     rw waits at source.sent
@@ -24,10 +24,7 @@ IsMessage-awaited : (t : TableState) (i : ℕ) (bytes : List ℕ) (sending : Sen
 IsMessage-awaited t i bytes sending span table there awaited =
     let sent : IsSending t.last t.clock sending = IsSending-waiting t i sending table there awaited.waits in
     record {
-      machine_in = table.machine_in;
-      source_in = omega arith;
-      nonce_in = sent.used_from;
-      nonce_fits = omega arith;
+      poll = record { machine_in = table.machine_in; source_in = omega arith; nonce_in = sent.used_from; nonce_fits = omega arith };
       span_in = awaited.span_in;
     }
 

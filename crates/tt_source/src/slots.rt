@@ -2,6 +2,7 @@
 
 ghost use Rattle.std.specs.Prelude.{◌≡◌, ◌≤◌, is_some, IfSome};
 ghost use Rattle.tt_span.specs.Time.{max_time};
+ghost use Rattle.tt_source.specs.Statement.{IsStatement};
 ghost use Rattle.tt_source.specs.Table.{unknown, waiting_for, statement_of_answer, stated_at};
 
 use crate::faults::SourceFault;
@@ -90,6 +91,16 @@ impl Slot {
             }
             _ => Err(SourceFault::NotOutstanding),
         }
+    }
+
+    /// The statement of the source, if it has made one.
+    pub(crate) fn statement(&self) -> Option<Statement>
+        ensures value { result ≡ self.now.statement }
+        ensures valid { IfSome result (λ statement. IsStatement statement) }
+    {
+        let statement = self.statement?;
+        prove!(statement.sent() <= statement.got());
+        Some(statement)
     }
 
     /// Whether the source has made a statement.

@@ -3,7 +3,7 @@
 ghost use Rattle.std.specs.Prelude.{◌≡◌, ℕ, ◌+◌, ◌-◌, ◌<◌, ◌≤◌, ◌↔◌, ◌⊎◌, IsOk, IfOk, IfErr, IsErrOf};
 ghost use Rattle.tt_span.specs.Time.{max_time};
 ghost use Rattle.tt_span.specs.Interval.{IsInterval, Holds};
-ghost use Rattle.tt_source.specs.Statement.{statement_at, IsPossibleNow, uncut_low, uncut_high};
+ghost use Rattle.tt_source.specs.Statement.{IsStatement, statement_at, IsPossibleNow, uncut_low, uncut_high};
 
 use crate::faults::SourceFault;
 use std::marker::Model;
@@ -19,15 +19,13 @@ pub struct Statement {
 }
 
 impl Model for Statement {
-    ghost use Rattle.std.specs.Prelude.{◌≤◌};
-    ghost use Rattle.tt_span.specs.Time.{max_time};
-    ghost use Rattle.tt_source.specs.Statement.{Statement as Stated};
+    ghost use Rattle.tt_source.specs.Statement.{Statement as Stated, IsStatement};
 
     ghost Value = { Stated };
 
     ghost view = { λ s. record { span = s.span; sent = s.sent; got = s.got } };
 
-    ghost invariant = { λ s. (s.sent ≤ s.got) × (s.got ≤ max_time) };
+    ghost invariant = { λ s. IsStatement (record { span = s.span; sent = s.sent; got = s.got }) };
 
     ghost inverse = { λ s. record { span = s.span; sent = s.sent; got = s.got } };
 }
@@ -43,7 +41,33 @@ impl Statement {
         if got < sent || got > MAX_TIME {
             return Err(SourceFault::ClockBack);
         }
+        prove!(span.lo() <= span.hi());
         Ok(Statement { span, sent, got })
+    }
+
+    /// The span of the answer: where it is true, the span held the true time at some moment between the two clock
+    /// readings.
+    pub fn span(&self) -> Span
+        ensures value { result ≡ self.now.span }
+        ensures valid { IsStatement self.now }
+    {
+        self.span
+    }
+
+    /// The reading of the machine's clock when the poll was sent, in nanoseconds, at most that of the receipt.
+    pub fn sent(&self) -> u64
+        ensures value { result ≡ self.now.sent }
+        ensures valid { IsStatement self.now }
+    {
+        self.sent
+    }
+
+    /// The reading of the machine's clock when the answer came, in nanoseconds, at most [`MAX_TIME`].
+    pub fn got(&self) -> u64
+        ensures value { result ≡ self.now.got }
+        ensures valid { IsStatement self.now }
+    {
+        self.got
     }
 
     /// The span of the statement when the clock shows `clock`: its lower end aged since the receipt, its upper

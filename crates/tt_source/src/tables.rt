@@ -1,12 +1,13 @@
 //! What a machine knows of all its sources.
 
-ghost use Rattle.std.specs.Prelude.{◌≡◌, ◌<◌, ◌≤◌, ◌↔◌, length, Some, None, Ok, Err, IsOk, IfOk, IfErr, OnOk, OnErr};
+ghost use Rattle.std.specs.Prelude.{◌≡◌, ◌<◌, ◌≤◌, ◌↔◌, length, Some, None, Ok, Err, IsOk, IfOk, IfErr, IfSome, OnOk, OnErr};
 ghost use Rattle.tt_span.specs.Time.{max_time};
 ghost use Rattle.tt_span.specs.Interval.{Interval, IsInterval};
 ghost use Rattle.tt_poll.specs.Message.{max_machine};
 ghost use Rattle.tt_poll.specs.Spelling.{spelling_of};
 ghost use Rattle.tt_poll.specs.Reading.{read_of};
 ghost use Rattle.tt_poll.specs.declared.messages.Message.TheVariants as message;
+ghost use Rattle.tt_source.specs.Statement.{IsStatement};
 ghost use Rattle.tt_source.specs.Table.{Sending, IsTable, max_sources, new_table, source_at, poll_of, take_of, statement_of_message, aged_of, is_back as is_back_of, known_of, is_known_of, CanBeCalled, IsAwaitedAnswer};
 
 use crate::faults::SourceFault;
@@ -213,6 +214,17 @@ impl Table {
     {
         let index = self.place(i, clock)?;
         self.sources[index].aged(self.drift, clock)
+    }
+
+    /// The statement of source `i`: what the last of its answers stated that `take` took. None where it has made
+    /// none, or where there is no such source.
+    pub fn statement(&self, i: u8) -> Option<Statement>
+        ensures value { result ≡ (source_at self.now i).statement }
+        ensures in_range { IfSome result (λ statement. IsStatement statement) }
+        ensures past { IfSome result (λ statement. statement.got ≤ self.now.clock) }
+        ensures valid { IsTable self.now }
+    {
+        self.sources.get(usize::from(i))?.statement()
     }
 
     /// How many sources have made a statement.

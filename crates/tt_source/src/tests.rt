@@ -108,6 +108,13 @@ fn takes_the_answer_to_the_last_poll(rt: HostRuntime) -> Result<(), Fail> {
     assert!(rt; table.is_known(1));
     assert!(rt; !table.is_known(0));
     assert!(rt; !table.is_known(3));
+    let span = Span::new(1_000_000_000, 1_000_001_000)?;
+    let statement = table.statement(1).ok_or("a statement")?;
+    assert_eq!(rt; statement, Statement::new(span, 600, 900)?);
+    assert_eq!(rt; statement.span(), span);
+    assert_eq!(rt; (statement.sent(), statement.got()), (600, 900));
+    assert_eq!(rt; table.statement(0), None);
+    assert_eq!(rt; table.statement(3), None);
     Ok(())
 }
 

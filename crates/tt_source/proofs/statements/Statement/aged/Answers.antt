@@ -29,7 +29,7 @@ returns-clause-low_is_possible c =
     let low : c.unwrap.result.lo ≡ uncut_low c.args.drift s c.args.clock =
     ap (λ (i : Interval). i.lo) value ∙ c.age_low-low.ensures.value ∙ ap (λ (x : ℕ). cut (x + (c.args.clock - s.got) - widening c.args.drift (c.args.clock - s.got))) c.lo.ensures.value ∙ cut-time _ in_time in
     subst (λ (x : ℕ). IsPossibleNow c.args.drift s c.args.clock x) (sym low)
-    (low-is-possible c.args.drift s c.args.clock (laws_of c) c.lo.ensures.valid.ordered c.self.invariant.0 (omega arith) fits in_time))
+    (low-is-possible c.args.drift s c.args.clock (laws_of c) c.lo.ensures.valid.ordered c.self.invariant.ordered (omega arith) fits in_time))
 
 pub returns-clause-high_is_possible : goal.returns-clause-high_is_possible
 returns-clause-high_is_possible c =
@@ -41,4 +41,4 @@ returns-clause-high_is_possible c =
     let high : c.unwrap.result.hi ≡ uncut_high c.args.drift s c.args.clock =
     ap (λ (i : Interval). i.hi) value ∙ c.age_high-high.ensures.value ∙ ap (λ (x : ℕ). cut (x + (c.args.clock - s.sent) + widening c.args.drift (c.args.clock - s.sent))) c.hi.ensures.value ∙ cut-time _ in_time in
     subst (λ (x : ℕ). IsPossibleNow c.args.drift s c.args.clock x) (sym high)
-    (high-is-possible c.args.drift s c.args.clock (laws_of c) c.lo.ensures.valid.ordered c.self.invariant.0 (omega arith) in_time))
+    (high-is-possible c.args.drift s c.args.clock (laws_of c) c.lo.ensures.valid.ordered c.self.invariant.ordered (omega arith) in_time))
