@@ -4,13 +4,14 @@ use Rattle.tt_span.specs.Time.{max_time}
 use Rattle.tt_master.specs.declared.faults.MasterFault.{MasterFault}
 use Rattle.tt_master.specs.declared.faults.MasterFault.TheVariants.{Reference}
 
--- a master: the source that it is, by how much its reference may be off, the reference, and the last packet that it
--- played
+-- a master: the source that it is, by how much its reference may be off, the reference, and the last packets that it
+-- played, of TTP1 and of TTP2
 pub record MasterState (R : Type 0) : Type 0 where
   pub source : ℕ
   pub uncertainty : ℕ
   pub reference : R
   pub played : Option (List ℕ)
+  pub played2 : Option (List ℕ)
 
 -- a master answers what belongs to the time that its reference gave, or refuses because the reference gave none
 abbrev pub AnswersByTime : {A : Type 0} → (Option ℕ → Type 0) → (ℕ → A) → Result A MasterFault → Type 0

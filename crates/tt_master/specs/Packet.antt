@@ -4,9 +4,11 @@ use Rattle.tt_span.specs.Interval.{Interval, Holds}
 use Rattle.tt_poll.specs.declared.faults.PollFault.{PollFault}
 use Rattle.tt_poll.specs.declared.messages.Message.{Message}
 use Rattle.tt_poll.specs.declared.messages.Message.TheVariants as message
-use Rattle.tt_poll.specs.Message.{PollRequest, PollAnswer, IsAnswer}
-use Rattle.tt_poll.specs.Spelling.{spelling_of}
-use Rattle.tt_poll.specs.Reading.{read_of}
+use Rattle.tt_poll.specs.declared.messages.Message2.{Message2}
+use Rattle.tt_poll.specs.declared.messages.Message2.TheVariants as message2
+use Rattle.tt_poll.specs.Message.{PollRequest, PollAnswer, IsAnswer, PollRequest2, PollAnswer2, IsAnswer2}
+use Rattle.tt_poll.specs.Spelling.{spelling_of, spelling_of2}
+use Rattle.tt_poll.specs.Reading.{read_of, read_of2}
 use Rattle.tt_master.specs.declared.faults.MasterFault.{MasterFault}
 use Rattle.tt_master.specs.declared.faults.MasterFault.TheVariants.{BadMessage, OtherSource, NotRequest}
 use Rattle.tt_master.specs.declared.hearing.Heard.{Heard}
@@ -16,10 +18,15 @@ abbrev pub heard_as : Message → Heard PollRequest
 heard_as (message.Request r) = record { source = r.source; request = Some r }
 heard_as (message.Answer a) = record { source = a.source; request = None }
 
--- what a master hears in the bytes, if they are a message
-abbrev pub heard_in : Result Message PollFault → Option (Heard PollRequest)
-heard_in (Ok m) = Some (heard_as m)
-heard_in (Err _) = None
+-- the same of a message with an epoch
+abbrev pub heard_as2 : Message2 → Heard PollRequest2
+heard_as2 (message2.Request r) = record { source = r.source; request = Some r }
+heard_as2 (message2.Answer a) = record { source = a.source; request = None }
+
+-- what a master hears in bytes that are read so, if they are a message
+abbrev pub heard_in : {M Q : Type 0} → (M → Heard Q) → Result M PollFault → Option (Heard Q)
+heard_in heard (Ok m) = Some (heard m)
+heard_in heard (Err _) = None
 
 -- the request, or the refusal of an answer
 abbrev pub unless_answer : {Q : Type 0} → Option Q → Result Q MasterFault
@@ -34,19 +41,35 @@ request_heard source (Some heard) = if heard.source == source then unless_answer
 
 -- the request to this source that the bytes spell, or the first refusal that applies
 abbrev pub request_to : ℕ → List ℕ → Result PollRequest MasterFault
-request_to source bytes = request_heard source (heard_in (read_of bytes))
+request_to source bytes = request_heard source (heard_in heard_as (read_of bytes))
+
+-- the same of TTP2
+abbrev pub request_to2 : ℕ → List ℕ → Result PollRequest2 MasterFault
+request_to2 source bytes = request_heard source (heard_in heard_as2 (read_of2 bytes))
 
 -- the answer to the request that the true time lies in the span
 abbrev pub answer_to : PollRequest → Interval → PollAnswer
 answer_to request span = record { machine = request.machine; source = request.source; nonce = request.nonce; span = span }
 
+-- the answer to a request with an epoch: it has the same epoch
+abbrev pub answer_to2 : PollRequest2 → Interval → PollAnswer2
+answer_to2 request span = record { machine = request.machine; source = request.source; nonce = request.nonce; epoch = request.epoch; span = span }
+
 -- that answer as a packet
 abbrev pub packet_to : PollRequest → Interval → List ℕ
 packet_to request span = spelling_of (message.Answer (answer_to request span))
 
+-- the same of TTP2
+abbrev pub packet_to2 : PollRequest2 → Interval → List ℕ
+packet_to2 request span = spelling_of2 (message2.Answer (answer_to2 request span))
+
 -- the packet is a message that says that this time may be the true one
 abbrev pub SaysOf : List ℕ → ℕ → Type 0
 SaysOf packet time = (a : PollAnswer) × IsAnswer a × (packet ≡ spelling_of (message.Answer a)) × Holds a.span time
+
+-- the same of TTP2
+abbrev pub SaysOf2 : List ℕ → ℕ → Type 0
+SaysOf2 packet time = (a : PollAnswer2) × IsAnswer2 a × (packet ≡ spelling_of2 (message2.Answer a)) × Holds a.span time
 
 -- so many bytes that are no message
 abbrev pub garbage : ℕ → List ℕ

@@ -6,7 +6,8 @@
 //! - `acts`: [`Act`], what a master does with one request: it is honest, or one of the ways to be faulty.
 //! - `references`: [`Reference`], the device that a master knows the time from. `memory`: [`MemoryReference`], one
 //!   that gives the times of a list.
-//! - `masters`: [`Master`], with its calls [`answer`](Master::answer) and [`play`](Master::play).
+//! - `masters`: [`Master`], with its calls [`answer`](Master::answer) and [`play`](Master::play) for requests of TTP1,
+//!   [`answer2`](Master::answer2) and [`play2`](Master::play2) for those of TTP2.
 //! - `hearing`: what a master makes of the bytes that came, and the packet that answers. `spans`: the span in it,
 //!   and what is known of it.
 //! - `faults`: why a packet is not answered, and why a reference gave no time.

@@ -5,8 +5,8 @@ ghost use Rattle.tt_span.specs.Time.{max_time};
 
 use crate::{Act, Master, MasterFault, MemoryReference, RefFault, Reference};
 use std::test::Fail;
-use tt_poll::{Message, decode};
-use tt_span::MAX_TIME;
+use tt_poll::{Message, Message2, decode, decode2};
+use tt_span::{MAX_TIME, Span};
 
 /// The request of machine 0 to source 1 under nonce 1.
 const REQUEST: [u8; 16] = [
@@ -17,6 +17,19 @@ const REQUEST: [u8; 16] = [
 const ANSWER: [u8; 32] = [
     0x54, 0x54, 0x50, 0x31, 0x02, 0x00, 0x01, 0x00, 0x00, 0x00, 0x00, 0x00, 0x00, 0x00, 0x00, 0x01,
     0x00, 0x00, 0x00, 0x00, 0x3b, 0x9a, 0xca, 0x00, 0x00, 0x00, 0x00, 0x00, 0x3b, 0x9a, 0xcd, 0xe8,
+];
+
+/// The same request in TTP2, of epoch 1.
+const REQUEST2: [u8; 24] = [
+    0x54, 0x54, 0x50, 0x32, 0x01, 0x00, 0x01, 0x00, 0x00, 0x00, 0x00, 0x00, 0x00, 0x00, 0x00, 0x01,
+    0x00, 0x00, 0x00, 0x00, 0x00, 0x00, 0x00, 0x01,
+];
+
+/// The same answer in TTP2, of epoch 1.
+const ANSWER2: [u8; 40] = [
+    0x54, 0x54, 0x50, 0x32, 0x02, 0x00, 0x01, 0x00, 0x00, 0x00, 0x00, 0x00, 0x00, 0x00, 0x00, 0x01,
+    0x00, 0x00, 0x00, 0x00, 0x00, 0x00, 0x00, 0x01, 0x00, 0x00, 0x00, 0x00, 0x3b, 0x9a, 0xca, 0x00,
+    0x00, 0x00, 0x00, 0x00, 0x3b, 0x9a, 0xcd, 0xe8,
 ];
 
 /// What the reference shows in the middle of it.
@@ -149,5 +162,73 @@ fn a_reference_fails_without_a_time(rt: HostRuntime) -> Result<(), Fail> {
     assert_eq!(rt; RefFault::Failed.number(), 304);
     let mut empty = MemoryReference::new(&[], None);
     assert_eq!(rt; empty.read(), Err(RefFault::Failed));
+    Ok(())
+}
+
+#[test]
+fn answers_in_the_epoch_of_the_request(rt: HostRuntime) -> Result<(), Fail> {
+    let mut master = Master::new(1, 500, MemoryReference::new(&[TIME, TIME, TIME], None));
+    assert_eq!(rt; master.answer2(&REQUEST2)?, ANSWER2);
+    assert_eq!(rt; master.play2(Act::Honest, &REQUEST2)?, Some(ANSWER2));
+    // The epoch is the last of the eight bytes from 16 on, in both.
+    let (mut request, mut answer) = (REQUEST2, ANSWER2);
+    request[23] = 9;
+    answer[23] = 9;
+    assert_eq!(rt; master.answer2(&request)?, answer);
+    Ok(())
+}
+
+#[test]
+fn refuses_what_asks_nothing_of_it_in_ttp2(rt: HostRuntime) -> Result<(), Fail> {
+    let mut master = Master::new(1, 500, MemoryReference::new(&[TIME], None));
+    for (bytes, fault) in [
+        (&to_source(REQUEST2, 2)[..], MasterFault::OtherSource),
+        (&to_source(ANSWER2, 2)[..], MasterFault::OtherSource),
+        (&ANSWER2[..], MasterFault::NotRequest),
+        (&REQUEST2[..3], MasterFault::BadMessage),
+        (&REQUEST[..], MasterFault::BadMessage),
+    ] {
+        assert_eq!(rt; master.answer2(bytes), Err(fault));
+        for act in [
+            Act::Honest,
+            Act::Ahead(7),
+            Act::Silent,
+            Act::Garbage,
+            Act::Repeat,
+        ] {
+            assert_eq!(rt; master.play2(act, bytes), Err(fault));
+        }
+    }
+    assert_eq!(rt; master.answer(&REQUEST2), Err(MasterFault::BadMessage));
+    assert_eq!(rt; master.play2(Act::Repeat, &REQUEST2)?, None);
+    assert_eq!(rt; master.answer2(&REQUEST2)?, ANSWER2);
+    Ok(())
+}
+
+#[test]
+fn plays_each_format_apart(rt: HostRuntime) -> Result<(), Fail> {
+    let mut master = Master::new(1, 500, MemoryReference::new(&[TIME, TIME, TIME], None));
+    assert_eq!(rt; master.answer2(&REQUEST2)?, ANSWER2);
+    assert_eq!(rt; master.play(Act::Honest, &REQUEST)?, Some(ANSWER));
+    // Neither a direct answer nor a packet of TTP1 is repeated.
+    assert_eq!(rt; master.play2(Act::Repeat, &REQUEST2)?, None);
+    assert_eq!(rt; master.play2(Act::Silent, &REQUEST2)?, None);
+    assert_eq!(rt; master.play2(Act::Garbage, &REQUEST2)?, Some([0xFF; 40]));
+    assert_eq!(rt; master.play2(Act::Repeat, &REQUEST2)?, Some([0xFF; 40]));
+    let packet = master.play2(Act::Ahead(7), &REQUEST2)?.ok_or("a packet")?;
+    let Message2::Answer(answer) = decode2(&packet)? else {
+        return Err("an answer".into());
+    };
+    assert_eq!(rt; answer.span(), Span::new(1_000_000_007, 1_000_001_007)?);
+    assert_eq!(rt; master.play2(Act::Repeat, &REQUEST2)?, Some(packet));
+    assert_eq!(rt; master.play(Act::Repeat, &REQUEST)?, Some(ANSWER));
+    Ok(())
+}
+
+#[test]
+fn a_reference_that_fails_once_in_ttp2(rt: HostRuntime) -> Result<(), Fail> {
+    let mut master = Master::new(1, 500, MemoryReference::new(&[TIME], Some(1)));
+    assert_eq!(rt; master.answer2(&REQUEST2), Err(MasterFault::Reference));
+    assert_eq!(rt; master.answer2(&REQUEST2)?, ANSWER2);
     Ok(())
 }
