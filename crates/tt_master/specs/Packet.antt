@@ -63,13 +63,13 @@ packet_to request span = spelling_of (message.Answer (answer_to request span))
 abbrev pub packet_to2 : PollRequest2 → Interval → List ℕ
 packet_to2 request span = spelling_of2 (message2.Answer (answer_to2 request span))
 
--- the packet is a message that says that this time may be the true one
-abbrev pub SaysOf : List ℕ → ℕ → Type 0
-SaysOf packet time = (a : PollAnswer) × IsAnswer a × (packet ≡ spelling_of (message.Answer a)) × Holds a.span time
+-- the packet is an answer that is true at this time: its span holds it
+abbrev pub IsTrueAnswer : List ℕ → ℕ → Type 0
+IsTrueAnswer packet time = (a : PollAnswer) × IsAnswer a × (packet ≡ spelling_of (message.Answer a)) × Holds a.span time
 
 -- the same of TTP2
-abbrev pub SaysOf2 : List ℕ → ℕ → Type 0
-SaysOf2 packet time = (a : PollAnswer2) × IsAnswer2 a × (packet ≡ spelling_of2 (message2.Answer a)) × Holds a.span time
+abbrev pub IsTrueAnswer2 : List ℕ → ℕ → Type 0
+IsTrueAnswer2 packet time = (a : PollAnswer2) × IsAnswer2 a × (packet ≡ spelling_of2 (message2.Answer a)) × Holds a.span time
 
 -- so many bytes that are no message
 abbrev pub garbage : ℕ → List ℕ

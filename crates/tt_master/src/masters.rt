@@ -7,7 +7,7 @@ ghost use Rattle.tt_stream.specs.Counts.{HasFailed};
 ghost use Rattle.tt_poll.specs.Message.{max_source};
 ghost use Rattle.tt_master.specs.declared.acts.Act.TheVariants.{Honest, Silent, Garbage, Repeat};
 ghost use Rattle.tt_master.specs.Act.{IsTimed, span_played as span_of_act};
-ghost use Rattle.tt_master.specs.Packet.{request_to as request_in, request_to2 as request_in2, packet_to, packet_to2, SaysOf, SaysOf2, garbage};
+ghost use Rattle.tt_master.specs.Packet.{request_to as request_in, request_to2 as request_in2, packet_to, packet_to2, IsTrueAnswer, IsTrueAnswer2, garbage};
 ghost use Rattle.tt_master.specs.Master.{MasterState, AnswersByTime, played_after};
 
 use crate::acts::Act;
@@ -77,7 +77,7 @@ impl<R: Reference> Master<R> {
         ensures answered { IfOk (request_in self.old.source bytes.now) (λ request.
             AnswersByTime (λ time. R.gives self.old.reference time self.new.reference)
             (λ time. packet_to request (span_of_act self.old.uncertainty Honest time)) result) }
-        ensures holds { IfOk result (λ packet. (time : ℕ) × R.gives self.old.reference (Some time) self.new.reference × SaysOf packet time) }
+        ensures holds { IfOk result (λ packet. (time : ℕ) × R.gives self.old.reference (Some time) self.new.reference × IsTrueAnswer packet time) }
         ensures same { self.new ≡ record self.old { reference = self.new.reference } }
         ensures sound { ¬ IsErrOf result MasterFault.Reference → R.failed self.new.reference ≡ R.failed self.old.reference }
         ensures cause { IsErrOf result MasterFault.Reference → HasFailed (R.failed self.old.reference) (R.failed self.new.reference) }
@@ -123,7 +123,7 @@ impl<R: Reference> Master<R> {
         ensures answered { IfOk (request_in2 self.old.source bytes.now) (λ request.
             AnswersByTime (λ time. R.gives self.old.reference time self.new.reference)
             (λ time. packet_to2 request (span_of_act self.old.uncertainty Honest time)) result) }
-        ensures holds { IfOk result (λ packet. (time : ℕ) × R.gives self.old.reference (Some time) self.new.reference × SaysOf2 packet time) }
+        ensures holds { IfOk result (λ packet. (time : ℕ) × R.gives self.old.reference (Some time) self.new.reference × IsTrueAnswer2 packet time) }
         ensures same { self.new ≡ record self.old { reference = self.new.reference } }
         ensures sound { ¬ IsErrOf result MasterFault.Reference → R.failed self.new.reference ≡ R.failed self.old.reference }
         ensures cause { IsErrOf result MasterFault.Reference → HasFailed (R.failed self.old.reference) (R.failed self.new.reference) }
