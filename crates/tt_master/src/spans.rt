@@ -1,0 +1,44 @@
+//! The spans that masters answer.
+
+ghost use Rattle.std.specs.Prelude.{◌≡◌, ◌+◌, ◌<◌, ◌≤◌, ◌↔◌, ℕ};
+ghost use Rattle.tt_span.specs.Time.{max_time};
+ghost use Rattle.tt_span.specs.Interval.{IsInterval, Holds};
+ghost use Rattle.tt_master.specs.declared.acts.Act.{Act};
+ghost use Rattle.tt_master.specs.declared.acts.Act.TheVariants.{Honest};
+ghost use Rattle.tt_master.specs.Act.{later_by, earlier_by, span_played as span_of_act};
+
+use crate::acts::Act;
+use tt_span::{MAX_TIME, Span};
+
+/// What the act answers where the reference gives this time: the time with the uncertainty both ways, both ends moved
+/// as the act does, and then cut at 0 and [`MAX_TIME`].
+pub(crate) fn span_played(uncertainty: u64, act: Act, time: u64) -> Span
+    requires uncertainty_in { uncertainty ≤ max_time }
+    requires time_in { time ≤ max_time }
+    ensures value { result ≡ span_of_act uncertainty act time }
+    ensures holds { act ≡ Honest → Holds result time }
+{
+    let (lo, hi) = match act {
+        Act::Ahead(k) => (
+            time.saturating_add(k).saturating_sub(uncertainty),
+            (time + uncertainty).saturating_add(k),
+        ),
+        Act::Behind(k) => (
+            time.saturating_sub(uncertainty.saturating_add(k)),
+            (time + uncertainty).saturating_sub(k),
+        ),
+        _ => (time.saturating_sub(uncertainty), time + uncertainty),
+    };
+    Span::new(lo.min(MAX_TIME), hi.min(MAX_TIME)).unwrap()
+}
+
+/// What masters answer is always a span. An honest one holds exactly the times from which the reference is off by at
+/// most the uncertainty. Of the times that are not at an end of all time, the span of any act holds exactly those
+/// that lie between the ends before the cut.
+pub fn act_laws()
+    ensures valid { (uncertainty : ℕ) (act : Act) (time : ℕ) → IsInterval (span_of_act uncertainty act time) }
+    ensures honest { (uncertainty time x : ℕ) → time ≤ max_time → x ≤ max_time →
+        Holds (span_of_act uncertainty Honest time) x ↔ ((time ≤ x + uncertainty) × (x ≤ time + uncertainty)) }
+    ensures moved { (uncertainty : ℕ) (act : Act) (time x : ℕ) → 0 < x → x < max_time →
+        Holds (span_of_act uncertainty act time) x ↔ ((time + later_by act ≤ x + uncertainty + earlier_by act) × (x + earlier_by act ≤ time + uncertainty + later_by act)) }
+{}
