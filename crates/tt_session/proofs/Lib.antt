@@ -1,0 +1,5 @@
+pub mod Talking
+pub mod Spelled
+pub mod Splitting
+pub mod Releasing
+pub mod Hearing

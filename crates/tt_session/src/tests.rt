@@ -1,0 +1,1 @@
+//! Sessions worked out by hand.
