@@ -4,7 +4,8 @@ ghost use Rattle.std.specs.Prelude.{◌≡◌, ◌↔◌, [], Some, None, IfOk, 
 ghost use mathlib.Core.List.{IsPrefix};
 ghost use Rattle.left_right.specs.Sides.{view};
 ghost use Rattle.tt_stream.specs.Counts.{HasFailed};
-ghost use Rattle.tt_publish.specs.Known.{IsLonger, ReadsLast, MissesLast};
+ghost use Rattle.tt_publish.specs.Known.{IsLonger};
+ghost use Rattle.tt_publish.specs.Looks.{Looks};
 ghost use Rattle.tt_publish.specs.Shown.{source_of};
 
 use crate::clocks::Clock;
@@ -72,14 +73,7 @@ impl Watch {
     /// `ClockFailed` where the clock gave no reading; 802 `ClockBack` where the clock is below that of the
     /// publication, or above the greatest time. A refused call may have seen more.
     pub fn now<C: Clock>(&mut self, clock: &mut C) -> Result<Reading, ReadFault>
-        ensures same { (self.new.source ≡ self.old.source) × (self.new.drift ≡ self.old.drift) }
-        ensures seen { IsPrefix self.old.items self.new.items }
-        ensures reading { IfOk result (λ reading. ReadsLast self.new (λ c. C.gives clock.old (Some c) clock.new) reading) }
-        ensures nothing { IsErrOf result ReadFault.Nothing ↔ (self.new.items ≡ []) }
-        ensures unread { IsErrOf result ReadFault.Nothing → clock.new ≡ clock.old }
-        ensures clock_failed { IsErrOf result ReadFault.ClockFailed → C.gives clock.old None clock.new × HasFailed (C.failed clock.old) (C.failed clock.new) }
-        ensures clock_back { IsErrOf result ReadFault.ClockBack → MissesLast self.new (λ c. C.gives clock.old (Some c) clock.new) }
-        ensures sound { ¬ IsErrOf result ReadFault.ClockFailed → C.failed clock.new ≡ C.failed clock.old }
+        ensures looks { Looks C.gives C.failed self.old clock.old result self.new clock.new }
     {
         self.look();
         let Some(last) = self.front.last() else {
