@@ -176,8 +176,8 @@ module _ {S : Type 0} (allows : S → Call → S → Type 0) (waits : ℕ) where
         served = b.served;
         last = b.last;
         bytes_are =
-          ap (λ l. past ++ l) is ∙ sym (append_assoc past (xs ++ ys) zs)
-          ∙ ap (λ l. l ++ zs) (sym (append_assoc past xs ys) ∙ b.bytes_are) ∙ append_assoc b.heard b.unheard zs;
+            ap (λ l. past ++ l) is ∙ sym (append_assoc past (xs ++ ys) zs)
+            ∙ ap (λ l. l ++ zs) (sym (append_assoc past xs ys) ∙ b.bytes_are) ∙ append_assoc b.heard b.unheard zs;
         session = b.session;
         reply_is = b.reply_is;
         written = b.written;

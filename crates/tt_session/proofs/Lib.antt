@@ -3,3 +3,4 @@ pub mod Spelled
 pub mod Splitting
 pub mod Releasing
 pub mod Hearing
+pub mod Stepping

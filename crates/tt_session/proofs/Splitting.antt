@@ -27,8 +27,8 @@ Splits-ended bytes lines rest s =
       each = All-push HasNoEnd lines rest s.each s.last;
       last = All-nil (λ b. b ≢ 10);
     } where
-  ended_line : (lines : List (List ℕ)) (rest : List ℕ) → flat_map ended lines ++ ended rest ≡ flat_map ended (lines ++ rest ∷ []) ++ []
-  ended_line lines rest = flat_map_more ended [] lines rest ∙ sym (append-nil (flat_map ended (lines ++ rest ∷ [])))
+      ended_line : (lines : List (List ℕ)) (rest : List ℕ) → flat_map ended lines ++ ended rest ≡ flat_map ended (lines ++ rest ∷ []) ++ []
+      ended_line lines rest = flat_map_more ended [] lines rest ∙ sym (append-nil (flat_map ended (lines ++ rest ∷ [])))
 
 -- a line feed before the first line
 feed_first : (bytes : List ℕ) (lines : List (List ℕ)) (rest : List ℕ) → Splits bytes lines rest → Splits (10 ∷ bytes) ([] ∷ lines) rest

@@ -52,8 +52,8 @@ pub record Releases (waits number stamp : ℕ) (calls : List Call) (reply : Repl
 abbrev pub GoesOn : ℕ → Begun → List Call → Reply → Option Begun → Type 0
 GoesOn waits begun calls reply after =
     MatchBool begun.is_released
-      ((calls ≡ []) × (reply ≡ Committed begun.number begun.stamp) × (after ≡ Some begun))
-      (Releases waits begun.number begun.stamp calls reply after)
+    ((calls ≡ []) × (reply ≡ Committed begun.number begun.stamp) × (after ≡ Some begun))
+    (Releases waits begun.number begun.stamp calls reply after)
 
 -- a commit is begun by the service, and then released where it may be; where the service refuses, the last commit stays
 abbrev pub BeginsWith : ℕ → ℕ → ℕ → Option Begun → List Call → Reply → Option Begun → Result ℕ ℕ → Type 0
@@ -72,8 +72,8 @@ CommitsBy Less waits number floor begun calls reply after = Refuses OldId (Some 
 CommitsBy Equal waits number floor begun calls reply after = GoesOn waits begun calls reply after
 CommitsBy Greater waits number floor begun calls reply after =
     MatchBool begun.is_released
-      (Begins waits number floor (Some begun) calls reply after)
-      (Refuses OtherWaits (Some begun) calls reply after)
+    (Begins waits number floor (Some begun) calls reply after)
+    (Refuses OtherWaits (Some begun) calls reply after)
 
 -- a commit, after the last one if there is one
 abbrev pub Commits : ℕ → ℕ → ℕ → Option Begun → List Call → Reply → Option Begun → Type 0

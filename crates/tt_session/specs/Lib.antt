@@ -6,3 +6,4 @@ pub mod Conversation
 pub mod Answers
 pub mod Session
 pub mod Talks
+pub mod Desk

@@ -26,11 +26,19 @@ pub(crate) fn answer<S: Service>(
             Err(fault) => Reply::Refused(fault),
         },
         Request::After(time) => match service.now() {
-            Ok(reading) => if reading.after(time) { Reply::Yes } else { Reply::No },
+            Ok(reading) => if reading.after(time) {
+                Reply::Yes
+            } else {
+                Reply::No
+            },
             Err(fault) => Reply::Refused(fault),
         },
         Request::Before(time) => match service.now() {
-            Ok(reading) => if reading.before(time) { Reply::Yes } else { Reply::No },
+            Ok(reading) => if reading.before(time) {
+                Reply::Yes
+            } else {
+                Reply::No
+            },
             Err(fault) => Reply::Refused(fault),
         },
         Request::Commit { number, floor } => commit(number, floor, service, waits, last),
@@ -80,12 +88,7 @@ fn begin<S: Service>(
 }
 
 /// Goes on with the last commit.
-fn go_on<S: Service>(
-    begun: Begun,
-    service: &mut S,
-    waits: u32,
-    last: &mut Option<Begun>,
-) -> Reply
+fn go_on<S: Service>(begun: Begun, service: &mut S, waits: u32, last: &mut Option<Begun>) -> Reply
     ensures { Talked S.allows service.old service.new (λ calls. GoesOn waits begun calls result last.new) }
 {
     if begun.is_released {

@@ -17,6 +17,7 @@
 mod answers;
 mod begun;
 mod calls;
+mod desks;
 mod faults;
 mod replies;
 mod requests;
@@ -26,11 +27,14 @@ mod talks;
 
 pub use begun::Begun;
 pub use calls::Call;
+pub use desks::Desk;
 pub use faults::{LineFault, ServeFault};
 pub use replies::Reply;
 pub use requests::Request;
 pub use services::Service;
 pub use serving::{Served, Turns, line_laws, serve};
 
+#[cfg(test)]
+mod desk_tests;
 #[cfg(test)]
 mod tests;
