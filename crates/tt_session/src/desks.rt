@@ -31,7 +31,7 @@ impl<C> Model for Desk<C> {
 impl<C> Desk<C> {
     /// The desk of this session.
     pub fn new(session: u32, watch: Watch, clock: C, row: Row, book: Book) -> Self
-        ensures { result ≡ record { session = session; watch = watch; clock = clock; row = row; book = book } }
+        ensures made { result ≡ record { session = session; watch = watch; clock = clock; row = row; book = book } }
     {
         Desk {
             session,
@@ -44,7 +44,7 @@ impl<C> Desk<C> {
 
     /// Its book.
     pub fn book(&self) -> &Book
-        ensures { result.now ≡ self.now.book }
+        ensures shows { result.now ≡ self.now.book }
     {
         &self.book
     }
