@@ -17,12 +17,13 @@ use Rattle.tt_stamp.specs.declared.faults.BookFault.TheVariants.{Memory}
 use Rattle.tt_session.specs.declared.calls.Call.{Call}
 use Rattle.tt_session.specs.declared.calls.Call.TheVariants.{Now, Begin, Pass}
 
--- a desk: its session, its watch and its clock, the greatest of the stamps that it gave, and what happened in its book, newest first
+-- a desk: its session, its watch and its clock, the greatest of the stamps that it gave, the lease that it stamps in, and what happened in its book, newest first
 pub record DeskState (C : Type 0) : Type 0 where
   pub session : ℕ
   pub watch : WatchState
   pub clock : C
   pub row : Option ℕ
+  pub lease : Interval
   pub book : List Entry
 
 -- the id of the commit with this number
@@ -30,9 +31,9 @@ abbrev pub id_at : {C : Type 0} → DeskState C → ℕ → Id
 id_at desk number = record { session = desk.session; number = number }
 
 -- one stamp of a row: it made of the row `old` the row `new`, and answered this
-pub record Stamps (old : Option ℕ) (reading : Interval) (floor : ℕ) (answer : Result ℕ StampFault) (new : Option ℕ) : Type 0 where
+pub record Stamps (old : Option ℕ) (reading : Interval) (floor : ℕ) (lease : Interval) (answer : Result ℕ StampFault) (new : Option ℕ) : Type 0 where
   -- whatever stamps were given before, as long as the row's value is the greatest of them
-  pub value : (given : List ℕ) → greatest_of given ≡ old → answer ≡ stamp_of given reading.hi floor
+  pub value : (given : List ℕ) → greatest_of given ≡ old → answer ≡ stamp_of given reading.hi floor lease
   pub last : IfOk answer (λ stamp. new ≡ Some stamp)
   pub err : OnErr answer (new ≡ old)
 
@@ -43,9 +44,10 @@ pub record Queues (old : List Entry) (id : Id) (stamp : ℕ) (answer : Result (U
   pub ok : OnOk answer (new ≡ Queued id stamp ∷ old)
   pub err : OnErr answer (new ≡ old)
 
--- a call that begins with a reading, and then does this with it
+-- a call that begins with a reading, and then does this with it; the session and the lease stay
 pub record LooksThen {C : Type 0} (gives : C → Option ℕ → C → Type 0) (failed : C → ℕ) (before : DeskState C) (Then : Result Interval ReadFault → Type 0) (after : DeskState C) : Type 0 where
   pub session : after.session ≡ before.session
+  pub lease : after.lease ≡ before.lease
   pub looked : Result Interval ReadFault
   pub looks : Looks gives failed before.watch before.clock looked after.watch after.clock
   pub rest : Then looked
@@ -69,7 +71,7 @@ QueuesStamped before number answer after (Err fault) = (answer ≡ Err (number_o
 -- a commit whose reading was taken is stamped and queued; where there is none, the number of the refusal is the answer
 abbrev pub BeginsAt : {C : Type 0} → DeskState C → ℕ → ℕ → Result ℕ ℕ → DeskState C → Result Interval ReadFault → Type 0
 BeginsAt before number floor answer after (Ok reading) =
-    (stamped : Result ℕ StampFault) × Stamps before.row reading floor stamped after.row × QueuesStamped before number answer after stamped
+    (stamped : Result ℕ StampFault) × Stamps before.row reading floor before.lease stamped after.row × QueuesStamped before number answer after stamped
 BeginsAt before number floor answer after (Err fault) = (answer ≡ Err (read_number_of fault)) × (after.row ≡ before.row) × (after.book ≡ before.book)
 
 -- what has surely passed at the reading is released, and the answer is whether the commit is; where there is no reading, the number of the refusal

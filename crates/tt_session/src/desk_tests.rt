@@ -7,7 +7,7 @@ use std::alloc::Global;
 use std::sync::Wait;
 use std::test::Fail;
 use tt_daemon::Fused;
-use tt_publish::{MemoryClock, Watch, open};
+use tt_publish::{MemoryClock, Reading, Watch, open};
 use tt_span::{Drift, Span};
 use tt_stamp::{Book, Id, Row};
 use tt_stream::{MemoryReader, MemoryWriter};
@@ -27,9 +27,9 @@ fn watch<R: Wait>(rt: &R, alloc: Global) -> Result<Watch, Fail> {
 }
 
 // Serves the lines in pieces with one release step each, and answers what `serve` did and what was written.
-fn talk<'a>(
+fn talk<S: Service>(
     alloc: Global,
-    desk: &mut Desk<MemoryClock<'a>>,
+    service: &mut S,
     lines: &[u8],
     piece: usize,
 ) -> (Result<Served, ServeFault>, MemoryWriter)
@@ -41,7 +41,7 @@ fn talk<'a>(
         reads: 1000,
         waits: 1,
     };
-    let served = serve(&mut reader, &mut writer, desk, turns);
+    let served = serve(&mut reader, &mut writer, service, turns);
     (served, writer)
 }
 
@@ -118,5 +118,57 @@ fn a_desk_refuses_by_the_first_that_refuses(rt: HostRuntime) -> Result<(), Fail>
         })
     );
     assert_eq!(rt; desk.book().history().len(), 2);
+    Ok(())
+}
+
+// A desk whose lease is renewed after its first refused beginning.
+#[derive(Drop)]
+struct Renewed<'a> {
+    desk: Desk<MemoryClock<'a>>,
+    later: Option<Span>,
+}
+
+impl<'a> Service for Renewed<'a> {
+    ghost allows = { λ _ _ _. Unit {0} };
+
+    fn now(&mut self) -> Result<Reading, u16> {
+        self.desk.now()
+    }
+
+    fn begin(&mut self, number: u64, floor: u64) -> Result<u64, u16> {
+        let answer = self.desk.begin(number, floor);
+        if answer.is_err() {
+            if let Some(lease) = self.later.take() {
+                self.desk.set_lease(lease);
+            }
+        }
+        answer
+    }
+
+    fn pass(&mut self, number: u64) -> Result<bool, u16> {
+        self.desk.pass(number)
+    }
+}
+
+#[test]
+fn a_later_lease_takes_what_an_earlier_one_refused(rt: HostRuntime) -> Result<(), Fail> {
+    let alloc = rt.alloc();
+    let clock = MemoryClock::new(&[0, 0, 0, 201, 0], None);
+    let mut desk = Desk::new(0, watch(&rt, alloc)?, clock, Row::new(), Book::new(alloc));
+    // The readings are [100, 200], three times, then [301, 401], and [100, 200]. The first lease ends at 199, and the
+    // later one is the time 300 alone.
+    desk.set_lease(Span::new(0, 199)?);
+    let mut service = Renewed {
+        desk,
+        later: Some(Span::new(300, 300)?),
+    };
+    let lines = b"commit 1 0\ncommit 1 0\ncommit 1 0\ncommit 2 0\n";
+    let (served, writer) = talk(alloc, &mut service, lines, 1000);
+    assert_eq!(rt;
+        writer.taken(),
+        b"refused 903\nwaiting 1 300\ncommitted 1 300\nrefused 903\n".as_slice()
+    );
+    assert_eq!(rt; served, Ok(Served { lines: 4, refused: 2 }));
+    assert_eq!(rt; service.desk.book().history().len(), 2);
     Ok(())
 }

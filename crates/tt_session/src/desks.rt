@@ -1,11 +1,13 @@
 //! The service of one thread.
 
 ghost use Rattle.std.specs.Prelude.{◌≡◌};
+ghost use Rattle.tt_span.specs.Interval.{whole};
 ghost use Rattle.tt_session.specs.Desk.{Allows};
 
 use crate::services::Service;
 use std::marker::Model;
 use tt_publish::{Clock, Reading, Watch};
+use tt_span::Span;
 use tt_stamp::{Book, Id, Row, release_step};
 
 /// The service of one thread: a watch with its clock, a row of stamps and a book of its own. Contracts see its parts.
@@ -17,6 +19,7 @@ pub struct Desk<C> {
     watch: Watch,
     clock: C,
     row: Row,
+    lease: Span,
     book: Book,
 }
 
@@ -25,21 +28,29 @@ impl<C> Model for Desk<C> {
 
     ghost Value = { DeskState C };
 
-    ghost view = { λ d. record { session = d.session; watch = d.watch; clock = d.clock; row = d.row; book = d.book } };
+    ghost view = { λ d. record { session = d.session; watch = d.watch; clock = d.clock; row = d.row; lease = d.lease; book = d.book } };
 }
 
 impl<C> Desk<C> {
-    /// The desk of this session.
+    /// The desk of this session, whose lease is the whole of time.
     pub fn new(session: u32, watch: Watch, clock: C, row: Row, book: Book) -> Self
-        ensures made { result ≡ record { session = session; watch = watch; clock = clock; row = row; book = book } }
+        ensures made { result ≡ record { session = session; watch = watch; clock = clock; row = row; lease = whole; book = book } }
     {
         Desk {
             session,
             watch,
             clock,
             row,
+            lease: Span::whole(),
             book,
         }
+    }
+
+    /// From now on stamps lie in this lease.
+    pub fn set_lease(&mut self, lease: Span)
+        ensures set { self.new ≡ record self.old { lease = lease } }
+    {
+        self.lease = lease;
     }
 
     /// Its book.
@@ -61,17 +72,18 @@ impl<C: Clock> Service for Desk<C> {
         }
     }
 
-    /// One [`Watch::now`], then one [`Row::stamp`] by its reading, then one [`Book::queue`] of the session and the
+    /// One [`Watch::now`], then one [`Row::stamp`] by its reading and in the lease, then one [`Book::queue`] of the session and the
     /// number with the stamp, which it answers.
     ///
-    /// Refuses with the number of the first of them that refuses: 801, 803, 802, 902, 901, 1001, 1002, 1003, 1. A stamp
-    /// that was given before a refused queueing is lost; after any other refusal the row and the book are as they were.
+    /// Refuses with the number of the first of them that refuses: 801, 803, 802, 902, 901, 903, 1001, 1002, 1003, 1. A
+    /// stamp that was given before a refused queueing is lost; after any other refusal the row and the book are as they
+    /// were.
     fn begin(&mut self, number: u64, floor: u64) -> Result<u64, u16> {
         let reading = match self.watch.now(&mut self.clock) {
             Ok(reading) => reading,
             Err(fault) => return Err(fault.number()),
         };
-        let stamp = match self.row.stamp(&reading, floor) {
+        let stamp = match self.row.stamp(&reading, floor, &self.lease) {
             Ok(stamp) => stamp,
             Err(fault) => return Err(fault.number()),
         };

@@ -9,6 +9,7 @@ returns-in-Err g c =
     rw (← c.self.view_is)
     (record {
       session = refl;
+      lease = refl;
       looked = Err f;
       looks = record {
         same = e.same;
@@ -31,6 +32,7 @@ returns g c =
     rw (← c.self.view_is)
     (record {
       session = refl;
+      lease = refl;
       looked = Ok reading;
       looks = record {
         same = e.same;
