@@ -1,15 +1,13 @@
 -- What further bytes do to a session.
-use Rattle.std.proofs.Common.{◌≡◌, ◌≢◌, ℕ, ◌+◌, ◌<◌, ◌≤◌, ◌⊎◌, if◌then◌else◌, List, [], ◌∷◌, ◌++◌, length, count_by, take, drop, Option, None, Result, Ok, Err, OnOk, OnErr, inl, inr, refl, sym, ap, ◌∙◌, subst, arith, append_assoc, append-nil}
-use Rattle.std.specs.List.{flat_map}
-use Rattle.std.specs.Io.KnownBytes.{Appends, Consumes, Keeps}
+use Rattle.std.proofs.Common.{◌≡◌, ◌≢◌, ℕ, ◌+◌, if◌then◌else◌, List, [], ◌∷◌, ◌++◌, Option, None, Result, Ok, Err, OnOk, OnErr, inl, refl, sym, ap, ◌∙◌, subst, arith, append_assoc, append-nil}
+use Rattle.std.specs.Io.KnownBytes.{Appends}
 use Rattle.std.proofs.KnownBytes.{Appends-nil, Appends-trans}
 use Rattle.std.proofs.lemmas.List.{flat_map_more, length_push}
 use Rattle.std.proofs.lemmas.List.Sums.{sum_by_push}
-use Rattle.tt_session.specs.Lines.{Splits}
-use Rattle.tt_session.specs.Conversation.{Conversation, Talked}
+use Rattle.tt_session.specs.Conversation.{Talked}
 use Rattle.tt_session.specs.Answers.{AnswersLine, AnswersLines}
 use Rattle.tt_session.specs.Replies.{text_of, is_refused}
-use Rattle.tt_session.specs.Session.{Session, Serves, Breaks, BreaksOff}
+use Rattle.tt_session.specs.Session.{Session}
 use Rattle.tt_session.specs.Talks.{IsKept, Talks, TalksOn, BreaksIn}
 use Rattle.tt_session.specs.declared.begun.Begun.{Begun}
 use Rattle.tt_session.specs.declared.calls.Call.{Call}

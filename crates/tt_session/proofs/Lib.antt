@@ -4,3 +4,4 @@ pub mod Splitting
 pub mod Releasing
 pub mod Hearing
 pub mod Stepping
+pub mod Spelling

@@ -1,5 +1,5 @@
 -- Conversations that answer a request.
-use Rattle.std.proofs.Common.{◌≡◌, ℕ, ◌+◌, ◌<◌, Bool, true, false, List, [], ◌∷◌, ◌++◌, replicate, Option, Some, None, Result, Ok, Err, refl, sym, subst}
+use Rattle.std.proofs.Common.{ℕ, ◌+◌, ◌<◌, true, false, [], ◌∷◌, ◌++◌, replicate, Option, Result, Ok, Err, refl}
 use Rattle.std.proofs.lemmas.List.{replicate_more}
 use Rattle.tt_session.specs.Conversation.{Conversation, Talked}
 use Rattle.tt_session.specs.Answers.{Passes, Begins, Releases, Reads, SaysOf}

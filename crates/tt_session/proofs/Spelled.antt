@@ -1,9 +1,9 @@
 -- Lines that are a word and numbers.
-use Rattle.std.proofs.Common.{◌≡◌, ◌≢◌, ℕ, ◌<◌, ◌≤◌, List, [], ◌∷◌, ◌++◌, length, drop, All, MatchOption, refl, sym, ap, ◌∙◌, arith, append-nil, length-append, length-drop}
+use Rattle.std.proofs.Common.{◌≡◌, ◌≢◌, ℕ, ◌<◌, ◌≤◌, List, [], ◌∷◌, ◌++◌, length, drop, sym, ap, ◌∙◌, arith, append-nil, length-drop}
 use Rattle.std.proofs.lemmas.List.{drop_all}
 use Rattle.std.proofs.lemmas.List.Elements.{All-cons, All-nil}
 use Rattle.tt_cert.specs.Text.{line_of}
-use Rattle.tt_cert.specs.Reading.{ReadsNothing, ReadsUpTo, Reads, Anything, AreNumbers, IsNumber}
+use Rattle.tt_cert.specs.Reading.{ReadsNothing, Reads, Anything, AreNumbers, IsNumber}
 use Rattle.tt_session.specs.Requests.{IsLineOf}
 
 -- one number is a list that a line can hold

@@ -1,5 +1,5 @@
 -- A conversation with a service.
-use Rattle.std.specs.Prelude.{◌≡◌, List, [], ◌∷◌, ◌++◌}
+use Rattle.std.specs.Prelude.{◌≡◌, List, [], ◌∷◌}
 use Rattle.tt_session.specs.declared.calls.Call.{Call}
 
 -- calls of a service with their answers: each is allowed in the state that the one before it left, from one state to another

@@ -1,5 +1,5 @@
 -- The service of one thread: each call is calls of a watch, a row of stamps and a book, one after the other.
-use Rattle.std.specs.Prelude.{◌≡◌, ℕ, List, ◌∷◌, Bool, is_some, MatchOption, Option, Some, None, Result, Ok, Err, IfOk, OnOk, OnErr, IsOkUnless}
+use Rattle.std.specs.Prelude.{◌≡◌, ℕ, List, ◌∷◌, Bool, is_some, MatchOption, Option, Some, Result, Ok, Err, IfOk, OnOk, OnErr, IsOkUnless}
 use Rattle.tt_span.specs.Interval.{Interval}
 use Rattle.tt_publish.specs.Fault.{read_number_of}
 use Rattle.tt_publish.specs.Known.{WatchState}

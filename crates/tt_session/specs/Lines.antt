@@ -1,5 +1,5 @@
 -- Lines of bytes.
-use Rattle.std.specs.Prelude.{◌≡◌, ◌≢◌, ℕ, ◌==◌, ◌<◌, ◌≤◌, if◌then◌else◌, MatchBool, Bool, true, false, List, [], ◌∷◌, ◌++◌, length, All}
+use Rattle.std.specs.Prelude.{◌≡◌, ◌≢◌, ℕ, ◌==◌, if◌then◌else◌, List, [], ◌∷◌, ◌++◌, All}
 use Rattle.std.specs.List.{flat_map}
 
 -- the most bytes that a line may have before its line feed

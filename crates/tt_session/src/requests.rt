@@ -3,7 +3,8 @@
 ghost use Rattle.std.specs.Prelude.{◌≡◌, ◌≢◌, ℕ, List, Some, MatchOption, IfSome, IfNone};
 ghost use Rattle.tt_cert.specs.Text.{line_of};
 ghost use Rattle.tt_cert.specs.Reading.{IsNumber, AreNumbers};
-ghost use Rattle.tt_session.specs.Requests.{Spells, IsLineOf, spelling_of};
+ghost use Rattle.tt_session.specs.Requests.{Spells, IsLineOf, IsRequest, spelling_of};
+ghost use Rattle.tt_session.specs.declared.requests.Request.{Request};
 
 use arrayvec::ArrayVec;
 use tt_cert::line_at;
@@ -113,3 +114,9 @@ fn numbers_behind(word: &[u8], ended: &[u8]) -> Option<ArrayVec<u64, 16>>
     }
     Some(numbers)
 }
+
+/// No two requests have one spelling.
+pub fn request_laws()
+    ensures one_request { (first second : Request) → IsRequest first → IsRequest second →
+        spelling_of first ≡ spelling_of second → first ≡ second }
+{}

@@ -1,5 +1,4 @@
-use Rattle.std.proofs.Common.{◌≡◌, take, drop, [], sym, ◌∙◌, subst, append-nil, take-append-drop, refl}
-use Rattle.std.specs.Io.KnownBytes.{Appends}
+use Rattle.std.proofs.Common.{◌≡◌, take, drop, [], sym, ◌∙◌, append-nil, take-append-drop, refl}
 use Rattle.std.proofs.KnownBytes.{Appends-kept}
 use Rattle.tt_session.specs.Replies.{text_of}
 use Rattle.tt_session.proofs.Hearing.{TalksOn-kept, TalksOn-answered, BreaksIn-answered, on_ok, on_err}

@@ -1,4 +1,4 @@
-use Rattle.std.proofs.Common.{◌≡◌, Ok, Err, ap, refl, ◌∙◌, is_some}
+use Rattle.std.proofs.Common.{Ok, Err, ap, refl, ◌∙◌, is_some}
 use Rattle.tt_session.proofs.Stepping.{same_err, no_err}
 use Rattle.tt_session.proofs.desks.DeskService.pass.Goals as goal
 
