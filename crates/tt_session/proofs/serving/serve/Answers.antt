@@ -1,0 +1,53 @@
+use Rattle.std.proofs.Common.{◌≡◌, ◌+◌, ◌++◌, [], ◌∙◌, arith, ap, inl, refl, length-take}
+use Rattle.std.proofs.KnownBytes.{Consumes-nil, Consumes-trans}
+use Rattle.tt_stream.proofs.Reading.{CountsOn-more}
+use Rattle.tt_session.proofs.Hearing.{Talks-first}
+use Rattle.tt_session.proofs.serving.serve.Goals as goal
+
+pub loop-init : goal.loop-init
+loop-init g c =
+    let lines : c.new-talk.result.served.lines ≡ 0 = ap (λ s. s.lines) c.new-talk.ensures.served in
+    let refused : c.new-talk.result.served.refused ≡ 0 = ap (λ s. s.refused) c.new-talk.ensures.served in
+    record {
+      heard = ([], Consumes-nil _, Talks-first g.S.Service.allows c.args.turns.waits _ _ c.new-talk.result c.new-talk.ensures.line c.new-talk.ensures.last c.new-talk.ensures.served);
+      few = omega arith;
+      more = omega arith;
+      sound_read = refl;
+      sound_write = refl;
+      asked = inl (omega arith);
+      room = refl;
+    }
+
+pub returns-in_default-clause-turns : goal.returns-in_default-clause-turns
+returns-in_default-clause-turns g c =
+    (c.loop.counter + 1, omega arith, CountsOn-more _ _ _ _ c.loop.invariant.asked c.read.ensures.asked)
+
+pub returns-then-n-eq0-clause-turns : goal.returns-then-n-eq0-clause-turns
+returns-then-n-eq0-clause-turns g c =
+    (c.loop.counter + 1, omega arith, CountsOn-more _ _ _ _ c.loop.invariant.asked c.read.ensures.asked)
+
+pub returns-in_default-hear-clause-turns : goal.returns-in_default-hear-clause-turns
+returns-in_default-hear-clause-turns g c =
+    (c.loop.counter + 1, omega arith, CountsOn-more _ _ _ _ c.loop.invariant.asked c.read.ensures.asked)
+
+pub returns-in_default-hear-clause-write_failed : goal.returns-in_default-hear-clause-write_failed
+returns-in_default-hear-clause-write_failed g c = λ _.
+    let (bytes, came, stands) = c.loop.invariant.heard in
+    record {
+      bytes = bytes ++ _;
+      read = Consumes-trans _ _ _ _ _ came c.in-Ok.ensures.bytes.0;
+      breaks = c.in_default-hear.ensures.err _ _ _ stands;
+    }
+
+pub loop-preserved : goal.loop-preserved
+loop-preserved g c =
+    let (bytes, came, stands) = c.loop.invariant.heard in
+    record {
+      heard = (bytes ++ _, Consumes-trans _ _ _ _ _ came c.in-Ok.ensures.bytes.0, c.in-Ok-hear.ensures.ok _ _ _ stands);
+      few = c.in-Ok-hear.ensures.few;
+      more = omega (arith, c.in-Ok-hear.ensures.more, c.in-Ok.ensures.count, length-take c.in-Ok.n c.read.new.buffer);
+      sound_read = c.in-Ok.ensures.sound ∙ c.loop.invariant.sound_read;
+      sound_write = c.in-Ok-hear.ensures.sound ∙ c.loop.invariant.sound_write;
+      asked = CountsOn-more _ _ _ _ c.loop.invariant.asked c.read.ensures.asked;
+      room = c.if-n-eq0.array_long;
+    }

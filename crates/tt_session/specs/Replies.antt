@@ -1,0 +1,19 @@
+-- What a line is answered, and its text.
+use Rattle.std.specs.Prelude.{ℕ, Bool, true, false, List, [], ◌∷◌, codes}
+use Rattle.tt_cert.specs.Text.{line_of, ends_of}
+use Rattle.tt_session.specs.declared.replies.Reply.{Reply}
+use Rattle.tt_session.specs.declared.replies.Reply.TheVariants.{Now, Yes, No, Committed, Waiting, Refused}
+
+-- the line of a reply, with its line feed
+abbrev pub text_of : Reply → List ℕ
+text_of (Now reading) = line_of (codes "now") (ends_of reading)
+text_of Yes = line_of (codes "yes") []
+text_of No = line_of (codes "no") []
+text_of (Committed number stamp) = line_of (codes "committed") (number ∷ stamp ∷ [])
+text_of (Waiting number stamp) = line_of (codes "waiting") (number ∷ stamp ∷ [])
+text_of (Refused number) = line_of (codes "refused") (number ∷ [])
+
+-- whether the reply is a refusal
+abbrev pub is_refused : Reply → Bool
+is_refused (Refused number) = true
+is_refused _ = false

@@ -1,0 +1,113 @@
+//! The service of one thread.
+
+ghost use Rattle.std.specs.Prelude.{◌≡◌};
+ghost use Rattle.tt_span.specs.Interval.{whole};
+ghost use Rattle.tt_session.specs.Desk.{Allows};
+
+use crate::services::Service;
+use std::marker::Model;
+use tt_publish::{Clock, Reading, Watch};
+use tt_span::Span;
+use tt_stamp::{Book, Id, Row, release_step};
+
+/// The service of one thread: a watch with its clock, a row of stamps and a book of its own. Contracts see its parts.
+///
+/// Its numbers are those of one session. Of its calls only `begin` takes memory, from the book's allocator; none waits.
+#[derive(Drop)]
+pub struct Desk<C> {
+    session: u32,
+    watch: Watch,
+    clock: C,
+    row: Row,
+    lease: Span,
+    book: Book,
+}
+
+impl<C> Model for Desk<C> {
+    ghost use Rattle.tt_session.specs.Desk.{DeskState};
+
+    ghost Value = { DeskState C };
+
+    ghost view = { λ d. record { session = d.session; watch = d.watch; clock = d.clock; row = d.row; lease = d.lease; book = d.book } };
+}
+
+impl<C> Desk<C> {
+    /// The desk of this session, whose lease is the whole of time.
+    pub fn new(session: u32, watch: Watch, clock: C, row: Row, book: Book) -> Self
+        ensures made { result ≡ record { session = session; watch = watch; clock = clock; row = row; lease = whole; book = book } }
+    {
+        Desk {
+            session,
+            watch,
+            clock,
+            row,
+            lease: Span::whole(),
+            book,
+        }
+    }
+
+    /// From now on stamps lie in this lease.
+    pub fn set_lease(&mut self, lease: Span)
+        ensures set { self.new ≡ record self.old { lease = lease } }
+    {
+        self.lease = lease;
+    }
+
+    /// Its book.
+    pub fn book(&self) -> &Book
+        ensures shows { result.now ≡ self.now.book }
+    {
+        &self.book
+    }
+}
+
+impl<C: Clock> Service for Desk<C> {
+    ghost allows = { Allows C.gives C.failed };
+
+    /// One [`Watch::now`]. Refuses as that does: 801, 803, 802.
+    fn now(&mut self) -> Result<Reading, u16> {
+        match self.watch.now(&mut self.clock) {
+            Ok(reading) => Ok(reading),
+            Err(fault) => Err(fault.number()),
+        }
+    }
+
+    /// One [`Watch::now`], then one [`Row::stamp`] by its reading and in the lease, then one [`Book::queue`] of the session and the
+    /// number with the stamp, which it answers.
+    ///
+    /// Refuses with the number of the first of them that refuses: 801, 803, 802, 902, 901, 903, 1001, 1002, 1003, 1. A
+    /// stamp that was given before a refused queueing is lost; after any other refusal the row and the book are as they
+    /// were.
+    fn begin(&mut self, number: u64, floor: u64) -> Result<u64, u16> {
+        let reading = match self.watch.now(&mut self.clock) {
+            Ok(reading) => reading,
+            Err(fault) => return Err(fault.number()),
+        };
+        let stamp = match self.row.stamp(&reading, floor, &self.lease) {
+            Ok(stamp) => stamp,
+            Err(fault) => return Err(fault.number()),
+        };
+        let id = Id {
+            session: self.session,
+            number,
+        };
+        match self.book.queue(id, stamp) {
+            Ok(()) => Ok(stamp),
+            Err(fault) => Err(fault.number()),
+        }
+    }
+
+    /// One [`release_step`], and then whether [`Book::is_released`] has the commit. Refuses as the step does: 801,
+    /// 803, 802.
+    fn pass(&mut self, number: u64) -> Result<bool, u16> {
+        match release_step(&mut self.book, &mut self.watch, &mut self.clock) {
+            Ok(_) => {}
+            Err(fault) => return Err(fault.number()),
+        }
+        let id = Id {
+            session: self.session,
+            number,
+        };
+        Ok(self.book.is_released(id).is_some())
+    }
+}

@@ -1,0 +1,122 @@
+//! What a line asks for.
+
+ghost use Rattle.std.specs.Prelude.{◌≡◌, ◌≢◌, ℕ, List, Some, MatchOption, IfSome, IfNone};
+ghost use Rattle.tt_cert.specs.Text.{line_of};
+ghost use Rattle.tt_cert.specs.Reading.{IsNumber, AreNumbers};
+ghost use Rattle.tt_session.specs.Requests.{Spells, IsLineOf, IsRequest, spelling_of};
+ghost use Rattle.tt_session.specs.declared.requests.Request.{Request};
+
+use arrayvec::ArrayVec;
+use tt_cert::line_at;
+
+/// What a line asks for.
+#[derive(Clone, Copy, Debug, PartialEq, Eq)]
+pub enum Request {
+    /// `now`: the time.
+    Now,
+    /// `after T`: whether the time T, in nanoseconds, has surely passed.
+    After(u64),
+    /// `before T`: whether the time T, in nanoseconds, has surely not arrived.
+    Before(u64),
+    /// `commit ID FLOOR`: begin the commit with this number, or go on with it.
+    Commit {
+        /// Its number in the session.
+        number: u64,
+        /// The least stamp that the client wants, in nanoseconds. It counts only where the commit begins.
+        floor: u64,
+    },
+}
+
+/// The request that the line spells, which is given with its line feed.
+pub(crate) fn request_of(ended: &[u8]) -> Option<Request>
+    ensures { Spells ended.now result }
+{
+    match ended.first() {
+        Some(b'n') => now_of(ended),
+        Some(b'a') => after_of(ended),
+        Some(b'b') => before_of(ended),
+        Some(b'c') => commit_of(ended),
+        _ => None,
+    }
+}
+
+/// Where the line is `now` and no number.
+fn now_of(ended: &[u8]) -> Option<Request>
+    ensures none { IfNone result (ended.now ≢ spelling_of Request.Now) }
+    ensures some { IfSome result (λ request. Spells ended.now (Some request)) }
+{
+    let Some(numbers) = numbers_behind(b"now", ended) else {
+        return None;
+    };
+    match numbers.as_slice() {
+        [] => Some(Request::Now),
+        _ => None,
+    }
+}
+
+/// Where the line is `after` and one number.
+fn after_of(ended: &[u8]) -> Option<Request>
+    ensures none { IfNone result ((t : ℕ) → IsNumber t → ended.now ≢ spelling_of (Request.After t)) }
+    ensures some { IfSome result (λ request. Spells ended.now (Some request)) }
+{
+    let Some(numbers) = numbers_behind(b"after", ended) else {
+        return None;
+    };
+    match numbers.as_slice() {
+        [time] => Some(Request::After(*time)),
+        _ => None,
+    }
+}
+
+/// Where the line is `before` and one number.
+fn before_of(ended: &[u8]) -> Option<Request>
+    ensures none { IfNone result ((t : ℕ) → IsNumber t → ended.now ≢ spelling_of (Request.Before t)) }
+    ensures some { IfSome result (λ request. Spells ended.now (Some request)) }
+{
+    let Some(numbers) = numbers_behind(b"before", ended) else {
+        return None;
+    };
+    match numbers.as_slice() {
+        [time] => Some(Request::Before(*time)),
+        _ => None,
+    }
+}
+
+/// Where the line is `commit` and two numbers.
+fn commit_of(ended: &[u8]) -> Option<Request>
+    ensures none { IfNone result ((number floor : ℕ) → IsNumber number → IsNumber floor →
+        ended.now ≢ spelling_of (Request.Commit number floor)) }
+    ensures some { IfSome result (λ request. Spells ended.now (Some request)) }
+{
+    let Some(numbers) = numbers_behind(b"commit", ended) else {
+        return None;
+    };
+    match numbers.as_slice() {
+        [number, floor] => Some(Request::Commit {
+            number: *number,
+            floor: *floor,
+        }),
+        _ => None,
+    }
+}
+
+/// The numbers of the line, where it begins with this word and has numbers alone behind it.
+fn numbers_behind(word: &[u8], ended: &[u8]) -> Option<ArrayVec<u64, 16>>
+    ensures { MatchOption result
+        ((numbers : List ℕ) → AreNumbers numbers → ended.now ≢ line_of word.now numbers)
+        (λ numbers. IsLineOf word.now ended.now numbers.items) }
+{
+    let Some((numbers, end)) = line_at(word, ended, 0) else {
+        return None;
+    };
+    if end < ended.len() {
+        return None;
+    }
+    Some(numbers)
+}
+
+/// No two requests have one spelling.
+pub fn request_laws()
+    ensures one_request { (first second : Request) → IsRequest first → IsRequest second →
+        spelling_of first ≡ spelling_of second → first ≡ second }
+{}

@@ -1,0 +1,93 @@
+//! One session from its first byte to its end.
+
+ghost use Rattle.std.specs.Prelude.{◌≡◌, ◌≢◌, ℕ, ◌≤◌, ◌⊎◌, List, Err, OnOk, IfOk, IsErrOf};
+ghost use Rattle.std.specs.Io.KnownBytes.{IsAtEnd};
+ghost use Rattle.tt_stream.specs.Counts.{HasFailed, CountsOn};
+ghost use Rattle.tt_session.specs.Lines.{Splits, lines_of, rest_of};
+ghost use Rattle.tt_session.specs.Session.{Serves, Breaks};
+ghost use Rattle.tt_session.specs.declared.serving.Served.{Served};
+
+use crate::faults::ServeFault;
+use crate::services::Service;
+use crate::talks::{Talk, hear};
+use tt_stream::{ByteReader, ByteWriter};
+
+/// How many bytes one read asks for at most.
+const PIECE: usize = 512;
+
+/// How long a session may go on.
+#[derive(Clone, Copy, Debug, PartialEq, Eq)]
+pub struct Turns {
+    /// The most reads. The read that says that the input has ended counts too.
+    pub reads: u32,
+    /// The most release steps for one line.
+    pub waits: u32,
+}
+
+/// What a session did.
+#[derive(Clone, Copy, Debug, PartialEq, Eq)]
+pub struct Served {
+    /// The lines that were answered.
+    pub lines: u64,
+    /// Those of them that were answered `refused`.
+    pub refused: u64,
+}
+
+/// Serves one session: reads lines to the end of the input, and answers each by one reply, in order.
+///
+/// A line has at most 64 bytes before its line feed; a longer one is answered `refused 1102`. What stands behind the
+/// last line feed is not answered. Each reply is one call of the writer, where it takes all, and is flushed before
+/// further bytes are read. `serve` takes no memory, and waits only where the reader, the writer or the service does.
+///
+/// Refused with
+/// - 1105 `ReadFailed`: a read failed, or none of `turns.reads` reads said that the input has ended. The replies to the
+///   whole lines that were read are written.
+/// - 1106 `WriteFailed`: a write or a flush failed. All replies but the last are written, and of the last a front; the
+///   service was not called after it.
+///
+/// After a refusal the session is over.
+pub fn serve<R: ByteReader, W: ByteWriter, S: Service>(
+    reader: &mut R,
+    writer: &mut W,
+    service: &mut S,
+    turns: Turns,
+) -> Result<Served, ServeFault>
+    // What was read and written is a session over a conversation with the service.
+    ensures served { IfOk result (λ served. Serves S.allows turns.waits (R.left reader.old) (R.left reader.new)
+        (W.taken writer.old) (W.taken writer.new) service.old service.new served) }
+    ensures end { OnOk result (IsAtEnd (R.left reader.new)) }
+    ensures read_failed { IsErrOf result ServeFault.ReadFailed → (served : Served) × Serves S.allows turns.waits
+        (R.left reader.old) (R.left reader.new) (W.taken writer.old) (W.taken writer.new) service.old service.new served }
+    ensures write_failed { IsErrOf result ServeFault.WriteFailed → Breaks S.allows turns.waits (R.left reader.old)
+        (R.left reader.new) (W.taken writer.old) (W.taken writer.new) service.old service.new }
+
+    // Each fault has its cause.
+    ensures why_read { IsErrOf result ServeFault.ReadFailed → HasFailed (R.failed reader.old) (R.failed reader.new)
+        ⊎ ((R.failed reader.new ≡ R.failed reader.old) × CountsOn turns.reads (R.asked reader.old) (R.asked reader.new)) }
+    ensures why_write { IsErrOf result ServeFault.WriteFailed → HasFailed (W.failed writer.old) (W.failed writer.new) }
+    ensures sound_read { (result ≢ Err ServeFault.ReadFailed) → R.failed reader.new ≡ R.failed reader.old }
+    ensures sound_write { (result ≢ Err ServeFault.WriteFailed) → W.failed writer.new ≡ W.failed writer.old }
+    ensures turns { (k : ℕ) × (k ≤ turns.reads) × CountsOn k (R.asked reader.old) (R.asked reader.new) }
+{
+    let mut buffer = [0; PIECE];
+    let mut talk = Talk::new();
+    for _ in 0..turns.reads {
+        let Ok(n) = reader.read(&mut buffer) else {
+            return Err(ServeFault::ReadFailed);
+        };
+        if n == 0 {
+            return Ok(talk.served);
+        }
+        let Ok(()) = hear(&buffer[..n], writer, service, turns.waits, &mut talk) else {
+            return Err(ServeFault::WriteFailed);
+        };
+    }
+    Err(ServeFault::ReadFailed)
+}
+
+/// Bytes have one way to be split into lines and a rest, and `lines_of` and `rest_of` compute it.
+pub fn line_laws()
+    ensures is { (bytes : List ℕ) → Splits bytes (lines_of bytes) (rest_of bytes) }
+    ensures only { (bytes : List ℕ) (lines : List (List ℕ)) (rest : List ℕ) → Splits bytes lines rest →
+        (lines ≡ lines_of bytes) × (rest ≡ rest_of bytes) }
+{}
