@@ -15,5 +15,6 @@ pub mod Greatest
 pub mod Stamping
 pub mod Queueing
 pub mod Stepping
+pub mod Knowing
 pub mod Events
 pub mod GoesOn

@@ -1,5 +1,5 @@
 -- What the model of a run keeps, and which runs it stands for.
-use Rattle.std.specs.Prelude.{◌≡◌, ◌≤◌, ℕ, ◌==◌, Bool, false, if◌then◌else◌, List, [], ◌∷◌, map, length, slice_get, is_some, Option, Some, None}
+use Rattle.std.specs.Prelude.{◌≡◌, ◌≤◌, ℕ, ◌==◌, ◌&&◌, Bool, false, if◌then◌else◌, List, [], ◌∷◌, map, length, slice_get, is_some, Option, Some, None}
 use Rattle.std.specs.List.{range_with_len}
 use Rattle.tt_span.specs.Time.{max_time}
 use Rattle.tt_source.specs.Table.{TableState, SourceState, Sending}
@@ -18,7 +18,7 @@ use Rattle.tt_world.specs.Past.{first_life, time_of, sends_of, packets_of, clock
 use Rattle.tt_world.specs.Sources.{outstanding, stated_in, statement_of}
 use Rattle.tt_world.specs.Publications.{Showing, publications_of, seen_of, shown_of}
 use Rattle.tt_world.specs.Commits.{reading_of, reading_since, stamps_of, book_of, task_of}
-use Rattle.tt_world.specs.Bad.{accepted}
+use Rattle.tt_world.specs.Bad.{has_source, accepted}
 
 -- what is kept of one machine
 pub record MachineState : Type 0 where
@@ -104,6 +104,10 @@ state_of configs past = record {
   machines = map (λ m. machine_of (config_at configs m) past m) (range_with_len 0 (length configs));
   shown = shown_of configs past;
 }
+
+-- whether machine m asks source i, and that has made a statement
+abbrev pub knows : List Configuration → List Event → ℕ → ℕ → Bool
+knows configs past m i = has_source configs m i && is_some (statement_of past m i)
 
 -- what is kept is what a run of these events leaves, bad ones among them, the newest first
 abbrev pub StandsFor : List Configuration → List Event → WorldState → Type 0

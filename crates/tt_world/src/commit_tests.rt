@@ -361,3 +361,16 @@ fn a_full_book_refuses_one_more(rt: HostRuntime) -> Result<(), Fail> {
     assert_eq!(rt; world.step(&queue(5, 0, 0))?, refused(1001));
     Ok(())
 }
+
+#[test]
+fn a_source_is_known_once_an_answer_is_taken(rt: HostRuntime) -> Result<(), Fail> {
+    let mut world = World::new(rt.alloc(), &[machine(2, 0, 0)?])?;
+    assert_eq!(rt; world.step(&send(5, 0, 1, 0))?, Reply::Sent(0));
+    assert_eq!(rt; world.step(&answer(5, 0, 5, 5))?, Reply::Put(1));
+    assert!(rt; !world.is_known(0, 1));
+    assert_eq!(rt; world.step(&deliver(5, 1, 0))?, Reply::Taken);
+    assert!(rt; world.is_known(0, 1));
+    // Another source, a source and a machine that are not there.
+    assert!(rt; !world.is_known(0, 0) && !world.is_known(0, 2) && !world.is_known(1, 1));
+    Ok(())
+}

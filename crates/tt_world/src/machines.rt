@@ -4,7 +4,7 @@ ghost use Rattle.std.specs.Prelude.{◌≡◌, List, [], ℕ, ◌+◌, ◌++◌,
 ghost use Rattle.std.specs.Vec.{vec_len, vec_capacity};
 ghost use Rattle.tt_span.specs.Time.{max_time};
 ghost use Rattle.tt_span.specs.Interval.{whole};
-ghost use Rattle.tt_source.specs.Table.{poll_of, take_of};
+ghost use Rattle.tt_source.specs.Table.{poll_of, take_of, is_known_of};
 ghost use Rattle.tt_daemon.specs.Config.{IsConfiguration};
 ghost use Rattle.tt_world.specs.Packet.{source_of_packet, bytes_of};
 ghost use Rattle.tt_world.specs.State.{MachineState, IsMachine, machine_of};
@@ -93,6 +93,13 @@ impl Machine {
         ensures valid { IsMachine self.now }
     {
         clock < self.clock || clock > MAX_TIME
+    }
+
+    /// Whether the source has made a statement; false where it is not there.
+    pub fn is_known(&self, source: u8) -> bool
+        ensures { result ≡ is_known_of self.now.table source }
+    {
+        self.daemon.is_known(source)
     }
 
     /// Polls a source, and answers the nonce.

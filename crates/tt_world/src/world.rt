@@ -6,8 +6,9 @@ ghost use Rattle.tt_world.specs.declared.events.Event.{Event};
 ghost use Rattle.tt_world.specs.declared.events.Reply.{Reply};
 ghost use Rattle.tt_world.specs.Headline.{AreConfigurations, CertificatesProve};
 ghost use Rattle.tt_world.specs.Trace.{outline};
+ghost use Rattle.tt_world.specs.Bad.{accepted};
 ghost use Rattle.tt_world.specs.Reply.{reply_of, TakesMemory};
-ghost use Rattle.tt_world.specs.State.{WorldState, StandsFor};
+ghost use Rattle.tt_world.specs.State.{WorldState, StandsFor, knows};
 ghost use Rattle.tt_world.specs.Packet.{answer_to};
 ghost use Rattle.tt_world.specs.Step.{Does, HasRoom, IsWorker, send_on, answer_on, forge_on, deliver_on, fuse_on, read_on, arrive_on, stamp_on, queue_on, release_on, stepped};
 
@@ -345,6 +346,16 @@ impl World {
             Ok(reply) => Ok(reply),
             Err(fault) => fault.as_reply(),
         }
+    }
+
+    /// Whether the source has made a statement to the machine: the machine has taken an answer from it. False where
+    /// there is no such machine, or it asks no such source. It takes no memory.
+    pub fn is_known(&self, machine: u8, source: u8) -> bool
+        ensures value { (configs : List Configuration) (past : List Event) → StandsFor configs past self.now →
+            result ≡ knows configs (accepted configs past) machine source }
+    {
+        let place = usize::from(machine);
+        place < self.machines.len() && self.machines[place].is_known(source)
     }
 
     /// What was published, in the order of the events.
