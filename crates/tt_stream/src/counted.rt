@@ -11,6 +11,10 @@ use std::io::{Read, Write};
 /// A reader or a writer of the standard library that counts its failures. Each error is a failure, one that
 /// says that the call was interrupted too: nothing is tried again. So is a write that takes none of some
 /// bytes. What was written or is left is known where the device within says so.
+///
+/// Proved: an error is answered only with a failure counted. That it is counted only where the device within
+/// failed, and that the device is asked at all where it does not keep its bytes, is tested: the standard
+/// library's traits do not say when a call fails.
 #[derive(Drop)]
 pub struct Counted<D> {
     device: D,

@@ -12,7 +12,7 @@ use thiserror::Error;
 pub struct DeviceFault;
 
 /// Why an input could not be read whole. These faults have no numbers of their own: who asked for the input
-/// answers its own numbers for them, and 1 for want of memory.
+/// answers its own numbers for them, and 1 for out of memory.
 #[derive(Clone, Copy, Debug, PartialEq, Eq, Error)]
 pub enum ReadFault {
     /// The reader failed.
@@ -24,7 +24,7 @@ pub enum ReadFault {
     /// None of the allowed reads said that the input has ended.
     #[error("the reads are used up")]
     UsedUp,
-    /// Memory for the bytes that came was refused.
+    /// Out of memory: an allocation for the bytes that came failed.
     #[error("out of memory")]
     Memory,
 }

@@ -117,7 +117,7 @@ impl<'a> ByteReader for MemoryReader<'a> {
     }
 }
 
-/// A writer into memory. Where memory is refused, it fails.
+/// A writer into memory. Where an allocation fails, it fails.
 #[derive(Drop)]
 pub struct MemoryWriter {
     taken: Vec<u8>,

@@ -20,7 +20,7 @@ const PIECE: usize = 4096;
 /// - `TooLong`: more than `most` bytes came. The rest is not read.
 /// - `UsedUp`: none of `reads` reads said that the input has ended. It can't come where `reads` is above
 ///   `most`, since a read that does not say so gives a byte at least.
-/// - `Memory`: memory for the bytes that came was refused.
+/// - `Memory`: an allocation for the bytes that came failed.
 ///
 /// After a refusal the reader has given a front of its bytes, which is lost.
 pub fn read_to_end<R: ByteReader>(

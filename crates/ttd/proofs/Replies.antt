@@ -3,7 +3,7 @@ use Rattle.std.proofs.Common.{◌≡◌, ◌≢◌, ◌<◌, ◌≤◌, ◌+◌,
 use Rattle.std.specs.Io.KnownBytes.{IsAtEnd}
 use Rattle.std.proofs.lemmas.List.{length-replicate}
 use Rattle.tt_stream.specs.Counts.{HasFailed}
-use Rattle.ttd_words.specs.declared.words.Asked.{Asked}
+use Rattle.ttd_words.specs.declared.words.Command.{Command}
 use Rattle.ttd.specs.declared.faults.Fault.{Fault}
 use Rattle.ttd.specs.declared.faults.Fault.TheVariants.{BadInput, ReadFailed}
 use Rattle.ttd.specs.Command.{HasReply, IsCommandReply, IsReply, IsReplyRead}
@@ -17,14 +17,14 @@ longer_input (Some all) most long = (all, refl, long)
 longer_input None most long = (replicate {A = ℕ} (most + 1) 0, tt, (let zero : ℕ = 0 in omega (arith, length-replicate (most + 1) zero)))
 
 -- what is replied where reading gave a fault
-pub fault_replied : {T : Type 0} (text_of : T → List ℕ) (asked : Asked) (old new : Input) (fault : Fault) (result : Result T Fault)
+pub fault_replied : {T : Type 0} (text_of : T → List ℕ) (command : Command) (old new : Input) (fault : Fault) (result : Result T Fault)
     → result ≡ Err fault → IsInputFault fault
     → (fault ≡ ReadFailed → HasFailed old.failed new.failed)
     → (fault ≡ BadInput → IfSome old.left (λ all. most_input < length all))
     → (fault ≢ ReadFailed → new.failed ≡ old.failed)
-    → IsReplyRead text_of (IsReply asked) old new result
-fault_replied text_of asked old new fault result is (inl failed) cause long sound = inr (inl (cc, cause failed))
-fault_replied text_of asked old new fault result is (inr (inl too_long)) cause long sound =
+    → IsReplyRead text_of (IsReply command) old new result
+fault_replied text_of command old new fault result is (inl failed) cause long sound = inr (inl (cc, cause failed))
+fault_replied text_of command old new fault result is (inr (inl too_long)) cause long sound =
     let more = longer_input old.left most_input (long too_long) in
     let refused : result ≡ Err BadInput = cc in
     inl (
@@ -36,13 +36,13 @@ fault_replied text_of asked old new fault result is (inr (inl too_long)) cause l
       },
       rw refused (inl (more.2, refl)),
     )
-fault_replied text_of asked old new fault result is (inr (inr memory)) cause long sound = inr (inr cc)
+fault_replied text_of command old new fault result is (inr (inr memory)) cause long sound = inr (inr cc)
 
 -- what is replied where it was read
-pub command_replied : {T : Type 0} (text_of : T → List ℕ) (asked : Asked) (bytes : List ℕ) (old new : Input) (result : Result T Fault)
+pub command_replied : {T : Type 0} (text_of : T → List ℕ) (command : Command) (bytes : List ℕ) (old new : Input) (result : Result T Fault)
     → IfSome old.left (λ all. all ≡ bytes) → length bytes ≤ most_input → IsAtEnd new.left → new.failed ≡ old.failed
-    → HasReply text_of (IsCommandReply asked bytes) result
-    → IsReplyRead text_of (IsReply asked) old new result
-command_replied text_of asked bytes old new result whole short end sound (inl is) =
+    → HasReply text_of (IsCommandReply command bytes) result
+    → IsReplyRead text_of (IsReply command) old new result
+command_replied text_of command bytes old new result whole short end sound (inl is) =
     inl (bytes, record { whole = whole; end = inl end; sound = sound }, inr (short, is))
-command_replied text_of asked bytes old new result whole short end sound (inr memory) = inr (inr memory)
+command_replied text_of command bytes old new result whole short end sound (inr memory) = inr (inr memory)

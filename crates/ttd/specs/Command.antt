@@ -4,7 +4,9 @@ use Rattle.std.specs.Result.{result_map_both}
 use Rattle.tt_stream.specs.Counts.{HasFailed}
 use Rattle.ttd.specs.Run.{Input, IsRead}
 use Rattle.ttd_words.specs.declared.words.Asked.{Asked}
-use Rattle.ttd_words.specs.declared.words.Asked.TheVariants.{Age, Fuse, Check, Help}
+use Rattle.ttd_words.specs.declared.words.Asked.TheVariants.{Run}
+use Rattle.ttd_words.specs.declared.words.Command.{Command}
+use Rattle.ttd_words.specs.declared.words.Command.TheVariants.{Age, Fuse, Check}
 use Rattle.ttd_words.specs.declared.words.WordsFault.{WordsFault}
 use Rattle.ttd_words.specs.declared.words.WordsFault.TheVariants.{BadWords as BadWordsAsked, Memory as NoMemory}
 use Rattle.ttd.specs.declared.faults.Fault.{Fault}
@@ -14,43 +16,34 @@ use Rattle.ttd.specs.Age.{age_of}
 use Rattle.ttd.specs.Fuse.{IsFuseReply}
 use Rattle.ttd.specs.Check.{IsCheckReply}
 
--- The reply is what the command that is asked for answers to an input of allowed length.
-abbrev pub IsCommandReply : Asked → List ℕ → Result (List ℕ) Fault → Type 0
+-- The reply is what the command answers to an input of allowed length.
+abbrev pub IsCommandReply : Command → List ℕ → Result (List ℕ) Fault → Type 0
 IsCommandReply (Age drift sent got clock) input reply = reply ≡ age_of (record { drift = drift; sent = sent; got = got; clock = clock }) input
 IsCommandReply Fuse input reply = IsFuseReply input reply
 IsCommandReply Check input reply = IsCheckReply input reply
-IsCommandReply Help input reply = reply ≡ Err BadWords
 
--- The reply is what it answers to any input: one that is too long is refused before anything else is looked at.
-abbrev pub IsReply : Asked → List ℕ → Result (List ℕ) Fault → Type 0
-IsReply asked input reply =
-    ((most_input < length input) × (reply ≡ Err BadInput)) ⊎ ((length input ≤ most_input) × IsCommandReply asked input reply)
+-- The reply is what the command answers to any input: one that is too long is rejected before anything else is looked at.
+abbrev pub IsReply : Command → List ℕ → Result (List ℕ) Fault → Type 0
+IsReply command input reply =
+    ((most_input < length input) × (reply ≡ Err BadInput)) ⊎ ((length input ≤ most_input) × IsCommandReply command input reply)
 
--- The same by what the words ask for, or why they are refused.
+-- The same for the command that the words ask to run; where they ask for none, no reply is one.
 abbrev pub IsReplyTo : Result Asked WordsFault → List ℕ → Result (List ℕ) Fault → Type 0
-IsReplyTo (Ok asked) input reply = IsReply asked input reply
-IsReplyTo (Err fault) input reply = reply ≡ Err BadWords
+IsReplyTo (Ok (Run command)) input reply = IsReply command input reply
+IsReplyTo _ input reply = ⊥
 
--- The result is this one, or memory was refused.
-abbrev pub IsUnlessMemory : {T : Type 0} → Result T Fault → Result T Fault → Type 0
-IsUnlessMemory reply result = (result ≡ reply) ⊎ (result ≡ Err Memory)
-
--- The result is this text or this refusal, or memory was refused.
-abbrev pub HasText : {T : Type 0} → (T → List ℕ) → Result (List ℕ) Fault → Result T Fault → Type 0
-HasText text_of reply result = (result_map_both text_of (λ fault. fault) result ≡ reply) ⊎ (result ≡ Err Memory)
-
--- The result's text or refusal is such a reply, or memory was refused.
+-- The result's text or refusal is such a reply, or memory ran out.
 abbrev pub HasReply : {T : Type 0} → (T → List ℕ) → (Result (List ℕ) Fault → Type 0) → Result T Fault → Type 0
 HasReply text_of IsSuch result = IsSuch (result_map_both text_of (λ fault. fault) result) ⊎ (result ≡ Err Memory)
 
--- The result is a reply to the bytes of the input, which was read; or reading failed; or memory was refused.
+-- The result is a reply to the bytes of the input, which was read; or reading failed; or memory ran out.
 abbrev pub IsReplyRead : {T : Type 0} → (T → List ℕ) → (List ℕ → Result (List ℕ) Fault → Type 0) → Input → Input → Result T Fault → Type 0
 IsReplyRead text_of IsReplyOf old new result =
     ((bytes : List ℕ) × IsRead bytes old new × IsReplyOf bytes (result_map_both text_of (λ fault. fault) result))
     ⊎ (((result ≡ Err ReadFailed) × HasFailed old.failed new.failed)
     ⊎ (result ≡ Err Memory))
 
--- What the program says of words that are refused.
+-- What the program says of words that are rejected.
 abbrev pub words_fault_of : WordsFault → Fault
 words_fault_of BadWordsAsked = BadWords
 words_fault_of NoMemory = Memory

@@ -2,8 +2,9 @@
 
 ghost use Rattle.std.specs.Prelude.{◌≡◌, ◌≢◌, Err, string_bytes};
 ghost use Rattle.hex.specs.Hex.{decode_of};
+ghost use Rattle.ttd_words.specs.Reading.{IsUnlessMemory};
 ghost use Rattle.ttd.specs.Age.{age_of, aged_hex, aged_line, aged_of, answered as answered_of, without_line_feed as without_line_feed_of};
-ghost use Rattle.ttd.specs.Command.{HasText, IsUnlessMemory};
+ghost use Rattle.ttd.specs.Command.{HasReply};
 
 use crate::faults::Fault;
 use hex::FromHexError;
@@ -12,7 +13,7 @@ use tt_poll::{Message, Message2, decode, decode2};
 use tt_source::{SourceFault, Statement};
 use tt_span::{Drift, Span};
 
-/// What the words of `age` give.
+/// The options of `age`.
 #[derive(Clone, Copy, Debug, PartialEq, Eq)]
 pub(crate) struct Ageing {
     /// What the clock may be wrong by.
@@ -67,7 +68,7 @@ fn aged(ageing: &Ageing, span: Span) -> Result<Span, Fault>
 
 /// The aged span of the message that the text writes in hex.
 fn aged_from_hex(alloc: Global, ageing: &Ageing, text: &[u8]) -> Result<Span, Fault>
-    ensures value { IsUnlessMemory (aged_hex ageing.now (decode_of text.now)) result }
+    ensures value { IsUnlessMemory Fault.Memory (aged_hex ageing.now (decode_of text.now)) result }
     ensures no_device { result ≢ Err Fault.ReadFailed }
 {
     let bytes = match hex::decode(alloc, text) {
@@ -82,10 +83,10 @@ fn aged_from_hex(alloc: Global, ageing: &Ageing, text: &[u8]) -> Result<Span, Fa
 /// What `age` answers to its input: one poll answer of either format in hex, of either case, with one line feed allowed
 /// after it.
 ///
-/// Refuses, in this order, with 1602 `BadHex` what is no hex; with the decoder's number what is no poll message; with 405
+/// Rejects, in this order, with 1602 `BadHex` what is not hex; with the decoder's number what is not a valid poll message; with 405
 /// a request; with 402 clock readings that are out of order or past the greatest time; and with 1 `Memory`.
 pub(crate) fn age_text(alloc: Global, ageing: &Ageing, input: &[u8]) -> Result<String, Fault>
-    ensures value { HasText string_bytes (age_of ageing.now input.now) result }
+    ensures value { HasReply string_bytes (λ reply. reply ≡ age_of ageing.now input.now) result }
     ensures no_device { result ≢ Err Fault.ReadFailed }
 {
     let span = aged_from_hex(alloc, ageing, without_line_feed(input))?;

@@ -20,7 +20,7 @@ use crate::output::give;
 use std::alloc::Global;
 use tt_span::Drift;
 use tt_stream::{ByteReader, ByteWriter};
-use ttd_words::{Asked, WordsFault, help_text, read_words};
+use ttd_words::{Asked, Command, WordsFault, help_text, read_words};
 
 impl From<WordsFault> for Fault {
     ghost from_gives = { λ words fault. fault ≡ words_fault_of words };
@@ -42,13 +42,13 @@ fn drift_of(ppm: u64) -> Drift
 }
 
 /// What a command answers to its input.
-fn command_text(alloc: Global, asked: Asked, input: &[u8]) -> Result<String, Fault>
-    requires { HasDriftInRange asked }
-    ensures value { HasReply string_bytes (IsCommandReply asked input.now) result }
+fn command_text(alloc: Global, command: Command, input: &[u8]) -> Result<String, Fault>
+    requires { HasDriftInRange command }
+    ensures value { HasReply string_bytes (IsCommandReply command input.now) result }
     ensures no_device { result ≢ Err Fault.ReadFailed }
 {
-    match asked {
-        Asked::Age {
+    match command {
+        Command::Age {
             drift,
             sent,
             got,
@@ -62,26 +62,29 @@ fn command_text(alloc: Global, asked: Asked, input: &[u8]) -> Result<String, Fau
             };
             age_text(alloc, &ageing, input)
         }
-        Asked::Fuse => fuse_text(alloc, input),
-        Asked::Check => check_text(alloc, input),
-        Asked::Help => Err(Fault::BadWords),
+        Command::Fuse => fuse_text(alloc, input),
+        Command::Check => check_text(alloc, input),
     }
 }
 
 /// Reads the input, and answers what the command says of it.
-fn command_reply<R: ByteReader>(alloc: Global, asked: Asked, input: &mut R) -> Result<String, Fault>
-    requires { HasDriftInRange asked }
-    ensures value { IsReplyRead string_bytes (IsReply asked) (input_at (R.left input.old) (R.failed input.old) (R.asked input.old))
+fn command_reply<R: ByteReader>(
+    alloc: Global,
+    command: Command,
+    input: &mut R,
+) -> Result<String, Fault>
+    requires { HasDriftInRange command }
+    ensures value { IsReplyRead string_bytes (IsReply command) (input_at (R.left input.old) (R.failed input.old) (R.asked input.old))
         (input_at (R.left input.new) (R.failed input.new) (R.asked input.new)) result }
     ensures failed { IsErrOf result Fault.ReadFailed → HasFailed (R.failed input.old) (R.failed input.new) }
     ensures sound { (result ≢ Err Fault.ReadFailed) → R.failed input.new ≡ R.failed input.old }
     ensures rest { ReadsOn (R.left input.old) (R.left input.new) }
 {
     let bytes = read_input(alloc, input)?;
-    command_text(alloc, asked, bytes.as_slice())
+    command_text(alloc, command, bytes.as_slice())
 }
 
-/// What the program has to write: the text that the words ask for, or a refusal. The words are judged before the input.
+/// What the program has to write: the text that the words ask for, or a refusal. The words are tested before the input is read.
 fn reply<R: ByteReader>(alloc: Global, words: &[&str], input: &mut R) -> Result<String, Fault>
     ensures taken { AreTaken (texts words.now) → IsReplyRead string_bytes (IsReplyTo (asked_of (texts words.now)))
         (input_at (R.left input.old) (R.failed input.old) (R.asked input.old))
@@ -98,7 +101,7 @@ fn reply<R: ByteReader>(alloc: Global, words: &[&str], input: &mut R) -> Result<
 {
     match read_words(alloc, words)? {
         Asked::Help => Ok(help_text(alloc, words)?),
-        asked => command_reply(alloc, asked, input),
+        Asked::Run(command) => command_reply(alloc, command, input),
     }
 }
 

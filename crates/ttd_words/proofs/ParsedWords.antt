@@ -14,10 +14,12 @@ use Rattle.clap.specs.declared.error.kind.ErrorKind.{ErrorKind}
 use Rattle.clap.specs.declared.error.kind.ErrorKind.TheVariants.{DisplayHelp, OutOfMemory}
 use Rattle.clap.specs.declared.parser.matches.ArgMatches.{ArgMatches}
 use Rattle.ttd_words.specs.CommandLine.{faults_of, named_by, ttd_app}
-use Rattle.ttd_words.specs.Reading.{AreForHelp, AreMistaken, AreTaken, HasDriftInRange, all_and_some, asked_by, asked_of, command_named, is_help}
+use Rattle.ttd_words.specs.Reading.{AreForHelp, AreMistaken, AreTaken, HasDriftInRange, all_and_some, asked_by, asked_of, command_named, is_help, to_run}
 use Rattle.ttd_words.specs.declared.words.Asked.{Asked}
+use Rattle.ttd_words.specs.declared.words.Asked.TheVariants.{Run}
+use Rattle.ttd_words.specs.declared.words.Command.{Command}
 use Rattle.ttd_words.specs.declared.words.WordsFault.{WordsFault}
-use Rattle.ttd_words.proofs.TakenWords.{AsksFor, taken_asks}
+use Rattle.ttd_words.proofs.TakenWords.{taken_asks}
 
 ttd_is_simple : is_simple ttd_app ≡ true
 unfolding ttd_app clap_on_literals
@@ -37,26 +39,30 @@ pub parsed_fails : (a : App) (words : List Text) → a ≡ ttd_app → (P : Kind
 unfolding faults_of
 parsed_fails a words is P h = subst (λ (x : App). P (fault_of x words)) is (h (ap is_simple_and_free is ∙ ttd_is_free))
 
--- words that clap takes ask for what the command that they name does
-pub asked_taken : (words : List Text) → AreTaken words → asked_of words ≡ command_named (named_by words)
+-- words that clap takes ask to run the command that they name
+pub asked_taken : (words : List Text) → AreTaken words → asked_of words ≡ to_run (command_named (named_by words))
 asked_taken words e = ap (λ (k : Kinds). asked_by k (named_by words)) e
 
-ok_is : {r : Result Asked WordsFault} → AsksFor r → IsOk r
-ok_is asks = subst IsOk (sym asks.is) refl
-
 pub taken_is_ok : (words : List Text) → AreTaken words → IsOk (command_named (named_by words))
-taken_is_ok words e = ok_is (taken_asks words e)
+taken_is_ok words e = subst IsOk (sym (taken_asks words e).is) refl
+
+pub asked_to_run : (words : List Text) → AreTaken words → (command : Command) × (asked_of words ≡ Ok (Run command))
+asked_to_run words e = let asks = taken_asks words e in (asks.command, asked_taken words e ∙ ap to_run asks.is)
 
 pub asked_is_ok : (words : List Text) → AreTaken words → IsOk (asked_of words)
-asked_is_ok words e = subst IsOk (sym (asked_taken words e)) (taken_is_ok words e)
+asked_is_ok words e = subst IsOk (sym (asked_to_run words e).1) refl
 
--- what is asked for in words that clap takes has a drift in range
-pub taken_in_range : (words : List Text) (asked : Asked) → AreTaken words → command_named (named_by words) ≡ Ok asked → HasDriftInRange asked
-taken_in_range words asked e is =
+-- a command in words that clap takes has a drift in range
+pub taken_in_range : (words : List Text) (command : Command) → AreTaken words → command_named (named_by words) ≡ Ok command → HasDriftInRange command
+taken_in_range words command e is =
     let asks = taken_asks words e in
-    let same : Ok asks.asked ≡ Ok asked = sym asks.is ∙ is in
-    let one : asks.asked ≡ asked = cc in
+    let same : Ok asks.command ≡ Ok command = sym asks.is ∙ is in
+    let one : asks.command ≡ command = cc in
     subst HasDriftInRange one asks.in_range
+
+-- an answer runs one command
+pub run_is : (a b : Command) (r : Result Asked WordsFault) → r ≡ Ok (Run a) → r ≡ Ok (Run b) → a ≡ b
+run_is a b r p q = cc
 
 -- ---- kinds of error
 
@@ -66,7 +72,7 @@ not_mistaken words taken e = false≢true (sym (ap (all_and_some (λ k. not (is_
 pub not_for_help : (words : List Text) → AreTaken words → AreForHelp words → ⊥
 not_for_help words taken e = false≢true (sym (ap (all_and_some is_help) taken) ∙ e)
 
--- a kind other than want of memory comes only where clap finds something wrong
+-- a kind other than out of memory comes only where clap finds something wrong
 pub not_taken : (kinds : Kinds) (e : Error) → HasKind kinds e → (kind_of e ≡ OutOfMemory → ⊥) → kinds ≡ [] → ⊥
 not_taken kinds e h memory none = elim h [
   | inl m ↦ memory m
@@ -85,7 +91,7 @@ all_of_some : (test : ErrorKind → Bool) (kinds : Kinds) → all_and_some test 
 all_of_some test [] e = refl
 all_of_some test (x ∷ xs) e = e
 
--- each kind that is among those of which all pass passes, if it is not want of memory
+-- each kind that is among those of which all pass passes, if it is not out of memory
 pub passes_among : (test : ErrorKind → Bool) (kinds : Kinds) (e : Error) → all_and_some test kinds ≡ true → HasKind kinds e → (kind_of e ≡ OutOfMemory → ⊥)
     → test (kind_of e) ≡ true
 passes_among test kinds e all h memory = elim h [

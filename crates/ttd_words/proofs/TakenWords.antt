@@ -1,4 +1,4 @@
--- Words that clap takes ask for something.
+-- Words that clap takes ask for a command.
 use Rattle.std.proofs.Common.{◌≡◌, ◌||◌, ◌&&◌, ℕ, Bool, true, false, refl, sym, ap, subst, inl, inr, List, [], ◌∷◌, ◌++◌, Option, None, Result, Ok, codes, not}
 use Rattle.std.specs.Str.{bytes_eq}
 use Rattle.std.proofs.lemmas.Slice.Eq.{bytes_eq-Decides}
@@ -8,19 +8,19 @@ use Rattle.clap.specs.Takes.{is_given}
 use Rattle.clap.specs.Faults.{level_fault}
 use Rattle.ttd_words.specs.CommandLine.{age_app, faults_of, max_drift, max_number, named_by, ttd_app}
 use Rattle.ttd_words.specs.Reading.{HasDriftInRange, age_by, command_named, command_of}
-use Rattle.ttd_words.specs.declared.words.Asked.{Asked}
-use Rattle.ttd_words.specs.declared.words.Asked.TheVariants.{Age, Fuse, Check}
+use Rattle.ttd_words.specs.declared.words.Command.{Command}
+use Rattle.ttd_words.specs.declared.words.Command.TheVariants.{Age, Fuse, Check}
 use Rattle.ttd_words.specs.declared.words.WordsFault.{WordsFault}
 use Rattle.ttd_words.proofs.RowLemmas.{Each, HasDefault, IsPlainRule, find_has}
 use Rattle.ttd_words.proofs.WalkKeeps.{IsPlainShape}
 use Rattle.ttd_words.proofs.LevelKeeps.{level_defaults, level_given, level_parts, level_sound, words_named}
 use Rattle.ttd_words.proofs.NumberLemmas.{IsUpTo, number_there, row_given, row_there}
 
--- the answer is what is asked for, with a drift in range
-pub record AsksFor (r : Result Asked WordsFault) : Type 0 where
-  pub asked : Asked
-  pub is : r ≡ Ok asked
-  pub in_range : HasDriftInRange asked
+-- the answer is a command, with a drift in range
+pub record AsksFor (r : Result Command WordsFault) : Type 0 where
+  pub command : Command
+  pub is : r ≡ Ok command
+  pub in_range : HasDriftInRange command
 
 -- what clap makes of the options of `age`
 abbrev age_rules : List Rule
@@ -38,7 +38,7 @@ age_plain s is = record {
 age_asks : (drift sent got clock : Option ℕ) → IsUpTo max_drift drift → IsUpTo max_number sent → IsUpTo max_number got → IsUpTo max_number clock
     → AsksFor (age_by drift sent got clock)
 age_asks drift sent got clock d s g c = record {
-  asked = Age d.number s.number g.number c.number;
+  command = Age d.number s.number g.number c.number;
   is = rw (d.is, s.is, g.is, c.is) refl;
   in_range = d.bound;
 }
@@ -63,8 +63,8 @@ age_taken s name is negates named words answers not_help e =
     let clock = number_there s.rules rows (codes "clock") _ max_number (by_id (codes "clock")) refl sound (row_given (codes "clock") rows given.1.1.1.0) in
     rw name (age_asks _ _ _ _ drift sent got clock)
 
-plain_taken : (s : Shape) (asked : Asked) → HasDriftInRange asked → ((rows : List Row) → command_of s.name rows ≡ Ok asked) → Asks s
-plain_taken s asked in_range is named words answers not_help e = record { asked = asked; is = is (rows_after s.rules [] words); in_range = in_range }
+plain_taken : (s : Shape) (command : Command) → HasDriftInRange command → ((rows : List Row) → command_of s.name rows ≡ Ok command) → Asks s
+plain_taken s command in_range is named words answers not_help e = record { command = command; is = is (rows_after s.rules [] words); in_range = in_range }
 
 help_taken : (s : Shape) → s.name ≡ codes "help" → s.aliases ≡ [] → Asks s
 help_taken s name aliases named words answers not_help e =
@@ -83,7 +83,7 @@ unfolding ttd_app
 all_taken =
     (age_taken _ refl refl refl, (plain_taken _ Fuse tt (λ rows. refl), (plain_taken _ Check tt (λ rows. refl), (help_taken _ refl refl, tt))))
 
--- words at which clap finds nothing wrong ask for something
+-- words at which clap finds nothing wrong ask for a command
 pub taken_asks : (words : List Text) → faults_of words ≡ [] → AsksFor (command_named (named_by words))
 unfolding ttd_app faults_of named_by
 taken_asks words e =

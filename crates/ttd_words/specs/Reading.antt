@@ -10,9 +10,11 @@ use Rattle.clap.specs.declared.error.kind.ErrorKind.{ErrorKind}
 use Rattle.clap.specs.declared.error.kind.ErrorKind.TheVariants.{DisplayHelp}
 use Rattle.ttd_words.specs.CommandLine.{faults_of, max_drift, max_number, named_by}
 use Rattle.ttd_words.specs.declared.words.Asked.{Asked}
-use Rattle.ttd_words.specs.declared.words.Asked.TheVariants.{Age, Fuse, Check, Help}
+use Rattle.ttd_words.specs.declared.words.Asked.TheVariants.{Run, Help}
+use Rattle.ttd_words.specs.declared.words.Command.{Command}
+use Rattle.ttd_words.specs.declared.words.Command.TheVariants.{Age, Fuse, Check}
 use Rattle.ttd_words.specs.declared.words.WordsFault.{WordsFault}
-use Rattle.ttd_words.specs.declared.words.WordsFault.TheVariants.{BadWords, Memory}
+use Rattle.ttd_words.specs.declared.words.WordsFault.TheVariants.{BadWords}
 
 -- The number that a text writes in decimal digits, after one plus or none, where it is a number of 64 bits.
 abbrev pub number_in : Text → Option ℕ
@@ -22,24 +24,24 @@ number_in text = if is_unsigned_in 0 max_number text then Some (digits_value 10 
 abbrev pub number_at : Text → List Row → Option ℕ
 number_at id rows = option_and_then number_in (one_of id rows)
 
--- What `age` asks for by its drift and the three clock readings.
-abbrev pub age_by : Option ℕ → Option ℕ → Option ℕ → Option ℕ → Result Asked WordsFault
+-- The command `age` by its drift and the three clock readings.
+abbrev pub age_by : Option ℕ → Option ℕ → Option ℕ → Option ℕ → Result Command WordsFault
 age_by (Some drift) (Some sent) (Some got) (Some clock) = Ok (Age drift sent got clock)
 age_by _ _ _ _ = Err BadWords
 
--- What `age` asks for by what was found for its options.
-abbrev pub age_of : List Row → Result Asked WordsFault
+-- The command `age` by what was found for its options.
+abbrev pub age_of : List Row → Result Command WordsFault
 age_of rows = age_by (number_at (codes "drift") rows) (number_at (codes "sent") rows)
     (number_at (codes "got") rows) (number_at (codes "clock") rows)
 
--- What a command asks for, by its name and its options.
-abbrev pub command_of : Text → List Row → Result Asked WordsFault
+-- A command by its name and its options.
+abbrev pub command_of : Text → List Row → Result Command WordsFault
 command_of name rows = if bytes_eq name (codes "age") then age_of rows
     else (if bytes_eq name (codes "fuse") then Ok Fuse
     else (if bytes_eq name (codes "check") then Ok Check else Err BadWords))
 
--- What the command asks for that is named, and bad words where none is.
-abbrev pub command_named : Option (Text × List Row) → Result Asked WordsFault
+-- The command that is named, and bad words where none is.
+abbrev pub command_named : Option (Text × List Row) → Result Command WordsFault
 command_named None = Err BadWords
 command_named (Some named) = command_of named.0 named.1
 
@@ -48,9 +50,14 @@ abbrev pub is_help : ErrorKind → Bool
 is_help DisplayHelp = true
 is_help _ = false
 
+-- To run the command, unless there is a fault.
+abbrev pub to_run : Result Command WordsFault → Result Asked WordsFault
+to_run (Ok command) = Ok (Run command)
+to_run (Err fault) = Err fault
+
 -- What words ask for, by what clap finds wrong with them and the command that they name.
 abbrev pub asked_by : Kinds → Option (Text × List Row) → Result Asked WordsFault
-asked_by [] named = command_named named
+asked_by [] named = to_run (command_named named)
 asked_by (kind ∷ kinds) named = if is_help kind then Ok Help else Err BadWords
 
 -- What the words ask for, or that they are bad.
@@ -74,15 +81,11 @@ AreMistaken words = all_and_some (λ kind. not (is_help kind)) (faults_of words)
 abbrev pub AreForHelp : List Text → Type 0
 AreForHelp words = all_and_some is_help (faults_of words) ≡ true
 
--- The answer is this one, or memory ran out.
-abbrev pub IsUnlessMemory : Result Asked WordsFault → Result Asked WordsFault → Type 0
-IsUnlessMemory asked result = (result ≡ asked) ⊎ (result ≡ Err Memory)
+-- The result is this one, or out of memory, which is this fault.
+abbrev pub IsUnlessMemory : {T E : Type 0} → E → Result T E → Result T E → Type 0
+IsUnlessMemory memory expected result = (result ≡ expected) ⊎ (result ≡ Err memory)
 
--- The words are refused so, or memory ran out.
-abbrev pub IsErrUnlessMemory : {T : Type 0} → WordsFault → Result T WordsFault → Type 0
-IsErrUnlessMemory fault result = (result ≡ Err fault) ⊎ (result ≡ Err Memory)
-
--- The drift of what is asked for is at most the greatest drift.
-abbrev pub HasDriftInRange : Asked → Type 0
+-- The drift of the command is at most the greatest drift.
+abbrev pub HasDriftInRange : Command → Type 0
 HasDriftInRange (Age drift sent got clock) = drift ≤ max_drift
 HasDriftInRange _ = Unit {0}

@@ -1,9 +1,9 @@
 //! The command line as clap is told it.
 
-ghost use Rattle.std.specs.Prelude.{◌≡◌, IfOk, codes, false};
+ghost use Rattle.std.specs.Prelude.{◌≡◌, IfOk, false};
 ghost use Rattle.clap.specs.Words.{app_of, rule_of};
 ghost use Rattle.clap.specs.declared.builder.command.Command.TheViews.{out-Command};
-ghost use Rattle.ttd_words.specs.CommandLine.{age_app, bare_app, drift_rule, given_rule, ttd_app};
+ghost use Rattle.ttd_words.specs.CommandLine.{age_app, drift_rule, given_rule, ttd_app};
 
 use clap::{Arg, Command, value_parser};
 use std::alloc::{AllocError, Global};

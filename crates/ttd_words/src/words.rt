@@ -1,10 +1,10 @@
-//! What the words of the command line ask for.
+//! What the arguments ask for.
 
 ghost use Rattle.std.specs.Prelude.{◌≡◌, ◌⊎◌, ℕ, List, [], ◌∷◌, codes, Some, Ok, Err, IfErr, IfOk, IsOk, IsSome};
 ghost use Rattle.clap.specs.Walk.{texts};
 ghost use Rattle.clap.specs.Words.{FailsBy, found_of, rows_of, subcommand_rows_of};
 ghost use Rattle.ttd_words.specs.CommandLine.{faults_of, named_by};
-ghost use Rattle.ttd_words.specs.Reading.{asked_of, age_of, command_named, number_at, AreForHelp, AreMistaken, AreTaken, HasDriftInRange, IsErrUnlessMemory, IsUnlessMemory};
+ghost use Rattle.ttd_words.specs.Reading.{asked_of, age_of, command_named, number_at, AreForHelp, AreMistaken, AreTaken, HasDriftInRange, IsUnlessMemory};
 ghost use Rattle.ttd_words.specs.Fault.{number_of};
 
 use crate::commands::ttd_command;
@@ -12,10 +12,10 @@ use clap::error::ErrorKind;
 use clap::{ArgMatches, Error};
 use std::alloc::Global;
 
-/// What the words ask for.
+/// A command of the program, with its options.
 #[derive(Clone, Copy, Debug, PartialEq, Eq)]
-pub enum Asked {
-    /// `age`: the answer that is read, aged.
+pub enum Command {
+    /// `age`: ages the answer that is read.
     Age {
         /// What the clock may be wrong by, in parts per million: at most 100000, and 200 where it was not given.
         drift: u64,
@@ -26,27 +26,34 @@ pub enum Asked {
         /// The clock now, in nanoseconds.
         clock: u64,
     },
-    /// `fuse`: the fusion of the spans that are read, with its certificate.
+    /// `fuse`: fuses the spans that are read, and certifies the fusion.
     Fuse,
-    /// `check`: whether a certificate holds for the spans that are read.
+    /// `check`: checks a certificate for the spans that are read.
     Check,
+}
+
+/// What the arguments ask for.
+#[derive(Clone, Copy, Debug, PartialEq, Eq)]
+pub enum Asked {
+    /// To run a command.
+    Run(Command),
     /// The help, of the program or of one command: [`help_text`] gives it.
     Help,
 }
 
-/// Why words are refused.
+/// Why arguments are rejected.
 #[derive(Clone, Copy, Debug, PartialEq, Eq, thiserror::Error)]
 pub enum WordsFault {
-    /// The words are none that the command line takes.
-    #[error("bad words")]
+    /// The command line does not take the arguments.
+    #[error("invalid arguments")]
     BadWords,
-    /// Memory ran out.
+    /// Out of memory: an allocation failed.
     #[error("out of memory")]
     Memory,
 }
 
 impl WordsFault {
-    /// The number of the refusal.
+    /// The number of the refusal: 1601 `BadWords`, 1 `Memory`.
     pub fn number(&self) -> u16
         ensures { result ≡ number_of self.now }
     {
@@ -65,12 +72,12 @@ fn number_given(matches: &ArgMatches<'_>, id: &str) -> u64
     matches.get_one::<u64>(id).unwrap()
 }
 
-/// What `age` asks for with these options.
-fn age_asked(matches: &ArgMatches<'_>) -> Asked
+/// The command `age` with these options.
+fn age_asked(matches: &ArgMatches<'_>) -> Command
     requires { IsOk (age_of (rows_of (found_of matches.now))) }
     ensures { age_of (rows_of (found_of matches.now)) ≡ Ok result }
 {
-    Asked::Age {
+    Command::Age {
         drift: number_given(matches, "drift"),
         sent: number_given(matches, "sent"),
         got: number_given(matches, "got"),
@@ -78,15 +85,15 @@ fn age_asked(matches: &ArgMatches<'_>) -> Asked
     }
 }
 
-/// What the command that clap found asks for.
-fn command_asked(matches: &ArgMatches<'_>) -> Asked
+/// The command that clap found.
+fn command_asked(matches: &ArgMatches<'_>) -> Command
     requires { IsOk (command_named (subcommand_rows_of matches.now)) }
     ensures { command_named (subcommand_rows_of matches.now) ≡ Ok result }
 {
     match matches.subcommand() {
         Some(("age", options)) => age_asked(options),
-        Some(("fuse", _)) => Asked::Fuse,
-        Some(("check", _)) => Asked::Check,
+        Some(("fuse", _)) => Command::Fuse,
+        Some(("check", _)) => Command::Check,
         _ => unreachable!(),
     }
 }
@@ -99,22 +106,22 @@ fn parsed<'a>(alloc: Global, words: &'a [&'a str]) -> Result<ArgMatches<'a>, Err
     ttd_command(alloc)?.try_get_matches_from(words)
 }
 
-/// What the words ask for. The words are those after the program's name.
+/// What the arguments after the program's name ask for.
 ///
-/// A number is read as `u64` reads it: decimal digits after one `+` or none, and leading zeros are let pass. Refuses with
-/// [`WordsFault::BadWords`] (1601) words that the command line does not take: no words, a word that it does not know, an option that is
-/// missing or comes twice, and a value that is no number of 64 bits, or a drift above 100000; and with [`WordsFault::Memory`] (1) where
-/// memory ran out. After `help`, a word that names no command is refused or answered with the help of the program.
+/// A number is read as `u64` reads it: decimal digits after one `+` or none; leading zeros are allowed. Rejects with
+/// [`WordsFault::BadWords`] (1601) arguments that the command line does not take: none at all, a word that it does not know, an option
+/// that is missing or comes twice, a value that is not a number of 64 bits, or a drift above 100000; and with [`WordsFault::Memory`] (1)
+/// where an allocation failed. After `help`, a word that names no command is rejected or answered with the help of the program.
 pub fn read_words(alloc: Global, words: &[&str]) -> Result<Asked, WordsFault>
     ensures taken { AreTaken (texts words.now) → IsOk (asked_of (texts words.now))
-        × IsUnlessMemory (asked_of (texts words.now)) result }
-    ensures mistaken { AreMistaken (texts words.now) → IsUnlessMemory (Err WordsFault.BadWords) result }
-    ensures helped { AreForHelp (texts words.now) → IsUnlessMemory (Ok Asked.Help) result }
-    ensures commands { IfOk result (λ asked. (asked ≡ Asked.Help) ⊎ AreTaken (texts words.now)) }
-    ensures drift { IfOk result HasDriftInRange }
+        × IsUnlessMemory WordsFault.Memory (asked_of (texts words.now)) result }
+    ensures mistaken { AreMistaken (texts words.now) → IsUnlessMemory WordsFault.Memory (Err WordsFault.BadWords) result }
+    ensures helped { AreForHelp (texts words.now) → IsUnlessMemory WordsFault.Memory (Ok Asked.Help) result }
+    ensures help { result ≡ Ok Asked.Help → ¬ AreTaken (texts words.now) }
+    ensures commands { (command : Command) → result ≡ Ok (Asked.Run command) → AreTaken (texts words.now) × HasDriftInRange command }
 {
     match parsed(alloc, words) {
-        Ok(matches) => Ok(command_asked(&matches)),
+        Ok(matches) => Ok(Asked::Run(command_asked(&matches))),
         Err(error) => match error.kind() {
             ErrorKind::DisplayHelp => Ok(Asked::Help),
             ErrorKind::OutOfMemory => Err(WordsFault::Memory),
@@ -123,13 +130,14 @@ pub fn read_words(alloc: Global, words: &[&str]) -> Result<Asked, WordsFault>
     }
 }
 
-/// The text of the help that the words ask for, where [`read_words`] answers [`Asked::Help`] to them. Its wording is clap's own.
+/// The text of the help that the arguments ask for, where [`read_words`] answers [`Asked::Help`] to them. Its wording is clap's own.
 ///
-/// Refuses with [`WordsFault::BadWords`] (1601) words that ask for no help, and with [`WordsFault::Memory`] (1) where memory ran out.
+/// Rejects with [`WordsFault::BadWords`] (1601) arguments that do not ask for help, and with [`WordsFault::Memory`] (1) where an allocation
+/// failed.
 pub fn help_text(alloc: Global, words: &[&str]) -> Result<String, WordsFault>
     ensures helped { AreForHelp (texts words.now) → IfErr result (λ fault. fault ≡ WordsFault.Memory) }
-    ensures taken { AreTaken (texts words.now) → IsErrUnlessMemory WordsFault.BadWords result }
-    ensures mistaken { AreMistaken (texts words.now) → IsErrUnlessMemory WordsFault.BadWords result }
+    ensures taken { AreTaken (texts words.now) → IsUnlessMemory WordsFault.Memory (Err WordsFault.BadWords) result }
+    ensures mistaken { AreMistaken (texts words.now) → IsUnlessMemory WordsFault.Memory (Err WordsFault.BadWords) result }
 {
     match parsed(alloc, words) {
         Ok(_) => Err(WordsFault::BadWords),
@@ -141,14 +149,14 @@ pub fn help_text(alloc: Global, words: &[&str]) -> Result<String, WordsFault>
     }
 }
 
-/// Words that clap takes always ask for something; no words at all are a mistake; and `--help`, alone or after a command, asks for help.
-/// The words of one `age`, with the default drift, ask for it with its three numbers.
+/// Arguments that clap takes always ask for a command; none at all are a mistake; and `--help`, alone or after a command, asks for help.
+/// The arguments of one `age`, with the default drift, ask for it with its three numbers.
 pub fn word_laws()
-    ensures total { (words : List (List ℕ)) → AreTaken words → IsOk (asked_of words) }
+    ensures total { (words : List (List ℕ)) → AreTaken words → (command : Command) × (asked_of words ≡ Ok (Asked.Run command)) }
     ensures nothing { AreMistaken [] }
     ensures help { AreForHelp (codes "--help" ∷ []) × AreForHelp (codes "age" ∷ codes "--help" ∷ []) }
     ensures age { asked_of (codes "age" ∷ codes "--sent" ∷ codes "500" ∷ codes "--got" ∷ codes "900" ∷ codes "--clock"
-        ∷ codes "30000000900" ∷ []) ≡ Ok (Asked.Age 200 500 900 30000000900) }
+        ∷ codes "30000000900" ∷ []) ≡ Ok (Asked.Run (Command.Age 200 500 900 30000000900)) }
 {}
 
 #[cfg(test)]

@@ -1,14 +1,14 @@
 //! Command lines written by hand, with what they ask for or why they are refused.
 
-use super::{Asked, WordsFault, help_text, read_words};
+use super::{Asked, Command, WordsFault, help_text, read_words};
 use std::test::Fail;
 
-const AGE: Asked = Asked::Age {
+const AGE: Asked = Asked::Run(Command::Age {
     drift: 200,
     sent: 500,
     got: 900,
     clock: 30_000_000_900,
-};
+});
 
 #[test]
 fn reads_age(rt: HostRuntime) -> Result<(), Fail> {
@@ -38,12 +38,12 @@ fn takes_a_drift_up_to_the_greatest(rt: HostRuntime) -> Result<(), Fail> {
     let words = [
         "age", "--drift", "100000", "--sent", "1", "--got", "2", "--clock", "3",
     ];
-    let asked = Asked::Age {
+    let asked = Asked::Run(Command::Age {
         drift: 100_000,
         sent: 1,
         got: 2,
         clock: 3,
-    };
+    });
     assert_eq!(rt; read_words(rt.alloc(), &words)?, asked);
     let words = [
         "age", "--drift", "100001", "--sent", "1", "--got", "2", "--clock", "3",
@@ -54,8 +54,14 @@ fn takes_a_drift_up_to_the_greatest(rt: HostRuntime) -> Result<(), Fail> {
 
 #[test]
 fn reads_commands_without_options(rt: HostRuntime) -> Result<(), Fail> {
-    assert_eq!(rt; read_words(rt.alloc(), &["fuse"])?, Asked::Fuse);
-    assert_eq!(rt; read_words(rt.alloc(), &["check"])?, Asked::Check);
+    assert_eq!(rt;
+        read_words(rt.alloc(), &["fuse"])?,
+        Asked::Run(Command::Fuse)
+    );
+    assert_eq!(rt;
+        read_words(rt.alloc(), &["check"])?,
+        Asked::Run(Command::Check)
+    );
     assert_eq!(rt;
         read_words(rt.alloc(), &["fuse", "--drift", "1"]),
         Err(WordsFault::BadWords)
@@ -120,7 +126,7 @@ fn numbers_refusals(rt: HostRuntime) {
     assert_eq!(rt; WordsFault::Memory.number(), 1);
 }
 
-// Also with one allocation refused, whichever it is: each answer is as ever, or want of memory.
+// Also with one allocation refused, whichever it is: each answer is as ever, or out of memory.
 #[test]
 fn only_memory_changes_an_answer(rt: HostRuntime) {
     let words = [

@@ -9,10 +9,10 @@ pub returns-in_err-bytes-clause-value : goal.returns-in_err-bytes-clause-value
 returns-in_err-bytes-clause-value g c =
     let read = c.in_err-bytes.ensures in
     let p = err_from_is_err_and c.from_residual.result c.from_residual.ensures.1 in
-    fault_replied _ c.args.asked _ _ c.in_err-bytes.field-0.0 _ (cc (p.1, p.2)) read.faults (λ e. read.failed (cc)) (λ e. read.too_long (cc)) (λ ne. read.sound (λ e. ne (cc)))
+    fault_replied _ c.args.command _ _ c.in_err-bytes.field-0.0 _ (cc (p.1, p.2)) read.faults (λ e. read.failed (cc)) (λ e. read.too_long (cc)) (λ ne. read.sound (λ e. ne (cc)))
 
 pub returns-clause-value : goal.returns-clause-value
 returns-clause-value g c =
     let read = c.in_ok-bytes.ensures in
-    command_replied string_bytes c.args.asked c.in_ok-bytes.bytes.items _ _ c.command_text.result read.whole (omega (arith, read.short, c.in_ok-bytes.bytes.ok.0)) read.end (read.sound (λ e. cc))
-    (subst (λ (bytes : List ℕ). HasReply string_bytes (IsCommandReply c.args.asked bytes) c.command_text.result) c.as_slice.ensures.value c.command_text.ensures.value)
+    command_replied string_bytes c.args.command c.in_ok-bytes.bytes.items _ _ c.command_text.result read.whole (omega (arith, read.short, c.in_ok-bytes.bytes.ok.0)) read.end (read.sound (λ e. cc))
+    (subst (λ (bytes : List ℕ). HasReply string_bytes (IsCommandReply c.args.command bytes) c.command_text.result) c.as_slice.ensures.value c.command_text.ensures.value)

@@ -3,8 +3,8 @@ use Rattle.clap.specs.Values.{kind_of}
 use Rattle.clap.specs.Walk.{texts}
 use Rattle.clap.specs.declared.error.kind.ErrorKind.TheVariants.{DisplayHelp, OutOfMemory}
 use Rattle.ttd_words.specs.CommandLine.{faults_of, named_by}
-use Rattle.ttd_words.specs.Reading.{command_named}
-use Rattle.ttd_words.proofs.ParsedWords.{asked_is_ok, asked_taken, help_no_memory, help_not_mistaken, not_for_help, not_mistaken, not_taken, other_not_help, taken_in_range, taken_is_ok}
+use Rattle.ttd_words.specs.Reading.{command_named, to_run}
+use Rattle.ttd_words.proofs.ParsedWords.{asked_is_ok, asked_taken, help_no_memory, help_not_mistaken, not_for_help, not_mistaken, not_taken, other_not_help, run_is, taken_in_range, taken_is_ok}
 use Rattle.ttd_words.proofs.words.read_words.Goals as goal
 
 pub command_asked-requires : goal.command_asked-requires
@@ -16,11 +16,11 @@ returns-in-Ok c =
     let taken : faults_of ws ≡ [] = c.in-Ok.ensures.fails in
     let asked : command_named (named_by ws) ≡ Ok c.command_asked.result = ap command_named (sym c.in-Ok.ensures.named) ∙ c.command_asked.ensures in
     record {
-      taken = λ e. (asked_is_ok ws taken, inl (sym (asked_taken ws taken ∙ asked)));
+      taken = λ e. (asked_is_ok ws taken, inl (sym (asked_taken ws taken ∙ ap to_run asked)));
       mistaken = λ e. absurd (not_mistaken ws taken e);
       helped = λ e. absurd (not_for_help ws taken e);
-      commands = inr taken;
-      drift = taken_in_range ws c.command_asked.result taken asked;
+      help = λ is. cc is;
+      commands = λ command is. (taken, taken_in_range ws command taken (asked ∙ ap Ok (run_is _ _ _ refl is)));
     }
 
 pub returns-in-DisplayHelp : goal.returns-in-DisplayHelp
@@ -32,8 +32,8 @@ returns-in-DisplayHelp c =
       taken = λ e. absurd (not_taken (faults_of ws) c.in-Err.error c.in-Err.ensures.fails memory e);
       mistaken = λ e. absurd (help_not_mistaken ws c.in-Err.error e c.in-Err.ensures.fails kind);
       helped = λ e. inl refl;
-      commands = inl refl;
-      drift = tt;
+      help = λ is e. not_taken (faults_of ws) c.in-Err.error c.in-Err.ensures.fails memory e;
+      commands = λ command is. cc is;
     }
 
 pub returns : goal.returns
@@ -45,8 +45,8 @@ returns c =
       taken = λ e. absurd (not_taken (faults_of ws) c.in-Err.error c.in-Err.ensures.fails memory e);
       mistaken = λ e. inl refl;
       helped = λ e. absurd (other_not_help ws c.in-Err.error e c.in-Err.ensures.fails memory other);
-      commands = tt;
-      drift = tt;
+      help = λ is. cc is;
+      commands = λ command is. cc is;
     }
 
 pub returns-in-OutOfMemory-clause-taken : goal.returns-in-OutOfMemory-clause-taken

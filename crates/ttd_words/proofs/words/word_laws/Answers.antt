@@ -1,9 +1,9 @@
 use Rattle.std.proofs.Common.{refl}
 use Rattle.clap.proofs.OnLiterals.{clap_on_literals}
 use Rattle.ttd_words.specs.CommandLine.{faults_of, named_by, ttd_app}
-use Rattle.ttd_words.proofs.ParsedWords.{asked_is_ok}
+use Rattle.ttd_words.proofs.ParsedWords.{asked_to_run}
 use Rattle.ttd_words.proofs.words.word_laws.Goals as goal
 
 pub returns : goal.returns
 unfolding clap_on_literals ttd_app faults_of named_by
-returns c = record { total = asked_is_ok; nothing = refl; help = (refl, refl); age = refl }
+returns c = record { total = asked_to_run; nothing = refl; help = (refl, refl); age = refl }
