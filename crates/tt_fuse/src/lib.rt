@@ -10,6 +10,7 @@
 //! This is the interval function of Marzullo and Owicki, *Maintaining the time in a distributed system* (1983),
 //! as Spanner uses it (Corbett et al., OSDI 2012, section 3).
 //!
+//! - `counts`: how many sources can be fused.
 //! - `fusion`: `fuse`, why there may be no fusion, and what a fusion is in other words.
 //! - `sorted`: the ends of spans in their order.
 //! - `suspecting`: `suspects`, and what is known of them.
@@ -17,11 +18,13 @@
 //! Times are whole nanoseconds, as in `tt_span`. Nothing here takes memory.
 #![tactic(auto)]
 
+mod counts;
 mod fusion;
 mod sorted;
 mod suspecting;
 
-pub use fusion::{FuseFault, MAX_SOURCES, fuse, fusion_laws};
+pub use counts::{CountFault, MAX_SOURCES, check_counts};
+pub use fusion::{FuseFault, fuse, fusion_laws};
 pub use sorted::{ascending_lower_ends, ascending_upper_ends};
 pub use suspecting::{suspect_laws, suspects};
 
