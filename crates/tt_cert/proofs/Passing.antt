@@ -9,7 +9,8 @@ use Rattle.std.proofs.lemmas.List.Sums.{count_by-le-length}
 use Rattle.tt_cert.specs.declared.certificate.Stretch.{Stretch}
 use Rattle.tt_cert.specs.Valid.{AreSideBySide}
 use Rattle.tt_cert.specs.Sweep.{count_before, AreEnds, IsEndCut, IsEndPiece, AreEndPieces, IsNextCut}
-use Rattle.tt_cert.proofs.Counting.{count_by-le-first, count_by-above, count_by-le-count_by}
+use Rattle.tt_fuse.proofs.Counting.{count_by-le-first, count_by-above}
+use Rattle.tt_cert.proofs.Counting.{count_by-le-count_by}
 use Rattle.tt_cert.proofs.Sides.{AreSideBySide-push}
 
 module _ (ends : List ℕ) (ascend : IsNonDecreasing ends) where
