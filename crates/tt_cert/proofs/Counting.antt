@@ -1,52 +1,17 @@
 -- How many elements of a list pass a test.
 use Rattle.std.proofs.Common.{◌≡◌, ◌≢◌, ℕ, zero, suc, ◌+◌, ◌<◌, ◌≤◌, inl, inr, Bool, true, false, cond, eqb, List, [], ◌∷◌, length, get_or, take, ◌∙◌, ap, sym, refl, arith}
-use Rattle.std.specs.List.{count_by, HoldsAt, All, AllPairs}
-use Rattle.std.proofs.lemmas.List.Sums.{sum_by-cons, count_by_more_yes, count_by_more_no}
+use Rattle.std.specs.List.{count_by, All, AllPairs}
+use Rattle.std.proofs.lemmas.List.Sums.{count_by_more_yes, count_by_more_no}
+use Rattle.tt_fuse.proofs.Counting.{count_by-yes, count_by-no}
 use Rattle.std.proofs.lemmas.List.Elements.{All-head, All-tail}
 use Rattle.std.proofs.lemmas.Bool.{cond-true, cond-false, cases_eq, eq-eqb, ne_eqb}
 
 module _ {X : Type 0} (p : X → Bool) where
-  pub count_by-cons : (x : X) (xs : List X) → count_by p (x ∷ xs) ≡ cond (p x) 1 0 + count_by p xs
-  count_by-cons x xs = sum_by-cons (λ y. cond (p y) 1 0) x xs
-
-  pub count_by-yes : (x : X) (xs : List X) → p x ≡ true → count_by p (x ∷ xs) ≡ 1 + count_by p xs
-  count_by-yes x xs h = count_by-cons x xs ∙ ap (λ n. n + count_by p xs) (cond-true (p x) 1 0 h)
-
-  pub count_by-no : (x : X) (xs : List X) → p x ≡ false → count_by p (x ∷ xs) ≡ count_by p xs
-  count_by-no x xs h =
-      let e : count_by p (x ∷ xs) ≡ 0 + count_by p xs = count_by-cons x xs ∙ ap (λ n. n + count_by p xs) (cond-false (p x) 1 0 h) in
-      omega arith
-
-  -- a list of which no element from k on passes has k that pass at most
-  pub count_by-le-first : (xs : List X) (k : ℕ) → ((j : ℕ) → k ≤ j → j < length xs → HoldsAt (λ x. p x ≡ false) xs j) → count_by p xs ≤ k
-  count_by-le-first [] k h = omega arith
-  count_by-le-first (x ∷ xs) zero h =
-      let here : p x ≡ false = h 0 (omega arith) (omega arith) x in
-      let rest : count_by p xs ≤ 0 = count_by-le-first xs 0 (λ j a b. h (suc j) (omega arith) (omega arith)) in
-      omega (arith, count_by-no x xs here)
-  count_by-le-first (x ∷ xs) (suc k) h =
-      let rest : count_by p xs ≤ k = count_by-le-first xs k (λ j a b. h (suc j) (omega arith) (omega arith)) in
-      elim (p x) as (λ b. p x ≡ b → count_by p (x ∷ xs) ≤ suc k) [
-        | true ↦ λ e. omega (arith, count_by-yes x xs e)
-        | false ↦ λ e. omega (arith, count_by-no x xs e)
-      ] refl
-
-  -- a list of which each element up to the one at k passes has more than k that pass
-  pub count_by-above : (xs : List X) (k : ℕ) → k < length xs → ((j : ℕ) → j ≤ k → HoldsAt (λ x. p x ≡ true) xs j) → k < count_by p xs
-  count_by-above [] k l h = absurd (omega arith)
-  count_by-above (x ∷ xs) zero l h =
-      let here : p x ≡ true = h 0 (omega arith) x in
-      omega (arith, count_by-yes x xs here)
-  count_by-above (x ∷ xs) (suc k) l h =
-      let here : p x ≡ true = h 0 (omega arith) x in
-      let rest : k < count_by p xs = count_by-above xs k (omega arith) (λ j a. h (suc j) (omega arith)) in
-      omega (arith, count_by-yes x xs here)
-
   pub count_by-le-cons : (x : X) (xs : List X) → count_by p xs ≤ count_by p (x ∷ xs)
   count_by-le-cons x xs =
       elim (p x) as (λ b. p x ≡ b → count_by p xs ≤ count_by p (x ∷ xs)) [
-        | true ↦ λ e. omega (arith, count_by-yes x xs e)
-        | false ↦ λ e. omega (arith, count_by-no x xs e)
+        | true ↦ λ e. omega (arith, count_by-yes p x xs e)
+        | false ↦ λ e. omega (arith, count_by-no p x xs e)
       ] refl
 
 -- where each element that passes one test passes another, no more pass the first

@@ -7,9 +7,6 @@ use Rattle.tt_cert.specs.Reading.{ReadsNothing, Reads, ReadsUpTo, NoWord, Begins
 
 -- behind a word
 module _ {V : Type 0} (spelling : V → List ℕ) (Fits : V → Type 0) (Follows : List ℕ → Type 0) (word bytes : List ℕ) where
-  pub ReadsNothing-no_word : NoWord word bytes → ReadsNothing (λ v. word ++ spelling v) Fits Follows bytes
-  ReadsNothing-no_word none v rest fits follows is = none (spelling v ++ rest) (is ∙ append_assoc word (spelling v) rest)
-
   pub ReadsNothing-word : (body : List ℕ) → bytes ≡ word ++ body → ReadsNothing spelling Fits Follows body → ReadsNothing (λ v. word ++ spelling v) Fits Follows bytes
   ReadsNothing-word body is none v rest fits follows is' =
       none v rest fits follows (append_cancel_left word body (spelling v ++ rest) (sym is ∙ (is' ∙ append_assoc word (spelling v) rest)))

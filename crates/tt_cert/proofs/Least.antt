@@ -9,8 +9,8 @@ use Rattle.tt_span.specs.Interval.{Interval, Holds}
 use Rattle.tt_fuse.specs.Depth.{holds, depth}
 use Rattle.tt_cert.specs.Valid.{IsSourceAt, IsSetAt}
 use Rattle.tt_cert.specs.Canonical.{sources_at}
-use Rattle.tt_cert.proofs.Counting.{count_by-yes, count_by-no}
-use Rattle.tt_cert.proofs.Proving.{Holds-from_holds}
+use Rattle.tt_fuse.proofs.Counting.{count_by-yes, count_by-no}
+use Rattle.tt_fuse.proofs.Possible.{Holds-from_holds}
 
 module _ (x : ℕ) where
   -- the sources that hold x, numbered from k on

@@ -1,5 +1,5 @@
 pub mod Counting
-pub mod Members
+pub mod Judging
 pub mod Sides
 pub mod Proving
 pub mod Verdicts

@@ -1,9 +1,9 @@
 -- A loop that reads items one after another.
-use Rattle.std.proofs.Common.{◌≡◌, ℕ, ◌<◌, ◌≤◌, List, [], ◌∷◌, ◌++◌, length, sym, ◌∙◌, ap, subst, refl, arith, append_assoc, length-append}
+use Rattle.std.proofs.Common.{◌≡◌, ℕ, ◌<◌, ◌≤◌, List, [], ◌∷◌, ◌++◌, length, sym, ◌∙◌, ap, subst, arith, append_assoc, length-append}
 use Rattle.std.specs.Prelude.{All}
 use Rattle.std.specs.List.{flat_map}
 use Rattle.std.proofs.lemmas.List.{append-nil, length_push, flat_map_more}
-use Rattle.std.proofs.lemmas.List.Elements.{All-head, All-tail, All-nil, All-push}
+use Rattle.std.proofs.lemmas.List.Elements.{All-head, All-tail, All-push}
 use Rattle.tt_cert.specs.Reading.{ReadsNothing, Reads, BeginsWith}
 
 -- some items are found, and what is left spells the others
@@ -21,14 +21,6 @@ module _ {V : Type 0} (item : V → List ℕ) (Fits : V → Type 0) (ItemFollows
   begins-append v r =
       let w = begins v in
       (w.0 ++ r, ap (λ b. b ++ r) w.1 ∙ append_assoc word w.0 r)
-
-  pub AreReadSoFar-none : AreReadSoFar item Fits Follows most bytes [] bytes
-  AreReadSoFar-none = record {
-    fits = All-nil Fits;
-    few = omega arith;
-    is = refl;
-    only = λ vs other fits follows is. (vs, fits.1, refl, is);
-  }
 
   module _ (found : List V) (rest : List ℕ) (so_far : AreReadSoFar item Fits Follows most bytes found rest) where
     pub AreReadSoFar-push : (v : V) (next : List ℕ) → length found < most → Reads item Fits ItemFollows rest v next → AreReadSoFar item Fits Follows most bytes (found ++ v ∷ []) next

@@ -4,7 +4,7 @@ use Rattle.std.specs.Prelude.{All}
 use Rattle.std.specs.Fmt.{decimal}
 use Rattle.std.specs.List.{flat_map}
 use Rattle.std.proofs.lemmas.List.{append-nil, append_cancel_left}
-use Rattle.std.proofs.lemmas.List.Elements.{All-weaker, All-nil, All-cons}
+use Rattle.std.proofs.lemmas.List.Elements.{All-nil, All-cons}
 use Rattle.tt_span.specs.Time.{max_time}
 use Rattle.tt_span.specs.Interval.{Interval, IsInterval}
 use Rattle.tt_cert.specs.declared.certificate.Stretch.{Stretch}
@@ -70,9 +70,6 @@ one-ends_of a b e =
     let hi_same : a.hi ≡ b.hi = cc in
     let from_ends : ℕ → ℕ → Interval = λ lo hi. record { lo = lo; hi = hi } in
     ap (λ lo. from_ends lo a.hi) lo_same ∙ ap (λ hi. from_ends b.lo hi) hi_same
-
-pub AreNumbers-sources : (sources : List ℕ) → AreSources sources → AreNumbers sources
-AreNumbers-sources sources h = (h.few, All-weaker (λ i. i ≤ 255) IsNumber (λ i b. omega arith) sources h.bytes)
 
 pub AreNumbers-numbers_of : (s : Stretch) → IsStretch s → AreNumbers (numbers_of s)
 AreNumbers-numbers_of s h =
@@ -153,22 +150,13 @@ module _ (text : List ℕ) where
   abbrev pub IsNoText : Type 0
   IsNoText = (claim : Interval) (proof : Proof) → HasText claim proof → text ≡ text_of claim proof → ⊥
 
-  pub bad_claim : ReadsNothing (λ claim. line_of claim_word (ends_of claim)) IsInterval Anything text → IsNoText
-  bad_claim none claim proof has is = none claim (left_text proof) has.claim_is tt (is ∙ text-lines claim proof)
-
   module _ (c : Interval) (r1 : List ℕ) (h1 : ClaimRead c r1) where
     step1 : (claim : Interval) (proof : Proof) → HasText claim proof → text ≡ text_of claim proof → (claim ≡ c) × (left_text proof ≡ r1)
     step1 claim proof has is = h1.only claim (left_text proof) has.claim_is tt (is ∙ text-lines claim proof)
 
-    pub bad_left : ReadsNothing (line_of left_word) AreSources Anything r1 → IsNoText
-    bad_left none claim proof has is = none proof.left (right_text proof) has.left tt (sym (step1 claim proof has is).1)
-
     module _ (left r2 : List ℕ) (h2 : LeftRead r1 left r2) where
       step2 : (claim : Interval) (proof : Proof) → HasText claim proof → text ≡ text_of claim proof → (proof.left ≡ left) × (right_text proof ≡ r2)
       step2 claim proof has is = h2.only proof.left (right_text proof) has.left tt (sym (step1 claim proof has is).1)
-
-      pub bad_right : ReadsNothing (line_of right_word) AreSources Anything r2 → IsNoText
-      bad_right none claim proof has is = none proof.right (below_text proof) has.right tt (sym (step2 claim proof has is).1)
 
       module _ (right r3 : List ℕ) (h3 : RightRead r2 right r3) where
         step3 : (claim : Interval) (proof : Proof) → HasText claim proof → text ≡ text_of claim proof → (proof.right ≡ right) × (below_text proof ≡ r3)

@@ -4,12 +4,13 @@ use Rattle.std.specs.Prelude.{nat_lt, Contains, min}
 use Rattle.std.specs.List.Sorted.{IsNonDecreasing}
 use Rattle.std.proofs.lemmas.Bool.{cases_lt, lt-ltb, le-ltb, ltb-true}
 use Rattle.std.proofs.lemmas.List.{get_or_default, length_push}
-use Rattle.std.proofs.lemmas.List.Elements.{All-push, Contains-get_or, All-nil}
+use Rattle.std.proofs.lemmas.List.Elements.{All-push, Contains-get_or}
 use Rattle.std.proofs.lemmas.List.Sums.{count_by-le-length}
 use Rattle.tt_cert.specs.declared.certificate.Stretch.{Stretch}
 use Rattle.tt_cert.specs.Valid.{AreSideBySide}
 use Rattle.tt_cert.specs.Sweep.{count_before, AreEnds, IsEndCut, IsEndPiece, AreEndPieces, IsNextCut}
-use Rattle.tt_cert.proofs.Counting.{count_by-le-first, count_by-above, count_by-le-count_by}
+use Rattle.tt_fuse.proofs.Counting.{count_by-le-first, count_by-above}
+use Rattle.tt_cert.proofs.Counting.{count_by-le-count_by}
 use Rattle.tt_cert.proofs.Sides.{AreSideBySide-push}
 
 module _ (ends : List ℕ) (ascend : IsNonDecreasing ends) where
@@ -122,17 +123,6 @@ module _ (lows highs : List ℕ) (ends : AreEnds lows highs) where
       after_cut : ((count_before highs from < length highs) × (after ≡ get_or highs (count_before highs from) 0 + 1)) ⊎ ((length highs ≤ count_before highs from) × (after ≡ stop)) → after < stop → (next : ℕ) → next ≡ after → IsEndCut lows highs next
       after_cut (inl h) first next e = inr (get_or highs (count_before highs from) 0, Contains-get_or highs (count_before highs from) 0 h.0, omega (arith, h.1, e))
       after_cut (inr h) first next e = absurd (omega (arith, h.1))
-
-  pub IsSwept-none : (start stop : ℕ) → start ≤ stop → IsSwept lows highs start stop 0 0 start []
-  IsSwept-none start stop order = record {
-    pieces = record { side_by_side = refl; pieces = All-nil (IsEndPiece lows highs start) };
-    within = order;
-    begun_before = omega arith;
-    ended_before = omega arith;
-    few = omega arith;
-    at_cut = inl refl;
-    passes = inl refl;
-  }
 
   -- there is room for one more stretch
   pub room-IsSwept : (start stop begun ended from : ℕ) (found : List Stretch) → IsSwept lows highs start stop begun ended from found → from < stop → (length found ≤ count_before lows (from + 1) + count_before highs from) × (length found < 33)

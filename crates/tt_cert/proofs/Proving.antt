@@ -8,19 +8,12 @@ use Rattle.tt_span.specs.Time.{max_time}
 use Rattle.tt_span.specs.Interval.{Interval, IsInterval, Holds, Meets}
 use Rattle.tt_fuse.specs.Fusion.{IsPossibleTime, IsFusion}
 use Rattle.tt_fuse.specs.Depth.{holds, depth}
+use Rattle.tt_fuse.proofs.Possible.{holds-from_Holds, Holds-from_holds}
 use Rattle.tt_cert.specs.declared.certificate.Stretch.{Stretch}
 use Rattle.tt_cert.specs.Proof.{Proof}
 use Rattle.tt_cert.specs.Valid.{IsSourceAt, IsSetAt, meets, meeting, IsCertificate}
 use Rattle.tt_cert.proofs.Counting.{count_by-le-count_by, count_below, count_by-count_below, length-le-count_below}
 use Rattle.tt_cert.proofs.Sides.{some-AreSideBySide}
-
-pub holds-from_Holds : (x : ℕ) (span : Interval) → Holds span x → holds x span ≡ true
-holds-from_Holds x span h = and_from (nat_le span.lo x) (nat_le x span.hi) (le-leb span.lo x h.0) (le-leb x span.hi h.1)
-
-pub Holds-from_holds : (x : ℕ) (span : Interval) → holds x span ≡ true → Holds span x
-Holds-from_holds x span h =
-    let parts = and_parts (nat_le span.lo x) (nat_le x span.hi) h in
-    (leb-true span.lo x parts.0, leb-true x span.hi parts.1)
 
 -- a span
 nowhere : Interval

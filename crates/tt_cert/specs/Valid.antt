@@ -1,5 +1,5 @@
 -- Which certificates prove that a claim is the fusion.
-use Rattle.std.specs.Prelude.{◌≡◌, ◌≢◌, ℕ, ◌+◌, ◌-◌, ◌*◌, ◌<◌, ◌≤◌, Bool, ◌&&◌, nat_le, List, [], ◌∷◌, length, count_by, All, AllPairs, MatchResult, Result, slice_index}
+use Rattle.std.specs.Prelude.{◌≡◌, ◌≢◌, ℕ, ◌+◌, ◌-◌, ◌*◌, ◌<◌, ◌≤◌, ◌⊎◌, Bool, ◌&&◌, nat_le, List, [], ◌∷◌, length, count_by, All, AllPairs, MatchResult, Result, slice_index}
 use Rattle.std.specs.List.{HoldsAt}
 use Rattle.tt_span.specs.Time.{max_time}
 use Rattle.tt_span.specs.Interval.{Interval, Holds}
@@ -49,14 +49,25 @@ HasRightSet spans f claim proof = IsSetAt spans (length spans - f) claim.hi proo
 abbrev pub Covers : Interval → Proof → Type 0
 Covers claim proof = AreSideBySide proof.below 0 claim.lo × AreSideBySide proof.above (claim.hi + 1) (max_time + 1)
 
+-- fewer than so many sources meet each of the stretches
+abbrev pub AreShallow : List Interval → ℕ → List Stretch → Type 0
+AreShallow spans need stretches = All (λ s. meeting spans s < need) stretches
+
+-- each of the stretches names the number of sources that meet it
+abbrev pub NameDepths : List Interval → List Stretch → Type 0
+NameDepths spans stretches = All (λ s. s.depth ≡ meeting spans s) stretches
+
+-- fewer than so many sources meet each stretch
+abbrev pub IsShallowBelow : List Interval → ℕ → Proof → Type 0
+IsShallowBelow spans need proof = AreShallow spans need proof.below × AreShallow spans need proof.above
+
 -- fewer than all sources but f meet each stretch
 abbrev pub IsShallow : List Interval → ℕ → Proof → Type 0
-IsShallow spans f proof =
-    All (λ s. meeting spans s < length spans - f) proof.below × All (λ s. meeting spans s < length spans - f) proof.above
+IsShallow spans f proof = IsShallowBelow spans (length spans - f) proof
 
 -- each stretch names the number of sources that meet it
 abbrev pub NamesDepths : List Interval → Proof → Type 0
-NamesDepths spans proof = All (λ s. s.depth ≡ meeting spans s) proof.below × All (λ s. s.depth ≡ meeting spans s) proof.above
+NamesDepths spans proof = NameDepths spans proof.below × NameDepths spans proof.above
 
 -- the certificate proves that the claim is the fusion
 pub record IsCertificate (spans : List Interval) (f : ℕ) (claim : Interval) (proof : Proof) : Type 0 where
@@ -90,3 +101,10 @@ IsFirstFault spans f claim proof Memory = ⊥
 abbrev pub IsVerdict : List Interval → ℕ → Interval → Proof → Result (Unit {0}) CertFault → Type 0
 IsVerdict spans f claim proof verdict =
     MatchResult verdict (λ _. IsCertificate spans f claim proof) (λ fault. IsFirstFault spans f claim proof fault)
+
+-- what a look at the depths of a certificate answers, where a possible time needs so many sources
+abbrev pub IsDepthVerdict : List Interval → ℕ → Proof → Result (Unit {0}) CertFault → Type 0
+IsDepthVerdict spans need proof verdict =
+    MatchResult verdict (λ _. IsShallowBelow spans need proof × NamesDepths spans proof)
+    (λ fault. ((fault ≡ TooDeep) × (IsShallowBelow spans need proof → ⊥))
+    ⊎ ((fault ≡ Depth) × IsShallowBelow spans need proof × (NamesDepths spans proof → ⊥)))

@@ -87,34 +87,10 @@ impl Certificate {
         ensures { result ≡ self.now }
     {
         Certificate {
-            left: numbers_of(self.left()),
-            right: numbers_of(self.right()),
-            below: stretches_of(self.below()),
-            above: stretches_of(self.above()),
+            left: ArrayVec::try_from(self.left()).unwrap(),
+            right: ArrayVec::try_from(self.right()).unwrap(),
+            below: ArrayVec::try_from(self.below()).unwrap(),
+            above: ArrayVec::try_from(self.above()).unwrap(),
         }
     }
-}
-
-/// At most 16 source numbers, kept in a vector of their own.
-fn numbers_of(sources: &[u8]) -> ArrayVec<u8, 16>
-    requires { length sources.now ≤ 16 }
-    ensures { result.items ≡ sources.now }
-{
-    let mut kept = ArrayVec::new();
-    for source in sources {
-        kept.push(*source);
-    }
-    kept
-}
-
-/// At most 33 stretches, kept in a vector of their own.
-fn stretches_of(stretches: &[Stretch]) -> ArrayVec<Stretch, 33>
-    requires { length stretches.now ≤ 33 }
-    ensures { result.items ≡ stretches.now }
-{
-    let mut kept = ArrayVec::new();
-    for stretch in stretches {
-        kept.push(*stretch);
-    }
-    kept
 }

@@ -2,33 +2,46 @@
 
 ghost use Rattle.std.specs.Prelude.{◌≡◌, ◌≤◌, length, take};
 ghost use Rattle.tt_fuse.specs.Fusion.{IsFusion, CanBeFused};
+ghost use Rattle.tt_fuse.specs.Ends.{AreEndsOf};
 ghost use Rattle.tt_cert.specs.Valid.{IsCertificate};
 ghost use Rattle.tt_cert.specs.Canonical.{IsCanonical, sources_at};
 
 use crate::certificate::Certificate;
 use crate::sweeping::stretches_between;
 use arrayvec::ArrayVec;
-use tt_fuse::{ascending_lower_ends, ascending_upper_ends, fusion_laws};
+use tt_fuse::{SortedEnds, fusion_laws};
 use tt_span::{MAX_TIME, Span};
 
-/// The canonical certificate of the fusion of the spans, which is valid: the caller sees to it that `claim` is what
-/// `fuse` answers for them. At each end of the claim it names the least source numbers that serve, ascending. Its
-/// stretches are cut wherever the span of a source begins, and just after where one ends, and nowhere else.
+/// The canonical certificate of the fusion of the spans, which is valid. At each end of the claim it names the least
+/// source numbers that serve, ascending. Its stretches are cut wherever the span of a source begins, and just after
+/// where one ends, and nowhere else. Requires: `claim` is what `fuse` answers for these spans.
 pub fn certify(spans: &[Span], faulty: usize, claim: &Span) -> Certificate
     requires fusible { CanBeFused (length spans.now) faulty }
     requires fused { IsFusion spans.now faulty claim.now }
     ensures canonical { IsCanonical spans.now faulty claim.now result }
     ensures valid { IsCertificate spans.now faulty claim.now result }
 {
+    certify_by(spans, &SortedEnds::of(spans), faulty, claim)
+}
+
+/// The same, by the ends of the spans in their order, for whoever has them from the fusion. Requires: `claim` is what
+/// `fuse` answers for these spans, and `ends` are their ends.
+pub fn certify_by(spans: &[Span], ends: &SortedEnds, faulty: usize, claim: &Span) -> Certificate
+    requires fusible { CanBeFused (length spans.now) faulty }
+    requires fused { IsFusion spans.now faulty claim.now }
+    requires ends { AreEndsOf spans.now ends.now }
+    ensures canonical { IsCanonical spans.now faulty claim.now result }
+    ensures valid { IsCertificate spans.now faulty claim.now result }
+{
     fusion_laws();
     let need = spans.len() - faulty;
-    let lows = ascending_lower_ends(spans);
-    let highs = ascending_upper_ends(spans);
+    let lows = ends.lows();
+    let highs = ends.highs();
     Certificate::new(
         least_sources_at(spans, need, claim.lo()),
         least_sources_at(spans, need, claim.hi()),
-        stretches_between(&lows, &highs, 0, claim.lo()),
-        stretches_between(&lows, &highs, claim.hi() + 1, MAX_TIME + 1),
+        stretches_between(lows, highs, 0, claim.lo()),
+        stretches_between(lows, highs, claim.hi() + 1, MAX_TIME + 1),
     )
 }
 

@@ -1,6 +1,6 @@
 //! Whether a certificate proves its claim.
 
-ghost use Rattle.std.specs.Prelude.{◌≡◌, ℕ, ◌+◌, ◌-◌, ◌*◌, ◌<◌, ◌≤◌, ◌↔◌, List, length, All, IsTrue, IsOk, IfErr, OnOk};
+ghost use Rattle.std.specs.Prelude.{◌≡◌, ℕ, ◌+◌, ◌-◌, ◌*◌, ◌<◌, ◌≤◌, ◌↔◌, List, length, IsTrue, IsOk, IfErr, OnOk, MatchResult};
 ghost use Rattle.std.specs.List.{HoldsAt};
 ghost use Rattle.tt_span.specs.Time.{max_time};
 ghost use Rattle.tt_span.specs.Interval.{Interval, IsInterval, Holds, Meets};
@@ -8,11 +8,11 @@ ghost use Rattle.tt_fuse.specs.Fusion.{IsFusion, CanBeFused};
 ghost use Rattle.tt_cert.specs.declared.certificate.Stretch.{Stretch};
 ghost use Rattle.tt_cert.specs.Proof.{Proof};
 ghost use Rattle.tt_cert.specs.Canonical.{IsCanonical};
-ghost use Rattle.tt_cert.specs.Valid.{IsSetAt, IsMemberAt, AreSideBySide, meets, meeting, HasLeftSet, HasRightSet, Covers, IsShallow, NamesDepths, IsCertificate, IsFirstFault, IsVerdict};
+ghost use Rattle.tt_cert.specs.Valid.{IsSetAt, IsMemberAt, AreSideBySide, meets, meeting, AreShallow, NameDepths, HasLeftSet, HasRightSet, Covers, IsCertificate, IsFirstFault, IsVerdict, IsDepthVerdict};
 
 use crate::certificate::{Certificate, Stretch};
 use crate::faults::CertFault;
-use tt_fuse::{MAX_SOURCES, fusion_laws};
+use tt_fuse::{check_counts, fusion_laws};
 use tt_span::{MAX_TIME, Span};
 
 /// Whether the certificate proves that the claim is the fusion of the spans when at most `faulty` of the sources are
@@ -54,16 +54,7 @@ fn verdict(
 ) -> Result<(), CertFault>
     ensures { IsVerdict spans.now faulty claim.now certificate.now result }
 {
-    if spans.is_empty() {
-        return Err(CertFault::NoSource);
-    }
-    if spans.len() > MAX_SOURCES {
-        return Err(CertFault::TooMany);
-    }
-    // That is, fewer than `2 * faulty + 1`, which may be too large a number to write.
-    if faulty > (spans.len() - 1) / 2 {
-        return Err(CertFault::TooFew);
-    }
+    check_counts(spans.len(), faulty)?;
     let need = spans.len() - faulty;
     if !is_set_at(spans, need, claim.lo(), certificate.left()) {
         return Err(CertFault::LeftSet);
@@ -74,13 +65,7 @@ fn verdict(
     if !covers(claim, certificate) {
         return Err(CertFault::Cover);
     }
-    if !is_shallow(spans, need, certificate) {
-        return Err(CertFault::TooDeep);
-    }
-    if !names_depths(spans, certificate) {
-        return Err(CertFault::Depth);
-    }
-    Ok(())
+    depth_verdict(spans, need, certificate)
 }
 
 /// Whether these are `count` sources, each named once, that all hold `time`.
@@ -129,19 +114,18 @@ fn lie_side_by_side(stretches: &[Stretch], start: u64, stop: u64) -> bool
     next == stop
 }
 
-/// Whether fewer than `need` of the spans meet each stretch of the certificate.
-fn is_shallow(spans: &[Span], need: usize, certificate: &Certificate) -> bool
-    ensures { IsTrue result ↔ (All (λ s. meeting spans.now s < need) certificate.now.below
-        × All (λ s. meeting spans.now s < need) certificate.now.above) }
+/// The first thing that is wrong with the depths of the stretches, if there is any, where `need` of the spans hold a
+/// possible time.
+fn depth_verdict(spans: &[Span], need: usize, certificate: &Certificate) -> Result<(), CertFault>
+    ensures { IsDepthVerdict spans.now need certificate.now result }
 {
-    are_shallow(spans, need, certificate.below()) && are_shallow(spans, need, certificate.above())
-}
-
-/// Whether each stretch of the certificate names the number of spans that meet it.
-fn names_depths(spans: &[Span], certificate: &Certificate) -> bool
-    ensures { IsTrue result ↔ NamesDepths spans.now certificate.now }
-{
-    name_depths(spans, certificate.below()) && name_depths(spans, certificate.above())
+    let below_named = are_named(spans, need, certificate.below())?;
+    let above_named = are_named(spans, need, certificate.above())?;
+    if below_named && above_named {
+        Ok(())
+    } else {
+        Err(CertFault::Depth)
+    }
 }
 
 /// How many of the spans meet the stretch.
@@ -154,20 +138,22 @@ fn met_by(spans: &[Span], stretch: &Stretch) -> usize
         .count()
 }
 
-/// Whether fewer than `need` of the spans meet each stretch.
-fn are_shallow(spans: &[Span], need: usize, stretches: &[Stretch]) -> bool
-    ensures { IsTrue result ↔ All (λ s. meeting spans.now s < need) stretches.now }
+/// Whether each stretch names the number of spans that meet it. Refuses with 604 `TooDeep` where `need` of the spans
+/// or more meet one of them.
+fn are_named(spans: &[Span], need: usize, stretches: &[Stretch]) -> Result<bool, CertFault>
+    ensures { MatchResult result
+        (λ named. AreShallow spans.now need stretches.now × (IsTrue named ↔ NameDepths spans.now stretches.now))
+        (λ fault. (fault ≡ CertFault.TooDeep) × (AreShallow spans.now need stretches.now → ⊥)) }
 {
-    stretches
-        .iter()
-        .all(|stretch| met_by(spans, stretch) < need)
-}
-
-/// Whether each stretch names the number of spans that meet it.
-fn name_depths(spans: &[Span], stretches: &[Stretch]) -> bool
-    ensures { IsTrue result ↔ All (λ s. s.depth ≡ meeting spans.now s) stretches.now }
-{
-    stretches.iter().all(|stretch| usize::from(stretch.depth) == met_by(spans, stretch))
+    let mut named = true;
+    for stretch in stretches {
+        let met = met_by(spans, stretch);
+        if met >= need {
+            return Err(CertFault::TooDeep);
+        }
+        named = named && usize::from(stretch.depth) == met;
+    }
+    Ok(named)
 }
 
 /// What a certificate shows.

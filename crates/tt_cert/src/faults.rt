@@ -1,9 +1,10 @@
 //! Why a certificate, or its text, is refused.
 
 ghost use Rattle.std.specs.Prelude.{◌≡◌};
-ghost use Rattle.tt_cert.specs.Fault.{number_of};
+ghost use Rattle.tt_cert.specs.Fault.{number_of, fault_of};
 
 use thiserror::Error;
+use tt_fuse::CountFault;
 
 /// Why a certificate, or its text, is refused.
 #[derive(Clone, Copy, Debug, PartialEq, Eq, Error)]
@@ -47,6 +48,18 @@ impl CertFault {
             CertFault::Depth => 605,
             CertFault::BadText => 606,
             CertFault::Memory => 1,
+        }
+    }
+}
+
+impl From<CountFault> for CertFault {
+    ghost from_gives = { λ count fault. fault ≡ fault_of count };
+
+    fn from(count: CountFault) -> CertFault {
+        match count {
+            CountFault::NoSource => CertFault::NoSource,
+            CountFault::TooMany => CertFault::TooMany,
+            CountFault::TooFew => CertFault::TooFew,
         }
     }
 }

@@ -4,12 +4,12 @@
 //! possible, and cuts all time below and above the claim into stretches, each with the number of sources that meet
 //! it. So it shows that both ends are possible times, and that no time outside the claim is. [`check`] says yes
 //! exactly where the certificate is valid, and then the claim is the fusion. [`certify`] gives the canonical
-//! certificate of a fusion. [`write_text`] and [`read_text`] keep certificates as text, and
+//! certificate of a fusion, and [`certify_by`] the same from the ends that the fusion was found by. [`write_text`] and [`read_text`] keep certificates as text, and
 //! [`line_at`] reads one line of such text.
 //!
 //! - `certificate`: `Certificate` and its `Stretch`es, as values.
 //! - `checking`: `check`, and what a certificate shows.
-//! - `certifying`: `certify`.
+//! - `certifying`: `certify`, `certify_by`.
 //! - `sweeping`: stretches of time, cut where spans begin and end.
 //! - `reading`: `read_text`, `line_at`, and what a line says. `writing`: `write_text`.
 //! - `faults`: why a certificate, or its text, is refused.
@@ -27,7 +27,7 @@ mod sweeping;
 mod writing;
 
 pub use certificate::{Certificate, Stretch};
-pub use certifying::certify;
+pub use certifying::{certify, certify_by};
 pub use checking::{certificate_laws, check};
 pub use faults::CertFault;
 pub use reading::{line_at, read_text, text_laws};

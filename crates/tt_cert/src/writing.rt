@@ -33,11 +33,11 @@ fn text_in(alloc: Global, claim: &Span, certificate: &Certificate) -> Result<Str
     ensures reads_back { IsReadable certificate.now → OnOk result (HasText claim.now certificate.now) }
 {
     let mut text = String::new(alloc);
-    push_line(alloc, &mut text, "claim", &[claim.lo(), claim.hi()])?;
-    push_line(alloc, &mut text, "left", &widened(certificate.left()))?;
-    push_line(alloc, &mut text, "right", &widened(certificate.right()))?;
-    push_stretches(alloc, &mut text, "below", certificate.below())?;
-    push_stretches(alloc, &mut text, "above", certificate.above())?;
+    push_line(&mut text, "claim", &[claim.lo(), claim.hi()])?;
+    push_line(&mut text, "left", &widened(certificate.left()))?;
+    push_line(&mut text, "right", &widened(certificate.right()))?;
+    push_stretches(&mut text, "below", certificate.below())?;
+    push_stretches(&mut text, "above", certificate.above())?;
     Ok(text)
 }
 
@@ -55,36 +55,24 @@ fn widened(sources: &[u8]) -> ArrayVec<u64, 16>
 }
 
 /// Writes the line of each stretch at the end, and sees that each depth is a byte.
-fn push_stretches(
-    alloc: Global,
-    text: &mut String,
-    word: &str,
-    stretches: &[Stretch],
-) -> Result<(), AllocError>
+fn push_stretches(text: &mut String, word: &str, stretches: &[Stretch]) -> Result<(), AllocError>
     ensures written { OnOk result (string_bytes text.new ≡ string_bytes text.old ++ flat_map (stretch_line word.now) stretches.now) }
     ensures bytes { OnOk result (All (λ s. s.depth ≤ 255) stretches.now) }
 {
     for stretch in stretches {
         let numbers = [stretch.from, stretch.to, u64::from(stretch.depth)];
-        push_line(alloc, text, word, &numbers)?;
+        push_line(text, word, &numbers)?;
     }
     Ok(())
 }
 
 /// Writes a line at the end: the word, and the numbers, each behind one space.
-fn push_line(
-    alloc: Global,
-    text: &mut String,
-    word: &str,
-    numbers: &[u64],
-) -> Result<(), AllocError>
+fn push_line(text: &mut String, word: &str, numbers: &[u64]) -> Result<(), AllocError>
     ensures { OnOk result (string_bytes text.new ≡ string_bytes text.old ++ line_of word.now numbers.now) }
 {
     text.push_str(word)?;
     for number in numbers {
-        text.push_str(" ")?;
-        let digits = number.to_string(alloc)?;
-        text.push_str(digits.as_str())?;
+        write!(text, " {number}")?;
     }
     text.push_str("\n")
 }

@@ -1,5 +1,7 @@
 -- The numbers of the refusals.
 use Rattle.std.specs.Prelude.{ℕ}
+use Rattle.tt_fuse.specs.declared.counts.CountFault.{CountFault}
+use Rattle.tt_fuse.specs.declared.counts.CountFault.TheVariants as count
 use Rattle.tt_daemon.specs.declared.configs.ConfigFault.{ConfigFault}
 use Rattle.tt_daemon.specs.declared.configs.ConfigFault.TheVariants as config
 use Rattle.tt_daemon.specs.declared.faults.DaemonFault.{DaemonFault}
@@ -17,3 +19,9 @@ abbrev pub number_of : DaemonFault → ℕ
 number_of daemon.ClockBack = 402
 number_of daemon.Unknown = 701
 number_of daemon.NoPoint = 504
+
+-- the reason why no machine can be set up with such a number of sources
+abbrev pub config_fault_of : CountFault → ConfigFault
+config_fault_of count.NoSource = config.NoSource
+config_fault_of count.TooMany = config.TooManySources
+config_fault_of count.TooFew = config.TooFewSources

@@ -2,11 +2,11 @@
 
 ghost use Rattle.std.specs.Prelude.{◌≡◌, ◌+◌, ◌*◌, ◌<◌, ◌≤◌, ◌↔◌, ◌⊎◌, IsOk, IfOk, IsErrOf};
 ghost use Rattle.tt_daemon.specs.Config.{IsConfiguration};
-ghost use Rattle.tt_daemon.specs.Fault.{config_number_of};
+ghost use Rattle.tt_daemon.specs.Fault.{config_number_of, config_fault_of};
 
 use std::marker::Model;
 use thiserror::Error;
-use tt_fuse::MAX_SOURCES;
+use tt_fuse::{CountFault, check_counts};
 use tt_span::{Drift, MAX_DRIFT};
 
 /// How many workers a machine has at most.
@@ -39,6 +39,18 @@ impl ConfigFault {
     }
 }
 
+impl From<CountFault> for ConfigFault {
+    ghost from_gives = { λ count fault. fault ≡ config_fault_of count };
+
+    fn from(count: CountFault) -> ConfigFault {
+        match count {
+            CountFault::NoSource => ConfigFault::NoSource,
+            CountFault::TooMany => ConfigFault::TooManySources,
+            CountFault::TooFew => ConfigFault::TooFewSources,
+        }
+    }
+}
+
 /// What a machine is set up with: how many sources it asks, how many of them may lie, the drift of its clock,
 /// and how many workers it has.
 #[derive(Clone, Copy, Debug, PartialEq, Eq)]
@@ -63,7 +75,7 @@ impl Model for Config {
 
 impl Config {
     /// The set-up with so many sources, of which `faulty` may lie, this drift, and so many workers. Refuses, in
-    /// this order: 501 `NoSource` where there is no source, 502 `TooManySources` above [`MAX_SOURCES`],
+    /// this order: 501 `NoSource` where there is no source, 502 `TooManySources` above [`MAX_SOURCES`](crate::MAX_SOURCES),
     /// 503 `TooFewSources` where there are fewer than `2 * faulty + 1`, 702 `Workers` where there is no worker or
     /// more than [`MAX_WORKERS`].
     pub fn new(
@@ -80,16 +92,7 @@ impl Config {
         ensures workers { IsErrOf result ConfigFault.Workers
             ↔ ((0 < sources) × (sources ≤ 16) × (2 * faulty + 1 ≤ sources) × ((workers ≡ 0) ⊎ (32 < workers))) }
     {
-        if sources == 0 {
-            return Err(ConfigFault::NoSource);
-        }
-        if sources > MAX_SOURCES {
-            return Err(ConfigFault::TooManySources);
-        }
-        // That is, fewer than `2 * faulty + 1`, which may be too large a number to write.
-        if faulty > (sources - 1) / 2 {
-            return Err(ConfigFault::TooFewSources);
-        }
+        check_counts(sources, faulty)?;
         if workers == 0 || workers > MAX_WORKERS {
             return Err(ConfigFault::Workers);
         }
@@ -102,7 +105,7 @@ impl Config {
         })
     }
 
-    /// How many sources the machine asks, from 1 to [`MAX_SOURCES`].
+    /// How many sources the machine asks, from 1 to [`MAX_SOURCES`](crate::MAX_SOURCES).
     pub fn sources(&self) -> usize
         ensures value { result ≡ self.now.sources }
         ensures valid { IsConfiguration self.now }

@@ -1,13 +1,14 @@
 //! Fusions with all that they were made of.
 
-ghost use Rattle.std.specs.Prelude.{◌≡◌, ℕ, ◌+◌, ◌*◌, ◌<◌, ◌≤◌, ◌↔◌, length, take, All, IsOk, IfOk, IsErrOf};
+ghost use Rattle.std.specs.Prelude.{◌≡◌, ℕ, ◌+◌, ◌*◌, ◌<◌, ◌≤◌, ◌↔◌, length, take, All, IsOk, IfOk, IsErrOf, MatchOption};
 ghost use Rattle.tt_span.specs.Interval.{IsInterval};
 ghost use Rattle.tt_fuse.specs.Fusion.{IsPossibleTime, HasNoPossibleTime, CanBeFused};
+ghost use Rattle.tt_fuse.specs.Ends.{AreEndsOf};
 ghost use Rattle.tt_daemon.specs.Publication.{IsPublication};
 
 use std::marker::Model;
-use tt_cert::{Certificate, certify};
-use tt_fuse::{FuseFault, MAX_SOURCES, fuse};
+use tt_cert::{Certificate, certify_by};
+use tt_fuse::{FuseFault, MAX_SOURCES, SortedEnds, check_counts};
 use tt_span::Span;
 
 /// A fusion with all that it was made of, as a machine publishes it: the clock reading at which it was made, the
@@ -41,7 +42,7 @@ impl Model for Fused {
 
 impl Fused {
     /// The fusion of the spans, of which at most `faulty` may be wrong, made when the clock showed `clock`, any
-    /// reading at all. Refuses as [`fuse`] does, in this order: 501 `NoSource` where there is no span, 502 `TooMany`
+    /// reading at all. Refuses as [`fuse`](tt_fuse::fuse) does, in this order: 501 `NoSource` where there is no span, 502 `TooMany`
     /// where there are more than [`MAX_SOURCES`], 503 `TooFew` where there are fewer than `2 * faulty + 1`, 504
     /// `NoPoint` where no time is possible.
     pub fn make(clock: u64, spans: &[Span], faulty: usize) -> Result<Fused, FuseFault>
@@ -57,14 +58,25 @@ impl Fused {
         // So its span is the fusion of the spans, and its certificate is the canonical one.
         ensures valid { IfOk result (λ p. IsPublication p) }
     {
-        let span = fuse(spans, faulty)?;
-        Ok(Fused {
+        check_counts(spans.len(), faulty)?;
+        Fused::of(clock, spans, &SortedEnds::of(spans), faulty).ok_or(FuseFault::NoPoint)
+    }
+
+    /// The same by the ends of the spans in their order, or None where no time is possible.
+    pub(crate) fn of(clock: u64, spans: &[Span], ends: &SortedEnds, faulty: usize) -> Option<Fused>
+        requires can { CanBeFused (length spans.now) faulty }
+        requires ends { AreEndsOf spans.now ends.now }
+        ensures { MatchOption result (HasNoPossibleTime spans.now faulty)
+            (λ p. (p.clock ≡ clock) × (p.spans ≡ spans.now) × (p.faulty ≡ faulty) × IsPublication p) }
+    {
+        let span = ends.fused(faulty)?;
+        Some(Fused {
             clock,
             span,
             spans: in_front(spans),
             sources: spans.len(),
             faulty,
-            certificate: certify(spans, faulty, &span),
+            certificate: certify_by(spans, ends, faulty, &span),
         })
     }
 

@@ -75,9 +75,3 @@ module _ (spans : List Interval) (i : Interval) where
               ],
         );
       }
-
-  pub AreSuspects-none : AreSuspects (take 0 spans) i []
-  AreSuspects-none = record {
-    ascending = λ j below. absurd (omega arith);
-    exact = λ j. (λ c. absurd (omega (arith, c.1)), λ suspect. absurd (omega (arith, suspect.0)));
-  }

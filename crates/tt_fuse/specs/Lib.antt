@@ -3,3 +3,4 @@ pub mod Fusion
 pub mod Depth
 pub mod Pairs
 pub mod Suspect
+pub mod Ends

@@ -4,12 +4,13 @@
 //! Each source names a span of time, and at most `faulty` of them name one that does not hold the true time. A
 //! time is possible when all sources but at most `faulty` have it in their span. [`fuse`] answers the least span
 //! that holds every possible time, so that it holds the true time and says as much about it as can be said.
-//! [`suspects`] names the sources whose span does not meet the answer. The ends of the spans in their order
-//! ([`ascending_lower_ends`], [`ascending_upper_ends`]) serve whoever sweeps over them, as the fusion does.
+//! [`suspects`] names the sources whose span does not meet the answer. [`SortedEnds`] has the ends of the spans in
+//! their order, which the fusion and its certificate share.
 //!
 //! This is the interval function of Marzullo and Owicki, *Maintaining the time in a distributed system* (1983),
 //! as Spanner uses it (Corbett et al., OSDI 2012, section 3).
 //!
+//! - `counts`: how many sources can be fused.
 //! - `fusion`: `fuse`, why there may be no fusion, and what a fusion is in other words.
 //! - `sorted`: the ends of spans in their order.
 //! - `suspecting`: `suspects`, and what is known of them.
@@ -17,12 +18,14 @@
 //! Times are whole nanoseconds, as in `tt_span`. Nothing here takes memory.
 #![tactic(auto)]
 
+mod counts;
 mod fusion;
 mod sorted;
 mod suspecting;
 
-pub use fusion::{FuseFault, MAX_SOURCES, fuse, fusion_laws};
-pub use sorted::{ascending_lower_ends, ascending_upper_ends};
+pub use counts::{CountFault, MAX_SOURCES, check_counts};
+pub use fusion::{FuseFault, fuse, fusion_laws};
+pub use sorted::SortedEnds;
 pub use suspecting::{suspect_laws, suspects};
 
 #[cfg(test)]

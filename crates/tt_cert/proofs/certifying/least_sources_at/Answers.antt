@@ -2,7 +2,7 @@ use Rattle.std.proofs.Common.{arith}
 use Rattle.std.proofs.lemmas.List.{length_push}
 use Rattle.std.proofs.lemmas.Bool.{false_from_ne_true, both_ways}
 use Rattle.tt_fuse.specs.Depth.{holds}
-use Rattle.tt_cert.proofs.Proving.{holds-from_Holds, Holds-from_holds}
+use Rattle.tt_fuse.proofs.Possible.{holds-from_Holds, Holds-from_holds}
 use Rattle.tt_cert.proofs.Least.{least-push, least-full, least-skip}
 use Rattle.tt_cert.proofs.certifying.least_sources_at.Goals as goal
 use Rattle.tt_cert.proofs.certifying.least_sources_at.Goals.{then-len-need+then-contains, else-len-need, else-len-need-via-then-len-need+else-contains, else-len-need-via-else-len-need}
