@@ -3,3 +3,6 @@ pub mod Lookup
 pub mod Machines
 pub mod Words
 pub mod Events
+pub mod Acts
+pub mod Lives
+pub mod Script

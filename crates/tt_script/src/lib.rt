@@ -14,13 +14,19 @@
 //! - `faults`: why a text is refused.
 #![tactic(auto)]
 
+mod acts;
 mod events;
 mod faults;
+mod lives;
 mod lookups;
 mod machines;
+mod scripts;
 mod words;
 
+pub use acts::{Acts, MAX_ACTS, act_laws};
 pub use events::MAX_EVENTS;
 pub use faults::ScriptFault;
+pub use lives::{Line, Live, LiveMaster, MAX_LIMIT, Session};
 pub use machines::DEFAULT_DRIFT;
+pub use scripts::{Script, read};
 
