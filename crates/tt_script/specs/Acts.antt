@@ -64,12 +64,13 @@ act_of d = do
 abbrev pub acts_if : Items → Result Items ScriptFault
 acts_if items = if nat_lt 0 (count_of items) && nat_le (count_of items) 64 then Ok items else Err WrongValue
 
--- the acts that an array lists
+-- the items of an array of acts
 abbrev pub act_items_in : Data → Result Items ScriptFault
 act_items_in d = do
   items ← wanted (as_array d)
   acts_if items
 
+-- the acts that an array lists
 abbrev pub acts_in : Data → Result (List Act) ScriptFault
 acts_in d = do
   items ← act_items_in d

@@ -25,8 +25,7 @@ abbrev pub payload_if : Result (List ℕ) FromHexError → Result (List ℕ) Scr
 payload_if (Ok bytes) = if nat_le (length bytes) 64 then Ok bytes else Err WrongValue
 payload_if (Err _) = Err WrongValue
 
--- the keys of each word, in their order
-
+-- the keys of `send`, in their order
 abbrev pub send_in : Members → Result Action ScriptFault
 send_in t = do
   machine ← small_at (codes "machine") t
@@ -34,6 +33,7 @@ send_in t = do
   clock ← time_at (codes "clock") t
   Ok (Send machine source clock)
 
+-- the keys of `answer`
 abbrev pub answer_in : Members → Result Action ScriptFault
 answer_in t = do
   packet ← any_at (codes "packet") t
@@ -42,6 +42,7 @@ answer_in t = do
   span ← span_if lo hi
   Ok (Answer packet span)
 
+-- the keys of `forge`
 abbrev pub forge_in : Members → Result Action ScriptFault
 forge_in t = do
   machine ← small_at (codes "machine") t
@@ -50,18 +51,21 @@ forge_in t = do
   payload ← payload_if (decode_of text)
   Ok (Forge machine source payload)
 
+-- the keys of `deliver`
 abbrev pub deliver_in : Members → Result Action ScriptFault
 deliver_in t = do
   packet ← any_at (codes "packet") t
   clock ← time_at (codes "clock") t
   Ok (Deliver packet clock)
 
+-- the keys of `fuse`
 abbrev pub fuse_in : Members → Result Action ScriptFault
 fuse_in t = do
   machine ← small_at (codes "machine") t
   clock ← time_at (codes "clock") t
   Ok (Fuse machine clock)
 
+-- the keys of `arrive`
 abbrev pub arrive_in : Members → Result Action ScriptFault
 arrive_in t = do
   machine ← small_at (codes "machine") t
@@ -71,6 +75,7 @@ arrive_in t = do
   floor ← any_at (codes "floor") t
   Ok (Arrive machine worker (record { session = session; number = number }) floor)
 
+-- the keys of `read`
 abbrev pub read_in : Members → Result Action ScriptFault
 read_in t = do
   machine ← small_at (codes "machine") t
@@ -79,7 +84,7 @@ read_in t = do
   publication ← any_at (codes "publication") t
   Ok (Read machine worker clock publication)
 
--- of a word that names a worker alone
+-- the keys of a word that names a worker alone
 abbrev pub worker_in : (ℕ → ℕ → Action) → Members → Result Action ScriptFault
 worker_in action t = do
   machine ← small_at (codes "machine") t
@@ -108,10 +113,11 @@ event_in t = do
   action ← action_in word t
   Ok (record { at = time; action = action })
 
--- the tables of the events, at most 4,096
+-- tables, at most 4,096
 abbrev pub events_if : Items → Result Items ScriptFault
 events_if items = if are_tables items then (if nat_le (count_of items) 4096 then Ok items else Err TooManyEvents) else Err WrongValue
 
+-- the tables of the events
 abbrev pub event_items_in : Data → Result Items ScriptFault
 event_items_in d = do
   items ← wanted (as_array d)

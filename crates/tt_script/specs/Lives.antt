@@ -44,10 +44,11 @@ master_in t = do
   acts ← acts_in d
   Ok (record { uncertainty = uncertainty; acts = acts })
 
--- an array of tables
+-- items that are tables
 abbrev pub tables_if : Items → Result Items ScriptFault
 tables_if items = if are_tables items then Ok items else Err WrongValue
 
+-- an array of tables
 abbrev pub tables_in : Data → Result Items ScriptFault
 tables_in d = do
   items ← wanted (as_array d)

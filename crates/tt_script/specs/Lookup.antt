@@ -18,11 +18,12 @@ wanted found = ok_or found WrongValue
 abbrev pub value_at : List ℕ → Members → Result Data ScriptFault
 value_at key t = required (get_member key t)
 
--- a whole number from 0 to the greatest
+-- a whole number from 0 to the greatest, if there is one
 abbrev pub within : ℕ → Option ℤ → Result ℕ ScriptFault
 within most (Some (pos n)) = if nat_le n most then Ok n else Err WrongValue
 within most _ = Err WrongValue
 
+-- a value that is such a number
 abbrev pub number_in : ℕ → Data → Result ℕ ScriptFault
 number_in most d = within most (as_integer d)
 

@@ -30,3 +30,5 @@ pub use lives::{Line, Live, LiveMaster, MAX_LIMIT, Session};
 pub use machines::DEFAULT_DRIFT;
 pub use scripts::{Script, read};
 
+#[cfg(test)]
+mod tests;

@@ -11,9 +11,7 @@ ghost use Rattle.tt_script.specs.Lives.{limit_at, master_in, masters_in, tables_
 use crate::acts::{Acts, acts_in};
 use crate::events::span_if;
 use crate::faults::ScriptFault;
-use crate::lookups::{
-    are_tables, found_at, items_in, number_at, optional_at, time_at, value_at,
-};
+use crate::lookups::{are_tables, found_at, items_in, number_at, optional_at, time_at, value_at};
 use std::alloc::Global;
 use std::marker::Model;
 use toml::value::Array;

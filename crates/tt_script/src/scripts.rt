@@ -1,6 +1,6 @@
 //! A whole script.
 
-ghost use Rattle.std.specs.Prelude.{◌≡◌, ◌<◌, ◌≤◌, length, option_copied, Ok, MatchResult};
+ghost use Rattle.std.specs.Prelude.{◌≡◌, ◌<◌, ◌≤◌, length, option_copied, IfOk, IfErr, Ok, MatchResult};
 ghost use Rattle.toml.specs.View.{table_view};
 ghost use Rattle.tt_script.specs.Fault.{IsRefusal};
 ghost use Rattle.tt_script.specs.Script.{script_of, script_in};
@@ -77,8 +77,8 @@ impl Script {
 /// In place of each of these it may refuse with 1 `Memory`, where an allocation failed. Keys with other names are
 /// ignored, whatever they hold.
 pub fn read(alloc: Global, text: &str) -> Result<Script, ScriptFault>
-    ensures { let defined = script_in text.now in
-        MatchResult result (λ script. defined ≡ Ok script) (IsRefusal defined) }
+    ensures found { IfOk result (λ script. script_in text.now ≡ Ok script) }
+    ensures refused { IfErr result (IsRefusal (script_in text.now)) }
 {
     match toml::table_from_str(alloc, text) {
         Ok(table) => script_of(alloc, &table),
