@@ -1,0 +1,34 @@
+//! Scripts: a run of the service, written down as text.
+//!
+//! A script is a TOML document (toml.io, version 1.1). It has the machines of a run, what happens to them event by
+//! event, and perhaps a part for a run in threads. docs/FORMATS.md lists its keys. [`read`] gives the script that a
+//! text says, or the first refusal in the order of that list; keys that are not listed are ignored.
+//!
+//! - `scripts`: a whole script, and [`read`].
+//! - `machines`: the machines' configurations.
+//! - `words`: the words that name what happens.
+//! - `events`: the events, and what each word's keys say.
+//! - `lives`: the part for a run in threads: [`Live`], its masters and its sessions.
+//! - `acts`: the acts of a master.
+//! - `lookups`: values of a table by their keys.
+//! - `faults`: why a text is refused.
+#![tactic(auto)]
+
+mod acts;
+mod events;
+mod faults;
+mod lives;
+mod lookups;
+mod machines;
+mod scripts;
+mod words;
+
+pub use acts::{Acts, MAX_ACTS, act_laws};
+pub use events::MAX_EVENTS;
+pub use faults::ScriptFault;
+pub use lives::{Line, Live, LiveMaster, MAX_LIMIT, Session};
+pub use machines::DEFAULT_DRIFT;
+pub use scripts::{Script, read};
+
+#[cfg(test)]
+mod tests;

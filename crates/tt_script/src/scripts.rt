@@ -1,0 +1,100 @@
+//! A whole script.
+
+ghost use Rattle.std.specs.Prelude.{◌≡◌, ◌<◌, ◌≤◌, length, option_copied, IfOk, IfErr, Ok, MatchResult};
+ghost use Rattle.toml.specs.View.{table_view};
+ghost use Rattle.tt_script.specs.Fault.{IsRefusal};
+ghost use Rattle.tt_script.specs.Script.{script_of, script_in};
+
+use crate::events::events_in;
+use crate::faults::ScriptFault;
+use crate::lives::{Live, live_at};
+use crate::machines::machines_in;
+use std::alloc::Global;
+use std::marker::Model;
+use toml::Table;
+use tt_daemon::Config;
+use tt_world::Event;
+
+/// A script: the machines of a run, what happens to them, and perhaps a part for a run in threads.
+#[derive(Debug, Drop)]
+pub struct Script {
+    configs: Vec<Config>,
+    events: Vec<Event>,
+    live: Option<Live>,
+}
+
+impl Model for Script {
+    ghost use Rattle.tt_script.specs.Script.{Scenario, IsScenario};
+
+    ghost Value = { Scenario };
+
+    ghost view = { λ s. record { configs = s.configs.items; events = s.events.items; live = s.live } };
+
+    ghost invariant = { λ s. IsScenario (record { configs = s.configs.items; events = s.events.items; live = s.live }) };
+}
+
+impl Script {
+    /// The set-ups of the machines, the first being that of machine 0: from one to eight.
+    pub fn configs(&self) -> &[Config]
+        ensures value { result.now ≡ self.now.configs }
+        ensures some { 0 < length result.now }
+        ensures few { length result.now ≤ 8 }
+    {
+        self.configs.as_slice()
+    }
+
+    /// What happens, in its order: at most [`MAX_EVENTS`](crate::MAX_EVENTS).
+    pub fn to_events(&self) -> &[Event]
+        ensures value { result.now ≡ self.now.events }
+        ensures few { length result.now ≤ 4096 }
+    {
+        self.events.as_slice()
+    }
+
+    /// The part for a run in threads, or None where the script has none.
+    pub fn live(&self) -> Option<&Live>
+        ensures value { option_copied result ≡ self.now.live }
+    {
+        self.live.as_ref()
+    }
+}
+
+/// The script that a text says.
+///
+/// Refuses with the first that applies, in this order:
+///
+/// - 1301 `NotToml`: the text is not TOML.
+/// - Of the machines, in their order, and of the keys of each in the order `sources`, `faulty`, `workers`, `drift`:
+///   1302 `MissingKey` where there is no machine or a key is absent, 1303 `WrongValue` where `machine` is no array of
+///   tables, has more than eight, or a key has a value of another type or out of range; and behind the keys of a
+///   machine, 1303 where no machine can be set up so.
+/// - 1303 where `event` is no array of tables, then 1305 `TooManyEvents` above [`MAX_EVENTS`](crate::MAX_EVENTS).
+/// - Of the events, in their order: 1302 and 1303 for `do`, 1304 `UnknownStep` where it is no word of an event, then
+///   1302 and 1303 for the keys of that word, in their order.
+/// - Of the part `live`: 1303 where it is no table, then 1302 and 1303 for its keys in the order `base`, `rounds`,
+///   `turns`, `masters` (of each master `uncertainty`, then `acts`), `sessions`, `lease_lo`, `lease_hi`.
+///
+/// In place of each of these it may refuse with 1 `Memory`, where an allocation failed. Keys with other names are
+/// ignored, whatever they hold.
+pub fn read(alloc: Global, text: &str) -> Result<Script, ScriptFault>
+    ensures found { IfOk result (λ script. script_in text.now ≡ Ok script) }
+    ensures refused { IfErr result (IsRefusal (script_in text.now)) }
+{
+    match toml::table_from_str(alloc, text) {
+        Ok(table) => script_of(alloc, &table),
+        Err(error) if error.is_memory() => Err(ScriptFault::Memory),
+        Err(_) => Err(ScriptFault::NotToml),
+    }
+}
+
+/// The script of a document.
+fn script_of(alloc: Global, table: &Table) -> Result<Script, ScriptFault>
+    ensures { let defined = script_of (table_view table.now) in
+        MatchResult result (λ script. defined ≡ Ok script) (IsRefusal defined) }
+{
+    Ok(Script {
+        configs: machines_in(alloc, table)?,
+        events: events_in(alloc, table)?,
+        live: live_at(alloc, table)?,
+    })
+}

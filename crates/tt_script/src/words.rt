@@ -1,0 +1,40 @@
+//! The words that name what happens.
+
+ghost use Rattle.std.specs.Prelude.{◌≡◌};
+ghost use Rattle.tt_script.specs.Words.{word_of};
+
+use crate::faults::ScriptFault;
+
+/// What an event is called.
+#[derive(Clone, Copy)]
+pub(crate) enum Word {
+    Send,
+    Answer,
+    Forge,
+    Deliver,
+    Fuse,
+    Arrive,
+    Read,
+    Stamp,
+    Queue,
+    Release,
+}
+
+/// The word that a text is.
+pub(crate) fn word_of(text: &str) -> Result<Word, ScriptFault>
+    ensures { result ≡ word_of text.now }
+{
+    match text {
+        "send" => Ok(Word::Send),
+        "answer" => Ok(Word::Answer),
+        "forge" => Ok(Word::Forge),
+        "deliver" => Ok(Word::Deliver),
+        "fuse" => Ok(Word::Fuse),
+        "arrive" => Ok(Word::Arrive),
+        "read" => Ok(Word::Read),
+        "stamp" => Ok(Word::Stamp),
+        "queue" => Ok(Word::Queue),
+        "release" => Ok(Word::Release),
+        _ => Err(ScriptFault::UnknownStep),
+    }
+}
