@@ -19,7 +19,7 @@ fn a_commit_begins_with_a_reading_of_its_own(rt: HostRuntime) -> Result<(), Fail
     let (fused, lease) = (fused()?, Span::new(0, 300)?);
     let (sequencer, mut seats) = Sequencer::open(rt.alloc(), 1)?;
     let mut seat = seats.pop().ok_or("a seat")?;
-    let mut clock = MemoryClock::new(&[50, 60, 60], None);
+    let mut clock = MemoryClock::new(&[50, 60], None);
     let (mut teller, mut watches) = open(&rt, rt.alloc(), drift()?, 1)?;
     let watch = &mut watches[0];
     let mut begin = |floor| begin_step(
@@ -32,8 +32,22 @@ fn a_commit_begins_with_a_reading_of_its_own(rt: HostRuntime) -> Result<(), Fail
         begin(10_000_000_261),
         Err(BeginFault::Stamp(StampFault::FloorTooFar))
     );
-    assert_eq!(rt; begin(301), Err(BeginFault::Stamp(StampFault::LeaseOver)));
     assert_eq!(rt; begin(0), Err(BeginFault::Read(ReadFault::ClockFailed)));
+    teller.close(&rt);
+    Ok(())
+}
+
+#[test]
+fn a_commit_begins_within_the_lease(rt: HostRuntime) -> Result<(), Fail> {
+    let (fused, lease) = (fused()?, Span::new(0, 249)?);
+    let (sequencer, mut seats) = Sequencer::open(rt.alloc(), 1)?;
+    let mut seat = seats.pop().ok_or("a seat")?;
+    let mut clock = MemoryClock::new(&[50], None);
+    let (mut teller, mut watches) = open(&rt, rt.alloc(), drift()?, 1)?;
+    let watch = &mut watches[0];
+    assert_eq!(rt; teller.publish(&rt, fused), Ok(()));
+    let begun = begin_step(&rt, &sequencer, &mut seat, watch, &mut clock, 0, &lease);
+    assert_eq!(rt; begun, Err(BeginFault::Stamp(StampFault::LeaseOver)));
     teller.close(&rt);
     Ok(())
 }
