@@ -168,7 +168,13 @@ fn a_later_lease_takes_what_an_earlier_one_refused(rt: HostRuntime) -> Result<()
         writer.taken(),
         b"refused 903\nwaiting 1 300\ncommitted 1 300\nrefused 903\n".as_slice()
     );
-    assert_eq!(rt; served, Ok(Served { lines: 4, refused: 2 }));
+    assert_eq!(rt;
+        served,
+        Ok(Served {
+            lines: 4,
+            refused: 2
+        })
+    );
     assert_eq!(rt; service.desk.book().history().len(), 2);
     Ok(())
 }
