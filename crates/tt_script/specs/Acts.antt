@@ -1,5 +1,5 @@
 -- The acts of a master, as texts.
-use Rattle.std.specs.Prelude.{codes, ℕ, ◌≤◌, ◌&&◌, Bool, nat_eq, nat_lt, nat_le, if◌then◌else◌, List, ◌++◌, length, drop, Option, Some, None, Result, Ok, Err}
+use Rattle.std.specs.Prelude.{codes, ℕ, ◌&&◌, nat_eq, nat_lt, nat_le, if◌then◌else◌, List, ◌++◌, length, drop, Option, Some, None, Result, Ok, Err}
 use Rattle.std.specs.Cmp.Lexicographic.{pointwise}
 use Rattle.std.specs.Fmt.{decimal}
 use Rattle.std.specs.Str.Parse.{digits_value}

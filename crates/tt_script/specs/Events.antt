@@ -1,9 +1,8 @@
 -- The events of a script.
 use Rattle.std.specs.Prelude.{codes, ℕ, nat_le, if◌then◌else◌, List, [], length, Option, Some, None, Result, Ok, Err}
-use Rattle.toml.specs.Data.{Data, Items, no_items, Members, get_member, as_array}
+use Rattle.toml.specs.Data.{Data, Items, Members, get_member, as_array}
 use Rattle.hex.specs.Hex.{decode_of}
 use Rattle.hex.specs.declared.error.FromHexError.{FromHexError}
-use Rattle.tt_span.specs.Time.{max_time}
 use Rattle.tt_world.specs.declared.events.Event.{Event}
 use Rattle.tt_world.specs.declared.events.Action.{Action}
 use Rattle.tt_world.specs.declared.events.Action.TheVariants.{Send, Answer, Forge, Deliver, Fuse, Arrive, Read, Stamp, Queue, Release}

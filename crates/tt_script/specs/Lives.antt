@@ -1,6 +1,6 @@
 -- The part of a script for a run in threads.
 use Rattle.std.specs.Prelude.{codes, ℕ, nat_lt, if◌then◌else◌, List, Option, Some, None, Result, Ok, Err}
-use Rattle.toml.specs.Data.{Data, Items, Members, get_member, as_str, as_array, as_table}
+use Rattle.toml.specs.Data.{Data, Items, Members, get_member, as_str, as_array}
 use Rattle.tt_span.specs.Time.{max_time}
 use Rattle.tt_span.specs.Interval.{Interval}
 use Rattle.tt_master.specs.declared.acts.Act.{Act}

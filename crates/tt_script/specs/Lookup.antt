@@ -1,6 +1,6 @@
 -- What a table has under a key.
-use Rattle.std.specs.Prelude.{ℕ, zero, suc, ℤ, pos, negsuc, ◌^◌, ◌-◌, ◌&&◌, Bool, true, false, nat_le, if◌then◌else◌, List, [], ◌∷◌, Option, Some, None, ok_or, is_some, Result, Ok, Err}
-use Rattle.toml.specs.Data.{Data, Items, no_items, item, Members, get_member, as_str, as_integer, as_array, as_table}
+use Rattle.std.specs.Prelude.{ℕ, suc, ℤ, pos, ◌^◌, ◌-◌, ◌&&◌, Bool, true, nat_le, if◌then◌else◌, List, [], ◌∷◌, Option, Some, None, ok_or, is_some, Result, Ok, Err}
+use Rattle.toml.specs.Data.{Data, Items, no_items, item, Members, get_member, as_str, as_integer, as_table}
 use Rattle.tt_span.specs.Time.{max_time}
 use Rattle.tt_script.specs.declared.faults.ScriptFault.{ScriptFault}
 use Rattle.tt_script.specs.declared.faults.ScriptFault.TheVariants.{MissingKey, WrongValue}

@@ -1,6 +1,6 @@
 -- The machines of a script.
-use Rattle.std.specs.Prelude.{codes, ℕ, ◌+◌, ◌*◌, ◌&&◌, Bool, nat_le, nat_lt, if◌then◌else◌, List, Result, Ok, Err}
-use Rattle.toml.specs.Data.{Data, Items, no_items, item, Members, as_array}
+use Rattle.std.specs.Prelude.{codes, ◌+◌, ◌*◌, ◌&&◌, Bool, nat_le, nat_lt, if◌then◌else◌, List, Result, Ok, Err}
+use Rattle.toml.specs.Data.{Items, no_items, item, Members, as_array}
 use Rattle.tt_span.specs.Drift.{max_drift}
 use Rattle.tt_daemon.specs.Config.{Configuration}
 use Rattle.tt_script.specs.declared.faults.ScriptFault.{ScriptFault}
