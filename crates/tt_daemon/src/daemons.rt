@@ -84,9 +84,17 @@ impl Daemon {
         self.table.known()
     }
 
+    /// Whether source `i` has made a statement: not so where there is no such source.
+    pub fn is_known(&self, i: u8) -> bool
+        ensures known_source { result ≡ is_known_of self.now.table i }
+    {
+        self.table.is_known(i)
+    }
+
     /// Polls source `i` when the clock shows `clock`: the bytes of a request with the nonce after the last one and
-    /// the daemon's epoch, for which the source now waits in place of an earlier one. Its statement stays. Refuses, in this order: 401
-    /// `NoSource` where `i` is no source, 402 `ClockBack`, 403 `NoncesUsedUp` where the last nonce was `u64::MAX`.
+    /// the daemon's epoch, for which the source now waits in place of an earlier one. Its statement stays. Refuses, in
+    /// this order: 401 `NoSource` where `i` is no source, 402 `ClockBack`, 403 `NoncesUsedUp` where the last nonce was
+    /// `u64::MAX`.
     pub fn poll(&mut self, i: u8, clock: u64) -> Result<[u8; REQUEST2_LEN], SourceFault>
         ensures polled { OnOk result (poll_of self.old.table i clock ≡ Ok self.new.table) }
         ensures request { IfOk result (λ bytes. bytes ≡ spelling_of2 (message.Request (record { machine = self.new.table.machine; source = i; nonce = self.new.table.last; epoch = self.new.table.epoch }))) }

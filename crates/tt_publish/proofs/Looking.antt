@@ -18,10 +18,6 @@ is_of_by : (v : Option Known) (x : Known) (source : Book) → source_of v ≡ So
 is_of_by None x source is h = absurd (cc is)
 is_of_by (Some k) x source is h = let same : k.source ≡ source = cc is in sym same ∙ h
 
--- who has just seen what is shown knows its source
-source_of-seen : (v w : Option Known) (x : Known) (source : Book) → source_of v ≡ Some source → Sees v x x w → source_of w ≡ Some source
-source_of-seen v w x source is seen = ap source_of seen.1 ∙ ap Some (sym (is_of_by v x source is seen.0))
-
 pub admits : Admits HasOneSource None
 admits x views h seat v at = ⊎_elim (h seat v) (λ (e : None ≡ v). subst (λ (z : Option Known). IsOf z x) e tt) (at_snoc views None v seat at)
 

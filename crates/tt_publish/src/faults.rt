@@ -52,9 +52,9 @@ impl ReadFault {
 pub enum PublishFault {
     #[error("the clock is below that of the last publication")]
     ClockBack,
-    #[error("so many watches are not to be had")]
+    #[error("no reader slot is free")]
     Places,
-    #[error("the publications are used up")]
+    #[error("no number is left for another publication")]
     UsedUp,
     #[error("out of memory")]
     Memory,

@@ -1,7 +1,7 @@
 //! What is known of the publications: the last one, beside the history that it ends.
 //!
-//! The history has each publication, and exists in the proofs alone: in memory are the last publication and their
-//! number. So what is known takes the same room however long the list is.
+//! The history has each publication, and exists in the proofs alone: in memory are the last publication and how many
+//! there are. So a front takes the same room however long the list is.
 
 ghost use Rattle.std.specs.Prelude.{◌≡◌, ◌-◌, ◌<◌, ◌^◌, ◌++◌, ◌∷◌, [], ◌↔◌, length, IsTrue, IfSome, Some, None, MatchOption};
 ghost use mathlib.Core.List.{IsPrefix};

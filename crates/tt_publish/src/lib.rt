@@ -1,13 +1,13 @@
 //! What a machine publishes of the time, and readings of it.
 //!
 //! A [`Reading`] is an interval that holds the true time, as Spanner's `TT.now()` gives it (OSDI 2012, section 3).
-//! A daemon tells its fusions to a [`Teller`]; many threads read the last of them, each through a [`Watch`] of
-//! its own, and age it by their clock. Nobody waits for a lock: a teller shows a fusion in one step, and a
-//! watch takes what is shown in one step.
+//! A daemon publishes its fusions through a [`Teller`]; many threads read the last of them, each through a
+//! [`Watch`] of its own, and age it by their clock. There is no lock: a teller shows a fusion in one atomic step,
+//! and a watch takes what is shown in one atomic step.
 //!
 //! What is published is a list, which only grows, and what a watch has seen of it never shrinks. Of what a watch
-//! has seen and what it is told (a [`Told`]) one begins the other, and the watch keeps the longer. So who has been
-//! told what a teller published reads no older publication from then on.
+//! has seen and what it is told (a [`Told`]) one is a prefix of the other, and the watch keeps the longer. So a
+//! thread that was told what a teller published reads no older publication from then on.
 //!
 //! - `faults`: what is answered where a call refuses.
 //! - `clocks`: the trait `Clock`. `memory`: a clock in memory.
@@ -16,7 +16,7 @@
 //! - `shows`: how one front is shown to many watches.
 //! - `teller`: `open`, `Teller` and `Told`. `watch`: `Watch`.
 //!
-//! No call that only reads takes memory or waits: `tell`, `learn` and `now`.
+//! The calls that only read, `tell`, `learn` and `now`, never wait and never allocate.
 #![tactic(auto)]
 
 mod clocks;

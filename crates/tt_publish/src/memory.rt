@@ -1,6 +1,6 @@
 //! A clock in memory, that gives the readings of a list and fails when told to: for tests, and for proofs over runs.
 
-ghost use Rattle.std.specs.Prelude.{◌≡◌, ◌↔◌, ◌⊎◌, ◌∷◌, [], Some, None, OnOk, OnErr, IfOk, IsErr, MatchResult};
+ghost use Rattle.std.specs.Prelude.{◌≡◌, ◌↔◌, ◌⊎◌, [], Some, None, OnOk, OnErr, IsErr, MatchResult};
 ghost use Rattle.tt_stream.specs.Counts.{HasFailed, count_after};
 ghost use Rattle.tt_publish.specs.Clock.{ClockState, GivesNext};
 

@@ -1,6 +1,6 @@
 //! Readings of the time.
 
-ghost use Rattle.std.specs.Prelude.{◌≡◌, ◌<◌, ◌≤◌, ◌↔◌, IsTrue, IsOk, IfOk, IsErrOf};
+ghost use Rattle.std.specs.Prelude.{◌≡◌, ◌↔◌, IsTrue, IsOk, IfOk, IsErrOf};
 ghost use Rattle.tt_span.specs.Interval.{IsInterval};
 ghost use Rattle.tt_daemon.specs.Publication.{Publication};
 ghost use Rattle.tt_publish.specs.Reading.{HasPassed, IsToCome, CanBeReadAt, reading_at};

@@ -1,6 +1,6 @@
 //! How one front is shown to many watches: two copies of it, of which readers take one with no lock.
 
-ghost use Rattle.std.specs.Prelude.{◌≡◌, ◌<◌, ◌≤◌, ◌^◌, [], drop, Some, IfOk, IfSome};
+ghost use Rattle.std.specs.Prelude.{◌≡◌, ◌<◌, ◌^◌, [], drop, Some, IfOk, IfSome, MatchResult};
 ghost use mathlib.Core.List.{IsPrefix};
 ghost use Rattle.left_right.specs.Sides.{view};
 ghost use Rattle.tt_publish.specs.Shown.{source_of};
@@ -81,7 +81,7 @@ pub type FrontReader = Reader<Front, Option<Front>, OneSource>;
 /// A teller's side of what is shown: it changes the copy that is not shown, and then shows that one.
 pub type FrontWriter = Writer<Front, Front, Option<Front>, OneSource>;
 
-/// A writer that shows this front to at most so many readers.
+/// A writer that shows this front to at most `readers` readers.
 ///
 /// It shows the front twice. A writer keeps at most two operations at a time, so room for all later ones is taken
 /// here.
@@ -92,6 +92,7 @@ pub fn writer_of<R: Wait>(
     readers: usize,
 ) -> Result<FrontWriter, AllocError>
     requires { (0 < readers) × (readers < 2 ^ 32) }
+    ensures shows { IfOk result (λ writer. writer.desk.shown.value ≡ front.now) }
     ensures idle { IfOk result (λ writer. drop writer.behind writer.log.items ≡ []) }
     ensures source { IfOk result (λ writer. source_of (view writer.desk.place) ≡ Some front.now.source) }
 {
@@ -112,7 +113,7 @@ pub fn writer_of<R: Wait>(
     }
 }
 
-/// Shows the front, unless memory is refused.
+/// Shows the front. Where an allocation failed, the writer shows what it showed before.
 pub fn show<R: Wait>(
     rt: &R,
     mut writer: FrontWriter,
@@ -120,6 +121,7 @@ pub fn show<R: Wait>(
 ) -> (FrontWriter, Result<(), AllocError>)
     requires idle { drop writer.behind writer.log.items ≡ [] }
     requires source { source_of (view writer.desk.place) ≡ Some front.now.source }
+    ensures shows { MatchResult result.1 (λ _. result.0.desk.shown.value ≡ front.now) (λ _. result.0.desk.shown.value ≡ writer.desk.shown.value) }
     ensures idle { drop result.0.behind result.0.log.items ≡ [] }
     ensures source { source_of (view result.0.desk.place) ≡ Some front.now.source }
 {
@@ -129,9 +131,10 @@ pub fn show<R: Wait>(
     }
 }
 
-/// A reader of what the writer shows. None where no place for it is free.
+/// A reader of what the writer shows. None where no reader slot is free.
 pub fn reader_of(writer: &mut FrontWriter) -> Option<FrontReader>
     ensures reader { IfSome result (λ reader. view reader.place ≡ view writer.old.desk.place) }
+    ensures shows { writer.new.desk.shown.value ≡ writer.old.desk.shown.value }
     ensures idle { drop writer.new.behind writer.new.log.items ≡ drop writer.old.behind writer.old.log.items }
     ensures source { view writer.new.desk.place ≡ view writer.old.desk.place }
 {

@@ -16,14 +16,14 @@ use tt_span::Drift;
 /// The most watches that one teller can show its publications to.
 pub const MAX_WATCHES: usize = 32;
 
-/// What a machine publishes its fusions by. Contracts see its source and the list of what it has published, oldest
-/// first.
+/// The writer's end: publishes the fusions of a machine. Contracts see its source and the list of what it has
+/// published, oldest first; its invariant says that this is what its watches are shown.
 ///
 /// It has no drop: end it by [`close`](Teller::close).
 pub struct Teller {
     head: Head,
     front: Front,
-    /// It is there between calls.
+    /// Present between calls.
     writer: Option<FrontWriter>,
 }
 
@@ -40,7 +40,9 @@ impl Model for Teller {
 
     ghost invariant = { λ t. (t.head ≡ head_of t.front.source)
         × MatchOption t.writer ⊥ (λ writer.
-        (drop writer.behind writer.log.items ≡ []) × (source_of (seen_at writer.desk.place) ≡ Some t.front.source)) };
+        (writer.desk.shown.value ≡ t.front)
+        × (drop writer.behind writer.log.items ≡ [])
+        × (source_of (seen_at writer.desk.place) ≡ Some t.front.source)) };
 }
 
 /// What a teller had published when it was asked. Contracts see the source and the list, oldest first.
@@ -57,10 +59,10 @@ impl Model for Told {
     ghost view = { λ t. t.front };
 }
 
-/// A teller that has published nothing, and so many watches of it, for machines whose clock has this drift.
+/// A teller that has published nothing, and `readers` watches of it, for machines whose clock has this drift.
 ///
-/// Refuses with 804 `Places` where `readers` is 0 or above [`MAX_WATCHES`], or no place for a reader was given,
-/// and with 1 `Memory` where memory is refused. It waits for no other thread.
+/// Refuses with 804 `Places` where `readers` is 0 or above [`MAX_WATCHES`], or no reader slot is free, and with
+/// 1 `Memory` where an allocation failed. It waits for no other thread.
 pub fn open<R: Wait>(
     rt: &R,
     alloc: Global,
@@ -98,19 +100,20 @@ impl Teller {
     /// Publishes a fusion: from now on the watches read it.
     ///
     /// Refuses, in this order: 802 `ClockBack` where its clock is below that of the last publication, 805 `UsedUp`
-    /// where 2^64 - 1 publications were made, 1 `Memory` where memory is refused. Then nothing is published, and
-    /// the fusion is dropped. It may wait for watches that are still looking at the publication before the last.
+    /// where 2^64 - 1 publications were made, 1 `Memory` where an allocation failed. Then nothing is published, the
+    /// watches are shown what they were shown before, and the fusion is dropped. It may wait for watches that are
+    /// still looking at the publication before the last.
     ///
-    /// [`open`](crate::open) takes the room for the two operations that are ever kept, so `publish` asks for no
-    /// memory. No clause says so; runs with failing allocations show it. If memory were refused all the same, each
-    /// later call that is not refused by 802 or 805 would answer `Memory` too.
+    /// [`open`](crate::open) takes the room for the two operations that are ever kept, so `publish` does not
+    /// allocate. No clause says so; runs with failing allocations show it. If an allocation failed all the same, each
+    /// later call that is not rejected with 802 or 805 would answer `Memory` too.
     pub fn publish<R: Wait>(&mut self, rt: &R, fused: Fused) -> Result<(), PublishFault>
         ensures published { OnOk result (self.new ≡ record self.old { items = self.old.items ++ fused ∷ [] }) }
         ensures unchanged { OnErr result (self.new ≡ self.old) }
         ensures source { self.new.source ≡ self.old.source }
         ensures clock_back { IsErrOf result PublishFault.ClockBack ↔ GoesBack self.old.items fused }
         ensures used_up { IsErrOf result PublishFault.UsedUp ↔ ((¬ GoesBack self.old.items fused) × (length self.old.items ≡ 18446744073709551615)) }
-        ensures places { ¬ IsErrOf result PublishFault.Places }
+        ensures no_places { ¬ IsErrOf result PublishFault.Places }
     {
         if self.front.goes_back(&fused) {
             return Err(PublishFault::ClockBack);
@@ -142,7 +145,7 @@ impl Teller {
         }
     }
 
-    /// Ends it. Its watches keep what they have seen. It waits for those that are looking.
+    /// Ends the teller. Its watches keep what they have seen. It waits for those that are looking.
     pub fn close<R: Wait>(self, rt: &R) {
         let Teller {
             head: _head,
@@ -152,7 +155,7 @@ impl Teller {
         writer.unwrap().take(rt);
     }
 
-    /// So many watches, of which none has seen more than this teller has published.
+    /// This many watches. Each has seen what this teller has published.
     fn watches(
         &mut self,
         alloc: Global,

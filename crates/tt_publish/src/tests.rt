@@ -114,6 +114,66 @@ fn the_last_fusion_is_read(rt: HostRuntime) -> Result<(), Fail> {
     Ok(())
 }
 
+// A clock that shows the same at each call, and publishes a fusion at its next one.
+#[derive(Drop)]
+struct PublishingClock<'a, R: Wait> {
+    rt: &'a R,
+    teller: &'a mut Teller,
+    next: Option<Fused>,
+    time: u64,
+}
+
+impl<'a, R: Wait> Clock for PublishingClock<'a, R> {
+    ghost gives = { λ before given after. Unit {0} };
+
+    ghost failed = { λ clock. 0 };
+
+    fn read(&mut self) -> Result<u64, ClockFault> {
+        if let Some(fusion) = self.next.take() {
+            let _ = self.teller.publish(self.rt, fusion);
+        }
+        Ok(self.time)
+    }
+
+    fn failures(&self) -> u64 {
+        0
+    }
+}
+
+#[test]
+fn a_watch_reads_each_fusion_once_it_is_published(rt: HostRuntime) -> Result<(), Fail> {
+    let first = fused(5, 40, 70).ok_or("a fusion")?;
+    let second = fused(5, 50, 60).ok_or("a fusion")?;
+    let mut clock = MemoryClock::new(&[5, 6, 7], None);
+    let (mut teller, mut watch, _other) = opened(&rt, rt.alloc(), 0).ok_or("watches")?;
+    assert_eq!(rt; teller.publish(&rt, first), Ok(()));
+    assert_eq!(rt; ends(watch.now(&mut clock)), Ok((40, 70)));
+    assert_eq!(rt; teller.publish(&rt, second), Ok(()));
+    assert_eq!(rt; ends(watch.now(&mut clock)), Ok((51, 61)));
+    assert_eq!(rt; ends(watch.now(&mut clock)), Ok((52, 62)));
+    teller.close(&rt);
+    Ok(())
+}
+
+#[test]
+fn a_watch_looks_before_it_reads_the_clock(rt: HostRuntime) -> Result<(), Fail> {
+    let first = fused(5, 40, 70).ok_or("a fusion")?;
+    let second = fused(5, 50, 60).ok_or("a fusion")?;
+    let (mut teller, mut watch, _other) = opened(&rt, rt.alloc(), 0).ok_or("watches")?;
+    assert_eq!(rt; teller.publish(&rt, first), Ok(()));
+    let mut clock = PublishingClock {
+        rt: &rt,
+        teller: &mut teller,
+        next: Some(second),
+        time: 5,
+    };
+    // The second fusion is published while the clock is read, so this call has not seen it.
+    assert_eq!(rt; ends(watch.now(&mut clock)), Ok((40, 70)));
+    assert_eq!(rt; ends(watch.now(&mut clock)), Ok((50, 60)));
+    teller.close(&rt);
+    Ok(())
+}
+
 #[test]
 fn a_watch_reads_what_it_was_told_once_its_teller_is_closed(rt: HostRuntime) -> Result<(), Fail> {
     let fusion = fused(5, 40, 70).ok_or("a fusion")?;

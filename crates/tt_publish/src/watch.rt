@@ -1,10 +1,10 @@
 //! What reads the publications.
 
-ghost use Rattle.std.specs.Prelude.{◌≡◌, ◌↔◌, [], Some, None, IfOk, OnOk, OnErr, IsErrOf};
+ghost use Rattle.std.specs.Prelude.{◌≡◌, Some};
 ghost use mathlib.Core.List.{IsPrefix};
 ghost use Rattle.left_right.specs.Sides.{view};
-ghost use Rattle.tt_stream.specs.Counts.{HasFailed};
-ghost use Rattle.tt_publish.specs.Known.{IsLonger, ReadsLast, MissesLast};
+ghost use Rattle.tt_publish.specs.Known.{IsLonger};
+ghost use Rattle.tt_publish.specs.Looks.{Looks};
 ghost use Rattle.tt_publish.specs.Shown.{source_of};
 
 use crate::clocks::Clock;
@@ -16,13 +16,13 @@ use crate::teller::Told;
 use std::marker::Model;
 use tt_span::Drift;
 
-/// What one thread reads publications by. It keeps the last one that it has seen.
+/// The reader's end, for one thread. It keeps the last publication that it has seen.
 ///
 /// Contracts see its source, the drift of the clock that it reads by, and the list of what it has seen, oldest
-/// first. It never waits and takes no memory, and may go to another thread.
+/// first. It never waits and never allocates, and may be moved to another thread.
 #[derive(Drop)]
 pub struct Watch {
-    /// It is there between calls.
+    /// Present between calls.
     reader: Option<FrontReader>,
     front: Front,
     drift: Drift,
@@ -54,8 +54,8 @@ impl Watch {
         }
     }
 
-    /// Takes in what a teller told. From now on it reads no older publication. The caller sees to it that both
-    /// came from one call of [`open`](crate::open).
+    /// Takes in what a teller told. From now on the watch reads no older publication. Requires: both came from one
+    /// call of [`open`](crate::open).
     pub fn learn(&mut self, told: &Told)
         requires { told.now.source ≡ self.old.source }
         ensures same { (self.new.source ≡ self.old.source) × (self.new.drift ≡ self.old.drift) }
@@ -72,14 +72,7 @@ impl Watch {
     /// `ClockFailed` where the clock gave no reading; 802 `ClockBack` where the clock is below that of the
     /// publication, or above the greatest time. A refused call may have seen more.
     pub fn now<C: Clock>(&mut self, clock: &mut C) -> Result<Reading, ReadFault>
-        ensures same { (self.new.source ≡ self.old.source) × (self.new.drift ≡ self.old.drift) }
-        ensures seen { IsPrefix self.old.items self.new.items }
-        ensures reading { IfOk result (λ reading. ReadsLast self.new (λ c. C.gives clock.old (Some c) clock.new) reading) }
-        ensures nothing { IsErrOf result ReadFault.Nothing ↔ (self.new.items ≡ []) }
-        ensures unread { IsErrOf result ReadFault.Nothing → clock.new ≡ clock.old }
-        ensures clock_failed { IsErrOf result ReadFault.ClockFailed → C.gives clock.old None clock.new × HasFailed (C.failed clock.old) (C.failed clock.new) }
-        ensures clock_back { IsErrOf result ReadFault.ClockBack → MissesLast self.new (λ c. C.gives clock.old (Some c) clock.new) }
-        ensures sound { ¬ IsErrOf result ReadFault.ClockFailed → C.failed clock.new ≡ C.failed clock.old }
+        ensures looks { Looks C.gives C.failed self.old clock.old result self.new clock.new }
     {
         self.look();
         let Some(last) = self.front.last() else {

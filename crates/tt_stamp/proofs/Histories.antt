@@ -1,7 +1,10 @@
 -- What is true of the histories of books.
-use Rattle.std.proofs.Common.{◌≡◌, ◌≢◌, ◌↔◌, ℕ, ◌<◌, ◌≤◌, ◌==◌, ◌||◌, cond, nat_le, Bool, true, false, List, [], ◌∷◌, length, Contains, Option, Some, None, is_some, MatchOption, ⊎_elim, refl, sym, ap, ◌∙◌, subst, arith}
+use Rattle.std.proofs.Common.{◌≡◌, ◌≢◌, ◌↔◌, ℕ, ◌<◌, ◌≤◌, ◌==◌, ◌||◌, cond, nat_le, Bool, true, false, List, [], ◌∷◌, ◌++◌, length, reverse, get_or, Contains, Option, Some, None, is_some, MatchOption, Result, Err, ⊎_elim, refl, sym, ap, ◌∙◌, subst, arith}
 use Rattle.std.specs.List.{AllByRecursion}
-use Rattle.std.proofs.lemmas.Bool.{true≢false, false≢true, cases_Bool, or_cases, eqb-true, eq-eqb, lt-leb, leb-false}
+use Rattle.std.proofs.lemmas.Bool.{true≢false, false≢true, cases_Bool, or_cases, eqb-true, eq-eqb, lt-leb, le-leb, leb-true, leb-false}
+use Rattle.std.proofs.Math.ListN.{get_or-append}
+use Rattle.std.proofs.Math.Seq.{get_or-append_seam}
+use Rattle.std.proofs.lemmas.List.{reverse-append, length-reverse}
 use Rattle.std.proofs.lemmas.List.Elements.{All-contains, All-from_recursion}
 use Rattle.std.proofs.lemmas.Option.{none-some}
 use Rattle.tt_stamp.specs.Ids.{same_id}
@@ -13,7 +16,8 @@ use Rattle.tt_stamp.specs.declared.commits.Entry.{Entry}
 use Rattle.tt_stamp.specs.declared.commits.Entry.TheVariants.{Queued, Passed}
 use Rattle.tt_stamp.specs.declared.commits.Standing.{Standing}
 use Rattle.tt_stamp.specs.declared.commits.Standing.TheVariants.{Waits, Released}
-use Rattle.tt_stamp.specs.declared.faults.BookFault.TheVariants.{Full, IdThere, StampThere}
+use Rattle.tt_stamp.specs.declared.faults.BookFault.{BookFault}
+use Rattle.tt_stamp.specs.declared.faults.BookFault.TheVariants.{Full, IdThere, StampThere, Memory}
 use Rattle.tt_stamp.proofs.Ids.{same_id-true, same_id-refl, eq-same_id, or_left, or_right, Contains-here, Contains-there, Contains-nil, Contains-cases}
 use Rattle.tt_stamp.proofs.Waiting.{AllByRecursion-weaker, AllByRecursion-insert_entry, AllByRecursion-remove_entry, Ascends, Ascends-insert_entry, Ascends-remove_entry, length-insert_entry-le, length-remove_entry-le}
 
@@ -119,6 +123,13 @@ pub first_queue_fault-none : (past : List Entry) (id : Id) (stamp : ℕ) → len
 first_queue_fault-none past id stamp room e f =
     fault_at past id stamp false false false (lt-leb _ _ room) e f
 
+-- the fault of a commit with a new id for which there is no memory
+pub first_queue_fault-no_memory : (past : List Entry) (id : Id) (stamp : ℕ) (fault : BookFault) (there : Bool) → length (waiting_of past) < max_waiting → has_id past id ≡ false → has_stamp past stamp ≡ there → fault ≡ cond there StampThere Memory → MatchOption (first_queue_fault past id stamp) (fault ≡ Memory) (λ f. ◌≡◌ {A = Result (Unit {0}) BookFault} (Err fault) (Err f))
+first_queue_fault-no_memory past id stamp fault true room new_id is e =
+    rw (first_queue_fault-stamp past id stamp room new_id is) (ap (λ (f : BookFault). let r : Result (Unit {0}) BookFault = Err f in r) e)
+first_queue_fault-no_memory past id stamp fault false room new_id is e =
+    rw (first_queue_fault-none past id stamp room new_id is) e
+
 -- ---- where a commit stands
 known : (past : List Entry) → AllByRecursion (λ (commit : ℕ × Id). has_id past (commit.1) ≡ true) (waiting_of past)
 known [] = tt
@@ -145,7 +156,7 @@ is_some-standing_of [] legal id = refl
 is_some-standing_of (Queued other s ∷ past) legal id =
     is_some_at (same_id other id) (has_id past id) Waits (standing_of past id) (is_some-standing_of past legal.1 id)
 is_some-standing_of (Passed r ∷ past) legal id =
-    is_some_kept (same_id r.id id) (has_id past id) (Released r) (standing_of past id) (λ e. ap (λ i. has_id past i) (sym (same_id-true r.id id e)) ∙ has_id-waits past r.stamp r.id legal.0.waits) (is_some-standing_of past legal.1 id)
+    is_some_kept (same_id r.id id) (has_id past id) (Released (length past)) (standing_of past id) (λ e. ap (λ i. has_id past i) (sym (same_id-true r.id id e)) ∙ has_id-waits past r.stamp r.id legal.0.waits) (is_some-standing_of past legal.1 id)
 
 none_from_test : (o : Option Standing) → is_some o ≡ false → o ≡ None
 none_from_test None e = refl
@@ -154,27 +165,75 @@ none_from_test (Some x) e = absurd (true≢false e)
 pub standing_of-new : (past : List Entry) → IsLegalHistory past → (id : Id) → has_id past id ≡ false → standing_of past id ≡ None
 standing_of-new past legal id e = none_from_test (standing_of past id) (is_some-standing_of past legal id ∙ e)
 
--- the receipt of a standing
-abbrev pub receipt_in : Option Standing → Option Receipt
-receipt_in None = None
-receipt_in (Some Waits) = None
-receipt_in (Some (Released r)) = Some r
+-- the commit has no receipt by this standing
+abbrev pub HasNoReceipt : Option Standing → Type 0
+HasNoReceipt (Some (Released place)) = ⊥
+HasNoReceipt _ = Unit {0}
 
-receipt_queued : (b : Bool) (o : Option Receipt) (rest : Option Standing) → (b ≡ true → o ≡ None) → o ≡ receipt_in rest → o ≡ receipt_in (cond b (Some Waits) rest)
-receipt_queued true o rest f e = f refl
-receipt_queued false o rest f e = e
+none_if_queued : (b : Bool) (o : Option Receipt) (rest : Option Standing) → (b ≡ true → rest ≡ None) → (HasNoReceipt rest → o ≡ None) → HasNoReceipt (cond b (Some Waits) rest) → o ≡ None
+none_if_queued true o rest new before h = before (subst HasNoReceipt (sym (new refl)) tt)
+none_if_queued false o rest new before h = before h
 
-receipt_passed : (b : Bool) (r : Receipt) (o : Option Receipt) (rest : Option Standing) → o ≡ receipt_in rest → cond b (Some r) o ≡ receipt_in (cond b (Some (Released r)) rest)
-receipt_passed true r o rest e = refl
-receipt_passed false r o rest e = e
+none_if_passed : (b : Bool) (r : Receipt) (place : ℕ) (o : Option Receipt) (rest : Option Standing) → (HasNoReceipt rest → o ≡ None) → HasNoReceipt (cond b (Some (Released place)) rest) → cond b (Some r) o ≡ None
+none_if_passed true r place o rest before h = absurd h
+none_if_passed false r place o rest before h = before h
 
-pub receipt_of-standing_of : (past : List Entry) → IsLegalHistory past → (id : Id) → receipt_of past id ≡ receipt_in (standing_of past id)
-receipt_of-standing_of [] legal id = refl
-receipt_of-standing_of (Queued other s ∷ past) legal id =
-    let before = receipt_of-standing_of past legal.1 id in
-    receipt_queued (same_id other id) (receipt_of past id) (standing_of past id) (λ e. before ∙ ap receipt_in (standing_of-new past legal.1 id (ap (λ i. has_id past i) (sym (same_id-true other id e)) ∙ has_id-new past other s legal.0))) before
-receipt_of-standing_of (Passed r ∷ past) legal id =
-    receipt_passed (same_id r.id id) r (receipt_of past id) (standing_of past id) (receipt_of-standing_of past legal.1 id)
+pub receipt_of-none : (past : List Entry) → IsLegalHistory past → (id : Id) → HasNoReceipt (standing_of past id) → receipt_of past id ≡ None
+receipt_of-none [] legal id h = refl
+receipt_of-none (Queued other s ∷ past) legal id h =
+    none_if_queued (same_id other id) (receipt_of past id) (standing_of past id) (λ e. standing_of-new past legal.1 id (ap (λ i. has_id past i) (sym (same_id-true other id e)) ∙ has_id-new past other s legal.0)) (receipt_of-none past legal.1 id) h
+receipt_of-none (Passed r ∷ past) legal id h =
+    none_if_passed (same_id r.id id) r (length past) (receipt_of past id) (standing_of past id) (receipt_of-none past legal.1 id) h
+
+-- the receipt of the commit, at this place of the history
+pub record IsReceiptAt (past : List Entry) (id : Id) (place : ℕ) : Type 0 where
+  pub receipt : Receipt
+  pub there : place < length past
+  pub is : (d : Entry) → get_or (reverse past) place d ≡ Passed receipt
+  pub found : receipt_of past id ≡ Some receipt
+
+reverse-cons : (e : Entry) (past : List Entry) → reverse (e ∷ past) ≡ reverse past ++ e ∷ []
+reverse-cons e past = reverse-append (e ∷ []) past
+
+-- it stays at its place while the history grows
+read_later : (e : Entry) (past : List Entry) (place : ℕ) (d : Entry) → place < length past → get_or (reverse (e ∷ past)) place d ≡ get_or (reverse past) place d
+read_later e past place d there =
+    ap (λ (h : List Entry). get_or h place d) (reverse-cons e past) ∙ get_or-append (reverse past) (e ∷ []) d place (omega (arith, there, length-reverse past))
+
+read_last : (e : Entry) (past : List Entry) (d : Entry) → get_or (reverse (e ∷ past)) (length past) d ≡ e
+read_last e past d =
+    ap (λ (h : List Entry). get_or h (length past) d) (reverse-cons e past) ∙ ap (λ (n : ℕ). get_or (reverse past ++ e ∷ []) n d) (sym (length-reverse past)) ∙ get_or-append_seam (reverse past) e [] d
+
+at_later : (e : Entry) (past : List Entry) (id : Id) (place : ℕ) → receipt_of (e ∷ past) id ≡ receipt_of past id → IsReceiptAt past id place → IsReceiptAt (e ∷ past) id place
+at_later e past id place same at = record {
+  receipt = at.receipt;
+  there = omega (arith, at.there);
+  is = λ d. read_later e past place d at.there ∙ at.is d;
+  found = same ∙ at.found;
+}
+
+at_if_queued : (b : Bool) (rest : Option Standing) (place : ℕ) (P : Type 0) → (rest ≡ Some (Released place) → P) → cond b (Some Waits) rest ≡ Some (Released place) → P
+at_if_queued true rest place P before e = absurd cc
+at_if_queued false rest place P before e = before e
+
+at_if_passed : (r : Receipt) (past : List Entry) (id : Id) (place : ℕ) (b : Bool) → same_id r.id id ≡ b → (standing_of past id ≡ Some (Released place) → IsReceiptAt past id place) → cond b (Some (Released (length past))) (standing_of past id) ≡ Some (Released place) → IsReceiptAt (Passed r ∷ past) id place
+at_if_passed r past id place true is before e =
+    let here : length past ≡ place = cc in
+    record {
+      receipt = r;
+      there = omega (arith, here);
+      is = λ d. ap (λ (n : ℕ). get_or (reverse (Passed r ∷ past)) n d) (sym here) ∙ read_last (Passed r) past d;
+      found = ap (λ (x : Bool). cond x (Some r) (receipt_of past id)) is;
+    }
+at_if_passed r past id place false is before e =
+    at_later (Passed r) past id place (ap (λ (x : Bool). cond x (Some r) (receipt_of past id)) is) (before e)
+
+pub IsReceiptAt-standing_of : (past : List Entry) (id : Id) (place : ℕ) → standing_of past id ≡ Some (Released place) → IsReceiptAt past id place
+IsReceiptAt-standing_of [] id place e = absurd cc
+IsReceiptAt-standing_of (Queued other s ∷ past) id place e =
+    at_if_queued (same_id other id) (standing_of past id) place (IsReceiptAt (Queued other s ∷ past) id place) (λ before. at_later (Queued other s) past id place refl (IsReceiptAt-standing_of past id place before)) e
+IsReceiptAt-standing_of (Passed r ∷ past) id place e =
+    at_if_passed r past id place _ refl (IsReceiptAt-standing_of past id place) e
 
 -- ---- what a receipt that is found says
 abbrev pub SaysOf : List Entry → Id → Option Receipt → Type 0
@@ -204,4 +263,48 @@ pub first_queue_fault-none-iff : (past : List Entry) (id : Id) (stamp : ℕ) →
 first_queue_fault-none-iff past id stamp = (
   λ none. no_fault past id stamp _ _ _ refl refl refl none,
   λ may. first_queue_fault-none past id stamp may.room (has_id-new past id stamp may) (has_stamp-new past id stamp may),
+)
+
+-- ---- each fault comes exactly where it is the first
+abbrev fault_by : (full there_id there_stamp : Bool) → Option BookFault
+fault_by full there_id there_stamp = cond full (Some Full) (cond there_id (Some IdThere) (cond there_stamp (Some StampThere) None))
+
+full_by : (full there_id there_stamp : Bool) → fault_by full there_id there_stamp ≡ Some Full → full ≡ true
+full_by true there_id there_stamp e = refl
+full_by false true there_stamp e = absurd cc
+full_by false false true e = absurd cc
+full_by false false false e = absurd cc
+
+id_by : (full there_id there_stamp : Bool) → fault_by full there_id there_stamp ≡ Some IdThere → (full ≡ false) × (there_id ≡ true)
+id_by true there_id there_stamp e = absurd cc
+id_by false true there_stamp e = (refl, refl)
+id_by false false true e = absurd cc
+id_by false false false e = absurd cc
+
+stamp_by : (full there_id there_stamp : Bool) → fault_by full there_id there_stamp ≡ Some StampThere → (full ≡ false) × (there_id ≡ false) × (there_stamp ≡ true)
+stamp_by true there_id there_stamp e = absurd cc
+stamp_by false true there_stamp e = absurd cc
+stamp_by false false true e = (refl, refl, refl)
+stamp_by false false false e = absurd cc
+
+has_id-not_there : (past : List Entry) (id : Id) → ¬ IsIdThere past id → has_id past id ≡ false
+has_id-not_there past id new = ⊎_elim (λ e. absurd (new (there-has_id past id e))) (λ e. e) (cases_Bool (has_id past id))
+
+pub first_queue_fault-full-iff : (past : List Entry) (id : Id) (stamp : ℕ) → (first_queue_fault past id stamp ≡ Some Full) ↔ (max_waiting ≤ length (waiting_of past))
+first_queue_fault-full-iff past id stamp = (
+  λ e. leb-true _ _ (full_by _ (has_id past id) (has_stamp past stamp) e),
+  λ full. fault_at past id stamp true _ _ (le-leb _ _ full) refl refl,
+)
+
+pub first_queue_fault-id-iff : (past : List Entry) (id : Id) (stamp : ℕ) → (first_queue_fault past id stamp ≡ Some IdThere) ↔ ((length (waiting_of past) < max_waiting) × IsIdThere past id)
+first_queue_fault-id-iff past id stamp = (
+  λ e. let is = id_by (nat_le max_waiting (length (waiting_of past))) (has_id past id) (has_stamp past stamp) e in (leb-false _ _ is.0, there-has_id past id is.1),
+  λ h. first_queue_fault-id past id stamp h.0 (has_id-there past id h.1),
+)
+
+pub first_queue_fault-stamp-iff : (past : List Entry) (id : Id) (stamp : ℕ) → (first_queue_fault past id stamp ≡ Some StampThere) ↔ ((length (waiting_of past) < max_waiting) × (¬ IsIdThere past id) × IsStampThere past stamp)
+first_queue_fault-stamp-iff past id stamp = (
+  λ e. let is = stamp_by (nat_le max_waiting (length (waiting_of past))) (has_id past id) (has_stamp past stamp) e in
+      (leb-false _ _ is.0, λ there. true≢false (sym (has_id-there past id there) ∙ is.1), there-has_stamp past stamp is.2),
+  λ h. first_queue_fault-stamp past id stamp h.0 (has_id-not_there past id h.1) (has_stamp-there past stamp h.2),
 )

@@ -8,3 +8,4 @@ pub mod Standings
 pub mod Runs
 pub mod Turns
 pub mod Seats
+pub mod Laws

@@ -1,11 +1,11 @@
 -- What a release takes from the commits that wait.
-use Rattle.std.proofs.Common.{◌++◌, reverse, append-nil, append_assoc, ◌≡◌, ℕ, ◌+◌, ◌<◌, ◌≤◌, ◌==◌, nat_lt, cond, not, Bool, List, [], ◌∷◌, length, map, filter, slice_get, All, Contains, Some, None, ⊎_elim, refl, sym, ap, ◌∙◌, subst, arith}
+use Rattle.std.proofs.Common.{◌++◌, reverse, append-nil, append_assoc, ◌≡◌, ℕ, zero, suc, ◌<◌, ◌≤◌, ◌==◌, nat_lt, cond, not, Bool, List, [], ◌∷◌, length, map, filter, slice_get, All, Contains, Some, ⊎_elim, refl, sym, ap, ◌∙◌, subst, arith}
 use Rattle.std.specs.declared.cmp.Ordering.TheVariants.{Less, Equal, Greater}
 use Rattle.std.specs.Ordering.{nat_cmp, is_le}
 use Rattle.std.specs.declared.ops.Bound.TheVariants.{Unbounded, Excluded}
 use Rattle.std.specs.BTreeMap.Range.{range_contains, entries_between}
 use Rattle.std.specs.List.{AllByRecursion}
-use Rattle.std.specs.List.Sorted.{IsStrictlySortedBy}
+use Rattle.std.specs.List.Sorted.{IsStrictlyIncreasing, IsStrictlySortedBy}
 use Rattle.std.specs.Map.{remove_entry}
 use Rattle.std.proofs.lemmas.Bool.{eq-eqb, le-ltb, lt-ltb, cases_lt}
 use Rattle.std.proofs.Math.ListN.{length-map}
@@ -13,7 +13,8 @@ use Rattle.std.proofs.lemmas.List.{reverse-append}
 use Rattle.std.proofs.lemmas.Option.{same_Some, none-some}
 use Rattle.std.proofs.lemmas.List.Elements.{filter_agree, All-contains, All-from_recursion, All-head}
 use Rattle.std.proofs.lemmas.Map.Keys.{IsStrictlyIncreasing-from_sorted}
-use Rattle.tt_stamp.specs.History.{waiting_of, stamp_on, IsNextReceipt, IsRelease, release_of, with_receipts}
+use Rattle.tt_stamp.specs.History.{waiting_of, stamp_on, IsNextReceipt, IsLegalHistory, IsRelease, release_of, with_receipts}
+use Rattle.tt_stamp.specs.Book.{IsReleaseTurn}
 use Rattle.tt_stamp.specs.declared.commits.Id.{Id}
 use Rattle.tt_stamp.specs.declared.commits.Receipt.{Receipt}
 use Rattle.tt_stamp.specs.declared.commits.Entry.{Entry}
@@ -108,7 +109,6 @@ remove_entry-head first waiting stamp id e =
 -- ---- one step of a release
 pub record IsReleaseStep (waiting rest : List Commit) (earliest : ℕ) (receipt : Receipt) : Type 0 where
   pub receipts : release_of waiting earliest ≡ receipt ∷ release_of rest earliest
-  pub fewer : length waiting ≡ length rest + 1
 
 step_at : (waiting : List Commit) (earliest : ℕ) (receipt : Receipt) → Ascends waiting → Contains waiting (receipt.stamp, receipt.id) → All (λ (c : Commit). receipt.stamp ≤ c.0) waiting → slice_get (release_of waiting earliest) 0 ≡ Some receipt → IsReleaseStep waiting (remove_entry (λ s. receipt.stamp == s) waiting) earliest receipt
 step_at [] earliest receipt asc there least e = absurd (Contains-nil _ there)
@@ -121,7 +121,6 @@ step_at (first ∷ waiting) earliest receipt asc there least e =
     let same = same_Some (receipt_for earliest first) receipt (sym (ap (λ rs. slice_get rs 0) whole) ∙ e) in
     let step : IsReleaseStep (first ∷ waiting) (remove_entry (λ s. receipt.stamp == s) (first ∷ waiting)) earliest receipt = record {
       receipts = whole ∙ ap (λ r. r ∷ release_of waiting earliest) same ∙ ap (λ w. receipt ∷ release_of w earliest) (sym rest);
-      fewer = omega (arith, ap length rest);
     } in
     step)
     (λ (later : earliest ≤ first.0). absurd (none-some receipt (sym (ap (λ rs. slice_get rs 0) (release_of-past_head first waiting earliest asc later)) ∙ e)))
@@ -130,10 +129,6 @@ step_at (first ∷ waiting) earliest receipt asc there least e =
 pub IsReleaseStep-next : (past : List Entry) (earliest : ℕ) (receipt : Receipt) → IsNextReceipt past receipt → slice_get (release_of (waiting_of past) earliest) 0 ≡ Some receipt → IsReleaseStep (waiting_of past) (waiting_of (Passed receipt ∷ past)) earliest receipt
 IsReleaseStep-next past earliest receipt next e =
     step_at (waiting_of past) earliest receipt (Ascends-waiting_of past) next.waits next.least e
-
-pub empty_from_none : {X : Type 0} (xs : List X) → slice_get xs 0 ≡ None → xs ≡ []
-empty_from_none [] e = refl
-empty_from_none (x ∷ xs) e = absurd (none-some x (sym e))
 
 -- ---- what is computed is the release
 abbrev Right : List Commit → ℕ → Receipt → Type 0
@@ -201,22 +196,71 @@ IsRelease-release_of past earliest = record {
   ascending = IsStrictlyIncreasing-from_sorted _ (sorted_released (waiting_of past) earliest (Ascends-waiting_of past));
 }
 
--- ---- one turn of the loop of a release
-pub record IsReleaseTurn (past now : List Entry) (earliest : ℕ) : Type 0 where
-  pub same_end : with_receipts (release_of (waiting_of past) earliest) past ≡ with_receipts (release_of (waiting_of now) earliest) now
-  pub receipts : length (release_of (waiting_of past) earliest) ≡ length (release_of (waiting_of now) earliest) + 1
-  pub fewer : length (waiting_of past) ≡ length (waiting_of now) + 1
+-- ---- the stamps of the commits that wait rise
+above_waiting : (stamp : ℕ) (waiting : List Commit) → AllByRecursion (λ (c : Commit). stamp < c.0) waiting → AllByRecursion (λ (t : ℕ). nat_cmp stamp t ≡ Less) (map (λ (c : Commit). c.0) waiting)
+above_waiting stamp [] all = tt
+above_waiting stamp (commit ∷ waiting) all =
+    (nat_cmp-Less stamp (commit.0) all.0, above_waiting stamp waiting all.1)
 
+sorted_waiting : (waiting : List Commit) → Ascends waiting → IsStrictlySortedBy nat_cmp (map (λ (c : Commit). c.0) waiting)
+unfolding IsStrictlySortedBy
+sorted_waiting [] asc = tt
+sorted_waiting (commit ∷ waiting) asc =
+    (above_waiting (commit.0) waiting asc.0, sorted_waiting waiting asc.1)
+
+pub IsStrictlyIncreasing-waiting_of : (past : List Entry) → IsStrictlyIncreasing (map (λ (c : Commit). c.0) (waiting_of past))
+IsStrictlyIncreasing-waiting_of past =
+    IsStrictlyIncreasing-from_sorted _ (sorted_waiting (waiting_of past) (Ascends-waiting_of past))
+
+-- ---- one turn of a release
 turn_at : (past : List Entry) (earliest : ℕ) (receipt : Receipt) → IsReleaseStep (waiting_of past) (waiting_of (Passed receipt ∷ past)) earliest receipt → IsReleaseTurn past (Passed receipt ∷ past) earliest
 turn_at past earliest receipt step = record {
   same_end = ap (λ rs. with_receipts rs past) step.receipts;
-  receipts = omega (arith, ap length step.receipts);
-  fewer = step.fewer;
+  fewer = omega (arith, ap length step.receipts);
 }
 
 pub IsReleaseTurn-next : (past now : List Entry) (earliest : ℕ) (receipt : Receipt) → now ≡ Passed receipt ∷ past → IsNextReceipt past receipt → Some receipt ≡ slice_get (release_of (waiting_of past) earliest) 0 → IsReleaseTurn past now earliest
 IsReleaseTurn-next past now earliest receipt is next first =
     subst (λ (h : List Entry). IsReleaseTurn past h earliest) (sym is) (turn_at past earliest receipt (IsReleaseStep-next past earliest receipt next (sym first)))
+
+-- a commit waits where one is to be released
+pub waits-released : (waiting : List Commit) (earliest : ℕ) → 0 < length (release_of waiting earliest) → 0 < length waiting
+waits-released [] earliest h = absurd (omega (arith, h))
+waits-released (commit ∷ waiting) earliest h = omega arith
+
+-- the first that waits is released where one is
+pub sure-first : (waiting : List Commit) (earliest : ℕ) (commit : Commit) → Ascends waiting → slice_get waiting 0 ≡ Some commit → 0 < length (release_of waiting earliest) → commit.0 < earliest
+sure-first waiting earliest commit asc first h =
+    ⊎_elim
+    (λ (sure : commit.0 < earliest). sure)
+    (λ (later : earliest ≤ commit.0). absurd (omega (arith, h, ap length (release_of-first_later waiting earliest commit asc first later))))
+    (cases_lt (commit.0) earliest)
+
+-- ---- the history after a release is legal
+first_there : (waiting : List Commit) → 0 < length waiting → (commit : Commit) × (slice_get waiting 0 ≡ Some commit)
+first_there [] h = absurd (omega (arith, h))
+first_there (commit ∷ waiting) h = (commit, refl)
+
+no_receipts : (receipts : List Receipt) → length receipts ≡ 0 → receipts ≡ []
+no_receipts [] e = refl
+no_receipts (r ∷ receipts) e = absurd (omega (arith, e))
+
+legal_after : (n : ℕ) (past : List Entry) (earliest : ℕ) → length (release_of (waiting_of past) earliest) ≡ n → IsLegalHistory past → IsLegalHistory (with_receipts (release_of (waiting_of past) earliest) past)
+legal_after zero past earliest e legal =
+    subst (λ (rs : List Receipt). IsLegalHistory (with_receipts rs past)) (sym (no_receipts (release_of (waiting_of past) earliest) e)) legal
+legal_after (suc n) past earliest e legal =
+    let waiting : List Commit = waiting_of past in
+    let some : 0 < length (release_of waiting earliest) = omega (arith, e) in
+    let first = first_there waiting (waits-released waiting earliest some) in
+    let sure = sure-first waiting earliest (first.0) (Ascends-waiting_of past) (first.1) some in
+    let next = IsNextReceipt-first past (first.0) earliest (first.1) sure in
+    let receipt : Receipt = receipt_for earliest (first.0) in
+    let step = IsReleaseStep-next past earliest receipt next (release_of-first_sure waiting earliest (first.0) (first.1) sure) in
+    subst (λ (rs : List Receipt). IsLegalHistory (with_receipts rs past)) (sym step.receipts)
+    (legal_after n (Passed receipt ∷ past) earliest (omega (arith, e, ap length step.receipts)) (next, legal))
+
+pub IsLegalHistory-release : (past : List Entry) (earliest : ℕ) → IsLegalHistory past → IsLegalHistory (with_receipts (release_of (waiting_of past) earliest) past)
+IsLegalHistory-release past earliest legal = legal_after _ past earliest refl legal
 
 -- ---- receipts stand at the end of the history
 pub reverse-with_receipts : (past : List Entry) (receipts : List Receipt) → reverse (with_receipts receipts past) ≡ reverse past ++ map (λ (r : Receipt). Passed r) receipts

@@ -1,9 +1,10 @@
 -- The stamp that is computed is the least that may be given.
-use Rattle.std.proofs.Common.{◌≡◌, ℕ, ◌+◌, ◌<◌, ◌≤◌, max, nat_lt, nat_le, cond, Bool, true, false, List, [], ◌∷◌, All, Option, Some, None, unwrap_or, Ok, Err, refl, ap, ◌∙◌, arith}
+use Rattle.std.proofs.Common.{◌≡◌, ℕ, ◌+◌, ◌<◌, ◌≤◌, max, nat_lt, nat_le, cond, Bool, true, false, List, [], ◌∷◌, All, Option, Some, None, unwrap_or, Result, Ok, Err, refl, sym, ap, subst, ◌∙◌, arith}
 use Rattle.std.proofs.lemmas.Bool.{ltb-true, ltb-false, leb-true, leb-false}
 use Rattle.std.proofs.lemmas.List.Elements.{All-nil, All-cons, All-head, All-tail}
 use Rattle.tt_span.specs.Time.{max_time}
 use Rattle.tt_stamp.specs.Stamp.{max_ahead, MayGive, IsLeastStamp, HasNoStamp, IsTooFar, IsAnswer, least_above, least_from, stamp_of, greatest_of}
+use Rattle.tt_stamp.specs.declared.faults.StampFault.{StampFault}
 use Rattle.tt_stamp.specs.declared.faults.StampFault.TheVariants.{UsedUp, FloorTooFar}
 
 -- the number after the greatest stamp, or 0 where there is none
@@ -67,6 +68,10 @@ answer_by_floor given latest floor false e =
 pub IsAnswer-stamp_of : (given : List ℕ) (latest floor : ℕ) → IsAnswer given latest floor (stamp_of given latest floor)
 IsAnswer-stamp_of given latest floor = answer_by_floor given latest floor _ refl
 
+-- the answer by the least number above all stamps given
+abbrev stamp_by : ℕ → ℕ → ℕ → Result ℕ StampFault
+stamp_by latest floor above = cond (nat_lt (latest + max_ahead) floor) (Err FloorTooFar) (cond (nat_le (max (max latest floor) above) max_time) (Ok (max (max latest floor) above)) (Err UsedUp))
+
 greatest_below_after : (s : ℕ) (last : Option ℕ) → after last ≤ s → max s (unwrap_or last 0) ≡ s
 greatest_below_after s None h = omega arith
 greatest_below_after s (Some t) h = omega arith
@@ -75,3 +80,14 @@ greatest_below_after s (Some t) h = omega arith
 pub greatest_of-cons : (given : List ℕ) (s : ℕ) → least_above given ≤ s → greatest_of (s ∷ given) ≡ Some s
 greatest_of-cons given s h =
     ap (λ n. Some n) (greatest_below_after s (greatest_of given) (omega (arith, least_above-from_greatest given)))
+
+-- the answer depends on the greatest of the stamps given alone
+pub stamp_of-same_greatest : (given other : List ℕ) (latest floor : ℕ) → greatest_of given ≡ greatest_of other → stamp_of given latest floor ≡ stamp_of other latest floor
+stamp_of-same_greatest given other latest floor e =
+    ap (stamp_by latest floor) (least_above-from_greatest given ∙ ap after e ∙ sym (least_above-from_greatest other))
+
+-- a stamp that is given is the greatest
+pub greatest_of-given : (given : List ℕ) (latest floor s : ℕ) → stamp_of given latest floor ≡ Ok s → greatest_of (s ∷ given) ≡ Some s
+greatest_of-given given latest floor s e =
+    let answer : IsAnswer given latest floor (Ok s) = subst (IsAnswer given latest floor) e (IsAnswer-stamp_of given latest floor) in
+    greatest_of-cons given s (least_above-le_from_All given s answer.1.may_give.above_all)

@@ -1,25 +1,25 @@
 -- What a book keeps beside its history, step by step.
-use Rattle.std.proofs.Common.{◌≡◌, ℕ, ◌+◌, ◌<◌, ◌≤◌, ◌==◌, cond, Bool, true, false, List, [], ◌∷◌, ◌++◌, length, reverse, All, Contains, Option, Some, None, is_some, IsSome, IfSome, IfNone, Result, Ok, Err, is_err, OnOk, OnErr, vec_len, vec_capacity, refl, sym, ap, ◌∙◌, subst, arith}
+use Rattle.std.proofs.Common.{◌≡◌, ℕ, ◌+◌, ◌<◌, ◌≤◌, ◌==◌, ◌||◌, cond, not, Bool, true, false, List, [], ◌∷◌, ◌++◌, length, reverse, get_or, All, Contains, Option, Some, None, is_some, IfNone, Result, Ok, Err, is_err, OnOk, OnErr, vec_len, vec_capacity, refl, sym, ap, ◌∙◌, subst, arith}
 use Rattle.std.proofs.lemmas.Bool.{true≢false, false≢true, eqb-true}
-use Rattle.std.proofs.lemmas.List.{reverse-append}
+use Rattle.std.proofs.lemmas.List.{reverse-append, reverse-reverse, length-reverse}
 use Rattle.std.specs.BTreeMap as tree
-use Rattle.std.specs.BTreeMap.{is_at}
+use Rattle.std.specs.BTreeMap.{is_at, insert_entry}
 use Rattle.std.specs.BTreeSet as sorted
 use Rattle.std.specs.Map.{remove_entry}
 use Rattle.std.specs.Ordering.{nat_cmp}
 use Rattle.tt_stamp.specs.Ids.{id_cmp, same_id}
-use Rattle.tt_stamp.specs.History.{waiting_of, has_id, has_stamp, IsLegalHistory, IsNextReceipt, receipt_of}
+use Rattle.tt_stamp.specs.History.{waiting_of, has_id, has_stamp, IsLegalHistory, IsNextReceipt, MayQueue, receipt_of}
 use Rattle.tt_stamp.specs.Book.{standing_of, history_of, IsBook}
 use Rattle.tt_stamp.specs.declared.books.Book.TheInside.{Inside}
 use Rattle.tt_stamp.specs.declared.commits.Id.{Id}
 use Rattle.tt_stamp.specs.declared.commits.Receipt.{Receipt}
 use Rattle.tt_stamp.specs.declared.commits.Entry.{Entry}
-use Rattle.tt_stamp.specs.declared.commits.Entry.TheVariants.{Passed}
+use Rattle.tt_stamp.specs.declared.commits.Entry.TheVariants.{Queued, Passed}
 use Rattle.tt_stamp.specs.declared.commits.Standing.{Standing}
 use Rattle.tt_stamp.specs.declared.commits.Standing.TheVariants.{Waits, Released}
 use Rattle.tt_stamp.proofs.Ids.{same_id-true, is_at-id_cmp, is_eq-nat_cmp}
 use Rattle.tt_stamp.proofs.Waiting.{Ascends}
-use Rattle.tt_stamp.proofs.Histories.{standing_of-new, is_some-standing_of, receipt_in, receipt_of-standing_of, Ascends-waiting_of}
+use Rattle.tt_stamp.proofs.Histories.{standing_of-new, is_some-standing_of, HasNoReceipt, receipt_of-none, IsReceiptAt-standing_of, Ascends-waiting_of}
 use Rattle.tt_stamp.proofs.Releases.{head_is_least, remove_entry-head}
 
 -- an id that was put in and taken out again
@@ -44,6 +44,14 @@ pub has_stamp-undone : (past : List Entry) (stamp q : ℕ) → has_stamp past st
 has_stamp-undone past stamp q new =
     stamp_out (is_at (nat_cmp stamp) q) (has_stamp past q) (λ e. ap (λ s. has_stamp past s) (sym (eqb-true stamp q (sym (is_eq-nat_cmp stamp q) ∙ e))) ∙ new)
 
+either_way : (b there : Bool) → cond b true there ≡ (b || there)
+either_way true there = refl
+either_way false there = refl
+
+has_stamp-queued : (past : List Entry) (stamp q : ℕ) → cond (is_at (nat_cmp stamp) q) true (has_stamp past q) ≡ ((stamp == q) || has_stamp past q)
+has_stamp-queued past stamp q =
+    ap (λ b. cond b true (has_stamp past q)) (is_eq-nat_cmp stamp q) ∙ either_way (stamp == q) (has_stamp past q)
+
 -- ---- a book that is kept, after each kind of change
 pub reverse-push : (xs : List Entry) (e : Entry) → reverse (xs ++ e ∷ []) ≡ e ∷ reverse xs
 reverse-push xs e = reverse-append xs (e ∷ [])
@@ -60,16 +68,30 @@ IsBook-refused b n kept history waiting stands stamps room =
       room = room;
     }
 
+-- a commit was queued
+pub IsBook-queued : (b n : Inside) (id : Id) (stamp : ℕ) → IsBook b → MayQueue (history_of b) id stamp → n.history.items ≡ b.history.items ++ Queued id stamp ∷ [] → n.waiting.entries ≡ insert_entry nat_cmp b.waiting.entries stamp id → ((q : Id) → tree.get id_cmp n.standings q ≡ cond (is_at (id_cmp id) q) (Some Waits) (tree.get id_cmp b.standings q)) → ((q : ℕ) → sorted.contains nat_cmp n.stamps q ≡ cond (is_at (nat_cmp stamp) q) true (sorted.contains nat_cmp b.stamps q)) → vec_len n.history + tree.btree_map_len n.waiting ≤ vec_capacity n.history → IsBook n
+IsBook-queued b n id stamp kept may history waiting stands stamps room =
+    let past : List Entry = history_of b in
+    let now : Queued id stamp ∷ past ≡ history_of n = sym (ap reverse history ∙ reverse-push b.history.items (Queued id stamp)) in
+    record {
+      legal = subst IsLegalHistory now (may, kept.legal);
+      waits = waiting ∙ ap (λ (w : List (ℕ × Id)). insert_entry nat_cmp w stamp id) kept.waits ∙ ap waiting_of now;
+      stands = λ q. stands q ∙ ap (cond (is_at (id_cmp id) q) (Some Waits)) (kept.stands q) ∙ standing_of-queued past id q Waits ∙ ap (λ h. standing_of h q) now;
+      stamps = λ q. stamps q ∙ ap (cond (is_at (nat_cmp stamp) q) true) (kept.stamps q) ∙ has_stamp-queued past stamp q ∙ ap (λ h. has_stamp h q) now;
+      room = room;
+    }
+
 -- a commit was released
-pub IsBook-passed : (b n : Inside) (r : Receipt) (first : ℕ × Id) → IsBook b → IsNextReceipt (history_of b) r → n.history.items ≡ b.history.items ++ Passed r ∷ [] → b.waiting.entries ≡ first ∷ n.waiting.entries → ((q : Id) → tree.get id_cmp n.standings q ≡ cond (is_at (id_cmp r.id) q) (Some (Released r)) (tree.get id_cmp b.standings q)) → n.stamps ≡ b.stamps → vec_len n.history + tree.btree_map_len n.waiting ≤ vec_capacity n.history → IsBook n
-IsBook-passed b n r first kept next history waiting stands stamps room =
+pub IsBook-passed : (b n : Inside) (r : Receipt) (first : ℕ × Id) (place : ℕ) → IsBook b → IsNextReceipt (history_of b) r → n.history.items ≡ b.history.items ++ Passed r ∷ [] → b.waiting.entries ≡ first ∷ n.waiting.entries → ((q : Id) → tree.get id_cmp n.standings q ≡ cond (is_at (id_cmp r.id) q) (Some (Released place)) (tree.get id_cmp b.standings q)) → place ≡ vec_len b.history → n.stamps ≡ b.stamps → vec_len n.history + tree.btree_map_len n.waiting ≤ vec_capacity n.history → IsBook n
+IsBook-passed b n r first place kept next history waiting stands last stamps room =
     let now : Passed r ∷ history_of b ≡ history_of n = sym (ap reverse history ∙ reverse-push b.history.items (Passed r)) in
     let waits : first ∷ n.waiting.entries ≡ waiting_of (history_of b) = sym waiting ∙ kept.waits in
+    let as_long : place ≡ length (history_of b) = omega (arith, last, length-reverse b.history.items) in
     let is = head_is_least first n.waiting.entries r.stamp r.id (subst Ascends (sym waits) (Ascends-waiting_of (history_of b))) (subst (λ (w : List (ℕ × Id)). Contains w (r.stamp, r.id)) (sym waits) next.waits) (subst (λ (w : List (ℕ × Id)). All (λ (c : ℕ × Id). r.stamp ≤ c.0) w) (sym waits) next.least) in
     record {
       legal = subst IsLegalHistory now (next, kept.legal);
       waits = sym (remove_entry-head first n.waiting.entries r.stamp r.id is) ∙ ap (remove_entry (λ s. r.stamp == s)) waits ∙ ap waiting_of now;
-      stands = λ q. stands q ∙ ap (cond (is_at (id_cmp r.id) q) (Some (Released r))) (kept.stands q) ∙ standing_of-queued (history_of b) r.id q (Released r) ∙ ap (λ h. standing_of h q) now;
+      stands = λ q. stands q ∙ ap (cond (is_at (id_cmp r.id) q) (Some (Released place))) (kept.stands q) ∙ ap (λ (n : ℕ). cond (is_at (id_cmp r.id) q) (Some (Released n)) (standing_of (history_of b) q)) as_long ∙ standing_of-queued (history_of b) r.id q (Released (length (history_of b))) ∙ ap (λ h. standing_of h q) now;
       stamps = λ q. ap (λ s. sorted.contains nat_cmp s q) stamps ∙ kept.stamps q ∙ ap (λ h. has_stamp h q) now;
       room = room;
     }
@@ -83,10 +105,9 @@ pub on_ok : {T E : Type 0} (r : Result T E) (P : Type 0) → is_err r ≡ false 
 on_ok (Ok x) P e h = h
 on_ok (Err x) P e h = absurd (true≢false e)
 
-pub popped : (old new : List (ℕ × Id)) (o : Option (ℕ × Id)) (c : ℕ × Id) → Contains old c → (0 < length old → IsSome o) → IfSome o (λ p. old ≡ p ∷ new) → (p : ℕ × Id) × (old ≡ p ∷ new)
-popped old new None c there some taken =
-    absurd (false≢true (some (omega (arith, there.1))))
-popped old new (Some p) c there some taken = (p, taken)
+not_not : (b : Bool) → not (not b) ≡ b
+not_not true = refl
+not_not false = refl
 
 -- ---- what a look-up says of the history
 pub has_id-looked_up : (b : Inside) (now : List Entry) (id : Id) (result answer : Bool) → IsBook b → history_of b ≡ now → result ≡ is_some (tree.get id_cmp b.standings id) → result ≡ answer → has_id now id ≡ answer
@@ -97,9 +118,32 @@ pub has_stamp-looked_up : (b : Inside) (now : List Entry) (stamp : ℕ) (result 
 has_stamp-looked_up b now stamp result answer kept is looked e =
     ap (λ h. has_stamp h stamp) (sym is) ∙ sym (kept.stamps stamp) ∙ sym looked ∙ e
 
-pub receipt_of-looked_up : (b : Inside) (now : List Entry) (id : Id) (found : Option Standing) → IsBook b → history_of b ≡ now → found ≡ tree.get id_cmp b.standings id → receipt_in found ≡ receipt_of now id
-receipt_of-looked_up b now id found kept is looked =
-    ap receipt_in (looked ∙ kept.stands id) ∙ sym (receipt_of-standing_of (history_of b) kept.legal id) ∙ ap (λ h. receipt_of h id) is
+-- an answer whether a stamp is new
+pub has_stamp-answered : (b : Inside) (now : List Entry) (stamp : ℕ) (new : Bool) → IsBook b → history_of b ≡ now → new ≡ not (sorted.contains nat_cmp b.stamps stamp) → has_stamp now stamp ≡ not new
+has_stamp-answered b now stamp new kept is answered =
+    has_stamp-looked_up b now stamp _ _ kept is refl (sym (not_not (sorted.contains nat_cmp b.stamps stamp)) ∙ ap not (sym answered))
+
+-- what a standing that was looked up says of the receipt
+pub receipt_of-looked_up : (b : Inside) (now : List Entry) (id : Id) (found : Option Standing) → IsBook b → history_of b ≡ now → found ≡ tree.get id_cmp b.standings id → HasNoReceipt found → receipt_of now id ≡ None
+receipt_of-looked_up b now id found kept is looked none =
+    ap (λ h. receipt_of h id) (sym is) ∙ receipt_of-none (history_of b) kept.legal id (subst HasNoReceipt (looked ∙ kept.stands id) none)
+
+-- the receipt that stands at a place that was looked up
+pub record IsReceiptKept (b : Inside) (now : List Entry) (id : Id) (place : ℕ) : Type 0 where
+  pub receipt : Receipt
+  pub there : place < vec_len b.history
+  pub is : (d : Entry) → get_or b.history.items place d ≡ Passed receipt
+  pub found : receipt_of now id ≡ Some receipt
+
+pub IsReceiptKept-looked_up : (b : Inside) (now : List Entry) (id : Id) (place : ℕ) → IsBook b → history_of b ≡ now → Some (Released place) ≡ tree.get id_cmp b.standings id → IsReceiptKept b now id place
+IsReceiptKept-looked_up b now id place kept is looked =
+    let at = IsReceiptAt-standing_of (history_of b) id place (sym (kept.stands id) ∙ sym looked) in
+    record {
+      receipt = at.receipt;
+      there = omega (arith, at.there, length-reverse b.history.items);
+      is = λ d. ap (λ (h : List Entry). get_or h place d) (sym (reverse-reverse b.history.items)) ∙ at.is d;
+      found = ap (λ h. receipt_of h id) (sym is) ∙ at.found;
+    }
 
 pub IfNone-from : {X : Type 0} (o : Option X) (P : Type 0) → P → IfNone o P
 IfNone-from None P p = p

@@ -1,10 +1,10 @@
 -- What a book keeps beside its history, so that each question takes a look-up.
-use Rattle.std.specs.Prelude.{ℕ, ◌≡◌, ◌+◌, ◌≤◌, if◌then◌else◌, List, [], ◌∷◌, reverse, Option, Some, None, vec_len, vec_capacity}
+use Rattle.std.specs.Prelude.{ℕ, ◌≡◌, ◌+◌, ◌≤◌, if◌then◌else◌, List, [], ◌∷◌, length, reverse, Option, Some, None, vec_len, vec_capacity}
 use Rattle.std.specs.Ordering.{nat_cmp}
 use Rattle.std.specs.BTreeMap as tree
 use Rattle.std.specs.BTreeSet as sorted
 use Rattle.tt_stamp.specs.Ids.{same_id, id_cmp}
-use Rattle.tt_stamp.specs.History.{waiting_of, has_stamp, IsLegalHistory}
+use Rattle.tt_stamp.specs.History.{waiting_of, release_of, with_receipts, has_stamp, IsLegalHistory}
 use Rattle.tt_stamp.specs.declared.commits.Id.{Id}
 use Rattle.tt_stamp.specs.declared.commits.Entry.{Entry}
 use Rattle.tt_stamp.specs.declared.commits.Entry.TheVariants.{Queued, Passed}
@@ -12,11 +12,11 @@ use Rattle.tt_stamp.specs.declared.commits.Standing.{Standing}
 use Rattle.tt_stamp.specs.declared.commits.Standing.TheVariants.{Waits, Released}
 use Rattle.tt_stamp.specs.declared.books.Book.TheInside.{Inside}
 
--- where a commit stands after a history, if it was queued
+-- where a commit stands after a history, if it was queued; a receipt has as many entries before it as its place says
 abbrev pub standing_of : List Entry → Id → Option Standing
 standing_of [] id = None
 standing_of (Queued other stamp ∷ past) id = if same_id other id then Some Waits else standing_of past id
-standing_of (Passed receipt ∷ past) id = if same_id receipt.id id then Some (Released receipt) else standing_of past id
+standing_of (Passed receipt ∷ past) id = if same_id receipt.id id then Some (Released (length past)) else standing_of past id
 
 -- the history of a book, newest first
 abbrev pub history_of : Inside → List Entry
@@ -29,3 +29,8 @@ pub record IsBook (b : Inside) : Type 0 where
   pub stands : (id : Id) → tree.get id_cmp b.standings id ≡ standing_of (history_of b) id
   pub stamps : (stamp : ℕ) → sorted.contains nat_cmp b.stamps stamp ≡ has_stamp (history_of b) stamp
   pub room : vec_len b.history + tree.btree_map_len b.waiting ≤ vec_capacity b.history
+
+-- one turn of a release: one receipt fewer is to come, and with those that are to come the history ends alike
+pub record IsReleaseTurn (past now : List Entry) (earliest : ℕ) : Type 0 where
+  pub same_end : with_receipts (release_of (waiting_of past) earliest) past ≡ with_receipts (release_of (waiting_of now) earliest) now
+  pub fewer : length (release_of (waiting_of past) earliest) ≡ length (release_of (waiting_of now) earliest) + 1

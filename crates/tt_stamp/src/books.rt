@@ -1,9 +1,13 @@
 //! The commits that wait until their stamps have surely passed.
 
-ghost use Rattle.std.specs.Prelude.{◌≡◌, ◌≢◌, ℕ, ◌+◌, ◌<◌, ◌≤◌, ◌↔◌, List, [], ◌∷◌, ◌++◌, length, reverse, map, Contains, Some, None, Ok, Err, IsOk, IfOk, OnOk, OnErr, IsErrOf, IfSome, IfNone, MatchOption, IsOkUnless, IsSome, if◌then◌else◌, slice_get};
+ghost use Rattle.std.specs.Prelude.{◌≡◌, ◌≢◌, ℕ, ◌+◌, ◌<◌, ◌≤◌, ◌↔◌, List, [], ◌∷◌, ◌++◌, length, reverse, map, Contains, Some, None, Ok, Err, IsOk, OnOk, OnErr, IfSome, IfNone, MatchOption, IsOkUnless, IsSome, if◌then◌else◌};
+ghost use Rattle.std.specs.List.Sorted.{IsStrictlyIncreasing};
 ghost use Rattle.std.specs.BTreeMap as tree;
 ghost use Rattle.std.specs.BTreeMap.{is_at};
-ghost use Rattle.tt_stamp.specs.History.{MayQueue, Waits, IsNextReceipt, IsLegalHistory, IsRelease, IsIdThere, IsStampThere, waiting_of, released_of, release_of, with_receipts, first_queue_fault, receipt_of, max_waiting};
+ghost use Rattle.std.specs.BTreeSet as sorted;
+ghost use Rattle.std.specs.Ordering.{nat_cmp};
+ghost use Rattle.tt_stamp.specs.History.{MayQueue, Waits, IsLegalHistory, IsRelease, IsIdThere, IsStampThere, waiting_of, released_of, release_of, with_receipts, first_queue_fault, receipt_of, max_waiting};
+ghost use Rattle.tt_stamp.specs.Book.{IsReleaseTurn};
 ghost use Rattle.tt_stamp.specs.Ids.{id_cmp};
 ghost use Rattle.tt_stamp.specs.declared.commits.Id.{Id};
 ghost use Rattle.tt_stamp.specs.declared.commits.Entry.{Entry};
@@ -71,34 +75,31 @@ impl Book {
         if self.waiting() >= MAX_WAITING {
             return Err(BookFault::Full);
         }
-        if self.standings.contains_key(&id) {
-            return Err(BookFault::IdThere);
+        match self.standings.insert(id, Standing::Waits) {
+            Ok(None) => {}
+            Ok(Some(standing)) => {
+                // It stays where it stood.
+                set_standing(&mut self.standings, id, standing);
+                return Err(BookFault::IdThere);
+            }
+            Err(_) => return Err(no_memory_for(&self.stamps, stamp)),
         }
-        if self.stamps.contains(&stamp) {
-            return Err(BookFault::StampThere);
+        match self.stamps.insert(stamp) {
+            Ok(true) => {}
+            Ok(false) => {
+                let _ = self.standings.remove(&id);
+                return Err(BookFault::StampThere);
+            }
+            Err(_) => {
+                let _ = self.standings.remove(&id);
+                return Err(BookFault::Memory);
+            }
         }
-        match self.append(id, stamp) {
-            Ok(()) => Ok(()),
-            Err(AllocError) => Err(BookFault::Memory),
-        }
-    }
-
-    // Appends the entry of a commit that may be queued.
-    fn append(&mut self, id: Id, stamp: u64) -> Result<(), AllocError>
-        requires { MayQueue self.old id stamp }
-        ensures ok { OnOk result (self.new ≡ Entry.Queued id stamp ∷ self.old) }
-        ensures err { OnErr result (self.new ≡ self.old) }
-    {
-        self.history.reserve(self.waiting.len() + 2)?;
-        self.standings.insert(id, Standing::Waits)?;
-        if self.stamps.insert(stamp).is_err() {
-            let _ = self.standings.remove(&id);
-            return Err(AllocError);
-        }
-        if self.waiting.insert(stamp, id).is_err() {
+        let room = self.history.reserve(self.waiting.len() + 2);
+        if room.is_err() || self.waiting.insert(stamp, id).is_err() {
             let _ = self.standings.remove(&id);
             let _ = self.stamps.remove(&stamp);
-            return Err(AllocError);
+            return Err(BookFault::Memory);
         }
         self.history.push_reserved(Entry::Queued { id, stamp });
         Ok(())
@@ -114,11 +115,11 @@ impl Book {
             × (self.new ≡ with_receipts receipts self.old) × (result ≡ length receipts) }
     {
         let earliest = reading.earliest();
-        let before = self.waiting();
-        while let Some(receipt) = self.next_receipt(earliest) {
-            self.pass(receipt);
+        let count = self.releasable(reading);
+        for _ in 0..count {
+            self.pass(earliest);
         }
-        before - self.waiting()
+        count
     }
 
     /// How many commits a release with this reading lets go.
@@ -128,30 +129,21 @@ impl Book {
         self.waiting.range(..reading.earliest()).count()
     }
 
-    // The receipt of the waiting commit with the least stamp, if that stamp is below the earliest.
-    fn next_receipt(&self, earliest: u64) -> Option<Receipt>
-        ensures first { result ≡ slice_get (release_of (waiting_of self.now) earliest) 0 }
-        ensures next { IfSome result (IsNextReceipt self.now) }
+    // Releases the waiting commit with the least stamp, which is below the earliest.
+    fn pass(&mut self, earliest: u64)
+        requires { 0 < length (release_of (waiting_of self.old) earliest) }
+        ensures { IsReleaseTurn self.old self.new earliest }
     {
-        let (stamp, id) = self.waiting.first_key_value()?;
-        if *stamp >= earliest {
-            return None;
-        }
-        Some(Receipt {
-            id: *id,
-            stamp: *stamp,
+        let Some((stamp, id)) = self.waiting.pop_first() else {
+            unreachable!()
+        };
+        let place = self.history.len();
+        set_standing(&mut self.standings, id, Standing::Released(place));
+        self.history.push_reserved(Entry::Passed(Receipt {
+            id,
+            stamp,
             earliest,
-        })
-    }
-
-    // Appends the receipt of the commit that is to be released next.
-    fn pass(&mut self, receipt: Receipt)
-        requires { IsNextReceipt self.old receipt }
-        ensures { self.new ≡ Entry.Passed receipt ∷ self.old }
-    {
-        let _ = self.waiting.pop_first();
-        mark_released(&mut self.standings, receipt);
-        self.history.push_reserved(Entry::Passed(receipt));
+        }));
     }
 
     /// The receipt of a commit, if it was released.
@@ -160,10 +152,13 @@ impl Book {
         ensures found { IfSome result (λ receipt. (receipt.id ≡ id) × Contains (released_of self.now) receipt) }
         ensures none { IfNone result ((receipt : Receipt) → Contains (released_of self.now) receipt → receipt.id ≢ id) }
     {
-        match self.standings.get(&id)? {
-            Standing::Waits => None,
-            Standing::Released(receipt) => Some(*receipt),
-        }
+        let Standing::Released(place) = *self.standings.get(&id)? else {
+            return None;
+        };
+        let Entry::Passed(receipt) = self.history[place] else {
+            unreachable!()
+        };
+        Some(receipt)
     }
 
     /// How many commits wait: at most [`MAX_WAITING`].
@@ -183,25 +178,51 @@ impl Book {
     }
 }
 
-/// A commit may be queued exactly where no fault is found; after a legal history those commits wait that were queued
-/// and that no later receipt names; the receipts of a release are one for each waiting commit
-/// whose stamp is below the earliest, least stamp first; and they stand at the end of the history.
+/// Laws of histories.
+///
+/// A commit may be queued exactly where no fault is found, and each fault is found exactly where its reason holds and
+/// none before it in the order. After a legal history those commits wait that were queued and that no later receipt
+/// names; the stamps of those that wait rise strictly. The receipts of a release are one for each waiting commit whose
+/// stamp is below the earliest, least stamp first; they stand at the end of the history, which stays legal.
 pub fn book_laws()
     ensures queue { (past : List Entry) (id : Id) (stamp : ℕ) →
         (first_queue_fault past id stamp ≡ None) ↔ MayQueue past id stamp }
+    ensures full { (past : List Entry) (id : Id) (stamp : ℕ) →
+        (first_queue_fault past id stamp ≡ Some BookFault.Full) ↔ (max_waiting ≤ length (waiting_of past)) }
+    ensures id_there { (past : List Entry) (id : Id) (stamp : ℕ) →
+        (first_queue_fault past id stamp ≡ Some BookFault.IdThere)
+        ↔ ((length (waiting_of past) < max_waiting) × IsIdThere past id) }
+    ensures stamp_there { (past : List Entry) (id : Id) (stamp : ℕ) →
+        (first_queue_fault past id stamp ≡ Some BookFault.StampThere)
+        ↔ ((length (waiting_of past) < max_waiting) × (¬ IsIdThere past id) × IsStampThere past stamp) }
     ensures waiting { (past : List Entry) (id : Id) (stamp : ℕ) → IsLegalHistory past →
         Contains (waiting_of past) (stamp, id) ↔ Waits past id stamp }
+    ensures rising { (past : List Entry) →
+        IsStrictlyIncreasing (map (λ commit. commit.0) (waiting_of past)) }
     ensures release { (past : List Entry) (earliest : ℕ) →
         IsRelease (waiting_of past) earliest (release_of (waiting_of past) earliest) }
     ensures history { (past : List Entry) (receipts : List Receipt) →
         reverse (with_receipts receipts past) ≡ reverse past ++ map (λ receipt. Entry.Passed receipt) receipts }
+    ensures legal { (past : List Entry) (earliest : ℕ) → IsLegalHistory past →
+        IsLegalHistory (with_receipts (release_of (waiting_of past) earliest) past) }
 {}
 
-// Writes that a commit, which waited, was released.
-fn mark_released(standings: &mut BTreeMap<Id, Standing>, receipt: Receipt)
-    requires { IsSome (tree.get id_cmp standings.old receipt.id) }
-    ensures { (id : Id) → tree.get id_cmp standings.new id ≡
-        (if is_at (id_cmp receipt.id) id then Some (Standing.Released receipt) else tree.get id_cmp standings.old id) }
+// Writes where a commit stands that is there.
+fn set_standing(standings: &mut BTreeMap<Id, Standing>, id: Id, standing: Standing)
+    requires { IsSome (tree.get id_cmp standings.old id) }
+    ensures { (other : Id) → tree.get id_cmp standings.new other ≡
+        (if is_at (id_cmp id) other then Some standing else tree.get id_cmp standings.old other) }
 {
-    *standings.get_mut(&receipt.id).unwrap() = Standing::Released(receipt);
+    *standings.get_mut(&id).unwrap() = standing;
+}
+
+// Why a commit with a new id is not queued, where there is no memory for the id.
+fn no_memory_for(stamps: &BTreeSet<u64>, stamp: u64) -> BookFault
+    ensures { result ≡ (if sorted.contains nat_cmp stamps.now stamp then BookFault.StampThere else BookFault.Memory) }
+{
+    if stamps.contains(&stamp) {
+        BookFault::StampThere
+    } else {
+        BookFault::Memory
+    }
 }

@@ -34,9 +34,9 @@ pub enum Entry {
     Passed(Receipt),
 }
 
-/// Where a commit stands that was queued.
+/// Where a commit stands that was queued: it waits, or its receipt has this place in the history, oldest first.
 #[derive(Clone, Copy, Debug)]
 pub(crate) enum Standing {
     Waits,
-    Released(Receipt),
+    Released(usize),
 }

@@ -1,6 +1,6 @@
 //! The stamps of one thread.
 
-ghost use Rattle.std.specs.Prelude.{◌≡◌, ℕ, ◌+◌, ◌<◌, ◌≤◌, ◌↔◌, List, [], ◌∷◌, Some, None, Ok, Err, IfOk, OnErr, IsErrOf};
+ghost use Rattle.std.specs.Prelude.{◌≡◌, ℕ, ◌+◌, ◌<◌, ◌≤◌, ◌↔◌, List, ◌∷◌, Some, None, Ok, Err, IfOk, OnErr, IsErrOf};
 ghost use Rattle.tt_span.specs.Time.{max_time};
 ghost use Rattle.tt_stamp.specs.Stamp.{IsLeastStamp, HasNoStamp, IsTooFar, IsAnswer, least_above, stamp_of, greatest_of};
 

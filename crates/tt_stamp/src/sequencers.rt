@@ -64,8 +64,9 @@ impl Model for Seat {
 }
 
 impl Seat {
-    // Whatever call came last, what a seat has seen is legal, and has just its own entries under its numbers.
-    pub(crate) fn laws(&self)
+    /// A law of every seat, whatever call came last: what it has seen is legal, and has just its own entries under its
+    /// numbers.
+    pub fn laws(&self)
         ensures legal { IsLegalRun self.now.seats self.now.seen }
         ensures mine { entries_of self.now.numbers self.now.seen ≡ self.now.own }
     {

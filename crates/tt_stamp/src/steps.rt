@@ -1,6 +1,6 @@
 //! The two steps of a commit that begin with a reading of their own: its stamp, and the release of those that wait.
 
-ghost use Rattle.std.specs.Prelude.{◌≡◌, ◌≤◌, ◌↔◌, ℕ, [], Some, None, IfOk, OnErr, IsErrOf, length};
+ghost use Rattle.std.specs.Prelude.{◌≡◌, ◌≤◌, ◌↔◌, [], Some, None, IfOk, OnErr, IsErrOf, length};
 ghost use mathlib.Core.List.{IsPrefix};
 ghost use Rattle.tt_stream.specs.Counts.{HasFailed};
 ghost use Rattle.tt_span.specs.Interval.{Interval};

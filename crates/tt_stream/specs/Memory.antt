@@ -1,5 +1,5 @@
 -- What clauses see of the devices in memory.
-use Rattle.std.specs.Prelude.{ℕ, Option, List}
+use Rattle.std.specs.Prelude.{ℕ, Bool, Option, List}
 
 -- A reader over bytes in memory.
 pub record ReaderState : Type 0 where
@@ -26,3 +26,5 @@ pub record WriterState : Type 0 where
   pub calls : ℕ
   -- the failures so far
   pub failures : ℕ
+  -- whether nothing was written since the last flush
+  pub flushed : Bool

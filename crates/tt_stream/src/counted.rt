@@ -16,6 +16,8 @@ pub struct Counted<D> {
     device: D,
     failures: Count,
     reads: Count,
+    /// Whether nothing was written since the last flush.
+    flushed: bool,
 }
 
 impl<D> Counted<D> {
@@ -31,6 +33,7 @@ impl<D> Counted<D> {
             device,
             failures: Count::zero(),
             reads: Count::zero(),
+            flushed: true,
         }
     }
 
@@ -75,13 +78,16 @@ impl<R: Read> ByteReader for Counted<R> {
 }
 
 impl<W: Write> ByteWriter for Counted<W> {
-    ghost use Rattle.tt_stream.specs.Counted.{counted_device, counted_failures};
+    ghost use Rattle.tt_stream.specs.Counted.{counted_device, counted_failures, counted_flushed};
 
     ghost taken = { λ counted. W.contents (counted_device counted) };
 
     ghost failed = { counted_failures };
 
+    ghost flushed = { counted_flushed };
+
     fn write(&mut self, bytes: &[u8]) -> Result<usize, DeviceFault> {
+        self.flushed = false;
         match self.device.write(bytes) {
             Ok(n) if n > 0 || bytes.is_empty() => Ok(n),
             _ => Err(self.fault()),
@@ -92,6 +98,7 @@ impl<W: Write> ByteWriter for Counted<W> {
         if self.device.flush().is_err() {
             return Err(self.fault());
         }
+        self.flushed = true;
         Ok(())
     }
 

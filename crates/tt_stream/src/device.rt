@@ -1,6 +1,6 @@
 //! Devices that give or take bytes, and count their failures.
 
-ghost use Rattle.std.specs.Prelude.{◌≡◌, ◌<◌, ◌≤◌, ℕ, Option, List, length, IfOk, OnOk, OnErr};
+ghost use Rattle.std.specs.Prelude.{◌≡◌, ◌<◌, ◌≤◌, ℕ, Bool, true, Option, List, length, IfOk, OnOk, OnErr};
 ghost use Rattle.std.specs.Io.KnownBytes.{Keeps, ReadConsumes, WriteAppends};
 ghost use Rattle.tt_stream.specs.Counts.{HasFailed, count_after};
 
@@ -41,6 +41,9 @@ pub trait ByteWriter {
     /// Its failures so far; the count stays at 2^64 - 1 once it is there.
     ghost failed: { Self → ℕ };
 
+    /// Whether it holds back none of the bytes that were written.
+    ghost flushed: { Self → Bool };
+
     /// Takes a front of `bytes`, and answers how many. A write that takes none of some bytes is a failure.
     /// A fault is answered only where the device failed, and then no byte was taken.
     fn write(&mut self, bytes: &[u8]) -> Result<usize, DeviceFault>
@@ -53,6 +56,7 @@ pub trait ByteWriter {
     /// Passes on what the device holds back. It changes no byte that was written.
     fn flush(&mut self) -> Result<(), DeviceFault>
         ensures bytes { Keeps (taken self.old) (taken self.new) }
+        ensures flushed { OnOk result (flushed self.new ≡ true) }
         ensures sound { OnOk result (failed self.new ≡ failed self.old) }
         ensures cause { OnErr result (HasFailed (failed self.old) (failed self.new)) };
 

@@ -1,7 +1,7 @@
 //! Devices in memory, that give and take piece by piece and fail when told to: for tests, and for proofs over
 //! runs.
 
-ghost use Rattle.std.specs.Prelude.{◌≡◌, ◌<◌, ◌≤◌, ◌++◌, ◌↔◌, Some, [], length, take, drop, min, IfOk, OnOk, OnErr, IsErr};
+ghost use Rattle.std.specs.Prelude.{◌≡◌, ◌<◌, ◌≤◌, ◌++◌, ◌↔◌, Some, [], true, false, length, take, drop, min, IfOk, OnOk, OnErr, IsErr};
 ghost use Rattle.std.specs.Io.KnownBytes.{Keeps, ReadConsumes, WriteAppends};
 ghost use Rattle.tt_stream.specs.Counts.{HasFailed, count_after};
 ghost use Rattle.tt_stream.specs.Memory.{ReaderState, WriterState};
@@ -123,24 +123,27 @@ pub struct MemoryWriter {
     taken: Vec<u8>,
     piece: usize,
     course: Course,
+    /// Whether nothing was written since the last flush.
+    flushed: bool,
 }
 
 impl Model for MemoryWriter {
     ghost Value = { WriterState };
 
-    ghost view = { λ w. record { taken = w.taken.items; piece = w.piece; fails_at = w.course.fails_at; calls = w.course.calls; failures = w.course.failures } };
+    ghost view = { λ w. record { taken = w.taken.items; piece = w.piece; fails_at = w.course.fails_at; calls = w.course.calls; failures = w.course.failures; flushed = w.flushed } };
 }
 
 impl MemoryWriter {
     /// A writer that takes at most `piece` bytes by each call; with 0 it takes none, and so fails. Its call
     /// number `fails_at`, counted from 1, fails; `None`: none does. A flush is a call too.
     pub fn new(alloc: Global, piece: usize, fails_at: Option<u64>) -> Self
-        ensures { result ≡ record { taken = []; piece = piece; fails_at = fails_at; calls = 0; failures = 0 } }
+        ensures { result ≡ record { taken = []; piece = piece; fails_at = fails_at; calls = 0; failures = 0; flushed = true } }
     {
         MemoryWriter {
             taken: Vec::new(alloc),
             piece,
             course: Course::new(fails_at),
+            flushed: true,
         }
     }
 
@@ -157,6 +160,8 @@ impl ByteWriter for MemoryWriter {
 
     ghost failed = { λ writer. writer.failures };
 
+    ghost flushed = { λ writer. writer.flushed };
+
     /// As many bytes as are allowed in a piece.
     fn write(&mut self, bytes: &[u8]) -> Result<usize, DeviceFault>
         ensures count { IfOk result (λ n. n ≤ length bytes.now) }
@@ -167,7 +172,7 @@ impl ByteWriter for MemoryWriter {
 
         ensures takes { IfOk result (λ n. n ≡ min (length bytes.now) self.old.piece) }
         ensures fails { self.old.fails_at ≡ Some (count_after self.old.calls 1) → IsErr result }
-        ensures ok { IfOk result (λ n. self.new ≡ record self.old { taken = self.old.taken ++ take n bytes.now; calls = count_after self.old.calls 1 }) }
+        ensures ok { IfOk result (λ n. self.new ≡ record self.old { taken = self.old.taken ++ take n bytes.now; calls = count_after self.old.calls 1; flushed = false }) }
         ensures err { OnErr result (self.new ≡ record self.old { calls = count_after self.old.calls 1; failures = count_after self.old.failures 1 }) }
     {
         self.course.call()?;
@@ -176,19 +181,23 @@ impl ByteWriter for MemoryWriter {
         if is_full || self.taken.extend_from_slice(&bytes[..n]).is_err() {
             return Err(self.course.fault());
         }
+        self.flushed = false;
         Ok(n)
     }
 
     fn flush(&mut self) -> Result<(), DeviceFault>
         ensures bytes { Keeps (Some self.old.taken) (Some self.new.taken) }
+        ensures flushed { OnOk result (self.new.flushed ≡ true) }
         ensures sound { OnOk result (self.new.failures ≡ self.old.failures) }
         ensures cause { OnErr result (HasFailed self.old.failures self.new.failures) }
 
         ensures fails { IsErr result ↔ (self.old.fails_at ≡ Some (count_after self.old.calls 1)) }
-        ensures ok { OnOk result (self.new ≡ record self.old { calls = count_after self.old.calls 1 }) }
+        ensures ok { OnOk result (self.new ≡ record self.old { calls = count_after self.old.calls 1; flushed = true }) }
         ensures err { OnErr result (self.new ≡ record self.old { calls = count_after self.old.calls 1; failures = count_after self.old.failures 1 }) }
     {
-        self.course.call()
+        self.course.call()?;
+        self.flushed = true;
+        Ok(())
     }
 
     fn failures(&self) -> u64 {

@@ -1,16 +1,18 @@
 -- What is assumed of a run: each clock keeps its drift bound, and few statements are false.
-use Rattle.std.specs.Prelude.{ℕ, ◌<◌, ◌≤◌, ◌&&◌, not, nat_lt, nat_le, Bool, true, false, if◌then◌else◌, List, [], ◌∷◌, length, count_by, is_some, Option, Some, None}
+use Rattle.std.specs.Prelude.{◌≡◌, ℕ, ◌<◌, ◌≤◌, ◌&&◌, not, nat_lt, nat_le, Bool, true, false, if◌then◌else◌, List, [], ◌∷◌, length, count_by, is_some, Option, Some, None}
 use Rattle.std.specs.List.{range_with_len}
-use Rattle.std.specs.Option.{option_and_then}
-use Rattle.tt_span.specs.Drift.{KeepsDrift}
+use Rattle.std.specs.Option.{option_and_then, option_or}
+use Rattle.tt_span.specs.Drift.{Moment, KeepsDrift, distance, widening}
+use Rattle.tt_world.specs.declared.breaches.Breach.{Breach}
+use Rattle.tt_world.specs.declared.breaches.Breach.TheVariants.{Drift, FalseStatements}
 use Rattle.tt_world.specs.declared.events.Event.{Event}
 use Rattle.tt_world.specs.declared.events.Action.{Action}
-use Rattle.tt_world.specs.declared.events.Action.TheVariants.{Send, Answer, Forge, Deliver, Fuse, Read, Arrive, Stamp, Queue, Release}
+use Rattle.tt_world.specs.declared.events.Action.TheVariants.{Answer, Forge, Deliver, Fuse}
 use Rattle.tt_daemon.specs.Config.{Configuration}
 use Rattle.tt_world.specs.Config.{config_at}
-use Rattle.tt_world.specs.Past.{packets_of, moments_of}
+use Rattle.tt_world.specs.Past.{packets_of, ClockReading, clock_reading, moments_of}
 use Rattle.tt_world.specs.Sources.{stated_by, outstanding}
-use Rattle.tt_world.specs.Bad.{accepted}
+use Rattle.tt_world.specs.Bad.{first_bad, accepted}
 
 -- the event that put packet p on its way, if it was put
 abbrev pub origin_of : List Event → ℕ → Option Event
@@ -22,16 +24,8 @@ origin_of (event ∷ past) p =
 
 -- the packet that an event delivers, if it delivers one
 abbrev pub delivered_by : Action → Option ℕ
-delivered_by (Send machine source clock) = None
-delivered_by (Answer packet span) = None
-delivered_by (Forge machine source payload) = None
 delivered_by (Deliver packet clock) = Some packet
-delivered_by (Fuse machine clock) = None
-delivered_by (Read machine worker clock publication) = None
-delivered_by (Arrive machine worker id floor) = None
-delivered_by (Stamp machine worker) = None
-delivered_by (Queue machine worker) = None
-delivered_by (Release machine worker) = None
+delivered_by _ = None
 
 -- the packet that made the statement of source i on machine m, if there is a statement
 abbrev pub packet_of_statement : List Event → ℕ → ℕ → Option ℕ
@@ -42,16 +36,9 @@ packet_of_statement (event ∷ past) m i =
 
 -- whether an action at a true time puts a lie on its way: bytes that were made up, or an answer whose span does not hold that time
 abbrev pub is_lie : ℕ → Action → Bool
-is_lie at (Send machine source clock) = false
 is_lie at (Answer packet span) = not (nat_le span.lo at && nat_le at span.hi)
 is_lie at (Forge machine source payload) = true
-is_lie at (Deliver packet clock) = false
-is_lie at (Fuse machine clock) = false
-is_lie at (Read machine worker clock publication) = false
-is_lie at (Arrive machine worker id floor) = false
-is_lie at (Stamp machine worker) = false
-is_lie at (Queue machine worker) = false
-is_lie at (Release machine worker) = false
+is_lie at _ = false
 
 -- whether an event, if there is one, puts a lie on its way
 abbrev pub is_lying : Option Event → Bool
@@ -68,16 +55,8 @@ false_count config past m = count_by (λ i. is_false_statement past m i) (range_
 
 -- where an action fuses, no more statements of that machine are false than may be
 abbrev pub HasFewFalse : List Configuration → List Event → Action → Type 0
-HasFewFalse configs past (Send machine source clock) = Unit {0}
-HasFewFalse configs past (Answer packet span) = Unit {0}
-HasFewFalse configs past (Forge machine source payload) = Unit {0}
-HasFewFalse configs past (Deliver packet clock) = Unit {0}
 HasFewFalse configs past (Fuse machine clock) = false_count (config_at configs machine) past machine ≤ (config_at configs machine).faulty
-HasFewFalse configs past (Read machine worker clock publication) = Unit {0}
-HasFewFalse configs past (Arrive machine worker id floor) = Unit {0}
-HasFewFalse configs past (Stamp machine worker) = Unit {0}
-HasFewFalse configs past (Queue machine worker) = Unit {0}
-HasFewFalse configs past (Release machine worker) = Unit {0}
+HasFewFalse configs past _ = Unit {0}
 
 -- at every fusion that was not bad few statements were false
 abbrev pub FewLie : List Configuration → List Event → Type 0
@@ -92,3 +71,35 @@ ClocksKeepDrift configs past = (m : ℕ) → m < length configs → KeepsDrift (
 pub record MeetsAssumptions (configs : List Configuration) (past : List Event) : Type 0 where
   pub clocks : ClocksKeepDrift configs (accepted configs past)
   pub sources : FewLie configs (accepted configs past)
+
+-- whether a moment agrees with each of these within the drift
+abbrev pub agrees_with_all : ℕ → Moment → List Moment → Bool
+agrees_with_all ppm moment [] = true
+agrees_with_all ppm moment (other ∷ others) =
+    nat_le (distance (distance moment.clock other.clock) (distance moment.time other.time)) (widening ppm (distance moment.clock other.clock))
+    && agrees_with_all ppm moment others
+
+-- the clock that breaks its drift bound by a reading at this true time, if there is one and it does
+abbrev pub drift_breach : List Configuration → List Event → ℕ → Option ClockReading → Option Breach
+drift_breach configs past at None = None
+drift_breach configs past at (Some reading) =
+    if agrees_with_all (config_at configs reading.machine).drift (record { clock = reading.clock; time = at }) (moments_of past reading.machine) then None
+    else Some (Drift reading.machine)
+
+-- the machine that fuses too many false statements in an action, if one does
+abbrev pub falsity_breach : List Configuration → List Event → Action → Option Breach
+falsity_breach configs past (Fuse machine clock) =
+    if nat_le (false_count (config_at configs machine) past machine) (config_at configs machine).faulty then None else Some (FalseStatements machine)
+falsity_breach configs past _ = None
+
+-- the first assumption that an event breaks after a list of events, bad ones among them: the drift bound first, then that few statements are false; a bad event breaks none
+abbrev pub breach_of : List Configuration → List Event → Event → Option Breach
+breach_of configs past event =
+    let before = accepted configs past in
+    if is_some (first_bad configs before event) then None
+    else option_or (drift_breach configs before event.at (clock_reading (packets_of before) event.action)) (falsity_breach configs before event.action)
+
+-- none of the events breaks an assumption
+abbrev pub NoBreach : List Configuration → List Event → Type 0
+NoBreach configs [] = Unit {0}
+NoBreach configs (event ∷ past) = (breach_of configs past event ≡ None) × NoBreach configs past

@@ -1,6 +1,8 @@
 -- Which events are bad: these change nothing, and are not in the list of what has happened.
 use Rattle.std.specs.Prelude.{ℕ, ◌==◌, ◌&&◌, ◌||◌, not, nat_lt, Bool, true, false, if◌then◌else◌, List, [], ◌∷◌, length, slice_get, is_some, Option, Some, None}
 use Rattle.tt_span.specs.Time.{max_time}
+use Rattle.tt_world.specs.declared.faults.WorldFault.{WorldFault}
+use Rattle.tt_world.specs.declared.faults.WorldFault.TheVariants as bad
 use Rattle.tt_world.specs.declared.events.Event.{Event}
 use Rattle.tt_world.specs.declared.events.Action.{Action}
 use Rattle.tt_world.specs.declared.events.Action.TheVariants.{Send, Answer, Forge, Deliver, Fuse, Read, Arrive, Stamp, Queue, Release}
@@ -51,16 +53,9 @@ can_be_delivered (Some packet) = not (is_asked packet)
 
 -- the event wants a packet that was not put, or one of the other kind
 abbrev pub lacks_packet : List Packet → Action → Bool
-lacks_packet packets (Send machine source clock) = false
 lacks_packet packets (Answer packet span) = not (is_request (slice_get packets packet))
-lacks_packet packets (Forge machine source payload) = false
 lacks_packet packets (Deliver packet clock) = not (can_be_delivered (slice_get packets packet))
-lacks_packet packets (Fuse machine clock) = false
-lacks_packet packets (Read machine worker clock publication) = false
-lacks_packet packets (Arrive machine worker id floor) = false
-lacks_packet packets (Stamp machine worker) = false
-lacks_packet packets (Queue machine worker) = false
-lacks_packet packets (Release machine worker) = false
+lacks_packet packets _ = false
 
 -- a reading of a clock that went back, where clocks says what each clock showed last, or one past the greatest time
 abbrev pub goes_back : (ℕ → ℕ) → Option ClockReading → Bool
@@ -73,17 +68,9 @@ is_unreadable publications seen k = k == 0 || nat_lt publications k || nat_lt k 
 
 -- the event reads from a publication that is not there, or older than one that its worker has read from
 abbrev pub lacks_publication : List Configuration → List Event → Action → Bool
-lacks_publication configs past (Send machine source clock) = false
-lacks_publication configs past (Answer packet span) = false
-lacks_publication configs past (Forge machine source payload) = false
-lacks_publication configs past (Deliver packet clock) = false
-lacks_publication configs past (Fuse machine clock) = false
 lacks_publication configs past (Read machine worker clock publication) =
     is_unreadable (length (publications_of (config_at configs machine) past machine)) (seen_of past machine worker) publication
-lacks_publication configs past (Arrive machine worker id floor) = false
-lacks_publication configs past (Stamp machine worker) = false
-lacks_publication configs past (Queue machine worker) = false
-lacks_publication configs past (Release machine worker) = false
+lacks_publication configs past _ = false
 
 -- a task is there and has no stamp yet
 abbrev pub is_arrived : Option Task → Bool
@@ -99,32 +86,26 @@ is_stamped (Some (Stamped id stamp)) = true
 
 -- the event wants a task or a reading of its worker that is not there: to stamp, a task without a stamp and a reading since the worker was asked for it; to queue, a task with a stamp; to release, any reading
 abbrev pub lacks_its_thing : List Configuration → List Event → Action → Bool
-lacks_its_thing configs past (Send machine source clock) = false
-lacks_its_thing configs past (Answer packet span) = false
-lacks_its_thing configs past (Forge machine source payload) = false
-lacks_its_thing configs past (Deliver packet clock) = false
-lacks_its_thing configs past (Fuse machine clock) = false
-lacks_its_thing configs past (Read machine worker clock publication) = false
-lacks_its_thing configs past (Arrive machine worker id floor) = false
 lacks_its_thing configs past (Stamp machine worker) =
     not (is_arrived (task_of (config_at configs machine) past machine worker))
     || not (is_some (reading_since (config_at configs machine) past machine worker))
 lacks_its_thing configs past (Queue machine worker) = not (is_stamped (task_of (config_at configs machine) past machine worker))
 lacks_its_thing configs past (Release machine worker) = not (is_some (reading_of (config_at configs machine) past machine worker))
+lacks_its_thing configs past _ = false
 
 -- true time falls, or passes the greatest time
 abbrev pub breaks_time : List Event → Event → Bool
 breaks_time past event = nat_lt event.at (time_of past) || nat_lt max_time event.at
 
--- the number of the first reason why an event is bad after what has happened, if there is one
-abbrev pub first_bad : List Configuration → List Event → Event → Option ℕ
+-- the first reason why an event is bad after what has happened, if there is one
+abbrev pub first_bad : List Configuration → List Event → Event → Option WorldFault
 first_bad configs past event =
-    if breaks_time past event then Some 1201
-    else if names_unknown configs event.action then Some 1206
-    else if lacks_packet (packets_of past) event.action then Some 1203
-    else if goes_back (clock_of past) (clock_reading (packets_of past) event.action) then Some 1202
-    else if lacks_publication configs past event.action then Some 1204
-    else if lacks_its_thing configs past event.action then Some 1205
+    if breaks_time past event then Some bad.TimeBack
+    else if names_unknown configs event.action then Some bad.UnknownNumber
+    else if lacks_packet (packets_of past) event.action then Some bad.NoPacket
+    else if goes_back (clock_of past) (clock_reading (packets_of past) event.action) then Some bad.ClockBack
+    else if lacks_publication configs past event.action then Some bad.NoPublication
+    else if lacks_its_thing configs past event.action then Some bad.NothingThere
     else None
 
 -- the events that were not bad, each judged after those before it; the newest first

@@ -11,7 +11,7 @@ use Rattle.tt_stamp.specs.Stamp.{stamp_of}
 use Rattle.tt_stamp.specs.History.{waiting_of, release_of, with_receipts, first_queue_fault}
 use Rattle.tt_world.specs.declared.events.Event.{Event}
 use Rattle.tt_world.specs.declared.events.Action.{Action}
-use Rattle.tt_world.specs.declared.events.Action.TheVariants.{Send, Answer, Forge, Deliver, Fuse, Read, Arrive, Stamp, Queue, Release}
+use Rattle.tt_world.specs.declared.events.Action.TheVariants.{Read, Arrive, Stamp, Queue, Release}
 use Rattle.tt_world.specs.declared.workers.Arrival.{Arrival}
 use Rattle.tt_world.specs.declared.workers.Task.{Task}
 use Rattle.tt_world.specs.declared.workers.Task.TheVariants.{Arrived, Stamped}
@@ -20,16 +20,8 @@ use Rattle.tt_world.specs.Publications.{publications_of, publication_at, reading
 
 -- the commit that an event asks worker w of machine m for, if it does
 abbrev pub arrived_by : ℕ → ℕ → Action → Option Arrival
-arrived_by m w (Send machine source clock) = None
-arrived_by m w (Answer packet span) = None
-arrived_by m w (Forge machine source payload) = None
-arrived_by m w (Deliver packet clock) = None
-arrived_by m w (Fuse machine clock) = None
-arrived_by m w (Read machine worker clock publication) = None
 arrived_by m w (Arrive machine worker id floor) = if machine == m && worker == w then Some (record { id = id; floor = floor }) else None
-arrived_by m w (Stamp machine worker) = None
-arrived_by m w (Queue machine worker) = None
-arrived_by m w (Release machine worker) = None
+arrived_by m w _ = None
 
 -- the last commit that worker w of machine m was asked for
 abbrev pub arrival_of : List Event → ℕ → ℕ → Option Arrival
@@ -38,17 +30,9 @@ arrival_of (event ∷ past) m w = option_or (arrived_by m w event.action) (arriv
 
 -- the reading that worker w of machine m takes in an event after this past, if it does
 abbrev pub read_by : Configuration → List Event → ℕ → ℕ → Action → Option Interval
-read_by config past m w (Send machine source clock) = None
-read_by config past m w (Answer packet span) = None
-read_by config past m w (Forge machine source payload) = None
-read_by config past m w (Deliver packet clock) = None
-read_by config past m w (Fuse machine clock) = None
 read_by config past m w (Read machine worker clock publication) =
     if machine == m && worker == w then Some (reading_at config.drift (publication_at (publications_of config past m) publication) clock) else None
-read_by config past m w (Arrive machine worker id floor) = None
-read_by config past m w (Stamp machine worker) = None
-read_by config past m w (Queue machine worker) = None
-read_by config past m w (Release machine worker) = None
+read_by config past m w _ = None
 
 -- the last reading of worker w of machine m
 abbrev pub reading_of : Configuration → List Event → ℕ → ℕ → Option Interval
@@ -76,16 +60,8 @@ stamp_given (Some (Ok stamp)) = Some stamp
 
 -- the worker of machine m whose commit an event stamps, if it does
 abbrev pub stamping_worker : ℕ → Action → Option ℕ
-stamping_worker m (Send machine source clock) = None
-stamping_worker m (Answer packet span) = None
-stamping_worker m (Forge machine source payload) = None
-stamping_worker m (Deliver packet clock) = None
-stamping_worker m (Fuse machine clock) = None
-stamping_worker m (Read machine worker clock publication) = None
-stamping_worker m (Arrive machine worker id floor) = None
 stamping_worker m (Stamp machine worker) = if machine == m then Some worker else None
-stamping_worker m (Queue machine worker) = None
-stamping_worker m (Release machine worker) = None
+stamping_worker m _ = None
 
 -- the stamps with the one that was given, if one was
 abbrev pub with_stamp : List ℕ → Option ℕ → List ℕ
@@ -109,16 +85,8 @@ stamping_of config past m w = stamping_after (stamps_of config past m) (arrival_
 
 -- whether an event stamps for worker w of machine m
 abbrev pub stamps_for : ℕ → ℕ → Action → Bool
-stamps_for m w (Send machine source clock) = false
-stamps_for m w (Answer packet span) = false
-stamps_for m w (Forge machine source payload) = false
-stamps_for m w (Deliver packet clock) = false
-stamps_for m w (Fuse machine clock) = false
-stamps_for m w (Read machine worker clock publication) = false
-stamps_for m w (Arrive machine worker id floor) = false
 stamps_for m w (Stamp machine worker) = machine == m && worker == w
-stamps_for m w (Queue machine worker) = false
-stamps_for m w (Release machine worker) = false
+stamps_for m w _ = false
 
 -- the stamp that was given to the last commit that worker w of machine m was asked for, if one was
 abbrev pub stamp_held : Configuration → List Event → ℕ → ℕ → Option ℕ
@@ -142,18 +110,11 @@ released_with book (Some reading) = release_of (waiting_of book) reading.lo
 
 -- the history of machine m's book after an event that comes after this past and this history
 abbrev pub book_after : Configuration → List Event → ℕ → List Entry → Action → List Entry
-book_after config past m book (Send machine source clock) = book
-book_after config past m book (Answer packet span) = book
-book_after config past m book (Forge machine source payload) = book
-book_after config past m book (Deliver packet clock) = book
-book_after config past m book (Fuse machine clock) = book
-book_after config past m book (Read machine worker clock publication) = book
-book_after config past m book (Arrive machine worker id floor) = book
-book_after config past m book (Stamp machine worker) = book
 book_after config past m book (Queue machine worker) =
     if machine == m then with_queued book (arrival_of past m worker) (stamp_held config past m worker) else book
 book_after config past m book (Release machine worker) =
     if machine == m then with_receipts (released_with book (reading_of config past m worker)) book else book
+book_after config past m book _ = book
 
 -- the history of machine m's book, the newest entry first
 abbrev pub book_of : Configuration → List Event → ℕ → List Entry
@@ -172,16 +133,8 @@ queueing_of config past m w = queue_fault (book_of config past m) (arrival_of pa
 
 -- whether an event queues for worker w of machine m
 abbrev pub queues_for : ℕ → ℕ → Action → Bool
-queues_for m w (Send machine source clock) = false
-queues_for m w (Answer packet span) = false
-queues_for m w (Forge machine source payload) = false
-queues_for m w (Deliver packet clock) = false
-queues_for m w (Fuse machine clock) = false
-queues_for m w (Read machine worker clock publication) = false
-queues_for m w (Arrive machine worker id floor) = false
-queues_for m w (Stamp machine worker) = false
 queues_for m w (Queue machine worker) = machine == m && worker == w
-queues_for m w (Release machine worker) = false
+queues_for m w _ = false
 
 -- whether the last commit that worker w of machine m was asked for was queued
 abbrev pub is_queued : Configuration → List Event → ℕ → ℕ → Bool

@@ -27,16 +27,8 @@ AreConfigurations configs = (m : ℕ) → m < length configs → IsConfiguration
 
 -- the span of an answer is one of time
 abbrev pub IsAction : Action → Type 0
-IsAction (does.Send machine source clock) = Unit {0}
 IsAction (does.Answer packet span) = IsInterval span
-IsAction (does.Forge machine source payload) = Unit {0}
-IsAction (does.Deliver packet clock) = Unit {0}
-IsAction (does.Fuse machine clock) = Unit {0}
-IsAction (does.Read machine worker clock publication) = Unit {0}
-IsAction (does.Arrive machine worker id floor) = Unit {0}
-IsAction (does.Stamp machine worker) = Unit {0}
-IsAction (does.Queue machine worker) = Unit {0}
-IsAction (does.Release machine worker) = Unit {0}
+IsAction _ = Unit {0}
 
 -- the events are such as can be: each answer's span is one of time
 abbrev pub AreEvents : List Event → Type 0

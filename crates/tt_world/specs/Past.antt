@@ -17,15 +17,7 @@ time_of (event ∷ past) = event.at
 -- whether the event polls a source of machine m
 abbrev pub is_send_of : ℕ → Action → Bool
 is_send_of m (Send machine source clock) = machine == m
-is_send_of m (Answer packet span) = false
-is_send_of m (Forge machine source payload) = false
-is_send_of m (Deliver packet clock) = false
-is_send_of m (Fuse machine clock) = false
-is_send_of m (Read machine worker clock publication) = false
-is_send_of m (Arrive machine worker id floor) = false
-is_send_of m (Stamp machine worker) = false
-is_send_of m (Queue machine worker) = false
-is_send_of m (Release machine worker) = false
+is_send_of m _ = false
 
 -- how many polls machine m has sent; the nonce of the next one is one more
 abbrev pub sends_of : List Event → ℕ → ℕ
@@ -37,13 +29,7 @@ abbrev pub put_by : (ℕ → ℕ) → List Packet → Action → List Packet
 put_by sends packets (Send machine source clock) = Asked (record { machine = machine; source = source; nonce = sends machine + 1 }) ∷ []
 put_by sends packets (Answer packet span) = answer_to (slice_get packets packet) span
 put_by sends packets (Forge machine source payload) = Forged machine source payload ∷ []
-put_by sends packets (Deliver packet clock) = []
-put_by sends packets (Fuse machine clock) = []
-put_by sends packets (Read machine worker clock publication) = []
-put_by sends packets (Arrive machine worker id floor) = []
-put_by sends packets (Stamp machine worker) = []
-put_by sends packets (Queue machine worker) = []
-put_by sends packets (Release machine worker) = []
+put_by sends packets _ = []
 
 -- all packets that were put on their way, in the order in which they were put
 abbrev pub packets_of : List Event → List Packet

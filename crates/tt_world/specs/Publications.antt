@@ -7,7 +7,7 @@ use Rattle.tt_source.specs.Table.{stated_at}
 use Rattle.tt_fuse.specs.Depth.{slow_fusion}
 use Rattle.tt_world.specs.declared.events.Event.{Event}
 use Rattle.tt_world.specs.declared.events.Action.{Action}
-use Rattle.tt_world.specs.declared.events.Action.TheVariants.{Send, Answer, Forge, Deliver, Fuse, Read, Arrive, Stamp, Queue, Release}
+use Rattle.tt_world.specs.declared.events.Action.TheVariants.{Fuse, Read}
 use Rattle.tt_world.specs.declared.publications.Publication.{Publication}
 use Rattle.tt_daemon.specs.Config.{Configuration}
 use Rattle.tt_world.specs.Config.{config_at}
@@ -39,16 +39,8 @@ one_if_made (Err number) = []
 
 -- the clock reading at which an event fuses on machine m, if it does
 abbrev pub fuses_at : ℕ → Action → Option ℕ
-fuses_at m (Send machine source clock) = None
-fuses_at m (Answer packet span) = None
-fuses_at m (Forge machine source payload) = None
-fuses_at m (Deliver packet clock) = None
 fuses_at m (Fuse machine clock) = if machine == m then Some clock else None
-fuses_at m (Read machine worker clock publication) = None
-fuses_at m (Arrive machine worker id floor) = None
-fuses_at m (Stamp machine worker) = None
-fuses_at m (Queue machine worker) = None
-fuses_at m (Release machine worker) = None
+fuses_at m _ = None
 
 -- what a fusion at this clock reading publishes, if there is one
 abbrev pub published_at : Configuration → List Event → ℕ → Option ℕ → List Publication
@@ -77,18 +69,10 @@ showing_of m number spans faulty (Err refusal) = []
 
 -- what an event shows
 abbrev pub shown_by : List Configuration → List Event → Action → List Showing
-shown_by configs past (Send machine source clock) = []
-shown_by configs past (Answer packet span) = []
-shown_by configs past (Forge machine source payload) = []
-shown_by configs past (Deliver packet clock) = []
 shown_by configs past (Fuse machine clock) =
     let config = config_at configs machine in
     showing_of machine (length (publications_of config past machine) + 1) (spans_of config past machine clock) config.faulty (fusion_of config past machine clock)
-shown_by configs past (Read machine worker clock publication) = []
-shown_by configs past (Arrive machine worker id floor) = []
-shown_by configs past (Stamp machine worker) = []
-shown_by configs past (Queue machine worker) = []
-shown_by configs past (Release machine worker) = []
+shown_by configs past _ = []
 
 -- the publications of all machines, in the order of their events
 abbrev pub shown_of : List Configuration → List Event → List Showing
@@ -97,16 +81,8 @@ shown_of configs (event ∷ past) = shown_of configs past ++ shown_by configs pa
 
 -- the number of the publication that worker w of machine m reads from in an event, or before if it reads none there
 abbrev pub seen_by : ℕ → ℕ → Action → ℕ → ℕ
-seen_by m w (Send machine source clock) before = before
-seen_by m w (Answer packet span) before = before
-seen_by m w (Forge machine source payload) before = before
-seen_by m w (Deliver packet clock) before = before
-seen_by m w (Fuse machine clock) before = before
 seen_by m w (Read machine worker clock publication) before = if machine == m && worker == w then max publication before else before
-seen_by m w (Arrive machine worker id floor) before = before
-seen_by m w (Stamp machine worker) before = before
-seen_by m w (Queue machine worker) before = before
-seen_by m w (Release machine worker) before = before
+seen_by m w _ before = before
 
 -- the greatest number of a publication that worker w of machine m has read from, 0 where it has read from none
 abbrev pub seen_of : List Event → ℕ → ℕ → ℕ

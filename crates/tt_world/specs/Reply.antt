@@ -1,5 +1,5 @@
 -- The reply to each event.
-use Rattle.std.specs.Prelude.{ℕ, ◌+◌, List, [], ◌∷◌, length, slice_get, Option, Some, None, Result, Ok, Err}
+use Rattle.std.specs.Prelude.{◌≡◌, ℕ, ◌+◌, ◌≤◌, List, [], ◌∷◌, length, slice_get, Option, Some, None, Result, Ok, Err}
 use Rattle.tt_poll.specs.Reading.{read_of}
 use Rattle.tt_source.specs.Fault.{number_of}
 use Rattle.tt_source.specs.Statement.{Statement}
@@ -20,9 +20,12 @@ use Rattle.tt_daemon.specs.Config.{Configuration}
 use Rattle.tt_world.specs.Config.{config_at}
 use Rattle.tt_world.specs.Packet.{machine_of_packet, source_of_packet, bytes_of}
 use Rattle.tt_world.specs.Past.{packets_of}
-use Rattle.tt_world.specs.Sources.{outstanding}
+use Rattle.tt_world.specs.Sources.{stated_by, outstanding}
 use Rattle.tt_world.specs.Publications.{fusion_of, publications_of, publication_at, reading_at}
 use Rattle.tt_world.specs.Commits.{reading_of, stamping_of, queueing_of, book_of, released_with}
+use Rattle.tt_world.specs.declared.faults.WorldFault.{WorldFault}
+use Rattle.tt_world.specs.declared.faults.WorldFault.TheVariants as bad
+use Rattle.tt_world.specs.Fault.{bad_reply}
 use Rattle.tt_world.specs.Bad.{first_bad, accepted}
 
 -- the reply to a delivery that made a statement, or was refused
@@ -32,7 +35,7 @@ delivery_reply (Err fault) = Refused (number_of fault)
 
 -- the reply to the delivery of a packet at a clock reading, to which no packet is lacking
 abbrev pub reply_to_packet : List Event → ℕ → Option Packet → Reply
-reply_to_packet past clock None = Refused 1203
+reply_to_packet past clock None = bad_reply bad.NoPacket
 reply_to_packet past clock (Some packet) =
     let m = machine_of_packet packet in
     let i = source_of_packet packet in
@@ -45,7 +48,7 @@ fusion_reply count (Err number) = Refused number
 
 -- the reply to a stamping, if there is a commit and a reading
 abbrev pub stamping_reply : Option (Result ℕ StampFault) → Reply
-stamping_reply None = Refused 1205
+stamping_reply None = bad_reply bad.NothingThere
 stamping_reply (Some (Ok stamp)) = replies.Stamped stamp
 stamping_reply (Some (Err fault)) = Refused (stamp_number_of fault)
 
@@ -70,10 +73,24 @@ reply_to configs past (does.Queue machine worker) = queueing_reply (queueing_of 
 reply_to configs past (does.Release machine worker) =
     replies.Released (released_with (book_of (config_at configs machine) past machine) (reading_of (config_at configs machine) past machine worker))
 
+-- the reply has the number of a reason why an event is bad
+abbrev pub IsBadReply : Reply → Type 0
+IsBadReply (Refused number) = (1201 ≤ number) × (number ≤ 1208)
+IsBadReply _ = ⊥
+
+-- the reply is one for which its call takes memory
+abbrev pub TakesMemory : Reply → Type 0
+TakesMemory (Sent number) = Unit {0}
+TakesMemory (Put number) = Unit {0}
+TakesMemory (Published number span) = Unit {0}
+TakesMemory replies.Queued = Unit {0}
+TakesMemory (replies.Released receipts) = Unit {0}
+TakesMemory _ = ⊥
+
 -- the reply to an event of which it is known whether it is bad
-abbrev pub reply_unless_bad : Option ℕ → Reply → Reply
+abbrev pub reply_unless_bad : Option WorldFault → Reply → Reply
 reply_unless_bad None reply = reply
-reply_unless_bad (Some number) reply = Refused number
+reply_unless_bad (Some fault) reply = bad_reply fault
 
 -- the reply to an event after a list of events, bad ones among them, the newest first
 abbrev pub reply_of : List Configuration → List Event → Event → Reply
@@ -85,3 +102,10 @@ reply_of configs past event =
 abbrev pub replies_from : List Configuration → List Event → List Event → List Reply
 replies_from configs past [] = []
 replies_from configs past (event ∷ events) = reply_of configs past event ∷ replies_from configs (event ∷ past) events
+
+-- the event is not bad, and makes a statement for a source of a machine
+abbrev pub MakesStatement : List Configuration → List Event → Event → Type 0
+MakesStatement configs past event =
+    let before = accepted configs past in
+    (first_bad configs before event ≡ None)
+    × ((m i : ℕ) × (statement : Statement) × (stated_by (packets_of before) m i (outstanding before m i) event.action ≡ Some statement))

@@ -7,7 +7,7 @@ use Rattle.tt_source.specs.Statement.{Statement}
 use Rattle.tt_source.specs.Table.{Sending, statement_of_message}
 use Rattle.tt_world.specs.declared.events.Event.{Event}
 use Rattle.tt_world.specs.declared.events.Action.{Action}
-use Rattle.tt_world.specs.declared.events.Action.TheVariants.{Send, Answer, Forge, Deliver, Fuse, Read, Arrive, Stamp, Queue, Release}
+use Rattle.tt_world.specs.declared.events.Action.TheVariants.{Send, Deliver}
 use Rattle.tt_world.specs.declared.packets.Packet.{Packet}
 use Rattle.tt_world.specs.Packet.{machine_of_packet, source_of_packet, bytes_of}
 use Rattle.tt_world.specs.Past.{sends_of, packets_of}
@@ -15,15 +15,7 @@ use Rattle.tt_world.specs.Past.{sends_of, packets_of}
 -- the poll of source i of machine m that an event sends as that machine's poll of this nonce, if it does
 abbrev pub sent_by : ℕ → ℕ → ℕ → Action → Option Sending
 sent_by nonce m i (Send machine source clock) = if machine == m && source == i then Some (record { nonce = nonce; clock = clock }) else None
-sent_by nonce m i (Answer packet span) = None
-sent_by nonce m i (Forge machine source payload) = None
-sent_by nonce m i (Deliver packet clock) = None
-sent_by nonce m i (Fuse machine clock) = None
-sent_by nonce m i (Read machine worker clock publication) = None
-sent_by nonce m i (Arrive machine worker id floor) = None
-sent_by nonce m i (Stamp machine worker) = None
-sent_by nonce m i (Queue machine worker) = None
-sent_by nonce m i (Release machine worker) = None
+sent_by nonce m i _ = None
 
 -- the last poll that machine m sent to source i
 abbrev pub last_send : List Event → ℕ → ℕ → Option Sending
@@ -40,16 +32,8 @@ stated_in m i waiting clock (Some packet) =
 
 -- what an event states for source i of machine m, if this is the poll that waits
 abbrev pub stated_by : List Packet → ℕ → ℕ → Option Sending → Action → Option Statement
-stated_by packets m i waiting (Send machine source clock) = None
-stated_by packets m i waiting (Answer packet span) = None
-stated_by packets m i waiting (Forge machine source payload) = None
 stated_by packets m i waiting (Deliver packet clock) = stated_in m i waiting clock (slice_get packets packet)
-stated_by packets m i waiting (Fuse machine clock) = None
-stated_by packets m i waiting (Read machine worker clock publication) = None
-stated_by packets m i waiting (Arrive machine worker id floor) = None
-stated_by packets m i waiting (Stamp machine worker) = None
-stated_by packets m i waiting (Queue machine worker) = None
-stated_by packets m i waiting (Release machine worker) = None
+stated_by packets m i waiting _ = None
 
 -- whether an answer to the last poll of source i of machine m has come since that poll was sent
 abbrev pub is_answered : List Event → ℕ → ℕ → Bool

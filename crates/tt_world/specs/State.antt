@@ -7,7 +7,7 @@ use Rattle.tt_stamp.specs.declared.commits.Entry.{Entry}
 use Rattle.tt_stamp.specs.Stamp.{greatest_of}
 use Rattle.tt_world.specs.declared.events.Event.{Event}
 use Rattle.tt_world.specs.declared.events.Action.{Action}
-use Rattle.tt_world.specs.declared.events.Action.TheVariants.{Send, Answer, Forge, Deliver, Fuse, Read, Arrive, Stamp, Queue, Release}
+use Rattle.tt_world.specs.declared.events.Action.TheVariants.{Send, Deliver}
 use Rattle.tt_world.specs.declared.packets.Packet.{Packet}
 use Rattle.tt_world.specs.declared.publications.Publication.{Publication}
 use Rattle.tt_world.specs.declared.workers.Worker.{Worker}
@@ -56,15 +56,8 @@ is_taken m waiting clock (Some packet) = is_some (stated_in m (source_of_packet 
 -- the clock reading of an event that polls on machine m or is taken there, else the one before
 abbrev pub polled_by : List Event → ℕ → Action → ℕ → ℕ
 polled_by past m (Send machine source clock) before = if machine == m then clock else before
-polled_by past m (Answer packet span) before = before
-polled_by past m (Forge machine source payload) before = before
 polled_by past m (Deliver packet clock) before = if is_taken m (outstanding past m) clock (slice_get (packets_of past) packet) then clock else before
-polled_by past m (Fuse machine clock) before = before
-polled_by past m (Read machine worker clock publication) before = before
-polled_by past m (Arrive machine worker id floor) before = before
-polled_by past m (Stamp machine worker) before = before
-polled_by past m (Queue machine worker) before = before
-polled_by past m (Release machine worker) before = before
+polled_by past m _ before = before
 
 -- what the clock of machine m showed at its last poll or at the last answer that it took, 0 before the first
 abbrev pub polled_clock_of : List Event → ℕ → ℕ

@@ -13,13 +13,13 @@ use Rattle.tt_stamp.specs.declared.faults.BookFault.{BookFault}
 use Rattle.tt_stamp.specs.Fault.{number_of as stamp_number_of, book_number_of}
 use Rattle.tt_stamp.specs.Stamp.{stamp_of}
 use Rattle.tt_stamp.specs.History.{waiting_of, release_of, with_receipts, first_queue_fault}
+use Rattle.tt_world.specs.declared.faults.WorldFault.TheVariants as bad
 use Rattle.tt_world.specs.declared.events.Event.{Event}
 use Rattle.tt_world.specs.declared.events.Action.{Action}
 use Rattle.tt_world.specs.declared.events.Action.TheVariants.{Send, Answer, Forge, Deliver, Fuse, Read, Arrive, Stamp, Queue, Release}
 use Rattle.tt_world.specs.declared.events.Reply.{Reply}
 use Rattle.tt_world.specs.declared.events.Reply.TheVariants as replies
 use Rattle.tt_world.specs.declared.faults.WorldFault.{WorldFault}
-use Rattle.tt_world.specs.declared.faults.WorldFault.TheVariants as faults
 use Rattle.tt_world.specs.declared.packets.Packet.{Packet}
 use Rattle.tt_world.specs.declared.packets.Packet.TheVariants.{Asked, Forged}
 use Rattle.tt_world.specs.declared.publications.Publication.{Publication}
@@ -28,6 +28,8 @@ use Rattle.tt_world.specs.declared.workers.Task.{Task}
 use Rattle.tt_world.specs.declared.workers.Task.TheVariants as tasks
 use Rattle.tt_world.specs.declared.workers.Worker.{Worker}
 use Rattle.tt_world.specs.Packet.{machine_of_packet, source_of_packet, bytes_of, is_asked, answer_to}
+use Rattle.tt_world.specs.Fault.{bad_reply}
+use Rattle.tt_world.specs.Reply.{IsBadReply, TakesMemory}
 use Rattle.tt_world.specs.Publications.{Showing, showing_of, published, reading_at}
 use Rattle.tt_world.specs.Bad.{is_unreadable}
 use Rattle.tt_world.specs.State.{MachineState, WorldState}
@@ -42,9 +44,9 @@ pub record Turn : Type 0 where
   pub machine : MachineState
   pub reply : Reply
 
--- nothing changes
-abbrev pub refused : WorldState → ℕ → Outcome
-refused world number = record { world = world; reply = replies.Refused number }
+-- the event is bad for this reason, and nothing changes
+abbrev pub refused : WorldState → WorldFault → Outcome
+refused world fault = record { world = world; reply = bad_reply fault }
 
 -- a reading that is refused: the machine's clock went back, or passed the greatest time
 abbrev pub is_back_on : MachineState → ℕ → Bool
@@ -71,10 +73,10 @@ after_poll world at m i clock machine (Err fault) =
 
 -- machine m, if it is there, polls source i, if it asks that; a clock that went back is refused
 abbrev pub send_on : WorldState → ℕ → ℕ → ℕ → ℕ → Option MachineState → Outcome
-send_on world at m i clock None = refused world 1206
+send_on world at m i clock None = refused world bad.UnknownNumber
 send_on world at m i clock (Some machine) =
-    if not (nat_lt i machine.config.sources) then refused world 1206
-    else if is_back_on machine clock then refused world 1202
+    if not (nat_lt i machine.config.sources) then refused world bad.UnknownNumber
+    else if is_back_on machine clock then refused world bad.ClockBack
     else after_poll world at m i clock machine (poll_of machine.table i clock)
 
 -- packets were put on their way at a true time
@@ -84,14 +86,14 @@ after_put world at put =
 
 -- an answer is put on its way, if there is one
 abbrev pub answer_on : WorldState → ℕ → List Packet → Outcome
-answer_on world at [] = refused world 1203
+answer_on world at [] = refused world bad.NoPacket
 answer_on world at (packet ∷ packets) = after_put world at (packet ∷ packets)
 
 -- bytes that source i made up are put on their way to machine m, if it is there and asks that source
 abbrev pub forge_on : WorldState → ℕ → ℕ → ℕ → List ℕ → Option MachineState → Outcome
-forge_on world at m i payload None = refused world 1206
+forge_on world at m i payload None = refused world bad.UnknownNumber
 forge_on world at m i payload (Some machine) =
-    if not (nat_lt i machine.config.sources) then refused world 1206
+    if not (nat_lt i machine.config.sources) then refused world bad.UnknownNumber
     else after_put world at (Forged m i payload ∷ [])
 
 -- the machine takes what a packet says, or its table refuses to
@@ -101,16 +103,16 @@ take_turn machine clock (Err fault) = record { machine = record machine { clock 
 
 -- a packet reaches its machine, if that is there; a clock that went back is refused
 abbrev pub deliver_to : WorldState → ℕ → ℕ → Packet → Option MachineState → Outcome
-deliver_to world at clock packet None = refused world 1203
+deliver_to world at clock packet None = refused world bad.NoPacket
 deliver_to world at clock packet (Some machine) =
-    if is_back_on machine clock then refused world 1202
+    if is_back_on machine clock then refused world bad.ClockBack
     else after_turn world at (machine_of_packet packet) (take_turn machine clock (take_of machine.table (source_of_packet packet) clock (bytes_of packet))) []
 
 -- a packet reaches its machine, if it was put and is no request
 abbrev pub deliver_on : WorldState → ℕ → ℕ → Option Packet → Outcome
-deliver_on world at clock None = refused world 1203
+deliver_on world at clock None = refused world bad.NoPacket
 deliver_on world at clock (Some packet) =
-    if is_asked packet then refused world 1203
+    if is_asked packet then refused world bad.NoPacket
     else deliver_to world at clock packet (slice_get world.machines (machine_of_packet packet))
 
 -- the spans of the sources of a machine at a clock reading
@@ -140,9 +142,9 @@ with_shown outcome showings = record {
 
 -- machine m, if it is there, fuses and publishes, and that is shown; a clock that went back is refused
 abbrev pub fuse_on : WorldState → ℕ → ℕ → ℕ → Option MachineState → Outcome
-fuse_on world at m clock None = refused world 1206
+fuse_on world at m clock None = refused world bad.UnknownNumber
 fuse_on world at m clock (Some machine) =
-    if is_back_on machine clock then refused world 1202
+    if is_back_on machine clock then refused world bad.ClockBack
     else with_shown (after_turn world at m (publish_turn machine clock (fusion_on machine clock)) [])
     (showing_of m (length machine.publications + 1) (spans_on machine clock) machine.config.faulty (fusion_on machine clock))
 
@@ -177,17 +179,17 @@ read_turn machine w clock k publication = record {
 
 -- worker w of machine m reads from publication k, if that is there
 abbrev pub read_from : WorldState → ℕ → ℕ → ℕ → ℕ → ℕ → MachineState → Option Publication → Outcome
-read_from world at m w clock k machine None = refused world 1204
+read_from world at m w clock k machine None = refused world bad.NoPublication
 read_from world at m w clock k machine (Some publication) =
     after_turn world at m (read_turn machine w clock k publication) []
 
 -- worker w of machine m, if it is there, reads from publication k, if it can; a clock that went back is refused
 abbrev pub read_on : WorldState → ℕ → ℕ → ℕ → ℕ → ℕ → Option MachineState → Outcome
-read_on world at m w clock k None = refused world 1206
+read_on world at m w clock k None = refused world bad.UnknownNumber
 read_on world at m w clock k (Some machine) =
-    if not (nat_lt w (length machine.workers)) then refused world 1206
-    else if is_back_on machine clock then refused world 1202
-    else if is_unreadable (length machine.publications) (worker_at machine w).seen k then refused world 1204
+    if not (nat_lt w (length machine.workers)) then refused world bad.UnknownNumber
+    else if is_back_on machine clock then refused world bad.ClockBack
+    else if is_unreadable (length machine.publications) (worker_at machine w).seen k then refused world bad.NoPublication
     else read_from world at m w clock k machine (slice_get machine.publications (k - 1))
 
 -- machine m is there, and has worker w
@@ -203,9 +205,9 @@ arrive_turn machine w arrival = record {
 
 -- worker w of machine m, if it is there, is asked for a commit
 abbrev pub arrive_on : WorldState → ℕ → ℕ → ℕ → Arrival → Option MachineState → Outcome
-arrive_on world at m w arrival None = refused world 1206
+arrive_on world at m w arrival None = refused world bad.UnknownNumber
 arrive_on world at m w arrival (Some machine) =
-    if not (nat_lt w (length machine.workers)) then refused world 1206
+    if not (nat_lt w (length machine.workers)) then refused world bad.UnknownNumber
     else after_turn world at m (arrive_turn machine w arrival) []
 
 -- stamps of which this is the greatest, if there is one
@@ -223,17 +225,17 @@ stamp_turn machine w id (Err fault) = record { machine = machine; reply = replie
 
 -- worker w of machine m stamps its task by a reading, if it has a task without a stamp, and such a reading
 abbrev pub stamp_with : WorldState → ℕ → ℕ → ℕ → MachineState → Option Task → Option Interval → Outcome
-stamp_with world at m w machine None reading = refused world 1205
-stamp_with world at m w machine (Some (tasks.Stamped id stamp)) reading = refused world 1205
-stamp_with world at m w machine (Some (tasks.Arrived arrival)) None = refused world 1205
+stamp_with world at m w machine None reading = refused world bad.NothingThere
+stamp_with world at m w machine (Some (tasks.Stamped id stamp)) reading = refused world bad.NothingThere
+stamp_with world at m w machine (Some (tasks.Arrived arrival)) None = refused world bad.NothingThere
 stamp_with world at m w machine (Some (tasks.Arrived arrival)) (Some reading) =
     after_turn world at m (stamp_turn machine w arrival.id (stamp_of (given_in machine.row) reading.hi arrival.floor)) []
 
 -- worker w of machine m, if it is there, stamps its task by its last reading since the arrival
 abbrev pub stamp_on : WorldState → ℕ → ℕ → ℕ → Option MachineState → Outcome
-stamp_on world at m w None = refused world 1206
+stamp_on world at m w None = refused world bad.UnknownNumber
 stamp_on world at m w (Some machine) =
-    if not (nat_lt w (length machine.workers)) then refused world 1206
+    if not (nat_lt w (length machine.workers)) then refused world bad.UnknownNumber
     else stamp_with world at m w machine (worker_at machine w).task (worker_at machine w).since
 
 -- the worker queues its task, or is refused to
@@ -246,16 +248,16 @@ queue_turn machine w id stamp (Some fault) = record { machine = machine; reply =
 
 -- worker w of machine m queues its task, if that has a stamp
 abbrev pub queue_with : WorldState → ℕ → ℕ → ℕ → MachineState → Option Task → Outcome
-queue_with world at m w machine None = refused world 1205
-queue_with world at m w machine (Some (tasks.Arrived arrival)) = refused world 1205
+queue_with world at m w machine None = refused world bad.NothingThere
+queue_with world at m w machine (Some (tasks.Arrived arrival)) = refused world bad.NothingThere
 queue_with world at m w machine (Some (tasks.Stamped id stamp)) =
     after_turn world at m (queue_turn machine w id stamp (first_queue_fault machine.book id stamp)) []
 
 -- worker w of machine m, if it is there, queues its task
 abbrev pub queue_on : WorldState → ℕ → ℕ → ℕ → Option MachineState → Outcome
-queue_on world at m w None = refused world 1206
+queue_on world at m w None = refused world bad.UnknownNumber
 queue_on world at m w (Some machine) =
-    if not (nat_lt w (length machine.workers)) then refused world 1206
+    if not (nat_lt w (length machine.workers)) then refused world bad.UnknownNumber
     else queue_with world at m w machine (worker_at machine w).task
 
 -- the worker releases with a reading
@@ -267,14 +269,14 @@ release_turn machine reading = record {
 
 -- machine m releases with a reading, if there is one
 abbrev pub release_with : WorldState → ℕ → ℕ → MachineState → Option Interval → Outcome
-release_with world at m machine None = refused world 1205
+release_with world at m machine None = refused world bad.NothingThere
 release_with world at m machine (Some reading) = after_turn world at m (release_turn machine reading) []
 
 -- worker w of machine m, if it is there, releases with its last reading
 abbrev pub release_on : WorldState → ℕ → ℕ → ℕ → Option MachineState → Outcome
-release_on world at m w None = refused world 1206
+release_on world at m w None = refused world bad.UnknownNumber
 release_on world at m w (Some machine) =
-    if not (nat_lt w (length machine.workers)) then refused world 1206
+    if not (nat_lt w (length machine.workers)) then refused world bad.UnknownNumber
     else release_with world at m machine (worker_at machine w).reading
 
 -- what an action makes at a true time
@@ -293,49 +295,30 @@ acted world at (Release m w) = release_on world at m w (slice_get world.machines
 -- what an event makes
 abbrev pub stepped : WorldState → Event → Outcome
 stepped world event =
-    if nat_lt event.at world.time || nat_lt max_time event.at then refused world 1201
+    if nat_lt event.at world.time || nat_lt max_time event.at then refused world bad.TimeBack
     else acted world event.at event.action
 
 -- where the action polls, fewer packets were put than a nonce can count
 abbrev pub HasRoom : WorldState → Action → Type 0
 HasRoom world (Send m i clock) = length world.packets < 2 ^ 64 - 1
-HasRoom world (Answer packet span) = Unit {0}
-HasRoom world (Forge m i payload) = Unit {0}
-HasRoom world (Deliver packet clock) = Unit {0}
-HasRoom world (Fuse m clock) = Unit {0}
-HasRoom world (Read m w clock k) = Unit {0}
-HasRoom world (Arrive m w id floor) = Unit {0}
-HasRoom world (Stamp m w) = Unit {0}
-HasRoom world (Queue m w) = Unit {0}
-HasRoom world (Release m w) = Unit {0}
+HasRoom world _ = Unit {0}
 
--- the reply is none to a bad event: it has no number of this crate
-abbrev pub IsTaken : Reply → Type 0
-IsTaken reply = (number : ℕ) → reply ≡ replies.Refused number → number < 1201
+-- where memory was refused for an action with this reply: it is one for which the action takes memory, or that of a poll whose machine has used up its nonces, which no run of this length has
+abbrev pub WantsMemory : Action → Reply → Type 0
+WantsMemory (Send m i clock) reply = ¬ IsBadReply reply
+WantsMemory _ reply = TakesMemory reply
 
--- the reason is that of an outcome in which nothing changed; memory is wanting only for what is not bad
-abbrev pub IsRefusal : WorldFault → WorldState → Outcome → Type 0
-IsRefusal faults.Memory world outcome = IsTaken outcome.reply
-IsRefusal faults.TimeBack world outcome = outcome ≡ refused world 1201
-IsRefusal faults.ClockBack world outcome = outcome ≡ refused world 1202
-IsRefusal faults.NoPacket world outcome = outcome ≡ refused world 1203
-IsRefusal faults.NoPublication world outcome = outcome ≡ refused world 1204
-IsRefusal faults.NothingThere world outcome = outcome ≡ refused world 1205
-IsRefusal faults.UnknownNumber world outcome = outcome ≡ refused world 1206
-IsRefusal faults.Machines world outcome = outcome ≡ refused world 1207
+-- the action is bad for this reason, or memory was refused for it
+abbrev pub IsRefusal : Action → WorldFault → WorldState → Outcome → Type 0
+IsRefusal action bad.Memory world outcome = WantsMemory action outcome.reply
+IsRefusal action fault world outcome = outcome ≡ refused world fault
 
--- the reply to an event that is bad for a reason; want of memory is no reply
+-- the answer to an event that is bad for a reason; an allocation that failed is no reply
 abbrev pub refusal_reply : WorldFault → Result Reply WorldFault
-refusal_reply faults.TimeBack = Ok (replies.Refused 1201)
-refusal_reply faults.ClockBack = Ok (replies.Refused 1202)
-refusal_reply faults.NoPacket = Ok (replies.Refused 1203)
-refusal_reply faults.NoPublication = Ok (replies.Refused 1204)
-refusal_reply faults.NothingThere = Ok (replies.Refused 1205)
-refusal_reply faults.UnknownNumber = Ok (replies.Refused 1206)
-refusal_reply faults.Machines = Ok (replies.Refused 1207)
-refusal_reply faults.Memory = Err faults.Memory
+refusal_reply bad.Memory = Err bad.Memory
+refusal_reply fault = Ok (bad_reply fault)
 
--- a call that answered this, and left this, did what the outcome says, or changed nothing and gave the reason
-abbrev pub Does : Outcome → WorldState → Result Reply WorldFault → WorldState → Type 0
-Does outcome old (Ok reply) new = outcome ≡ record { world = new; reply = reply }
-Does outcome old (Err fault) new = (new ≡ old) × IsRefusal fault old outcome
+-- a call for an action that answered this, and left this, did what the outcome says, or changed nothing and gave the reason
+abbrev pub Does : Action → Outcome → WorldState → Result Reply WorldFault → WorldState → Type 0
+Does action outcome old (Ok reply) new = outcome ≡ record { world = new; reply = reply }
+Does action outcome old (Err fault) new = (new ≡ old) × IsRefusal action fault old outcome

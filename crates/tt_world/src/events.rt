@@ -59,9 +59,10 @@ pub struct Event {
 }
 
 impl Event {
-    /// An answer's span is one of time, as every span is.
-    pub(crate) fn recall(&self)
-        ensures { IsAction self.now.action }
+    /// Says of the event that an answer's span is an interval, as every `Span` is. It does nothing: a proof about a
+    /// list of events calls it for each of them.
+    pub fn recall(&self)
+        ensures valid { IsAction self.now.action }
     {
         if let Action::Answer { span, .. } = &self.action {
             prove!(span.lo() <= span.hi());

@@ -26,6 +26,7 @@
 //! Modules:
 //!
 //! - `events`: what happens, and what is replied.
+//! - `breaches`: what breaks the assumptions of a run.
 //! - `packets`: what is on its way between machines and sources.
 //! - `publications`: what a machine has published, and what is shown of it.
 //! - `workers`: what is kept of one worker.
@@ -35,6 +36,7 @@
 //! - `faults`: why an event is bad.
 #![tactic(auto)]
 
+mod breaches;
 mod events;
 mod faults;
 mod machines;
@@ -44,6 +46,7 @@ mod runs;
 mod workers;
 mod world;
 
+pub use breaches::Breach;
 pub use events::{Action, Event, MAX_PAYLOAD, Payload, Receipts, Reply};
 pub use faults::WorldFault;
 pub use publications::Shown;

@@ -148,8 +148,8 @@ impl Machine {
             ++ showing_of machine (length self.old.publications + 1) (spans_on self.old clock) self.old.config.faulty (fusion_on self.old clock)) }
         ensures certified { CertificatesProve shown.old.items → CertificatesProve shown.new.items }
         ensures memory { IfErr result (λ e. e ≡ WorldFault.Memory) }
-        // Memory is wanting only where the fusion is not refused.
-        ensures memory_last { OnErr result (IsOk (fusion_on self.old clock)) }
+        // Memory is taken only where the fusion is not refused.
+        ensures memory_only { OnErr result (IsOk (fusion_on self.old clock)) }
         ensures unchanged { OnErr result ((self.new ≡ self.old) × (shown.new.items ≡ shown.old.items)) }
     {
         match self.daemon.fuse(clock) {
@@ -263,6 +263,8 @@ impl Machine {
         ensures queued { IfOk result (λ reply. record { machine = self.new; reply = reply }
             ≡ queue_turn self.old worker id stamp (first_queue_fault self.old.book id stamp)) }
         ensures memory { IfErr result (λ e. e ≡ WorldFault.Memory) }
+        // Memory is taken only where nothing else refuses the commit.
+        ensures memory_only { OnErr result (first_queue_fault self.old.book id stamp ≡ None) }
         ensures unchanged { OnErr result (self.new ≡ self.old) }
     {
         match self.book.queue(id, stamp) {

@@ -1,11 +1,12 @@
 //! Whole runs.
 
-ghost use Rattle.std.specs.Prelude.{◌≡◌, ℕ, ◌<◌, ◌⊎◌, ◌↔◌, List, [], length, map, reverse, IfOk, IfErr, IsErrOf};
-ghost use Rattle.tt_world.specs.Headline.{ReadingsHold, FusionsAreShortest, NoFusionRefused, StampsAreLeast, ExternallyConsistent, CertificatesProve};
-ghost use Rattle.tt_world.specs.Reply.{replies_from};
-ghost use Rattle.tt_world.specs.Bad.{accepted};
+ghost use Rattle.std.specs.Prelude.{◌≡◌, ℕ, ◌<◌, ◌⊎◌, ◌↔◌, List, [], length, map, reverse, IfOk, IfErr, IsErrOf, None};
+ghost use Rattle.tt_world.specs.Headline.{AreConfigurations, AreEvents, ReadingsHold, FusionsAreShortest, NoFusionRefused, StampsAreLeast, ExternallyConsistent, CertificatesProve};
+ghost use Rattle.tt_world.specs.Reply.{replies_from, reply_of, IsBadReply, MakesStatement};
+ghost use Rattle.tt_world.specs.Assumptions.{MeetsAssumptions, NoBreach};
+ghost use Rattle.tt_world.specs.Bad.{first_bad, accepted};
 ghost use Rattle.tt_world.specs.Publications.{shown_of};
-ghost use Rattle.tt_world.specs.Trace.{outline};
+ghost use Rattle.tt_world.specs.Trace.{outline, IsTraceOf};
 ghost use Rattle.tt_world.specs.Commits.{book_of};
 ghost use Rattle.tt_world.specs.Config.{config_at};
 ghost use Rattle.tt_world.specs.declared.events.Event.{Event};
@@ -83,6 +84,9 @@ pub fn run(alloc: Global, configs: &[Config], events: &[Event]) -> Result<Trace,
     // Each publication has the certificate by which anybody can check it.
     ensures certificates_prove { IfOk result (λ trace. CertificatesProve trace.shown) }
 
+    // All that the trace is, as one fact that a caller can require.
+    ensures trace { IfOk result (λ trace. IsTraceOf configs.now events.now trace) }
+
     ensures machines { IsErrOf result WorldFault.Machines ↔ ((length configs.now ≡ 0) ⊎ (8 < length configs.now)) }
     ensures refused { IfErr result (λ e. (e ≡ WorldFault.Machines) ⊎ (e ≡ WorldFault.Memory)) }
 {
@@ -100,12 +104,32 @@ pub fn run(alloc: Global, configs: &[Config], events: &[Event]) -> Result<Trace,
     })
 }
 
-/// What the definitions of a run make of the book of each machine is a legal history, whatever the events: each
-/// commit was queued where it might be, and each receipt was the next one. So a commit waits there when it was
-/// queued and no later receipt names it.
+/// What the definitions of a run give for every list of events, without a call that runs it.
 pub fn run_laws()
+    // Under the assumptions every reading holds the true time, and a commit that is released before another arrives
+    // has the smaller stamp, as `run` says of its own replies.
+    ensures readings_hold { (configs : List Configuration) (events : List Event) → AreConfigurations configs → AreEvents events →
+        ReadingsHold configs events (replies_from configs [] events) }
+    ensures externally_consistent { (configs : List Configuration) (events : List Event) → AreConfigurations configs → AreEvents events →
+        ExternallyConsistent configs events (replies_from configs [] events) }
+
+    // A list of events keeps the assumptions exactly where none of them breaks one.
+    ensures breaches { (configs : List Configuration) (past : List Event) → MeetsAssumptions configs past ↔ NoBreach configs past }
+
+    // An event is accepted exactly where its reply is no number of 1201 to 1208.
+    ensures accepted { (configs : List Configuration) (past : List Event) (event : Event) →
+        (first_bad configs (accepted configs past) event ≡ None) ↔ (¬ IsBadReply (reply_of configs past event)) }
+
+    // The reply is `Taken` exactly where the event makes a statement.
+    ensures taken { (configs : List Configuration) (past : List Event) (event : Event) →
+        (reply_of configs past event ≡ Reply.Taken) ↔ MakesStatement configs past event }
+
+    // The book of each machine is a legal history: each commit was queued where it might be, and each receipt was the
+    // next one. So a commit waits there when it was queued and no later receipt names it.
     ensures legal_books { (configs : List Configuration) (past : List Event) (m : ℕ) →
         IsLegalHistory (book_of (config_at configs m) (accepted configs past) m) }
 {
+    fusion_laws();
+    stamp_laws();
     book_laws();
 }

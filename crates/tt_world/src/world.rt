@@ -6,8 +6,7 @@ ghost use Rattle.tt_world.specs.declared.events.Event.{Event};
 ghost use Rattle.tt_world.specs.declared.events.Reply.{Reply};
 ghost use Rattle.tt_world.specs.Headline.{AreConfigurations, CertificatesProve};
 ghost use Rattle.tt_world.specs.Trace.{outline};
-ghost use Rattle.tt_world.specs.Bad.{first_bad, accepted};
-ghost use Rattle.tt_world.specs.Reply.{reply_of};
+ghost use Rattle.tt_world.specs.Reply.{reply_of, TakesMemory};
 ghost use Rattle.tt_world.specs.State.{WorldState, StandsFor};
 ghost use Rattle.tt_world.specs.Packet.{answer_to};
 ghost use Rattle.tt_world.specs.Step.{Does, HasRoom, IsWorker, send_on, answer_on, forge_on, deliver_on, fuse_on, read_on, arrive_on, stamp_on, queue_on, release_on, stepped};
@@ -55,7 +54,7 @@ impl Model for World {
 impl World {
     /// A machine polls a source.
     fn send(&mut self, at: u64, machine: u8, source: u8, clock: u64) -> Result<Reply, WorldFault>
-        ensures does { Does (send_on self.old at machine source clock (slice_get self.old.machines machine)) self.old result self.new }
+        ensures does { Does (Action.Send machine source clock) (send_on self.old at machine source clock (slice_get self.old.machines machine)) self.old result self.new }
         ensures room { OnOk result (length self.old.packets < 2 ^ 64 - 1) }
     {
         let place = usize::from(machine);
@@ -89,7 +88,7 @@ impl World {
         source: u8,
         payload: &Payload,
     ) -> Result<Reply, WorldFault>
-        ensures { Does (forge_on self.old at machine source payload.now (slice_get self.old.machines machine)) self.old result self.new }
+        ensures { Does (Action.Forge machine source payload.now) (forge_on self.old at machine source payload.now (slice_get self.old.machines machine)) self.old result self.new }
     {
         let place = usize::from(machine);
         if place >= self.machines.len() {
@@ -111,7 +110,7 @@ impl World {
 
     /// A machine fuses what it knows, and publishes it.
     fn fuse(&mut self, at: u64, machine: u8, clock: u64) -> Result<Reply, WorldFault>
-        ensures { Does (fuse_on self.old at machine clock (slice_get self.old.machines machine)) self.old result self.new }
+        ensures { Does (Action.Fuse machine clock) (fuse_on self.old at machine clock (slice_get self.old.machines machine)) self.old result self.new }
     {
         let place = usize::from(machine);
         if place >= self.machines.len() {
@@ -134,7 +133,7 @@ impl World {
         clock: u64,
         number: u64,
     ) -> Result<Reply, WorldFault>
-        ensures { Does (read_on self.old at machine worker clock number (slice_get self.old.machines machine)) self.old result self.new }
+        ensures { Does (Action.Read machine worker clock number) (read_on self.old at machine worker clock number (slice_get self.old.machines machine)) self.old result self.new }
     {
         let place = self.place_of(machine, worker)?;
         if self.machines[place].is_back(clock) {
@@ -156,7 +155,7 @@ impl World {
         worker: u8,
         arrival: Arrival,
     ) -> Result<Reply, WorldFault>
-        ensures { Does (arrive_on self.old at machine worker arrival (slice_get self.old.machines machine)) self.old result self.new }
+        ensures { Does (Action.Arrive machine worker arrival.id arrival.floor) (arrive_on self.old at machine worker arrival (slice_get self.old.machines machine)) self.old result self.new }
     {
         let place = self.place_of(machine, worker)?;
         let reply = self.machines[place].arrive(worker, arrival);
@@ -166,7 +165,7 @@ impl World {
 
     /// A worker stamps its task.
     fn stamp(&mut self, at: u64, machine: u8, worker: u8) -> Result<Reply, WorldFault>
-        ensures { Does (stamp_on self.old at machine worker (slice_get self.old.machines machine)) self.old result self.new }
+        ensures { Does (Action.Stamp machine worker) (stamp_on self.old at machine worker (slice_get self.old.machines machine)) self.old result self.new }
     {
         let place = self.place_of(machine, worker)?;
         let kept = self.machines[place].worker(worker);
@@ -183,7 +182,7 @@ impl World {
 
     /// A worker queues its stamped task.
     fn queue(&mut self, at: u64, machine: u8, worker: u8) -> Result<Reply, WorldFault>
-        ensures { Does (queue_on self.old at machine worker (slice_get self.old.machines machine)) self.old result self.new }
+        ensures { Does (Action.Queue machine worker) (queue_on self.old at machine worker (slice_get self.old.machines machine)) self.old result self.new }
     {
         let place = self.place_of(machine, worker)?;
         let Some(Task::Stamped { id, stamp }) = self.machines[place].worker(worker).task else {
@@ -196,7 +195,7 @@ impl World {
 
     /// A worker releases with its last reading.
     fn release(&mut self, at: u64, machine: u8, worker: u8) -> Result<Reply, WorldFault>
-        ensures { Does (release_on self.old at machine worker (slice_get self.old.machines machine)) self.old result self.new }
+        ensures { Does (Action.Release machine worker) (release_on self.old at machine worker (slice_get self.old.machines machine)) self.old result self.new }
     {
         let place = self.place_of(machine, worker)?;
         let Some(reading) = self.machines[place].worker(worker).reading else {
@@ -221,7 +220,7 @@ impl World {
 
     /// The source that a request asks answers it.
     fn answer(&mut self, at: u64, packet: u64, span: Span) -> Result<Reply, WorldFault>
-        ensures { Does (answer_on self.old at (answer_to (slice_get self.old.packets packet) span)) self.old result self.new }
+        ensures { Does (Action.Answer packet span) (answer_on self.old at (answer_to (slice_get self.old.packets packet) span)) self.old result self.new }
     {
         let Some(Packet::Asked(request)) = self.packets.get(packet as usize) else {
             return Err(WorldFault::NoPacket);
@@ -240,7 +239,7 @@ impl World {
 
     /// A packet that is no request reaches its machine.
     fn deliver(&mut self, at: u64, packet: u64, clock: u64) -> Result<Reply, WorldFault>
-        ensures { Does (deliver_on self.old at clock (slice_get self.old.packets packet)) self.old result self.new }
+        ensures { Does (Action.Deliver packet clock) (deliver_on self.old at clock (slice_get self.old.packets packet)) self.old result self.new }
     {
         let Some(found) = self.packets.get(packet as usize) else {
             return Err(WorldFault::NoPacket);
@@ -262,7 +261,7 @@ impl World {
 
     /// What an event makes, or why it is bad.
     fn act(&mut self, event: &Event) -> Result<Reply, WorldFault>
-        ensures does { Does (stepped self.old event.now) self.old result self.new }
+        ensures does { Does event.now.action (stepped self.old event.now) self.old result self.new }
         ensures room { OnOk result (HasRoom self.old event.now.action) }
     {
         let at = event.at;
@@ -335,9 +334,10 @@ impl World {
         ensures reply { IfOk result (λ reply. (configs : List Configuration) (past : List Event) → StandsFor configs past self.old →
             (reply ≡ reply_of configs past event.now) × StandsFor configs (event.now ∷ past) self.new) }
         ensures memory { IfErr result (λ e. e ≡ WorldFault.Memory) }
-        // Memory is wanting only for an event that is not bad: a bad one has its number even then.
-        ensures memory_last { OnErr result ((configs : List Configuration) (past : List Event) → StandsFor configs past self.old →
-            first_bad configs (accepted configs past) event.now ≡ None) }
+        // Memory is taken only where the reply would be that something was sent, put, published, queued or released: an
+        // event that is refused has its number even then.
+        ensures memory_only { OnErr result ((configs : List Configuration) (past : List Event) → StandsFor configs past self.old →
+            TakesMemory (reply_of configs past event.now)) }
         ensures unchanged { OnErr result (self.new ≡ self.old) }
     {
         match self.act(event) {

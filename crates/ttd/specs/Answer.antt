@@ -14,7 +14,7 @@ pub record Answer : Type 0 where
 abbrev pub refusal_line : ℕ → List ℕ
 refusal_line number = codes "refused " ++ (decimal number ++ 10 ∷ [])
 
--- A text is written as it is, and all is fine; of a refusal the one line is written, with its status.
+-- A text is written as it is, with status 0; of a refusal the one line is written, with its status.
 abbrev pub answer_of : Result (List ℕ) Fault → Answer
 answer_of (Ok text) = record { text = text; status = Fine }
 answer_of (Err fault) = record { text = refusal_line (number_of fault); status = status_of fault }

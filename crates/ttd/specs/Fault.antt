@@ -21,7 +21,7 @@ number_of (Fusion fault) = fusion_number fault
 number_of (Certificate fault) = certificate_number fault
 number_of Memory = 1
 
--- How the program ends after each refusal: a device fault where reading failed, else bad words or input, or want of memory.
+-- How the program ends after each refusal: as at a device fault where reading failed, as out of memory, and else as at what was rejected.
 abbrev pub status_of : Fault → Status
 status_of ReadFailed = Device
 status_of Memory = NoMemory

@@ -1,11 +1,11 @@
 -- What a run does to its input and its output.
-use Rattle.std.specs.Prelude.{◌≡◌, ◌⊎◌, ◌<◌, ℕ, List, length, take, Option, IfSome, Result, Err}
+use Rattle.std.specs.Prelude.{◌≡◌, ◌⊎◌, ◌<◌, ℕ, Bool, true, List, length, take, Option, IfSome, Result, Err}
 use Rattle.std.specs.Io.KnownBytes.{Appends, IsAtEnd}
 use Rattle.tt_stream.specs.Counts.{HasFailed}
 use Rattle.ttd.specs.declared.ending.Status.{Status}
-use Rattle.ttd.specs.declared.ending.Status.TheVariants.{Memory, Device}
+use Rattle.ttd.specs.declared.ending.Status.TheVariants.{Device}
 use Rattle.ttd.specs.declared.faults.Fault.{Fault}
-use Rattle.ttd.specs.declared.faults.Fault.TheVariants.{ReadFailed}
+use Rattle.ttd.specs.declared.faults.Fault.TheVariants.{ReadFailed, Memory}
 use Rattle.ttd.specs.Answer.{Answer, answer_of}
 use Rattle.ttd.specs.Input.{most_input}
 
@@ -15,39 +15,45 @@ pub record Input : Type 0 where
   pub failed : ℕ
   pub asked : ℕ
 
--- What the output shows: the bytes that were written, where the device keeps them, and its failures so far.
+-- What the output shows: the bytes that were written, where the device keeps them, its failures so far, and whether it holds none of the
+-- bytes back.
 pub record Output : Type 0 where
   pub taken : Option (List ℕ)
   pub failed : ℕ
+  pub flushed : Bool
 
 -- The same by its parts.
 abbrev pub input_at : Option (List ℕ) → ℕ → ℕ → Input
 input_at left failed asked = record { left = left; failed = failed; asked = asked }
 
 -- The same by its parts.
-abbrev pub output_at : Option (List ℕ) → ℕ → Output
-output_at taken failed = record { taken = taken; failed = failed }
+abbrev pub output_at : Option (List ℕ) → ℕ → Bool → Output
+output_at taken failed flushed = record { taken = taken; failed = failed; flushed = flushed }
 
--- The output gained exactly the answer's text, no write failed, and the program ends with the answer's status.
+-- The output gained exactly the answer's text and was flushed, no write failed, and the program ends with the answer's status.
 pub record IsWritten (answer : Answer) (old new : Output) (status : Status) : Type 0 where
   pub status_is : status ≡ answer.status
   pub text : Appends old.taken new.taken answer.text
+  pub flushed : new.flushed ≡ true
   pub sound : new.failed ≡ old.failed
 
--- A write failed: the output gained a front of the answer's text, and the program ends with a device fault.
+-- A write or the flush failed: the output gained a front of the answer's text, and the program ends with a device fault.
 pub record IsCutShort (answer : Answer) (old new : Output) (status : Status) : Type 0 where
   pub status_is : status ≡ Device
   pub front : (n : ℕ) × Appends old.taken new.taken (take n answer.text)
   pub failed : HasFailed old.failed new.failed
 
--- Memory was refused: the output is as it was, and the program ends with want of memory.
-pub record IsUnwritten (old new : Output) (status : Status) : Type 0 where
-  pub status_is : status ≡ Memory
-  pub unchanged : new ≡ old
-
--- The answer was written, unless a write failed or memory was refused.
+-- The answer was written, unless the output failed.
 abbrev pub Gives : Answer → Output → Output → Status → Type 0
-Gives answer old new status = IsWritten answer old new status ⊎ (IsCutShort answer old new status ⊎ IsUnwritten old new status)
+Gives answer old new status = IsWritten answer old new status ⊎ IsCutShort answer old new status
+
+-- The refusal of out of memory.
+abbrev pub memory_answer : Answer
+memory_answer = answer_of (Err Memory)
+
+-- The same, or memory ran out, and that is the answer.
+abbrev pub GivesUnlessMemory : Answer → Output → Output → Status → Type 0
+GivesUnlessMemory answer old new status = Gives answer old new status ⊎ Gives memory_answer old new status
 
 -- These are the bytes that the input still had, and it is read to its end, unless they are too many; no read failed.
 pub record IsRead (bytes : List ℕ) (old new : Input) : Type 0 where
@@ -55,11 +61,11 @@ pub record IsRead (bytes : List ℕ) (old new : Input) : Type 0 where
   pub end : IsAtEnd new.left ⊎ (most_input < length bytes)
   pub sound : new.failed ≡ old.failed
 
--- The input was read, and the answer is the one for a reply to its bytes; or reading failed, and that is the answer; or memory was
--- refused.
+-- The input was read, and the answer is the one for a reply to its bytes; or reading failed, and that is the answer; or memory ran out,
+-- and that is the answer.
 abbrev pub Answers : (List ℕ → Result (List ℕ) Fault → Type 0) → Input → Input → Output → Output → Status → Type 0
 Answers IsReplyOf old_in new_in old_out new_out status =
     ((bytes : List ℕ) × (reply : Result (List ℕ) Fault) × IsRead bytes old_in new_in × IsReplyOf bytes reply
     × Gives (answer_of reply) old_out new_out status)
     ⊎ ((HasFailed old_in.failed new_in.failed × Gives (answer_of (Err ReadFailed)) old_out new_out status)
-    ⊎ IsUnwritten old_out new_out status)
+    ⊎ Gives memory_answer old_out new_out status)

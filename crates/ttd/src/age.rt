@@ -1,6 +1,6 @@
 //! The command `age`: the answer to a poll, aged.
 
-ghost use Rattle.std.specs.Prelude.{◌≡◌, ◌≤◌, ◌⊎◌, ◌≢◌, Err, string_bytes};
+ghost use Rattle.std.specs.Prelude.{◌≡◌, ◌≢◌, Err, string_bytes};
 ghost use Rattle.hex.specs.Hex.{decode_of};
 ghost use Rattle.ttd.specs.Age.{age_of, aged_hex, aged_line, aged_of, answered as answered_of, without_line_feed as without_line_feed_of};
 ghost use Rattle.ttd.specs.Command.{HasText, IsUnlessMemory};

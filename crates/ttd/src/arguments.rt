@@ -4,9 +4,11 @@ ghost use Rattle.std.specs.Prelude.{◌≡◌, ◌⊎◌, IfOk, map, string_byte
 ghost use Rattle.clap.specs.Walk.{texts};
 ghost use Rattle.tt_stream.specs.Counts.{HasFailed};
 ghost use Rattle.tt_stream.specs.Known.{ReadsOn};
-ghost use Rattle.ttd.specs.Run.{output_at};
+ghost use Rattle.ttd.specs.Run.{IsWritten, memory_answer, output_at};
 
 use crate::ending::Status;
+use crate::faults::Fault;
+use crate::output::give;
 use crate::program::main_with;
 use std::alloc::{AllocError, Global};
 use std::env;
@@ -40,16 +42,18 @@ pub(crate) fn main_from<R: ByteReader, W: ByteWriter>(
         ⊎ HasFailed (W.failed output.old) (W.failed output.new) }
     ensures sound { (result ≡ Status.Fine) ⊎ (result ≡ Status.Bad) → (R.failed input.new ≡ R.failed input.old)
         × (W.failed output.new ≡ W.failed output.old) }
-    ensures memory { result ≡ Status.Memory → output_at (W.taken output.new) (W.failed output.new)
-        ≡ output_at (W.taken output.old) (W.failed output.old) }
+    ensures memory { result ≡ Status.Memory → IsWritten memory_answer (output_at (W.taken output.old) (W.failed output.old) (W.flushed output.old))
+        (output_at (W.taken output.new) (W.failed output.new) (W.flushed output.new)) result }
     ensures rest { ReadsOn (R.left input.old) (R.left input.new) }
 {
     match words_given(rt) {
         Ok(words) => match as_texts(rt.alloc(), words.as_slice()) {
             Ok(texts) => main_with(rt.alloc(), texts.as_slice(), input, output),
-            Err(AllocError) => Status::Memory,
+            Err(AllocError) => give(rt.alloc(), output, Err(Fault::Memory)),
         },
-        Err(error) if error.kind() == ErrorKind::OutOfMemory => Status::Memory,
+        Err(error) if error.kind() == ErrorKind::OutOfMemory => {
+            give(rt.alloc(), output, Err(Fault::Memory))
+        }
         Err(_) => main_with(rt.alloc(), &[], input, output),
     }
 }

@@ -1,16 +1,19 @@
 //! How the program ends.
 
 ghost use Rattle.std.specs.Prelude.{◌≡◌};
+ghost use Rattle.std.specs.Process.{exit_status};
 ghost use Rattle.ttd.specs.Fault.{code_of};
+
+use std::process::ExitCode;
 
 /// How the program ends.
 #[derive(Clone, Copy, Debug, PartialEq, Eq)]
 pub enum Status {
-    /// All went well: 0.
+    /// The answer or the help was written: 0.
     Fine,
-    /// Memory ran out, and nothing was written: 1.
+    /// Out of memory (`refused 1`): 1.
     Memory,
-    /// The words or the input are refused, and the refusal was written: 2.
+    /// The arguments or the input were rejected, and the refusal was written: 2.
     Bad,
     /// A device failed, in reading (1604, which was written) or in writing (1605, which can't be): 4.
     Device,
@@ -27,5 +30,13 @@ impl Status {
             Status::Bad => 2,
             Status::Device => 4,
         }
+    }
+}
+
+impl From<Status> for ExitCode {
+    ghost from_gives = { λ status code. exit_status code ≡ code_of status };
+
+    fn from(status: Status) -> ExitCode {
+        ExitCode::from(status.code())
     }
 }

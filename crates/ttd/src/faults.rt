@@ -11,34 +11,34 @@ use tt_fuse::FuseFault;
 use tt_poll::PollFault;
 use tt_source::SourceFault;
 
-/// Why the program prints a refusal in place of an answer, or nothing.
+/// Why the program prints a refusal in place of an answer.
 #[derive(Clone, Copy, Debug, PartialEq, Eq, Error)]
 pub enum Fault {
-    /// The words after the program's name are none that it takes.
-    #[error("bad words")]
+    /// The arguments after the program's name are invalid.
+    #[error("invalid arguments")]
     BadWords,
-    /// The input is no hex text.
-    #[error("bad hex")]
+    /// The input is not hex text.
+    #[error("not hex")]
     BadHex,
-    /// The input is longer than [`MOST_INPUT`](crate::input::MOST_INPUT) bytes, or no spans text.
-    #[error("bad input")]
+    /// The input is longer than [`MOST_INPUT`](crate::input::MOST_INPUT) bytes, or is not spans text.
+    #[error("invalid input")]
     BadInput,
     /// Reading the input failed.
-    #[error("reading failed")]
+    #[error("reading the input failed")]
     ReadFailed,
-    /// The bytes are no poll message.
-    #[error("no poll message: {0}")]
+    /// The bytes are not a valid poll message.
+    #[error("not a valid poll message: {0}")]
     Poll(PollFault),
-    /// The message or the clock readings make no statement of a source.
-    #[error("no statement: {0}")]
+    /// The message is not an answer, or the clock readings are out of order.
+    #[error("not a statement of a source: {0}")]
     Source(SourceFault),
     /// The spans have no fusion.
     #[error("no fusion: {0}")]
     Fusion(FuseFault),
-    /// The certificate proves nothing, or its text is none.
-    #[error("no certificate: {0}")]
+    /// The certificate does not prove its claim, or the text is not that of a certificate.
+    #[error("not a valid certificate: {0}")]
     Certificate(CertFault),
-    /// Memory ran out.
+    /// Out of memory: an allocation failed.
     #[error("out of memory")]
     Memory,
 }

@@ -38,8 +38,7 @@ use tt_stream::Counted;
 fn main(rt: HostRuntime) -> ExitCode {
     let mut input = Counted::new(rt.stdin());
     let mut output = Counted::new(rt.stdout());
-    let status = main_from(&rt, &mut input, &mut output);
-    ExitCode::from(status.code())
+    ExitCode::from(main_from(&rt, &mut input, &mut output))
 }
 
 #[cfg(test)]

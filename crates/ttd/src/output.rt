@@ -1,11 +1,11 @@
 //! What is written, and how the program ends.
 
-ghost use Rattle.std.specs.Prelude.{◌≡◌, ◌⊎◌, ℕ, Err, take, OnOk, OnErr, string_bytes};
+ghost use Rattle.std.specs.Prelude.{◌≡◌, ℕ, Err, true, take, OnOk, OnErr, string_bytes};
 ghost use Rattle.std.specs.Result.{result_map_both};
 ghost use Rattle.std.specs.Io.KnownBytes.{Appends};
 ghost use Rattle.tt_stream.specs.Counts.{HasFailed};
 ghost use Rattle.ttd.specs.Answer.{answer_of};
-ghost use Rattle.ttd.specs.Run.{Gives, IsCutShort, IsUnwritten, IsWritten, output_at};
+ghost use Rattle.ttd.specs.Run.{Gives, GivesUnlessMemory, IsWritten, memory_answer, output_at};
 
 use crate::ending::Status;
 use crate::faults::Fault;
@@ -15,6 +15,7 @@ use tt_stream::{ByteWriter, DeviceFault, write_all};
 /// Writes all bytes, and passes them on.
 fn write<W: ByteWriter>(output: &mut W, bytes: &[u8]) -> Result<(), DeviceFault>
     ensures ok { OnOk result (Appends (W.taken output.old) (W.taken output.new) bytes.now) }
+    ensures flushed { OnOk result (W.flushed output.new ≡ true) }
     ensures err { OnErr result ((n : ℕ) × Appends (W.taken output.old) (W.taken output.new) (take n bytes.now)) }
     ensures sound { OnOk result (W.failed output.new ≡ W.failed output.old) }
     ensures cause { OnErr result (HasFailed (W.failed output.old) (W.failed output.new)) }
@@ -25,10 +26,8 @@ fn write<W: ByteWriter>(output: &mut W, bytes: &[u8]) -> Result<(), DeviceFault>
 
 /// Writes a text, after which the program ends with `status`, unless the writer fails.
 fn end_with<W: ByteWriter>(output: &mut W, text: &str, status: Status) -> Status
-    ensures { IsWritten (record { text = text.now; status = status }) (output_at (W.taken output.old) (W.failed output.old))
-        (output_at (W.taken output.new) (W.failed output.new)) result
-        ⊎ IsCutShort (record { text = text.now; status = status }) (output_at (W.taken output.old) (W.failed output.old))
-        (output_at (W.taken output.new) (W.failed output.new)) result }
+    ensures { Gives (record { text = text.now; status = status }) (output_at (W.taken output.old) (W.failed output.old) (W.flushed output.old))
+        (output_at (W.taken output.new) (W.failed output.new) (W.flushed output.new)) result }
 {
     match write(output, text.as_bytes()) {
         Ok(()) => status,
@@ -36,32 +35,31 @@ fn end_with<W: ByteWriter>(output: &mut W, text: &str, status: Status) -> Status
     }
 }
 
-/// Writes the one line of a refusal.
+/// Writes the one line of a refusal. That of out of memory takes no memory.
 fn refuse<W: ByteWriter>(alloc: Global, output: &mut W, fault: Fault) -> Status
-    ensures { Gives (answer_of (Err fault)) (output_at (W.taken output.old) (W.failed output.old))
-        (output_at (W.taken output.new) (W.failed output.new)) result }
+    ensures { GivesUnlessMemory (answer_of (Err fault)) (output_at (W.taken output.old) (W.failed output.old) (W.flushed output.old))
+        (output_at (W.taken output.new) (W.failed output.new) (W.flushed output.new)) result }
 {
     let number = fault.number();
     match format!(in alloc; "refused {number}\n") {
         Ok(line) => end_with(output, line.as_str(), fault.status()),
-        Err(_) => Status::Memory,
+        Err(_) => end_with(output, "refused 1\n", Status::Memory),
     }
 }
 
-/// Writes a reply: its text as it is, or the one line of a refusal. Where memory was refused nothing is written.
+/// Writes a reply: its text as it is, or the one line of a refusal.
 pub(crate) fn give<W: ByteWriter>(
     alloc: Global,
     output: &mut W,
     reply: Result<String, Fault>,
 ) -> Status
-    ensures gives { Gives (answer_of (result_map_both string_bytes (λ fault. fault) reply)) (output_at (W.taken output.old) (W.failed output.old))
-        (output_at (W.taken output.new) (W.failed output.new)) result }
-    ensures no_memory { reply ≡ Err Fault.Memory → IsUnwritten (output_at (W.taken output.old) (W.failed output.old))
-        (output_at (W.taken output.new) (W.failed output.new)) result }
+    ensures gives { GivesUnlessMemory (answer_of (result_map_both string_bytes (λ fault. fault) reply)) (output_at (W.taken output.old) (W.failed output.old) (W.flushed output.old))
+        (output_at (W.taken output.new) (W.failed output.new) (W.flushed output.new)) result }
+    ensures memory { result ≡ Status.Memory → IsWritten memory_answer (output_at (W.taken output.old) (W.failed output.old) (W.flushed output.old))
+        (output_at (W.taken output.new) (W.failed output.new) (W.flushed output.new)) result }
 {
     match reply {
         Ok(text) => end_with(output, text.as_str(), Status::Fine),
-        Err(Fault::Memory) => Status::Memory,
         Err(fault) => refuse(alloc, output, fault),
     }
 }

@@ -1,7 +1,6 @@
 //! The whole program, over any devices.
 
 ghost use Rattle.std.specs.Prelude.{◌≡◌, ◌≢◌, ◌≤◌, ◌⊎◌, ℕ, List, Ok, Err, IsErrOf, IsOk, string_bytes};
-ghost use Rattle.std.specs.Result.{result_map_both};
 ghost use Rattle.clap.specs.Walk.{texts};
 ghost use Rattle.tt_stream.specs.Counts.{HasFailed};
 ghost use Rattle.tt_stream.specs.Known.{ReadsOn};
@@ -9,7 +8,7 @@ ghost use Rattle.tt_span.specs.Drift.{max_drift};
 ghost use Rattle.ttd_words.specs.Reading.{AreForHelp, AreMistaken, AreTaken, HasDriftInRange, asked_of};
 ghost use Rattle.ttd.specs.Answer.{answer_of};
 ghost use Rattle.ttd.specs.Command.{HasReply, IsCommandReply, IsReply, IsReplyRead, IsReplyTo, words_fault_of};
-ghost use Rattle.ttd.specs.Run.{Answers, Gives, input_at, output_at};
+ghost use Rattle.ttd.specs.Run.{Answers, GivesUnlessMemory, IsWritten, input_at, memory_answer, output_at};
 
 use crate::age::{Ageing, age_text};
 use crate::check::check_text;
@@ -120,7 +119,8 @@ fn reply<R: ByteReader>(alloc: Global, words: &[&str], input: &mut R) -> Result<
 ///   `fuse`; 601 to 605 a certificate that proves nothing.
 ///
 /// [`Status::Device`] comes only where a device failed: the reader, which is told by `refused 1604`, or the writer (1605), which has then
-/// taken a front of the answer. With [`Status::Memory`] nothing was written. Nothing but the answer is ever written.
+/// taken a front of the answer. Out of memory is `refused 1`, which takes no memory, with [`Status::Memory`]. Nothing but the answer is
+/// ever written, and it is flushed.
 pub fn main_with<R: ByteReader, W: ByteWriter>(
     alloc: Global,
     words: &[&str],
@@ -130,24 +130,24 @@ pub fn main_with<R: ByteReader, W: ByteWriter>(
     ensures taken { AreTaken (texts words.now) → Answers (IsReplyTo (asked_of (texts words.now)))
         (input_at (R.left input.old) (R.failed input.old) (R.asked input.old))
         (input_at (R.left input.new) (R.failed input.new) (R.asked input.new))
-        (output_at (W.taken output.old) (W.failed output.old))
-        (output_at (W.taken output.new) (W.failed output.new)) result }
+        (output_at (W.taken output.old) (W.failed output.old) (W.flushed output.old))
+        (output_at (W.taken output.new) (W.failed output.new) (W.flushed output.new)) result }
     ensures mistaken { AreMistaken (texts words.now) → (input_at (R.left input.new) (R.failed input.new) (R.asked input.new)
         ≡ input_at (R.left input.old) (R.failed input.old) (R.asked input.old))
-        × Gives (answer_of (Err Fault.BadWords)) (output_at (W.taken output.old) (W.failed output.old))
-        (output_at (W.taken output.new) (W.failed output.new)) result }
+        × GivesUnlessMemory (answer_of (Err Fault.BadWords)) (output_at (W.taken output.old) (W.failed output.old) (W.flushed output.old))
+        (output_at (W.taken output.new) (W.failed output.new) (W.flushed output.new)) result }
     ensures helped { AreForHelp (texts words.now) → (input_at (R.left input.new) (R.failed input.new) (R.asked input.new)
         ≡ input_at (R.left input.old) (R.failed input.old) (R.asked input.old))
-        × ((text : List ℕ) × Gives (answer_of (Ok text)) (output_at (W.taken output.old) (W.failed output.old))
-        (output_at (W.taken output.new) (W.failed output.new)) result) }
+        × ((text : List ℕ) × GivesUnlessMemory (answer_of (Ok text)) (output_at (W.taken output.old) (W.failed output.old) (W.flushed output.old))
+        (output_at (W.taken output.new) (W.failed output.new) (W.flushed output.new)) result) }
 
     // Whatever the words are.
     ensures device { result ≡ Status.Device → HasFailed (R.failed input.old) (R.failed input.new)
         ⊎ HasFailed (W.failed output.old) (W.failed output.new) }
     ensures sound { (result ≡ Status.Fine) ⊎ (result ≡ Status.Bad) → (R.failed input.new ≡ R.failed input.old)
         × (W.failed output.new ≡ W.failed output.old) }
-    ensures memory { result ≡ Status.Memory → output_at (W.taken output.new) (W.failed output.new)
-        ≡ output_at (W.taken output.old) (W.failed output.old) }
+    ensures memory { result ≡ Status.Memory → IsWritten memory_answer (output_at (W.taken output.old) (W.failed output.old) (W.flushed output.old))
+        (output_at (W.taken output.new) (W.failed output.new) (W.flushed output.new)) result }
     ensures rest { ReadsOn (R.left input.old) (R.left input.new) }
 {
     let reply = reply(alloc, words, input);

@@ -1,7 +1,9 @@
 //! The whole program over devices in memory, with answers worked out by hand.
 
 use crate::ending::Status;
+use crate::faults::Fault;
 use crate::input::{MOST_INPUT, MOST_READS};
+use crate::output::give;
 use crate::program::main_with;
 use std::alloc::{AllocError, Global};
 use std::test::Fail;
@@ -185,6 +187,34 @@ fn a_writer_fails(rt: HostRuntime) {
         Status::Device
     );
     assert_eq!(rt; writer.taken(), b"aged 30994".as_slice());
+    // One that takes the whole answer by its first call, and fails at its flush.
+    let mut reader = MemoryReader::new(ANSWER.as_bytes(), 7, None);
+    let mut writer = MemoryWriter::new(alloc, 4096, Some(2));
+    assert_eq!(rt;
+        main_with(alloc, &AGE, &mut reader, &mut writer),
+        Status::Device
+    );
+    assert_eq!(rt;
+        writer.taken(),
+        b"aged 30994000000 31006001401\n".as_slice()
+    );
+}
+
+#[test]
+fn out_of_memory_is_a_refusal(rt: HostRuntime) {
+    let alloc = rt.alloc();
+    let mut writer = MemoryWriter::new(alloc, 5, None);
+    assert_eq!(rt;
+        give(alloc, &mut writer, Err(Fault::Memory)),
+        Status::Memory
+    );
+    assert_eq!(rt; writer.taken(), b"refused 1\n".as_slice());
+    let mut writer = MemoryWriter::new(alloc, 5, Some(2));
+    assert_eq!(rt;
+        give(alloc, &mut writer, Err(Fault::Memory)),
+        Status::Device
+    );
+    assert_eq!(rt; writer.taken(), b"refus".as_slice());
 }
 
 #[test]

@@ -1,4 +1,4 @@
-use Rattle.tt_stamp.proofs.Stamps.{IsAnswer-stamp_of}
+use Rattle.tt_stamp.proofs.Laws.{IsAnswer-stamp_of}
 use Rattle.tt_stamp.proofs.rows.stamp_laws.Goals as goal
 
 pub returns : goal.returns

@@ -1,6 +1,6 @@
 use Rattle.std.proofs.Common.{◌∙◌, ◌++◌, List, [], ◌∷◌, take, ap, sym, append_assoc, arith}
 use Rattle.tt_stamp.specs.declared.commits.Receipt.{Receipt}
-use Rattle.tt_world.proofs.Passing.{one-more, no-other}
+use Rattle.tt_world.proofs.Simulation.Passing.{one-more, no-other}
 use Rattle.tt_world.proofs.machines.copy_receipts.Goals as goal
 
 pub loop-entry-preserved-in_default : goal.loop-entry-preserved-in_default

@@ -7,10 +7,10 @@ use Rattle.tt_world.specs.Reply.{replies_from}
 use Rattle.tt_world.specs.Bad.{accepted}
 use Rattle.tt_world.specs.Publications.{shown_of}
 use Rattle.tt_world.specs.State.{WorldState}
-use Rattle.tt_world.proofs.Fusing.{FusionLaws}
-use Rattle.tt_world.proofs.OnRun.{told-all}
-use Rattle.tt_world.proofs.Running.{readings-hold, fusions-shortest, no-fusion-refused}
-use Rattle.tt_world.proofs.Committed.{stamps-least, externally-consistent}
+use Rattle.tt_world.proofs.Histories.Fusing.{FusionLaws}
+use Rattle.tt_world.proofs.Headline.OnRun.{told-all}
+use Rattle.tt_world.proofs.Headline.Running.{readings-hold, fusions-shortest, no-fusion-refused}
+use Rattle.tt_world.proofs.Headline.Committed.{stamps-least, externally-consistent}
 use Rattle.tt_world.proofs.runs.run.Goals as goal
 use Rattle.tt_world.proofs.runs.run.Goals.{After-into_shown}
 

@@ -1,20 +1,37 @@
-use Rattle.std.proofs.Common.{List, length, Contains, is_some, sym, ap, subst, ◌∙◌, refl, arith}
-use Rattle.tt_stamp.specs.History.{IsNextReceipt}
+use Rattle.std.proofs.Common.{◌<◌, List, ◌∷◌, length, slice_get, reverse, is_some, sym, ap, subst, ◌∙◌, refl, arith}
+use Rattle.tt_stamp.specs.History.{waiting_of, release_of}
 use Rattle.tt_stamp.specs.Book.{history_of}
+use Rattle.tt_stamp.specs.declared.commits.Receipt.{Receipt}
 use Rattle.tt_stamp.specs.declared.commits.Entry.{Entry}
-use Rattle.tt_stamp.proofs.Histories.{has_id-waits, is_some-standing_of}
-use Rattle.tt_stamp.proofs.Standings.{IsBook-passed, popped}
+use Rattle.tt_stamp.specs.declared.commits.Entry.TheVariants.{Passed}
+use Rattle.tt_stamp.proofs.Histories.{Ascends-waiting_of, has_id-waits, is_some-standing_of}
+use Rattle.tt_stamp.proofs.Releases.{receipt_for, sure-first, release_of-first_sure, IsNextReceipt-first, IsReleaseTurn-next}
+use Rattle.tt_stamp.proofs.Standings.{IsBook-passed, reverse-push}
 use Rattle.tt_stamp.proofs.books.Book.pass.Goals as goal
 
-pub mark_released-requires : goal.mark_released-requires
-mark_released-requires c =
+pub set_standing-requires : goal.set_standing-requires
+set_standing-requires c =
     let past = history_of c.self.inside in
-    let next = subst (λ (h : List Entry). IsNextReceipt h c.args.receipt) (sym c.self.view_is) c.requires in
-    ap is_some (c.self.invariant.stands c.args.receipt.id) ∙ is_some-standing_of past c.self.invariant.legal c.args.receipt.id ∙ has_id-waits past c.args.receipt.stamp c.args.receipt.id next.waits
+    let first = ap (λ es. slice_get es 0) (sym c.self.invariant.waits ∙ c.in-Some.ensures.removal) in
+    let some = subst (λ (h : List Entry). 0 < length (release_of (waiting_of h) c.args.earliest)) (sym c.self.view_is) c.requires in
+    let sure = sure-first (waiting_of past) c.args.earliest _ (Ascends-waiting_of past) first some in
+    let next = IsNextReceipt-first past _ c.args.earliest first sure in
+    ap is_some (c.self.invariant.stands c.in-Some.id) ∙ is_some-standing_of past c.self.invariant.legal c.in-Some.id ∙ has_id-waits past c.in-Some.stamp c.in-Some.id next.waits
 
 pub invariant_of-self : goal.invariant_of-self
 invariant_of-self c =
     let past = history_of c.self.inside in
-    let next = subst (λ (h : List Entry). IsNextReceipt h c.args.receipt) (sym c.self.view_is) c.requires in
-    let first = popped _ c.pop_first.new.self.entries c.pop_first.result _ (subst (λ w. Contains w (c.args.receipt.stamp, c.args.receipt.id)) (sym c.self.invariant.waits) next.waits) (c.pop_first.ensures.variant.1) c.pop_first.ensures.removal in
-    IsBook-passed c.self.inside _ c.args.receipt (first.0) c.self.invariant next c.push_reserved.ensures.items (first.1) c.mark_released.ensures refl (omega (arith, c.push_reserved.ensures.len, c.push_reserved.ensures.capacity, c.self.invariant.room, ap length (first.1)))
+    let first = ap (λ es. slice_get es 0) (sym c.self.invariant.waits ∙ c.in-Some.ensures.removal) in
+    let some = subst (λ (h : List Entry). 0 < length (release_of (waiting_of h) c.args.earliest)) (sym c.self.view_is) c.requires in
+    let sure = sure-first (waiting_of past) c.args.earliest _ (Ascends-waiting_of past) first some in
+    let next = IsNextReceipt-first past _ c.args.earliest first sure in
+    IsBook-passed c.self.inside _ (receipt_for c.args.earliest (c.in-Some.stamp, c.in-Some.id)) (c.in-Some.stamp, c.in-Some.id) c.len-place.result c.self.invariant next c.push_reserved.ensures.items c.in-Some.ensures.removal c.set_standing.ensures c.len-place.ensures refl (omega (arith, c.push_reserved.ensures.len, c.push_reserved.ensures.capacity, c.self.invariant.room, ap length c.in-Some.ensures.removal))
+
+pub returns : goal.returns
+returns c =
+    let past = c.args.self.now in
+    let first = ap (λ es. slice_get es 0) (sym (c.self.invariant.waits ∙ ap waiting_of c.self.view_is) ∙ c.in-Some.ensures.removal) in
+    let sure = sure-first (waiting_of past) c.args.earliest _ (Ascends-waiting_of past) first c.requires in
+    let next = IsNextReceipt-first past _ c.args.earliest first sure in
+    let receipt : Receipt = receipt_for c.args.earliest (c.in-Some.stamp, c.in-Some.id) in
+    IsReleaseTurn-next past _ c.args.earliest receipt (ap reverse c.push_reserved.ensures.items ∙ reverse-push c.self.inside.history.items (Passed receipt) ∙ ap (λ (h : List Entry). Passed receipt ∷ h) c.self.view_is) next (sym (release_of-first_sure (waiting_of past) c.args.earliest _ first sure))

@@ -6,8 +6,8 @@ use Rattle.tt_world.specs.contracts.machines.Machine.{the_view}
 use Rattle.tt_world.specs.State.{MachineState}
 use Rattle.tt_world.specs.Step.{fusion_on, publish_turn}
 use Rattle.tt_world.specs.Trace.{outline}
-use Rattle.tt_world.proofs.Turns.{shows}
-use Rattle.tt_world.proofs.Fused.{Answers, daemon_of, fusion-answered, fusion-made, fusion-refused, turn-published, turn-refused, shown-published, shown-refused, certified-more, wants-made}
+use Rattle.tt_world.proofs.Simulation.Turns.{shows}
+use Rattle.tt_world.proofs.Simulation.Fused.{Answers, daemon_of, fusion-answered, fusion-made, fusion-refused, turn-published, turn-refused, shown-published, shown-refused, certified-more, wants-made}
 use Rattle.tt_world.proofs.machines.Machine.fuse.Goals as goal
 
 pub returns-in_ok-reserve-in-Ok-2-clause-fused : goal.returns-in_ok-reserve-in-Ok-2-clause-fused
@@ -107,8 +107,8 @@ returns-in-Err-clause-shown c =
     shown-refused m c.args.machine clock c.number.result c.args.shown.now.items c.args.shown.now.items refused refl
     ∙ ap (λ (v : MachineState). map outline c.args.shown.now.items ++ shows c.args.machine clock v) c.self.view_is
 
-pub returns-in_err-reserve-in-Ok-clause-memory_last : goal.returns-in_err-reserve-in-Ok-clause-memory_last
-returns-in_err-reserve-in-Ok-clause-memory_last c =
+pub returns-in_err-reserve-in-Ok-clause-memory_only : goal.returns-in_err-reserve-in-Ok-clause-memory_only
+returns-in_err-reserve-in-Ok-clause-memory_only c =
     let m : MachineState = the_view c.self.inside in
     let clock = c.args.clock in
     let forward : IsForward (daemon_of m) clock = record {
@@ -126,8 +126,8 @@ returns-in_err-reserve-in-Ok-clause-memory_last c =
     } in
     subst (λ (v : MachineState). OnErr c.from_residual.result (IsOk (fusion_on v clock))) c.self.view_is (wants-made m clock c.fuse.result c.in-Ok.fused c.from_residual.result answers c.in-Ok.is)
 
-pub returns-in_err-reserve-in-Ok-2-clause-memory_last : goal.returns-in_err-reserve-in-Ok-2-clause-memory_last
-returns-in_err-reserve-in-Ok-2-clause-memory_last c =
+pub returns-in_err-reserve-in-Ok-2-clause-memory_only : goal.returns-in_err-reserve-in-Ok-2-clause-memory_only
+returns-in_err-reserve-in-Ok-2-clause-memory_only c =
     let m : MachineState = the_view c.self.inside in
     let clock = c.args.clock in
     let forward : IsForward (daemon_of m) clock = record {

@@ -4,7 +4,7 @@ use Rattle.tt_daemon.specs.Config.{Configuration}
 use Rattle.tt_daemon.specs.Daemon.{DaemonState}
 use Rattle.tt_world.specs.declared.workers.Worker.{Worker}
 use Rattle.tt_world.specs.Step.{new_worker}
-use Rattle.tt_world.proofs.Fresh.{machine, fresh-machine}
+use Rattle.tt_world.proofs.Simulation.Fresh.{machine, fresh-machine}
 use Rattle.tt_world.proofs.machines.Machine.new.Goals as goal
 
 pub returns-clause-fresh : goal.returns-clause-fresh

@@ -9,7 +9,7 @@ use Rattle.tt_world.specs.declared.events.Reply.TheVariants.{Released}
 use Rattle.tt_world.specs.contracts.machines.Machine.{the_view}
 use Rattle.tt_world.specs.State.{MachineState}
 use Rattle.tt_world.specs.Step.{Turn, release_turn}
-use Rattle.tt_world.proofs.Passing.{entries_of, last-entries}
+use Rattle.tt_world.proofs.Simulation.Passing.{entries_of, last-entries}
 use Rattle.tt_world.proofs.machines.Machine.release.Goals as goal
 
 -- a machine after a release, by its parts

@@ -2,7 +2,7 @@ use Rattle.std.proofs.Common.{◌≡◌, ◌∙◌, ap, sym, subst, slice_get}
 use Rattle.tt_world.specs.State.{MachineState, WorldState}
 use Rattle.tt_world.specs.Step.{arrive_on, IsWorker}
 use Rattle.tt_world.specs.contracts.world.World.{the_view}
-use Rattle.tt_world.proofs.Turns.{worker-there, arrive_on-arrived}
+use Rattle.tt_world.proofs.Simulation.Turns.{worker-there, arrive_on-arrived}
 use Rattle.tt_world.proofs.world.World.arrive.Goals as goal
 
 pub returns : goal.returns

@@ -3,7 +3,8 @@ use Rattle.std.proofs.lemmas.Option.{slice_get_within}
 use Rattle.tt_world.specs.State.{MachineState, WorldState}
 use Rattle.tt_world.specs.Step.{Turn, IsWorker, is_back_on, read_on, readable_on, after_turn, refused}
 use Rattle.tt_world.specs.contracts.world.World.{the_view}
-use Rattle.tt_world.proofs.Turns.{same_item, worker-there, read_on-back, read_on-unreadable, read_on-read, after_turn-nothing}
+use Rattle.tt_world.proofs.Simulation.Turns.{same_item, worker-there, read_on-back, read_on-unreadable, read_on-read, after_turn-nothing}
+use Rattle.tt_world.specs.declared.faults.WorldFault.TheVariants as bad
 use Rattle.tt_world.proofs.world.World.read.Goals as goal
 
 pub returns-then-is_back : goal.returns-then-is_back
@@ -20,7 +21,7 @@ returns-then-is_back c =
       refl,
       ap (λ (v : WorldState). read_on v c.args.at m c.args.worker c.args.clock c.args.number (slice_get v.machines m)) (sym c.self.view_is)
           ∙ read_on-back w c.args.at m c.args.worker c.args.clock c.args.number x there.0 there.1 back
-          ∙ ap (λ (v : WorldState). refused v 1202) c.self.view_is,
+          ∙ ap (λ (v : WorldState). refused v bad.ClockBack) c.self.view_is,
     )
 
 pub returns-in_default : goal.returns-in_default
@@ -39,7 +40,7 @@ returns-in_default c =
       refl,
       ap (λ (v : WorldState). read_on v c.args.at m c.args.worker c.args.clock c.args.number (slice_get v.machines m)) (sym c.self.view_is)
           ∙ read_on-unreadable w c.args.at m c.args.worker c.args.clock c.args.number x there.0 there.1 forward nothing
-          ∙ ap (λ (v : WorldState). refused v 1204) c.self.view_is,
+          ∙ ap (λ (v : WorldState). refused v bad.NoPublication) c.self.view_is,
     )
 
 pub returns : goal.returns

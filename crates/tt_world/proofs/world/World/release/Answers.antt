@@ -1,9 +1,11 @@
 use Rattle.std.proofs.Common.{rules, List, ◌≡◌, ◌∙◌, ap, sym, subst, slice_get}
+use Rattle.tt_world.specs.declared.events.Action.TheVariants as does
 use Rattle.tt_world.specs.declared.workers.Worker.{Worker}
 use Rattle.tt_world.specs.State.{MachineState, WorldState}
-use Rattle.tt_world.specs.Step.{IsTaken, release_on, IsWorker, worker_at}
+use Rattle.tt_world.specs.Step.{release_on, IsWorker, worker_at}
+use Rattle.tt_world.specs.Reply.{TakesMemory}
 use Rattle.tt_world.specs.contracts.world.World.{the_view}
-use Rattle.tt_world.proofs.Turns.{worker-there, worker-kept, release_on-released, Does-memory, IsTaken-release_on, put_back}
+use Rattle.tt_world.proofs.Simulation.Turns.{worker-there, worker-kept, release_on-released, Does-memory, TakesMemory-release_on, put_back}
 use Rattle.tt_world.proofs.world.World.release.Goals as goal
 
 pub returns : goal.returns
@@ -33,7 +35,7 @@ returns-in_err-reply c =
     let kept : worker_at x c.args.worker ≡ c.worker.result =
     worker-kept w m c.args.worker p x c.index.result.now c.worker.result same there.0 c.index_mut.ensures.value c.index.ensures c.worker.ensures in
     let read = ap (λ (k : Worker). k.reading) kept ∙ c.in-Some.is in
-    let taken = subst (λ (v : WorldState). IsTaken (release_on v c.args.at m c.args.worker (slice_get v.machines m)).reply) c.self.view_is
-    (IsTaken-release_on w c.args.at m c.args.worker c.in-Some.reading x there.0 there.1 read) in
-    Does-memory _ _ _ _ (search rules)
+    let taken = subst (λ (v : WorldState). TakesMemory (release_on v c.args.at m c.args.worker (slice_get v.machines m)).reply) c.self.view_is
+    (TakesMemory-release_on w c.args.at m c.args.worker c.in-Some.reading x there.0 there.1 read) in
+    Does-memory (does.Release m c.args.worker) _ _ _ _ (search rules)
     (ap (λ (machines : List MachineState). record w { machines = machines }) (put_back w.machines p x c.release.new.self c.index_mut.ensures.value c.in_err-reply.ensures.unchanged) ∙ c.self.view_is) taken

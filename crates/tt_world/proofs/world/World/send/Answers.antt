@@ -1,12 +1,13 @@
 use Rattle.std.proofs.Common.{◌≡◌, true, false, [], ◌<◌, ◌≤◌, ◌∙◌, List, ◌∷◌, ◌++◌, ap, sym, refl, slice_get, slice_set, Some, length, arith}
 use Rattle.tt_poll.specs.Message.{PollRequest}
+use Rattle.tt_world.specs.declared.faults.WorldFault.TheVariants as bad
 use Rattle.tt_world.specs.declared.events.Reply.TheVariants.{Refused}
 use Rattle.tt_world.specs.declared.packets.Packet.{Packet}
 use Rattle.tt_world.specs.declared.packets.Packet.TheVariants.{Asked}
 use Rattle.tt_world.specs.State.{MachineState, WorldState}
 use Rattle.tt_world.specs.Step.{is_back_on, send_on, refused}
 use Rattle.tt_world.specs.contracts.world.World.{the_view}
-use Rattle.tt_world.proofs.Turns.{same_item, found_at, send_on-no_source, send_on-back, send_on-sent, send_on-refused, outcome}
+use Rattle.tt_world.proofs.Simulation.Turns.{same_item, found_at, send_on-no_source, send_on-back, send_on-sent, send_on-refused, outcome}
 use Rattle.tt_world.proofs.world.World.send.Goals as goal
 
 pub returns-then-from-sources-clause-does : goal.returns-then-from-sources-clause-does
@@ -22,7 +23,7 @@ returns-then-from-sources-clause-does c =
       refl,
       ap (λ (v : WorldState). send_on v c.args.at m c.args.source c.args.clock (slice_get v.machines m)) (sym c.self.view_is)
           ∙ send_on-no_source w c.args.at m c.args.source c.args.clock x found no_source
-          ∙ ap (λ (v : WorldState). refused v 1206) c.self.view_is,
+          ∙ ap (λ (v : WorldState). refused v bad.UnknownNumber) c.self.view_is,
     )
 
 pub returns-then-is_back-clause-does : goal.returns-then-is_back-clause-does
@@ -39,7 +40,7 @@ returns-then-is_back-clause-does c =
       refl,
       ap (λ (v : WorldState). send_on v c.args.at m c.args.source c.args.clock (slice_get v.machines m)) (sym c.self.view_is)
           ∙ send_on-back w c.args.at m c.args.source c.args.clock x found source back
-          ∙ ap (λ (v : WorldState). refused v 1202) c.self.view_is,
+          ∙ ap (λ (v : WorldState). refused v bad.ClockBack) c.self.view_is,
     )
 
 pub returns-in-Ok-clause-does : goal.returns-in-Ok-clause-does

@@ -4,7 +4,7 @@ use Rattle.tt_world.specs.declared.workers.Worker.{Worker}
 use Rattle.tt_world.specs.State.{MachineState, WorldState}
 use Rattle.tt_world.specs.Step.{stamp_on, IsWorker, worker_at}
 use Rattle.tt_world.specs.contracts.world.World.{the_view}
-use Rattle.tt_world.proofs.Turns.{worker-there, worker-kept, stamp_on-stamped}
+use Rattle.tt_world.proofs.Simulation.Turns.{worker-there, worker-kept, stamp_on-stamped}
 use Rattle.tt_world.proofs.world.World.stamp.Goals as goal
 
 pub returns : goal.returns

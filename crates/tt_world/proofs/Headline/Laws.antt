@@ -1,0 +1,173 @@
+-- Which replies come to which events.
+use Rattle.std.proofs.Common.{◌≡◌, ◌↔◌, ℕ, Bool, true, false, cond, ◌&&◌, ◌||◌, not, eqb, List, is_some, Option, Some, None, Result, refl, subst, arith}
+use Rattle.std.specs.Prelude.{Ok, Err}
+use Rattle.std.specs.Result.{result_ok}
+use Rattle.std.proofs.lemmas.Bool.{and_parts, eqb-true, eq-eqb}
+use Rattle.tt_span.specs.Interval.{Interval}
+use Rattle.tt_poll.specs.Reading.{read_of}
+use Rattle.tt_source.specs.Statement.{Statement}
+use Rattle.tt_source.specs.Table.{statement_of_message}
+use Rattle.tt_source.specs.declared.faults.SourceFault.{SourceFault}
+use Rattle.tt_stamp.specs.declared.faults.StampFault.{StampFault}
+use Rattle.tt_stamp.specs.declared.faults.StampFault.TheVariants as stamp_fault
+use Rattle.tt_stamp.specs.declared.faults.BookFault.{BookFault}
+use Rattle.tt_stamp.specs.declared.faults.BookFault.TheVariants as book_fault
+use Rattle.tt_world.specs.declared.faults.WorldFault.{WorldFault}
+use Rattle.tt_world.specs.declared.events.Event.{Event}
+use Rattle.tt_world.specs.declared.events.Action.{Action}
+use Rattle.tt_world.specs.declared.events.Action.TheVariants.{Send, Answer, Forge, Deliver, Fuse, Read, Arrive, Stamp, Queue, Release}
+use Rattle.tt_world.specs.declared.events.Reply.TheVariants.{Taken}
+use Rattle.tt_world.specs.declared.packets.Packet.{Packet}
+use Rattle.tt_world.specs.declared.publications.Publication.{Publication}
+use Rattle.tt_world.specs.declared.workers.Arrival.{Arrival}
+use Rattle.tt_daemon.specs.Config.{Configuration}
+use Rattle.tt_world.specs.Config.{config_at}
+use Rattle.tt_world.specs.Packet.{machine_of_packet, source_of_packet, bytes_of}
+use Rattle.tt_world.specs.Past.{packets_of}
+use Rattle.tt_world.specs.Sources.{outstanding, stated_in, stated_by}
+use Rattle.tt_world.specs.Publications.{published}
+use Rattle.tt_world.specs.Commits.{arrival_of, reading_since, stamp_held, is_queued, task_with, stamps_of, stamping_after}
+use Rattle.tt_world.specs.Bad.{can_be_delivered, is_arrived, first_bad, accepted}
+use Rattle.tt_world.specs.Reply.{IsBadReply, delivery_reply, reply_to_packet, fusion_reply, stamping_reply, queueing_reply, reply_to, reply_unless_bad, reply_of, MakesStatement}
+use Rattle.tt_world.proofs.Histories.Judging.{IsGood, good_of}
+use Rattle.tt_world.proofs.Simulation.Events.{few_number, reason_at}
+
+-- ---- an accepted event has no bad reply
+
+delivery-good : (r : Result Statement SourceFault) → ¬ IsBadReply (delivery_reply r)
+delivery-good (Ok statement) h = h
+delivery-good (Err fault) h = let few = few_number fault in omega (arith, few, h.0)
+
+packet-good : (past : List Event) (clock : ℕ) (o : Option Packet) → not (can_be_delivered o) ≡ false → ¬ IsBadReply (reply_to_packet past clock o)
+packet-good past clock None there h = absurd cc
+packet-good past clock (Some packet) there h = delivery-good _ h
+
+fusion-good : (count clock : ℕ) (few : Bool) (fused : Option Interval) → ¬ IsBadReply (fusion_reply count (cond few (Err 701) (published clock fused)))
+fusion-good count clock true fused h = omega (arith, h.0)
+fusion-good count clock false None h = omega (arith, h.0)
+fusion-good count clock false (Some span) h = h
+
+stamping-good : (r : Result ℕ StampFault) → ¬ IsBadReply (stamping_reply (Some r))
+stamping-good (Ok stamp) h = h
+stamping-good (Err stamp_fault.UsedUp) h = omega (arith, h.0)
+stamping-good (Err stamp_fault.FloorTooFar) h = omega (arith, h.0)
+stamping-good (Err stamp_fault.Seats) h = omega (arith, h.0)
+stamping-good (Err stamp_fault.Memory) h = omega (arith, h.0)
+
+asked-stamping-good : (given : List ℕ) (queued : Bool) (asked : Option Arrival) (held : Option ℕ) (since : Option Interval)
+    → (not (is_arrived (cond queued None (task_with asked held))) || not (is_some since)) ≡ false → ¬ IsBadReply (stamping_reply (stamping_after given asked since))
+asked-stamping-good given true asked held since there h = absurd cc
+asked-stamping-good given false None held since there h = absurd cc
+asked-stamping-good given false (Some arrival) (Some stamp) since there h = absurd cc
+asked-stamping-good given false (Some arrival) None None there h = absurd cc
+asked-stamping-good given false (Some arrival) None (Some reading) there h = stamping-good _ h
+
+queueing-good : (o : Option BookFault) → ¬ IsBadReply (queueing_reply o)
+queueing-good None h = h
+queueing-good (Some book_fault.Full) h = omega (arith, h.0)
+queueing-good (Some book_fault.IdThere) h = omega (arith, h.0)
+queueing-good (Some book_fault.StampThere) h = omega (arith, h.0)
+queueing-good (Some book_fault.Memory) h = omega (arith, h.0)
+
+good_reply : (configs : List Configuration) (past : List Event) (at : ℕ) (action : Action) → IsGood configs past (record { at = at; action = action }) → ¬ IsBadReply (reply_to configs past action)
+good_reply configs past at (Deliver k clock) good h = packet-good past clock _ good.packet_there h
+good_reply configs past at (Fuse m clock) good h = fusion-good _ clock _ _ h
+good_reply configs past at (Stamp m w) good h =
+    let config = config_at configs m in
+    asked-stamping-good (stamps_of config past m) (is_queued config past m w) (arrival_of past m w) (stamp_held config past m w) (reading_since config past m w) good.thing_there h
+good_reply configs past at (Queue m w) good h = queueing-good _ h
+good_reply configs past at _ good h = h
+
+by_reason : (configs : List Configuration) (past : List Event) (event : Event) (o : Option WorldFault) → first_bad configs past event ≡ o
+    → (o ≡ None) ↔ (¬ IsBadReply (reply_unless_bad o (reply_to configs past event.action)))
+by_reason configs past event None is = (λ e. good_reply configs past event.at event.action (good_of configs past event is), λ h. refl)
+by_reason configs past event (Some fault) is = (λ e. absurd cc, λ h. absurd (h (reason_at configs past event fault is)))
+
+pub accepted-reply : (configs : List Configuration) (past : List Event) (event : Event) → (first_bad configs (accepted configs past) event ≡ None) ↔ (¬ IsBadReply (reply_of configs past event))
+accepted-reply configs past event = by_reason configs (accepted configs past) event _ refl
+
+-- ---- what is taken
+
+not_taken_fused : (count : ℕ) (made : Result Publication ℕ) → fusion_reply count made ≡ Taken → ⊥
+not_taken_fused count (Ok publication) h = cc
+not_taken_fused count (Err number) h = cc
+
+not_taken_stamped : (stamping : Option (Result ℕ StampFault)) → stamping_reply stamping ≡ Taken → ⊥
+not_taken_stamped None h = cc
+not_taken_stamped (Some (Ok stamp)) h = cc
+not_taken_stamped (Some (Err fault)) h = cc
+
+not_taken_queued : (fault : Option BookFault) → queueing_reply fault ≡ Taken → ⊥
+not_taken_queued None h = cc
+not_taken_queued (Some fault) h = cc
+
+-- what an action states for some source after what has happened
+abbrev States : List Event → Action → Type 0
+States past action = (m i : ℕ) × (statement : Statement) × (stated_by (packets_of past) m i (outstanding past m i) action ≡ Some statement)
+
+stated-taken : (r : Result Statement SourceFault) → delivery_reply r ≡ Taken → (statement : Statement) × (result_ok r ≡ Some statement)
+stated-taken (Ok statement) h = (statement, refl)
+stated-taken (Err fault) h = absurd cc
+
+taken-stated : (r : Result Statement SourceFault) (statement : Statement) → result_ok r ≡ Some statement → delivery_reply r ≡ Taken
+taken-stated (Ok s) statement h = refl
+taken-stated (Err fault) statement h = absurd cc
+
+packet_states : (past : List Event) (clock : ℕ) (o : Option Packet) → reply_to_packet past clock o ≡ Taken
+    → (m i : ℕ) × (statement : Statement) × (stated_in m i (outstanding past m i) clock o ≡ Some statement)
+packet_states past clock None h = absurd cc
+packet_states past clock (Some packet) h =
+    let m = machine_of_packet packet in
+    let i = source_of_packet packet in
+    let s = stated-taken (statement_of_message m i (outstanding past m i) clock (read_of (bytes_of packet))) h in
+    let same_machine : eqb m m ≡ true = eq-eqb m m refl in
+    let same_source : eqb i i ≡ true = eq-eqb i i refl in
+    (m, i, s.0, rw (same_machine, same_source) s.1)
+
+only_if : (b : Bool) (o : Option Statement) (s : Statement) → cond b o None ≡ Some s → (b ≡ true) × (o ≡ Some s)
+only_if true o s h = (refl, h)
+only_if false o s h = absurd cc
+
+states_packet : (past : List Event) (clock : ℕ) (o : Option Packet) (m i : ℕ) (s : Statement) → stated_in m i (outstanding past m i) clock o ≡ Some s → reply_to_packet past clock o ≡ Taken
+states_packet past clock None m i s h = absurd cc
+states_packet past clock (Some packet) m i s h =
+    let mine = only_if (eqb (machine_of_packet packet) m && eqb (source_of_packet packet) i) _ s h in
+    let here = and_parts _ _ mine.0 in
+    subst (λ (k : ℕ). reply_to_packet past clock (Some packet) ≡ Taken) (eqb-true _ _ here.0)
+    (at_own (machine_of_packet packet) (source_of_packet packet) m i (eqb-true _ _ here.0) (eqb-true _ _ here.1) mine.1)
+  where
+    at_own : (a b m i : ℕ) → a ≡ m → b ≡ i → result_ok (statement_of_message m i (outstanding past m i) clock (read_of (bytes_of packet))) ≡ Some s
+        → delivery_reply (statement_of_message a b (outstanding past a b) clock (read_of (bytes_of packet))) ≡ Taken
+    at_own a b m i e f h =
+        let at : result_ok (statement_of_message a b (outstanding past a b) clock (read_of (bytes_of packet))) ≡ Some s = rw (e, f) h in
+        taken-stated _ s at
+
+taken_states : (configs : List Configuration) (past : List Event) (action : Action) → reply_to configs past action ≡ Taken → States past action
+taken_states configs past (Send m s clock) h = absurd cc
+taken_states configs past (Answer k span) h = absurd cc
+taken_states configs past (Forge m s payload) h = absurd cc
+taken_states configs past (Deliver k clock) h = packet_states past clock _ h
+taken_states configs past (Fuse m clock) h = absurd (not_taken_fused _ _ h)
+taken_states configs past (Read m w clock k) h = absurd cc
+taken_states configs past (Arrive m w id floor) h = absurd cc
+taken_states configs past (Stamp m w) h = absurd (not_taken_stamped _ h)
+taken_states configs past (Queue m w) h = absurd (not_taken_queued _ h)
+taken_states configs past (Release m w) h = absurd cc
+
+states_taken : (configs : List Configuration) (past : List Event) (action : Action) → States past action → reply_to configs past action ≡ Taken
+states_taken configs past (Deliver k clock) h = states_packet past clock _ h.0 h.1 h.2 h.3
+states_taken configs past _ h = absurd (none h.2 h.3)
+  where
+    none : (s : Statement) → None ≡ Some s → ⊥
+    none s h = cc
+
+by_fault : (configs : List Configuration) (past : List Event) (action : Action) (o : Option WorldFault)
+    → (reply_unless_bad o (reply_to configs past action) ≡ Taken) ↔ ((o ≡ None) × States past action)
+by_fault configs past action None = (λ h. (refl, taken_states configs past action h), λ h. states_taken configs past action h.1)
+by_fault configs past action (Some fault) = (λ h. absurd cc, λ h. absurd (none fault h.0))
+  where
+    none : (fault : WorldFault) → Some fault ≡ None → ⊥
+    none fault h = cc
+
+pub taken-makes : (configs : List Configuration) (past : List Event) (event : Event) → (reply_of configs past event ≡ Taken) ↔ MakesStatement configs past event
+taken-makes configs past event = by_fault configs (accepted configs past) event.action (first_bad configs (accepted configs past) event)

@@ -1,0 +1,61 @@
+-- A machine that fuses keeps what its past says.
+use Rattle.std.proofs.Common.{◌≡◌, ℕ, ◌-◌, cond, ltb, List, ◌∷◌, ◌++◌, length, is_some, Result, Ok, Err, refl, sym, ap, ◌∙◌, append-nil, eq-eqb, ne_eqb}
+use Rattle.std.specs.List.{range_with_len}
+use Rattle.tt_span.specs.Interval.{Interval}
+use Rattle.tt_source.specs.Table.{SourceState, stated_at, known_of as known_of_table}
+use Rattle.tt_fuse.specs.Depth.{slow_fusion}
+use Rattle.tt_world.specs.declared.events.Event.{Event}
+use Rattle.tt_world.specs.declared.events.Action.TheVariants.{Fuse}
+use Rattle.tt_world.specs.declared.publications.Publication.{Publication}
+use Rattle.tt_daemon.specs.Config.{Configuration}
+use Rattle.tt_world.specs.Publications.{spans_of, known_of, published, fusion_of, one_if_made, publications_of}
+use Rattle.tt_world.specs.Reply.{fusion_reply}
+use Rattle.tt_world.specs.State.{MachineState, source_of, machine_of}
+use Rattle.tt_world.specs.Step.{spans_on, fusion_on, publish_turn}
+use Rattle.tt_world.proofs.Simulation.Ranges.{map-map, count_by-map}
+use Rattle.tt_world.proofs.Simulation.Waiting.{happens}
+use Rattle.tt_world.proofs.Simulation.Kept.{machine_of-fuse, machine_if_fused}
+
+-- what is published by so many known sources with these spans
+abbrev fusion_by : Configuration → ℕ → ℕ → List Interval → Result Publication ℕ
+fusion_by config clock known spans =
+    cond (ltb known (config.sources - config.faulty)) (Err 701) (published clock (slow_fusion spans config.faulty))
+
+module _ (config : Configuration) (past : List Event) (at m clock : ℕ) where
+  known_of_table-machine_of : known_of_table (machine_of config past m).table ≡ known_of config past m
+  known_of_table-machine_of = count_by-map (λ (source : SourceState). is_some source.statement) (λ i. source_of past m i) (range_with_len 0 config.sources)
+
+  pub spans_on-machine_of : spans_on (machine_of config past m) clock ≡ spans_of config past m clock
+  spans_on-machine_of = map-map (λ (source : SourceState). stated_at config.drift source.statement clock) (λ i. source_of past m i) (range_with_len 0 config.sources)
+
+  pub fusion_on-machine_of : fusion_on (machine_of config past m) clock ≡ fusion_of config past m clock
+  fusion_on-machine_of =
+      ap (λ (known : ℕ). fusion_by config clock known (spans_on (machine_of config past m) clock)) known_of_table-machine_of
+      ∙ ap (λ (spans : List Interval). fusion_by config clock (known_of config past m) spans) spans_on-machine_of
+
+  -- the machine with this added to its publications
+  abbrev with_publications : List Publication → MachineState
+  with_publications publications = record (machine_of config past m) { clock = clock; publications = publications }
+
+  publish_turn-by : (made : Result Publication ℕ)
+      → publish_turn (machine_of config past m) clock made
+      ≡ record { machine = with_publications (publications_of config past m ++ one_if_made made); reply = fusion_reply (length (publications_of config past m)) made }
+  publish_turn-by (Ok publication) = refl
+  publish_turn-by (Err number) =
+      ap (λ (ps : List Publication). record { machine = with_publications ps; reply = fusion_reply (length (publications_of config past m)) (Err number) })
+      (sym (append-nil (publications_of config past m)))
+
+  fused_here : with_publications (publications_of config past m ++ one_if_made (fusion_of config past m clock)) ≡ machine_of config (happens at (Fuse m clock) ∷ past) m
+  fused_here = sym (machine_of-fuse config past at m clock m ∙ ap (machine_if_fused config past clock m) (eq-eqb m m refl))
+
+  pub publish_turn-fusion_on : publish_turn (machine_of config past m) clock (fusion_on (machine_of config past m) clock)
+      ≡ record { machine = machine_of config (happens at (Fuse m clock) ∷ past) m; reply = fusion_reply (length (publications_of config past m)) (fusion_of config past m clock) }
+  publish_turn-fusion_on =
+      ap (publish_turn (machine_of config past m) clock) fusion_on-machine_of
+      ∙ publish_turn-by (fusion_of config past m clock)
+      ∙ ap (λ (machine : MachineState). record { machine = machine; reply = fusion_reply (length (publications_of config past m)) (fusion_of config past m clock) }) fused_here
+
+  pub machine_of-fuse_other : (j : ℕ) → (j ≡ m → ⊥) → machine_of config past j ≡ machine_of config (happens at (Fuse m clock) ∷ past) j
+  machine_of-fuse_other j other =
+      sym (machine_of-fuse config past at m clock j ∙ ap (machine_if_fused config past clock j) (ne_eqb m j (λ same. other (sym same)))
+      ∙ ap (λ (ps : List Publication). record (machine_of config past j) { publications = ps }) (append-nil (publications_of config past j)))

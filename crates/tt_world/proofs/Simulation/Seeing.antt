@@ -1,0 +1,48 @@
+-- A machine whose worker reads keeps what its past says.
+use Rattle.std.proofs.Common.{◌≡◌, ℕ, ◌<◌, ◌≤◌, max, eqb, List, ◌∷◌, map, get_or, set, Some, refl, sym, ap, ◌∙◌, arith, eq-eqb, ne_eqb}
+use Rattle.std.specs.List.{range_with_len}
+use Rattle.tt_span.specs.Interval.{Interval}
+use Rattle.tt_world.specs.declared.events.Event.{Event}
+use Rattle.tt_world.specs.declared.events.Action.TheVariants.{Read}
+use Rattle.tt_world.specs.declared.events.Reply.TheVariants as replies
+use Rattle.tt_world.specs.declared.workers.Worker.{Worker}
+use Rattle.tt_daemon.specs.Config.{Configuration}
+use Rattle.tt_world.specs.Publications.{publications_of, seen_of, publication_at}
+use Rattle.tt_world.specs.State.{MachineState, worker_of, machine_of}
+use Rattle.tt_world.specs.Step.{new_worker, read_turn}
+use Rattle.tt_world.proofs.Simulation.Ranges.{get_or-made, set-made}
+use Rattle.tt_world.proofs.Simulation.Waiting.{happens}
+use Rattle.tt_world.proofs.Simulation.Kept.{reading_from, worker_if_reads, machine_of-read, machine_if_read}
+
+module _ (config : Configuration) (past : List Event) (at m w clock k : ℕ) where
+  -- the reading
+  abbrev reading : Interval
+  reading = reading_from config past m clock k
+
+  -- a worker that has read it from a publication of this number
+  abbrev that_read : ℕ → Worker → Worker
+  that_read seen worker = record worker { seen = seen; reading = Some reading; since = Some reading }
+
+  workers_after : seen_of past m w ≤ k → w < config.workers
+      → set (map (λ v. worker_of config past m v) (range_with_len 0 config.workers)) w
+      (that_read k (get_or (map (λ v. worker_of config past m v) (range_with_len 0 config.workers)) w new_worker))
+      ≡ map (λ v. worker_if_reads config past k reading m v (eqb w v)) (range_with_len 0 config.workers)
+  workers_after newer there =
+      let greater : k ≡ max k (seen_of past m w) = omega arith in
+      set-made (λ v. worker_of config past m v) (λ v. worker_if_reads config past k reading m v (eqb w v)) config.workers w _
+      (ap (that_read k) (get_or-made (λ v. worker_of config past m v) config.workers w new_worker there)
+      ∙ ap (λ (seen : ℕ). that_read seen (worker_of config past m w)) greater
+      ∙ sym (ap (worker_if_reads config past k reading m w) (eq-eqb w w refl)))
+      (λ v other. sym (ap (worker_if_reads config past k reading m v) (ne_eqb w v (λ same. other (sym same)))))
+
+  pub read_turn-machine_of : seen_of past m w ≤ k → w < config.workers
+      → read_turn (machine_of config past m) w clock k (publication_at (publications_of config past m) k)
+      ≡ record { machine = machine_of config (happens at (Read m w clock k) ∷ past) m; reply = replies.Read reading }
+  read_turn-machine_of newer there =
+      ap (λ (machine : MachineState). record { machine = machine; reply = replies.Read reading })
+      (ap (λ (workers : List Worker). record (machine_of config past m) { clock = clock; workers = workers }) (workers_after newer there)
+      ∙ sym (machine_of-read config past at m w clock k m ∙ ap (machine_if_read config past w clock k m) (eq-eqb m m refl)))
+
+  pub machine_of-read_other : (j : ℕ) → (j ≡ m → ⊥) → machine_of config past j ≡ machine_of config (happens at (Read m w clock k) ∷ past) j
+  machine_of-read_other j other =
+      sym (machine_of-read config past at m w clock k j ∙ ap (machine_if_read config past w clock k j) (ne_eqb m j (λ same. other (sym same))))
