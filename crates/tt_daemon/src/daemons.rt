@@ -15,7 +15,7 @@ use crate::configs::Config;
 use crate::faults::DaemonFault;
 use crate::fusions::Fused;
 use std::marker::Model;
-use tt_fuse::{MAX_SOURCES, SortedEnds, fusion_laws};
+use tt_fuse::{MAX_SOURCES, fusion_laws};
 use tt_poll::REQUEST2_LEN;
 use tt_source::{SourceFault, Table};
 use tt_span::Span;
@@ -92,8 +92,9 @@ impl Daemon {
     }
 
     /// Polls source `i` when the clock shows `clock`: the bytes of a request with the nonce after the last one and
-    /// the daemon's epoch, for which the source now waits in place of an earlier one. Its statement stays. Refuses, in this order: 401
-    /// `NoSource` where `i` is no source, 402 `ClockBack`, 403 `NoncesUsedUp` where the last nonce was `u64::MAX`.
+    /// the daemon's epoch, for which the source now waits in place of an earlier one. Its statement stays. Refuses, in
+    /// this order: 401 `NoSource` where `i` is no source, 402 `ClockBack`, 403 `NoncesUsedUp` where the last nonce was
+    /// `u64::MAX`.
     pub fn poll(&mut self, i: u8, clock: u64) -> Result<[u8; REQUEST2_LEN], SourceFault>
         ensures polled { OnOk result (poll_of self.old.table i clock ≡ Ok self.new.table) }
         ensures request { IfOk result (λ bytes. bytes ≡ spelling_of2 (message.Request (record { machine = self.new.table.machine; source = i; nonce = self.new.table.last; epoch = self.new.table.epoch }))) }
@@ -186,10 +187,10 @@ impl Daemon {
             (λ e. (e ≡ DaemonFault.NoPoint) × (slow_fusion (spans_of self.now clock) self.now.config.faulty ≡ None)) }
     {
         fusion_laws();
-        let all = self.spans_at(clock);
-        let spans = &all[..self.table.sources()];
-        let ends = SortedEnds::of(spans);
-        Fused::of(clock, spans, &ends, self.config.faulty()).ok_or(DaemonFault::NoPoint)
+        let spans = self.spans_at(clock);
+        Fused::make(clock, &spans[..self.table.sources()], self.config.faulty())
+            .ok()
+            .ok_or(DaemonFault::NoPoint)
     }
 
     /// The spans of all sources at a clock reading, in front.
