@@ -1,5 +1,6 @@
 pub mod Config
 pub mod Packet
+pub mod Life
 pub mod Past
 pub mod Sources
 pub mod Publications

@@ -6,6 +6,7 @@ ghost use Rattle.tt_span.specs.Time.{max_time};
 ghost use Rattle.tt_source.specs.Table.{poll_of, take_of, is_known_of};
 ghost use Rattle.tt_daemon.specs.Config.{IsConfiguration};
 ghost use Rattle.tt_world.specs.Packet.{source_of_packet, bytes_of};
+ghost use Rattle.tt_world.specs.Life.{life_at};
 ghost use Rattle.tt_world.specs.State.{MachineState, IsMachine, machine_of};
 ghost use Rattle.tt_world.specs.Headline.{CertificatesProve};
 ghost use Rattle.tt_world.specs.Publications.{showing_of};
@@ -59,7 +60,7 @@ impl Machine {
     /// A machine of which nothing is known yet, as the one of this number.
     pub fn new(alloc: Global, number: u8, config: Config) -> Machine
         requires { number < 8 }
-        ensures fresh { result ≡ machine_of config [] number }
+        ensures fresh { result ≡ machine_of config [] (life_at [] number) }
         ensures valid { IsConfiguration config }
     {
         let mut workers = ArrayVec::from([Worker::new(); MAX_WORKERS]);

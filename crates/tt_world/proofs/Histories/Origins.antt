@@ -5,6 +5,8 @@ use Rattle.std.specs.List.{AllByRecursion}
 use Rattle.std.proofs.lemmas.Bool.{and_parts, not-false, leb-true, eqb-true, cases_lt, lt-ltb, le-ltb}
 use Rattle.std.proofs.lemmas.Option.{slice_get_within}
 use Rattle.tt_span.specs.Interval.{Interval, Holds, IsInterval}
+use Rattle.tt_world.proofs.Simulation.Lives.{life_of-one, same_life-true}
+use Rattle.tt_world.specs.Life.{Life, life_at, same_life, is_of}
 use Rattle.tt_world.specs.declared.events.Event.{Event}
 use Rattle.tt_world.specs.declared.events.Action.{Action}
 use Rattle.tt_world.specs.declared.events.Action.TheVariants.{Send, Answer, Forge}
@@ -12,56 +14,58 @@ use Rattle.tt_world.specs.declared.packets.Packet.{Packet}
 use Rattle.tt_world.specs.declared.packets.Packet.TheVariants.{Asked, Answered, Forged}
 use Rattle.tt_daemon.specs.Config.{Configuration}
 use Rattle.tt_world.specs.Packet.{answer_to}
-use Rattle.tt_world.specs.Past.{time_of, is_send_of, sends_of, put_by, packets_of}
+use Rattle.tt_world.specs.Past.{sends_now, time_of, is_send_of, sends_of, put_by, packets_of}
 use Rattle.tt_world.specs.Assumptions.{origin_of, is_lie}
 use Rattle.tt_world.specs.Headline.{IsAction}
 use Rattle.tt_world.proofs.Histories.Places.{get_front, get_back, get_one}
 use Rattle.tt_world.proofs.Histories.Judging.{AreGood}
 
--- the nonce in a packet of machine m, 0 in any other
-abbrev pub nonce_of : ℕ → Packet → ℕ
-nonce_of m (Asked request) = cond (eqb request.machine m) request.nonce 0
-nonce_of m (Answered answer) = cond (eqb answer.machine m) answer.nonce 0
-nonce_of m (Forged machine source payload) = 0
+-- the nonce in a packet of a life, 0 in any other
+abbrev pub nonce_of : Life → Packet → ℕ
+nonce_of life (Asked request) = cond (same_life (record { machine = request.machine; number = 1 }) life) request.nonce 0
+nonce_of life (Answered answer) = cond (same_life (record { machine = answer.machine; number = 1 }) life) answer.nonce 0
+nonce_of life (Forged machine source payload) = 0
 
 sends_grow : (b : Bool) (n : ℕ) → n ≤ cond b (n + 1) n
 sends_grow true n = omega arith
 sends_grow false n = omega arith
 
-sent_nonce : (sends : ℕ → ℕ) (m machine : ℕ) (b : Bool) → eqb machine m ≡ b → cond b (sends machine + 1) 0 ≤ cond b (sends m + 1) (sends m)
-sent_nonce sends m machine true e = subst (λ (k : ℕ). sends machine + 1 ≤ sends k + 1) (eqb-true machine m e) (omega arith)
-sent_nonce sends m machine false e = omega arith
+sent_nonce : (past : List Event) (life : Life) (machine : ℕ) (b : Bool) → is_of past life machine ≡ b → cond b (sends_now past machine + 1) 0 ≤ cond b (sends_of past life + 1) (sends_of past life)
+sent_nonce past life machine true e = subst (λ (k : Life). sends_now past machine + 1 ≤ sends_of past k + 1) (same_life-true (life_at past machine) life e) (omega arith)
+sent_nonce past life machine false e = omega arith
 
-answered_nonce : (m bound k : ℕ) (asked : Option Packet) (span : Interval) (packet : Packet) → ((p : Packet) → asked ≡ Some p → nonce_of m p ≤ bound) → slice_get (answer_to asked span) k ≡ Some packet → nonce_of m packet ≤ bound
-answered_nonce m bound k None span packet h e = absurd cc
-answered_nonce m bound k (Some (Asked request)) span packet h e = subst (λ (p : Packet). nonce_of m p ≤ bound) (get_one _ packet k e) (h (Asked request) refl)
-answered_nonce m bound k (Some (Answered answer)) span packet h e = absurd cc
-answered_nonce m bound k (Some (Forged machine source payload)) span packet h e = absurd cc
+answered_nonce : (life : Life) (bound k : ℕ) (asked : Option Packet) (span : Interval) (packet : Packet) → ((p : Packet) → asked ≡ Some p → nonce_of life p ≤ bound) → slice_get (answer_to asked span) k ≡ Some packet → nonce_of life packet ≤ bound
+answered_nonce life bound k None span packet h e = absurd cc
+answered_nonce life bound k (Some (Asked request)) span packet h e = subst (λ (p : Packet). nonce_of life p ≤ bound) (get_one _ packet k e) (h (Asked request) refl)
+answered_nonce life bound k (Some (Answered answer)) span packet h e = absurd cc
+answered_nonce life bound k (Some (Forged machine source payload)) span packet h e = absurd cc
 
-new_nonce : (sends : ℕ → ℕ) (packets : List Packet) (m : ℕ) (action : Action) (k : ℕ) (packet : Packet) →
-    ((p : ℕ) (asked : Packet) → slice_get packets p ≡ Some asked → nonce_of m asked ≤ sends m) →
-    slice_get (put_by sends packets action) k ≡ Some packet → nonce_of m packet ≤ cond (is_send_of m action) (sends m + 1) (sends m)
-new_nonce sends packets m (Send machine source clock) k packet h e =
-    subst (λ (p : Packet). nonce_of m p ≤ cond (eqb machine m) (sends m + 1) (sends m)) (get_one _ packet k e) (sent_nonce sends m machine (eqb machine m) refl)
-new_nonce sends packets m (Answer p span) k packet h e = answered_nonce m (sends m) k (slice_get packets p) span packet (h p) e
-new_nonce sends packets m (Forge machine source payload) k packet h e = subst (λ (p : Packet). nonce_of m p ≤ sends m) (get_one _ packet k e) (omega arith)
-new_nonce sends packets m _ k packet h e = absurd cc
+new_nonce : (past : List Event) (life : Life) (action : Action) (k : ℕ) (packet : Packet) →
+    ((p : ℕ) (asked : Packet) → slice_get (packets_of past) p ≡ Some asked → nonce_of life asked ≤ sends_of past life) →
+    slice_get (put_by (sends_now past) (packets_of past) action) k ≡ Some packet → nonce_of life packet ≤ cond (is_send_of past life action) (sends_of past life + 1) (sends_of past life)
+new_nonce past life (Send machine source clock) k packet h e =
+    subst (λ (p : Packet). nonce_of life p ≤ cond (is_of past life machine) (sends_of past life + 1) (sends_of past life)) (get_one _ packet k e)
+    (subst (λ (n : ℕ). cond (same_life (record { machine = machine; number = n }) life) (sends_now past machine + 1) 0 ≤ cond (is_of past life machine) (sends_of past life + 1) (sends_of past life)) (life_of-one past machine)
+    (sent_nonce past life machine (is_of past life machine) refl))
+new_nonce past life (Answer p span) k packet h e = answered_nonce life (sends_of past life) k (slice_get (packets_of past) p) span packet (h p) e
+new_nonce past life (Forge machine source payload) k packet h e = subst (λ (p : Packet). nonce_of life p ≤ sends_of past life) (get_one _ packet k e) (omega arith)
+new_nonce past life _ k packet h e = absurd cc
 
 -- a packet that an event put, by its place among those that the event put
 pub put_place : (past : List Event) (event : Event) (p : ℕ) (packet : Packet) → length (packets_of past) ≤ p → slice_get (packets_of (event ∷ past)) p ≡ Some packet →
-    slice_get (put_by (sends_of past) (packets_of past) event.action) (p - length (packets_of past)) ≡ Some packet
-put_place past event p packet h e = sym (get_back (packets_of past) (put_by (sends_of past) (packets_of past) event.action) p (p - length (packets_of past)) (omega arith)) ∙ e
+    slice_get (put_by (sends_now past) (packets_of past) event.action) (p - length (packets_of past)) ≡ Some packet
+put_place past event p packet h e = sym (get_back (packets_of past) (put_by (sends_now past) (packets_of past) event.action) p (p - length (packets_of past)) (omega arith)) ∙ e
 
 -- no packet has a nonce that its machine has not sent
-pub nonces_sent : (past : List Event) (m p : ℕ) (packet : Packet) → slice_get (packets_of past) p ≡ Some packet → nonce_of m packet ≤ sends_of past m
-nonces_sent [] m p packet e = absurd cc
-nonces_sent (event ∷ past) m p packet e =
+pub nonces_sent : (past : List Event) (life : Life) (p : ℕ) (packet : Packet) → slice_get (packets_of past) p ≡ Some packet → nonce_of life packet ≤ sends_of past life
+nonces_sent [] life p packet e = absurd cc
+nonces_sent (event ∷ past) life p packet e =
     elim (cases_lt p (length (packets_of past))) [
       | inl lt ↦
-          let old : nonce_of m packet ≤ sends_of past m = nonces_sent past m p packet (sym (get_front (packets_of past) (put_by (sends_of past) (packets_of past) event.action) p lt) ∙ e) in
-          let grow = sends_grow (is_send_of m event.action) (sends_of past m) in
+          let old : nonce_of life packet ≤ sends_of past life = nonces_sent past life p packet (sym (get_front (packets_of past) (put_by (sends_now past) (packets_of past) event.action) p lt) ∙ e) in
+          let grow = sends_grow (is_send_of past life event.action) (sends_of past life) in
           omega arith
-      | inr ge ↦ new_nonce (sends_of past) (packets_of past) m event.action (p - length (packets_of past)) packet (nonces_sent past m) (put_place past event p packet ge e)
+      | inr ge ↦ new_nonce past life event.action (p - length (packets_of past)) packet (nonces_sent past life) (put_place past event p packet ge e)
     ]
 
 -- what a packet says where its event put no lie on its way at this true time
@@ -102,13 +106,13 @@ has_origin configs [] good valid p packet e = absurd cc
 has_origin configs (event ∷ past) good valid p packet e =
     elim (cases_lt p (length (packets_of past))) [
       | inl lt ↦
-          let old = has_origin configs past good.1 valid.1 p packet (sym (get_front (packets_of past) (put_by (sends_of past) (packets_of past) event.action) p lt) ∙ e) in
+          let old = has_origin configs past good.1 valid.1 p packet (sym (get_front (packets_of past) (put_by (sends_now past) (packets_of past) event.action) p lt) ∙ e) in
           let on : time_of past ≤ event.at = good.0.not_before in
           record { origin = old.origin; is = origin-old past event p lt ∙ old.is; by_now = omega (arith, old.by_now); honest = old.honest }
       | inr ge ↦ record {
         origin = event;
         is = origin-new past event p ge (slice_get_within (packets_of (event ∷ past)) p packet e);
         by_now = omega arith;
-        honest = honest_put (sends_of past) (packets_of past) event.at event.action (p - length (packets_of past)) packet valid.0 (put_place past event p packet ge e);
+        honest = honest_put (sends_now past) (packets_of past) event.at event.action (p - length (packets_of past)) packet valid.0 (put_place past event p packet ge e);
       }
     ]
