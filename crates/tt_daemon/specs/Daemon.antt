@@ -17,9 +17,9 @@ pub record IsDaemon (d : DaemonState) : Type 0 where
   pub each_source : length d.table.sources ≡ d.config.sources
   pub same_drift : d.table.drift ≡ d.config.drift
 
--- the daemon of a machine before its first poll
-abbrev pub new_daemon : ℕ → Configuration → DaemonState
-new_daemon machine config = record { config = config; table = new_table machine config.sources config.drift 0 }
+-- the daemon of a machine before its first poll in the life with this epoch
+abbrev pub new_daemon : ℕ → Configuration → ℕ → DaemonState
+new_daemon machine config epoch = record { config = config; table = new_table machine config.sources config.drift 0 epoch }
 
 -- the clock reading lies before that of the last poll or take that was not refused, or past the greatest time
 abbrev pub IsBack : DaemonState → ℕ → Type 0

@@ -3,8 +3,8 @@
 ghost use Rattle.std.specs.Prelude.{◌≡◌, ℕ, ◌-◌, ◌<◌, ◌≤◌, ◌↔◌, length, take, All, IsTrue, not, Some, None, Ok, Err, IsOk, IfOk, IfErr, OnOk, OnErr, IsErrOf, MatchResult};
 ghost use Rattle.tt_span.specs.Interval.{Interval, IsInterval};
 ghost use Rattle.tt_poll.specs.Message.{max_machine};
-ghost use Rattle.tt_poll.specs.Spelling.{spelling_of};
-ghost use Rattle.tt_poll.specs.declared.messages.Message.TheVariants as message;
+ghost use Rattle.tt_poll.specs.Spelling.{spelling_of2};
+ghost use Rattle.tt_poll.specs.declared.messages.Message2.TheVariants as message;
 ghost use Rattle.tt_source.specs.Table.{Sending, source_at, poll_of, take_of, known_of, is_known_of, CanBeCalled, IsAwaitedAnswer};
 ghost use Rattle.tt_fuse.specs.Fusion.{IsPossibleTime, HasNoPossibleTime};
 ghost use Rattle.tt_fuse.specs.Depth.{slow_fusion};
@@ -16,7 +16,7 @@ use crate::faults::DaemonFault;
 use crate::fusions::Fused;
 use std::marker::Model;
 use tt_fuse::{MAX_SOURCES, fusion_laws};
-use tt_poll::REQUEST_LEN;
+use tt_poll::REQUEST2_LEN;
 use tt_source::{SourceFault, Table};
 use tt_span::Span;
 
@@ -44,13 +44,15 @@ impl Model for Daemon {
 }
 
 impl Daemon {
-    /// The daemon of machine `machine`, at most 7, that is set up so. Nothing is known yet of its sources.
-    pub fn new(machine: u8, config: &Config) -> Daemon
-        requires { machine ≤ max_machine }
-        ensures value { result ≡ new_daemon machine config.now }
+    /// The daemon of machine `machine`, at most 7, that is set up so, in the machine's life `epoch`, which is not 0.
+    /// Nothing is known yet of its sources.
+    pub fn new(machine: u8, config: &Config, epoch: u64) -> Daemon
+        requires machine_in { machine ≤ max_machine }
+        requires some_epoch { 0 < epoch }
+        ensures value { result ≡ new_daemon machine config.now epoch }
         ensures valid { IsDaemon result }
     {
-        let table = Table::new(machine, config.sources(), config.drift());
+        let table = Table::new(machine, config.sources(), config.drift(), epoch);
         prove!(table.sources() > 0);
         Daemon {
             config: *config,
@@ -89,12 +91,12 @@ impl Daemon {
         self.table.is_known(i)
     }
 
-    /// Polls source `i` when the clock shows `clock`: the bytes of a request with the nonce after the last one,
-    /// for which the source now waits in place of an earlier one. Its statement stays. Refuses, in this order: 401
+    /// Polls source `i` when the clock shows `clock`: the bytes of a request with the nonce after the last one and
+    /// the daemon's epoch, for which the source now waits in place of an earlier one. Its statement stays. Refuses, in this order: 401
     /// `NoSource` where `i` is no source, 402 `ClockBack`, 403 `NoncesUsedUp` where the last nonce was `u64::MAX`.
-    pub fn poll(&mut self, i: u8, clock: u64) -> Result<[u8; REQUEST_LEN], SourceFault>
+    pub fn poll(&mut self, i: u8, clock: u64) -> Result<[u8; REQUEST2_LEN], SourceFault>
         ensures polled { OnOk result (poll_of self.old.table i clock ≡ Ok self.new.table) }
-        ensures request { IfOk result (λ bytes. bytes ≡ spelling_of (message.Request (record { machine = self.new.table.machine; source = i; nonce = self.new.table.last }))) }
+        ensures request { IfOk result (λ bytes. bytes ≡ spelling_of2 (message.Request (record { machine = self.new.table.machine; source = i; nonce = self.new.table.last; epoch = self.new.table.epoch }))) }
         ensures refused { IfErr result (λ e. poll_of self.old.table i clock ≡ Err e) }
         ensures unchanged { OnErr result (self.new ≡ self.old) }
         ensures keeps_config { self.new.config ≡ self.old.config }
@@ -107,9 +109,10 @@ impl Daemon {
 
     /// Takes a packet that came from source `i` when the clock showed `clock`: where it is the answer to the poll
     /// that waits, it becomes the source's statement, and nothing waits any more. Refuses, in this order: 401
-    /// `NoSource` where `i` is no source, 402 `ClockBack`, 404 `BadMessage` where the bytes spell no message, 405
-    /// `NotMine` where they are a request, or an answer for another machine or of another source, 406
-    /// `NotOutstanding` where no poll of the source with this nonce waits.
+    /// `NoSource` where `i` is no source, 402 `ClockBack`, 404 `BadMessage` where the bytes spell no message of TTP2,
+    /// 405 `NotMine` where they are a request, or an answer for another machine or of another source, 407
+    /// `OtherEpoch` where they are an answer to another life of this machine, 406 `NotOutstanding` where no poll of the
+    /// source with this nonce waits.
     pub fn take(&mut self, i: u8, clock: u64, bytes: &[u8]) -> Result<(), SourceFault>
         ensures taken { OnOk result (take_of self.old.table i clock bytes.now ≡ Ok self.new.table) }
         ensures refused { IfErr result (λ e. take_of self.old.table i clock bytes.now ≡ Err e) }

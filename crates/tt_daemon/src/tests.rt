@@ -4,20 +4,20 @@ use crate::{Config, ConfigFault, Daemon, DaemonFault, Fused};
 use std::test::Fail;
 use tt_cert::Stretch;
 use tt_fuse::FuseFault;
-use tt_poll::{Answer, encode_answer};
+use tt_poll::{Answer2, encode_answer2};
 use tt_span::{Drift, MAX_TIME, Span};
 
 /// A machine of three sources of which one may lie, with an exact clock.
 fn three_sources() -> Result<Daemon, Fail> {
     let exact = Drift::new(0).ok_or("a drift")?;
-    Ok(Daemon::new(0, &Config::new(3, 1, exact, 1)?))
+    Ok(Daemon::new(0, &Config::new(3, 1, exact, 1)?, 1))
 }
 
 /// Source `i` is polled, and answers at once.
 fn state(daemon: &mut Daemon, i: u8, clock: u64, lo: u64, hi: u64) -> Result<(), Fail> {
     daemon.poll(i, clock)?;
-    let answer = Answer::new(0, i, daemon.last(), Span::new(lo, hi)?)?;
-    daemon.take(i, clock, &encode_answer(&answer))?;
+    let answer = Answer2::new(0, i, daemon.last(), 1, Span::new(lo, hi)?)?;
+    daemon.take(i, clock, &encode_answer2(&answer))?;
     Ok(())
 }
 
@@ -66,6 +66,20 @@ fn a_refused_fusion_leaves_the_last_one(rt: HostRuntime) -> Result<(), Fail> {
         Some(DaemonFault::ClockBack)
     );
     assert_eq!(rt; ends(&fused), (40, 70));
+    Ok(())
+}
+
+#[test]
+fn a_restarted_daemon_takes_no_answer_to_its_earlier_life(rt: HostRuntime) -> Result<(), Fail> {
+    let exact = Drift::new(0).ok_or("a drift")?;
+    let mut daemon = Daemon::new(0, &Config::new(1, 0, exact, 1)?, 2);
+    daemon.poll(0, 0)?;
+    let earlier = Answer2::new(0, 0, 1, 1, Span::new(5, 9)?)?;
+    let taken = daemon.take(0, 0, &encode_answer2(&earlier));
+    assert_eq!(rt; taken.map_err(|fault| fault.number()).err(), Some(407));
+    let answer = Answer2::new(0, 0, 1, 2, Span::new(5, 9)?)?;
+    daemon.take(0, 0, &encode_answer2(&answer))?;
+    assert_eq!(rt; ends(&daemon.fuse(0)?), (5, 9));
     Ok(())
 }
 

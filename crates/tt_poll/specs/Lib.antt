@@ -1,4 +1,5 @@
 pub mod Message
+pub mod Format
 pub mod Spelling
 pub mod Reading
 pub mod Fault

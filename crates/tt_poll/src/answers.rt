@@ -1,7 +1,7 @@
 //! Answers, with their ranges in their type.
 
 ghost use Rattle.std.specs.Prelude.{◌≡◌, ◌<◌, ◌≤◌, ◌↔◌, ◌⊎◌, IsOk, IfOk, IsErrOf};
-ghost use Rattle.tt_poll.specs.Message.{max_machine, max_source, PollAnswer, IsAnswer};
+ghost use Rattle.tt_poll.specs.Message.{max_machine, max_source, PollRequest, PollAnswer, IsAnswer};
 
 use crate::faults::PollFault;
 use crate::requests::Request;
@@ -12,9 +12,7 @@ use tt_span::Span;
 /// holds the true time.
 #[derive(Clone, Copy, Debug, PartialEq, Eq)]
 pub struct Answer {
-    machine: u8,
-    source: u8,
-    nonce: u64,
+    request: Request,
     span: Span,
 }
 
@@ -23,11 +21,11 @@ impl Model for Answer {
 
     ghost Value = { PollAnswer };
 
-    ghost view = { λ a. record { machine = a.machine; source = a.source; nonce = a.nonce; span = a.span } };
+    ghost view = { λ a. record { machine = a.request.machine; source = a.request.source; nonce = a.request.nonce; span = a.span } };
 
-    ghost invariant = { λ a. IsAnswer (record { machine = a.machine; source = a.source; nonce = a.nonce; span = a.span }) };
+    ghost invariant = { λ a. IsAnswer (record { machine = a.request.machine; source = a.request.source; nonce = a.request.nonce; span = a.span }) };
 
-    ghost inverse = { λ a. record { machine = a.machine; source = a.source; nonce = a.nonce; span = a.span } };
+    ghost inverse = { λ a. record { request = record { machine = a.machine; source = a.source; nonce = a.nonce }; span = a.span } };
 }
 
 impl Answer {
@@ -41,20 +39,23 @@ impl Answer {
         ensures no_nonce { IsErrOf result PollFault.Nonce ↔ ((machine ≤ max_machine) × (source ≤ max_source) × (nonce ≡ 0)) }
     {
         let request = Request::new(machine, source, nonce)?;
-        Ok(Answer::to_request(&request, span))
+        Ok(Answer::to_request(request, span))
     }
 
     /// The answer to `request` that the true time lies in `span`.
-    pub(crate) fn to_request(request: &Request, span: Span) -> Answer
-        ensures { result ≡ record { machine = request.now.machine; source = request.now.source; nonce = request.now.nonce; span = span } }
+    pub(crate) fn to_request(request: Request, span: Span) -> Answer
+        ensures { result ≡ record { machine = request.machine; source = request.source; nonce = request.nonce; span = span } }
     {
+        prove!(request.nonce() > 0);
         prove!(span.lo() <= span.hi());
-        Answer {
-            machine: request.machine(),
-            source: request.source(),
-            nonce: request.nonce(),
-            span,
-        }
+        Answer { request, span }
+    }
+
+    /// The request that is answered.
+    pub(crate) fn request(&self) -> Request
+        ensures { result ≡ record { machine = self.now.machine; source = self.now.source; nonce = self.now.nonce } }
+    {
+        self.request
     }
 
     /// The machine that asked, at most 7.
@@ -62,7 +63,7 @@ impl Answer {
         ensures value { result ≡ self.now.machine }
         ensures valid { IsAnswer self.now }
     {
-        self.machine
+        self.request.machine()
     }
 
     /// The source that answers, at most 15.
@@ -70,7 +71,7 @@ impl Answer {
         ensures value { result ≡ self.now.source }
         ensures valid { IsAnswer self.now }
     {
-        self.source
+        self.request.source()
     }
 
     /// The nonce of the request, which is not 0.
@@ -78,7 +79,7 @@ impl Answer {
         ensures value { result ≡ self.now.nonce }
         ensures valid { IsAnswer self.now }
     {
-        self.nonce
+        self.request.nonce()
     }
 
     /// The span that the source says holds the true time.

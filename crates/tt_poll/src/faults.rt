@@ -1,16 +1,17 @@
-//! Why something is no poll message.
+//! Why bytes, or the parts of a message, are not a poll message.
 
 ghost use Rattle.std.specs.Prelude.{◌≡◌};
 ghost use Rattle.tt_poll.specs.Fault.{number_of};
 
 use thiserror::Error;
 
-/// Why bytes, or the parts of a message, are refused. They are tested in this order.
+/// Why bytes, or the parts of a message, are refused. They are tested in this order; `Epoch` in TTP2
+/// alone.
 #[derive(Clone, Copy, Debug, PartialEq, Eq, Error)]
 pub enum PollFault {
     #[error("the length is neither a request's nor an answer's")]
     Length,
-    #[error("the bytes do not begin with TTP1")]
+    #[error("the bytes do not begin with the name of the format")]
     Magic,
     #[error("the kind is unknown, or belongs to the other length")]
     Kind,
@@ -20,13 +21,15 @@ pub enum PollFault {
     Number,
     #[error("the nonce is 0")]
     Nonce,
-    #[error("the two ends are no span of time")]
+    #[error("the epoch is 0")]
+    Epoch,
+    #[error("the two ends are not a valid span")]
     Span,
 }
 
 impl PollFault {
     /// The fault's number: 201 `Length`, 202 `Magic`, 203 `Kind`, 204 `Reserved`, 205 `Number`, 206 `Nonce`,
-    /// 207 `Span`.
+    /// 208 `Epoch`, 207 `Span`.
     pub fn number(&self) -> u16
         ensures { result ≡ number_of self.now }
     {
@@ -37,6 +40,7 @@ impl PollFault {
             PollFault::Reserved => 204,
             PollFault::Number => 205,
             PollFault::Nonce => 206,
+            PollFault::Epoch => 208,
             PollFault::Span => 207,
         }
     }

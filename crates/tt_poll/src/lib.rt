@@ -1,47 +1,57 @@
 //! Poll messages: what a machine asks a source of time, what the source answers, and how both stand in bytes.
 //!
-//! A [`Request`] names its machine, its source and a nonce; an [`Answer`] has these three and a span of time. A
-//! request has 16 bytes and an answer 32:
+//! There are two formats. In TTP1 a [`Request`] names its machine, its source and a nonce; an [`Answer`] has these
+//! three and a span of time. In TTP2 a [`Request2`] and an [`Answer2`] also have an epoch, which tells a machine's
+//! lives apart: a machine that restarts begins a new one.
 //!
-//! | bytes | content |
-//! |---|---|
-//! | 0..4 | `TTP1` |
-//! | 4 | the kind: 1 for a request, 2 for an answer |
-//! | 5 | the machine, 0 to 7 |
-//! | 6 | the source, 0 to 15 |
-//! | 7 | 0 |
-//! | 8..16 | the nonce, big endian, not 0 |
-//! | 16..24 | in an answer: the lower end of the span in nanoseconds, big endian |
-//! | 24..32 | in an answer: its upper end, big endian, at least the lower one and at most `MAX_TIME` |
+//! A request of TTP1 has 16 bytes and an answer 32; of TTP2 they have 24 and 40:
+//!
+//! | TTP1 | TTP2 | content |
+//! |---|---|---|
+//! | 0..4 | 0..4 | `TTP1` or `TTP2` |
+//! | 4 | 4 | the kind: 1 for a request, 2 for an answer |
+//! | 5 | 5 | the machine, 0 to 7 |
+//! | 6 | 6 | the source, 0 to 15 |
+//! | 7 | 7 | 0 |
+//! | 8..16 | 8..16 | the nonce, big endian, not 0 |
+//! |  | 16..24 | the epoch, big endian, not 0 |
+//! | 16..24 | 24..32 | in an answer: the lower end of the span in nanoseconds, big endian |
+//! | 24..32 | 32..40 | in an answer: its upper end, big endian, at least the lower one and at most `MAX_TIME` |
 //!
 //! Each message has one spelling. [`encode_request`] and [`encode_answer`] write it; [`decode`] gives a message
-//! back exactly where the bytes are its spelling, and else the first refusal that applies.
+//! back exactly where the bytes are its spelling, and else the first refusal that applies. [`encode_request2`],
+//! [`encode_answer2`] and [`decode2`] are the same for TTP2.
 //!
-//! - `requests`: `Request`, and the greatest numbers of machines and sources. `answers`: `Answer`.
-//! - `messages`: `Message`, which is one of the two.
+//! - `requests`: requests, and the greatest numbers of machines and sources. `answers`: answers. `requests2` and
+//!   `answers2`: the same of TTP2.
+//! - `messages`: `Message` and `Message2`, each of which is a request or an answer.
 //! - `format`: how long messages are, what they begin with, and their kinds.
-//! - `encoding`: `encode_request` and `encode_answer`.
-//! - `decoding`: `decode`, and what is known of spellings.
-//! - `faults`: why bytes are no message.
+//! - `encoding`: requests and answers as bytes.
+//! - `decoding`: bytes as messages, and what is known of spellings.
+//! - `faults`: why bytes are not a message.
 //!
 //! The ranges are in the types, so what is encoded is always a message. Nothing here takes memory.
 #![tactic(auto)]
 
 mod answers;
+mod answers2;
 mod decoding;
 mod encoding;
 mod faults;
 mod format;
 mod messages;
 mod requests;
+mod requests2;
 
 pub use answers::Answer;
-pub use decoding::{decode, one_spelling, reading_laws};
-pub use encoding::{encode_answer, encode_request};
+pub use answers2::Answer2;
+pub use decoding::{decode, decode2, one_spelling, one_spelling2, reading_laws, reading_laws2};
+pub use encoding::{encode_answer, encode_answer2, encode_request, encode_request2};
 pub use faults::PollFault;
-pub use format::{ANSWER_LEN, REQUEST_LEN};
-pub use messages::Message;
+pub use format::{ANSWER_LEN, ANSWER2_LEN, REQUEST_LEN, REQUEST2_LEN};
+pub use messages::{Message, Message2};
 pub use requests::{MAX_MACHINE, MAX_SOURCE, Request};
+pub use requests2::Request2;
 
 #[cfg(test)]
 mod tests;

@@ -2,15 +2,15 @@
 use Rattle.std.specs.Prelude.{ℕ, ◌≡◌, ◌<◌, ◌≤◌, ◌+◌, ◌-◌, ◌^◌, Bool, nat_lt, ◌==◌, ◌&&◌, ◌||◌, not, if◌then◌else◌, List, length, replicate, count_by, All, slice_index_or, slice_set, Option, Some, None, is_some, IfSome, Result, Ok, Err}
 use Rattle.tt_span.specs.Time.{max_time}
 use Rattle.tt_span.specs.Interval.{Interval, IsInterval, whole}
-use Rattle.tt_poll.specs.Message.{PollAnswer, max_machine}
-use Rattle.tt_poll.specs.Spelling.{spelling_of}
-use Rattle.tt_poll.specs.Reading.{read_of}
-use Rattle.tt_poll.specs.declared.messages.Message.{Message}
-use Rattle.tt_poll.specs.declared.messages.Message.TheVariants.{Request, Answer}
+use Rattle.tt_poll.specs.Message.{PollAnswer2, IsEpoch, max_machine, max_source}
+use Rattle.tt_poll.specs.Spelling.{spelling_of2}
+use Rattle.tt_poll.specs.Reading.{read_of2}
+use Rattle.tt_poll.specs.declared.messages.Message2.{Message2}
+use Rattle.tt_poll.specs.declared.messages.Message2.TheVariants.{Request, Answer}
 use Rattle.tt_poll.specs.declared.faults.PollFault.{PollFault}
 use Rattle.tt_source.specs.Statement.{Statement, statement_at}
 use Rattle.tt_source.specs.declared.faults.SourceFault.{SourceFault}
-use Rattle.tt_source.specs.declared.faults.SourceFault.TheVariants.{NoSource, ClockBack, NoncesUsedUp, BadMessage, NotMine, NotOutstanding}
+use Rattle.tt_source.specs.declared.faults.SourceFault.TheVariants.{NoSource, ClockBack, NoncesUsedUp, BadMessage, NotMine, OtherEpoch, NotOutstanding}
 
 -- a poll that waits for its answer: its nonce, and the clock reading at which it was sent
 pub record Sending : Type 0 where
@@ -22,17 +22,18 @@ pub record SourceState : Type 0 where
   pub waiting : Option Sending
   pub statement : Option Statement
 
--- what is known of all sources of one machine, the last nonce that was used, and the clock reading of the last call that was not refused
+-- what is known of all sources in one life of a machine, which its epoch tells from the others, the last nonce that was used, and the clock reading of the last call that was not refused
 pub record TableState : Type 0 where
   pub machine : ℕ
+  pub epoch : ℕ
   pub drift : ℕ
   pub last : ℕ
   pub clock : ℕ
   pub sources : List SourceState
 
--- the greatest count of sources
+-- the greatest count of sources: as many as requests can name
 abbrev pub max_sources : ℕ
-max_sources = 16
+max_sources = max_source + 1
 
 -- a poll that waits has a nonce that was used, and was sent at the table's clock or before
 pub record IsSending (last clock : ℕ) (sending : Sending) : Type 0 where
@@ -45,9 +46,10 @@ pub record IsSourceState (last clock : ℕ) (source : SourceState) : Type 0 wher
   pub sent : IfSome source.waiting (λ sending. IsSending last clock sending)
   pub got : IfSome source.statement (λ statement. statement.got ≤ clock)
 
--- the machine and the count of sources are in range, the clock is in time, and all that is known is of the past
+-- the machine, the epoch and the count of sources are in range, the clock is in time, and all that is known is of the past
 pub record IsTable (table : TableState) : Type 0 where
   pub machine_in : table.machine ≤ max_machine
+  pub epoch_in : IsEpoch table.epoch
   pub some_source : 0 < length table.sources
   pub sources_in : length table.sources ≤ max_sources
   pub last_fits : table.last < 2 ^ 64
@@ -59,8 +61,8 @@ abbrev pub unknown : SourceState
 unknown = record { waiting = None; statement = None }
 
 -- a table of n sources of which nothing is known
-abbrev pub new_table : ℕ → ℕ → ℕ → ℕ → TableState
-new_table machine n drift last = record { machine = machine; drift = drift; last = last; clock = 0; sources = replicate n unknown }
+abbrev pub new_table : ℕ → ℕ → ℕ → ℕ → ℕ → TableState
+new_table machine n drift last epoch = record { machine = machine; epoch = epoch; drift = drift; last = last; clock = 0; sources = replicate n unknown }
 
 -- what is known of source i
 abbrev pub source_at : TableState → ℕ → SourceState
@@ -92,18 +94,18 @@ waiting_for None nonce = None
 waiting_for (Some sending) nonce = if sending.nonce == nonce then Some sending else None
 
 -- the statement of an answer that was waited for
-abbrev pub statement_of_answer : Option Sending → PollAnswer → ℕ → Result Statement SourceFault
+abbrev pub statement_of_answer : Option Sending → PollAnswer2 → ℕ → Result Statement SourceFault
 statement_of_answer None answer clock = Err NotOutstanding
 statement_of_answer (Some sending) answer clock = Ok (record { span = answer.span; sent = sending.clock; got = clock })
 
--- what a packet from source i states that came to this machine at this clock reading, by what its bytes say and the poll that waits, or its refusal
-abbrev pub statement_of_message : ℕ → ℕ → Option Sending → ℕ → Result Message PollFault → Result Statement SourceFault
-statement_of_message machine i waiting clock (Err e) = Err BadMessage
-statement_of_message machine i waiting clock (Ok (Request request)) = Err NotMine
-statement_of_message machine i waiting clock (Ok (Answer answer)) =
-    if answer.machine == machine && answer.source == i
-    then statement_of_answer (waiting_for waiting answer.nonce) answer clock
-    else Err NotMine
+-- what a packet from source i states that came in this life of this machine at this clock reading, by what its bytes say and the poll that waits, or its refusal: an answer to another life is told before the nonce is looked at
+abbrev pub statement_of_message : ℕ → ℕ → ℕ → Option Sending → ℕ → Result Message2 PollFault → Result Statement SourceFault
+statement_of_message machine epoch i waiting clock (Err e) = Err BadMessage
+statement_of_message machine epoch i waiting clock (Ok (Request request)) = Err NotMine
+statement_of_message machine epoch i waiting clock (Ok (Answer answer)) =
+    if not (answer.machine == machine && answer.source == i) then Err NotMine
+    else if not (answer.epoch == epoch) then Err OtherEpoch
+    else statement_of_answer (waiting_for waiting answer.nonce) answer clock
 
 -- the table once source i has made a statement, which ends the wait for it
 abbrev pub after_statement : TableState → ℕ → ℕ → Result Statement SourceFault → Result TableState SourceFault
@@ -116,7 +118,7 @@ abbrev pub take_of : TableState → ℕ → ℕ → List ℕ → Result TableSta
 take_of table i clock bytes =
     if not (has_source table i) then Err NoSource
     else if is_back table clock then Err ClockBack
-    else after_statement table i clock (statement_of_message table.machine i (source_at table i).waiting clock (read_of bytes))
+    else after_statement table i clock (statement_of_message table.machine table.epoch i (source_at table i).waiting clock (read_of2 bytes))
 
 -- the span of a source at a clock reading: a source without a statement stands as the whole
 abbrev pub stated_at : ℕ → Option Statement → ℕ → Interval
@@ -144,8 +146,8 @@ pub record CanBeCalled (table : TableState) (i clock : ℕ) : Type 0 where
   pub not_back : table.clock ≤ clock
   pub in_time : clock ≤ max_time
 
--- the bytes are the spelling of source i's answer, with this span, to the poll of this machine that waits
+-- the bytes are the spelling of source i's answer, with this span, to the poll of this machine that waits, in this life of it
 pub record IsAwaitedAnswer (table : TableState) (i : ℕ) (bytes : List ℕ) (sending : Sending) (span : Interval) : Type 0 where
   pub waits : (source_at table i).waiting ≡ Some sending
-  pub spells : bytes ≡ spelling_of (Answer (record { machine = table.machine; source = i; nonce = sending.nonce; span = span }))
+  pub spells : bytes ≡ spelling_of2 (Answer (record { machine = table.machine; source = i; nonce = sending.nonce; epoch = table.epoch; span = span }))
   pub span_in : IsInterval span

@@ -18,13 +18,15 @@ pub enum SourceFault {
     BadMessage,
     #[error("the message is not an answer to this machine from this source")]
     NotMine,
+    #[error("the answer is to another life of this machine")]
+    OtherEpoch,
     #[error("no poll with this nonce waits for an answer")]
     NotOutstanding,
 }
 
 impl SourceFault {
     /// The fault's number: 401 `NoSource`, 402 `ClockBack`, 403 `NoncesUsedUp`, 404 `BadMessage`,
-    /// 405 `NotMine`, 406 `NotOutstanding`.
+    /// 405 `NotMine`, 407 `OtherEpoch`, 406 `NotOutstanding`.
     pub fn number(&self) -> u16
         ensures { result ≡ number_of self.now }
     {
@@ -34,6 +36,7 @@ impl SourceFault {
             SourceFault::NoncesUsedUp => 403,
             SourceFault::BadMessage => 404,
             SourceFault::NotMine => 405,
+            SourceFault::OtherEpoch => 407,
             SourceFault::NotOutstanding => 406,
         }
     }

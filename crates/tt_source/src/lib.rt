@@ -20,7 +20,7 @@ mod tables;
 
 pub use faults::SourceFault;
 pub use statements::Statement;
-pub use tables::{MAX_SOURCES, Table};
+pub use tables::Table;
 
 #[cfg(test)]
 mod tests;

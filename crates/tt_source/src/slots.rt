@@ -8,7 +8,7 @@ ghost use Rattle.tt_source.specs.Table.{unknown, waiting_for, statement_of_answe
 use crate::faults::SourceFault;
 use crate::statements::Statement;
 use std::marker::Model;
-use tt_poll::Answer;
+use tt_poll::Answer2;
 use tt_span::{Drift, Span};
 
 /// A poll that waits for its answer: its nonce, and the clock reading at which it was sent.
@@ -80,7 +80,7 @@ impl Slot {
 
     /// The statement that an answer makes that came when the clock showed `clock`. Refuses by 406
     /// `NotOutstanding` where no poll with its nonce waits.
-    pub(crate) fn answered(&self, answer: &Answer, clock: u64) -> Result<Statement, SourceFault>
+    pub(crate) fn answered(&self, answer: &Answer2, clock: u64) -> Result<Statement, SourceFault>
         requires sent { IfSome self.now.waiting (λ sending. sending.clock ≤ clock) }
         requires in_time { clock ≤ max_time }
         ensures { result ≡ statement_of_answer (waiting_for self.now.waiting answer.now.nonce) answer.now clock }

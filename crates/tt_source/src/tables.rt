@@ -4,9 +4,9 @@ ghost use Rattle.std.specs.Prelude.{◌≡◌, ◌<◌, ◌≤◌, ◌↔◌, le
 ghost use Rattle.tt_span.specs.Time.{max_time};
 ghost use Rattle.tt_span.specs.Interval.{Interval, IsInterval};
 ghost use Rattle.tt_poll.specs.Message.{max_machine};
-ghost use Rattle.tt_poll.specs.Spelling.{spelling_of};
-ghost use Rattle.tt_poll.specs.Reading.{read_of};
-ghost use Rattle.tt_poll.specs.declared.messages.Message.TheVariants as message;
+ghost use Rattle.tt_poll.specs.Spelling.{spelling_of2};
+ghost use Rattle.tt_poll.specs.Reading.{read_of2};
+ghost use Rattle.tt_poll.specs.declared.messages.Message2.TheVariants as message;
 ghost use Rattle.tt_source.specs.Statement.{IsStatement};
 ghost use Rattle.tt_source.specs.Table.{Sending, IsTable, max_sources, new_table, source_at, poll_of, take_of, statement_of_message, aged_of, is_back as is_back_of, known_of, is_known_of, CanBeCalled, IsAwaitedAnswer};
 
@@ -15,16 +15,17 @@ use crate::slots::Slot;
 use crate::statements::Statement;
 use arrayvec::ArrayVec;
 use std::marker::Model;
-use tt_poll::{Answer, Message, REQUEST_LEN, Request, decode, encode_request};
+use tt_poll::{Answer2, MAX_SOURCE, Message2, REQUEST2_LEN, Request2, decode2, encode_request2};
 use tt_span::{Drift, MAX_TIME, Span};
 
-/// The greatest count of sources.
-pub const MAX_SOURCES: usize = 16;
+/// The greatest count of sources: as many as requests can name.
+const MAX_SOURCES: usize = MAX_SOURCE as usize + 1;
 
 /// What one machine knows of its sources, which are numbered from 0: of each at most one poll that waits for its
 /// answer, and one statement, the last answer that was taken. That a machine polls several sources is Spanner's
 /// way, whose time daemons poll several time masters (OSDI 2012, section 3). The nonces are this table's own: those
-/// of all its polls are one count, so an answer to an earlier poll is known as such.
+/// of all its polls are one count, so an answer to an earlier poll is known as such. Its epoch is the machine's life,
+/// so an answer to an earlier life is known too.
 ///
 /// Clock readings are in nanoseconds. Each call that takes one refuses by 402 `ClockBack` a reading below that of
 /// the last `poll` or `take` that was not refused, or above [`MAX_TIME`]. A refused call changes nothing, the
@@ -32,6 +33,7 @@ pub const MAX_SOURCES: usize = 16;
 #[derive(Drop)]
 pub struct Table {
     machine: u8,
+    epoch: u64,
     drift: Drift,
     last: u64,
     clock: u64,
@@ -43,47 +45,43 @@ impl Model for Table {
 
     ghost Value = { TableState };
 
-    ghost view = { λ t. record { machine = t.machine; drift = t.drift; last = t.last; clock = t.clock; sources = t.sources.items } };
+    ghost view = { λ t. record { machine = t.machine; epoch = t.epoch; drift = t.drift; last = t.last; clock = t.clock; sources = t.sources.items } };
 
-    ghost invariant = { λ t. IsTable (record { machine = t.machine; drift = t.drift; last = t.last; clock = t.clock; sources = t.sources.items }) };
+    ghost invariant = { λ t. IsTable (record { machine = t.machine; epoch = t.epoch; drift = t.drift; last = t.last; clock = t.clock; sources = t.sources.items }) };
 }
 
 impl Table {
-    /// The table of machine `machine`, at most 7, with `n` sources, from 1 to [`MAX_SOURCES`], of which nothing is
-    /// known. Its clock keeps `drift`. The first nonce is 1.
-    pub fn new(machine: u8, n: usize, drift: Drift) -> Table
+    /// The table of machine `machine`, at most 7, with `n` sources, from 1 to 16, of which nothing is known. Its clock
+    /// keeps `drift`. The machine is in the life `epoch`, which is not 0: only answers to this life are taken. The
+    /// first nonce is 1.
+    pub fn new(machine: u8, n: usize, drift: Drift, epoch: u64) -> Table
         requires machine_in { machine ≤ max_machine }
         requires some_source { 0 < n }
         requires sources_in { n ≤ max_sources }
-        ensures { result ≡ new_table machine n drift 0 }
+        requires some_epoch { 0 < epoch }
+        ensures { result ≡ new_table machine n drift 0 epoch }
     {
-        Table::resume(machine, n, drift, 0)
+        Table::resume(machine, n, drift, 0, epoch)
     }
 
     /// The same, where nonces up to `last` were used before: the first nonce is the one after `last`.
-    pub fn resume(machine: u8, n: usize, drift: Drift, last: u64) -> Table
+    pub fn resume(machine: u8, n: usize, drift: Drift, last: u64, epoch: u64) -> Table
         requires machine_in { machine ≤ max_machine }
         requires some_source { 0 < n }
         requires sources_in { n ≤ max_sources }
-        ensures { result ≡ new_table machine n drift last }
+        requires some_epoch { 0 < epoch }
+        ensures { result ≡ new_table machine n drift last epoch }
     {
         let mut sources = ArrayVec::from([Slot::default(); MAX_SOURCES]);
         sources.truncate(n);
         Table {
             machine,
+            epoch,
             drift,
             last,
             clock: 0,
             sources,
         }
-    }
-
-    /// The machine, at most 7.
-    pub fn machine(&self) -> u8
-        ensures value { result ≡ self.now.machine }
-        ensures valid { IsTable self.now }
-    {
-        self.machine
     }
 
     /// The last nonce that was used, 0 before the first.
@@ -94,15 +92,7 @@ impl Table {
         self.last
     }
 
-    /// The drift that the machine's clock keeps.
-    pub fn drift(&self) -> Drift
-        ensures value { result ≡ self.now.drift }
-        ensures valid { IsTable self.now }
-    {
-        self.drift
-    }
-
-    /// How many sources there are, from 1 to [`MAX_SOURCES`].
+    /// How many sources there are, from 1 to 16.
     pub fn sources(&self) -> usize
         ensures value { result ≡ length self.now.sources }
         ensures valid { IsTable self.now }
@@ -136,12 +126,12 @@ impl Table {
         clock < self.clock || clock > MAX_TIME
     }
 
-    /// Polls source `i` when the clock shows `clock`: the bytes of a request with the nonce after the last one,
-    /// for which the source now waits in place of an earlier one. Its statement stays. Refuses, in this order: 401
+    /// Polls source `i` when the clock shows `clock`: the bytes of a request with the nonce after the last one and
+    /// the table's epoch, for which the source now waits in place of an earlier one. Its statement stays. Refuses, in this order: 401
     /// `NoSource` where `i` is no source, 402 `ClockBack`, 403 `NoncesUsedUp` where the last nonce was `u64::MAX`.
-    pub fn poll(&mut self, i: u8, clock: u64) -> Result<[u8; REQUEST_LEN], SourceFault>
+    pub fn poll(&mut self, i: u8, clock: u64) -> Result<[u8; REQUEST2_LEN], SourceFault>
         ensures polled { OnOk result (poll_of self.old i clock ≡ Ok self.new) }
-        ensures request { IfOk result (λ bytes. bytes ≡ spelling_of (message.Request (record { machine = self.new.machine; source = i; nonce = self.new.last }))) }
+        ensures request { IfOk result (λ bytes. bytes ≡ spelling_of2 (message.Request (record { machine = self.new.machine; source = i; nonce = self.new.last; epoch = self.new.epoch }))) }
         ensures refused { IfErr result (λ e. poll_of self.old i clock ≡ Err e) }
         ensures unchanged { OnErr result (self.new ≡ self.old) }
     {
@@ -152,15 +142,16 @@ impl Table {
         self.last += 1;
         self.clock = clock;
         self.sources[index] = self.sources[index].polled(self.last, clock);
-        let request = Request::new(self.machine, i, self.last).unwrap();
-        Ok(encode_request(&request))
+        let request = Request2::new(self.machine, i, self.last, self.epoch).unwrap();
+        Ok(encode_request2(&request))
     }
 
     /// Takes a packet that came from source `i` when the clock showed `clock`: where it is the answer to the poll
     /// that waits, it becomes the source's statement, and nothing waits any more. Refuses, in this order: 401
-    /// `NoSource` where `i` is no source, 402 `ClockBack`, 404 `BadMessage` where the bytes spell no message, 405
-    /// `NotMine` where they are a request, or an answer for another machine or of another source, 406
-    /// `NotOutstanding` where no poll of the source with this nonce waits.
+    /// `NoSource` where `i` is no source, 402 `ClockBack`, 404 `BadMessage` where the bytes spell no message of TTP2,
+    /// 405 `NotMine` where they are a request, or an answer for another machine or of another source, 407
+    /// `OtherEpoch` where they are an answer to another life of this machine, 406 `NotOutstanding` where no poll of the
+    /// source with this nonce waits.
     pub fn take(&mut self, i: u8, clock: u64, bytes: &[u8]) -> Result<(), SourceFault>
         ensures taken { OnOk result (take_of self.old i clock bytes.now ≡ Ok self.new) }
         ensures refused { IfErr result (λ e. take_of self.old i clock bytes.now ≡ Err e) }
@@ -183,25 +174,28 @@ impl Table {
     fn statement_in(&self, i: u8, clock: u64, bytes: &[u8]) -> Result<Statement, SourceFault>
         requires valid { IsTable self.now }
         requires can_be_called { CanBeCalled self.now i clock }
-        ensures value { result ≡ statement_of_message self.now.machine i (source_at self.now i).waiting clock (read_of bytes.now) }
+        ensures value { result ≡ statement_of_message self.now.machine self.now.epoch i (source_at self.now i).waiting clock (read_of2 bytes.now) }
         ensures found { OnOk result ((sending : Sending) × (span : Interval) × IsAwaitedAnswer self.now i bytes.now sending span) }
         ensures awaited { (sending : Sending) (span : Interval) → IsAwaitedAnswer self.now i bytes.now sending span →
             result ≡ Ok (record { span = span; sent = sending.clock; got = clock }) }
     {
-        let message = decode(bytes).map_err(|_| SourceFault::BadMessage)?;
+        let message = decode2(bytes).map_err(|_| SourceFault::BadMessage)?;
         match &message {
-            Message::Request(_) => Err(SourceFault::NotMine),
-            Message::Answer(answer) => self.statement_by(i, clock, answer),
+            Message2::Request(_) => Err(SourceFault::NotMine),
+            Message2::Answer(answer) => self.statement_by(i, clock, answer),
         }
     }
 
-    /// The statement that the answer makes, where it is one of source `i` to this machine.
-    fn statement_by(&self, i: u8, clock: u64, answer: &Answer) -> Result<Statement, SourceFault>
+    /// The statement that the answer makes, where it is one of source `i` to this life of this machine.
+    fn statement_by(&self, i: u8, clock: u64, answer: &Answer2) -> Result<Statement, SourceFault>
         requires { CanBeCalled self.now i clock }
-        ensures { result ≡ statement_of_message self.now.machine i (source_at self.now i).waiting clock (Ok (message.Answer answer.now)) }
+        ensures { result ≡ statement_of_message self.now.machine self.now.epoch i (source_at self.now i).waiting clock (Ok (message.Answer answer.now)) }
     {
         if answer.machine() != self.machine || answer.source() != i {
             return Err(SourceFault::NotMine);
+        }
+        if answer.epoch() != self.epoch {
+            return Err(SourceFault::OtherEpoch);
         }
         self.sources[usize::from(i)].answered(answer, clock)
     }

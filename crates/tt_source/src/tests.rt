@@ -4,35 +4,50 @@ use crate::{SourceFault, Statement, Table};
 use std::test::Fail;
 use tt_span::{Drift, MAX_TIME, Span};
 
-/// The request of machine 0 to source 1 under nonce 1.
-const REQUEST: [u8; 16] = [
-    0x54, 0x54, 0x50, 0x31, 0x01, 0x00, 0x01, 0x00, 0x00, 0x00, 0x00, 0x00, 0x00, 0x00, 0x00, 0x01,
+/// The request of machine 0 to source 1 under nonce 1, in the machine's first life.
+const REQUEST: [u8; 24] = [
+    0x54, 0x54, 0x50, 0x32, 0x01, 0x00, 0x01, 0x00, 0x00, 0x00, 0x00, 0x00, 0x00, 0x00, 0x00, 0x01,
+    0x00, 0x00, 0x00, 0x00, 0x00, 0x00, 0x00, 0x01,
 ];
 
 /// The answer of source 1 to it: from 1000000000 to 1000001000.
-const ANSWER: [u8; 32] = [
+const ANSWER: [u8; 40] = [
+    0x54, 0x54, 0x50, 0x32, 0x02, 0x00, 0x01, 0x00, 0x00, 0x00, 0x00, 0x00, 0x00, 0x00, 0x00, 0x01,
+    0x00, 0x00, 0x00, 0x00, 0x00, 0x00, 0x00, 0x01, 0x00, 0x00, 0x00, 0x00, 0x3b, 0x9a, 0xca, 0x00,
+    0x00, 0x00, 0x00, 0x00, 0x3b, 0x9a, 0xcd, 0xe8,
+];
+
+/// The same answer in TTP1, which has no epoch.
+const FIRST_FORMAT: [u8; 32] = [
     0x54, 0x54, 0x50, 0x31, 0x02, 0x00, 0x01, 0x00, 0x00, 0x00, 0x00, 0x00, 0x00, 0x00, 0x00, 0x01,
     0x00, 0x00, 0x00, 0x00, 0x3b, 0x9a, 0xca, 0x00, 0x00, 0x00, 0x00, 0x00, 0x3b, 0x9a, 0xcd, 0xe8,
 ];
 
 /// The same request under another nonce.
-fn request(nonce: u8) -> [u8; 16] {
+fn request(nonce: u8) -> [u8; 24] {
     let mut bytes = REQUEST;
     bytes[15] = nonce;
     bytes
 }
 
 /// The same answer to another machine, under another nonce.
-fn answer(machine: u8, nonce: u8) -> [u8; 32] {
+fn answer(machine: u8, nonce: u8) -> [u8; 40] {
     let mut bytes = ANSWER;
     bytes[5] = machine;
     bytes[15] = nonce;
     bytes
 }
 
-/// A table of machine 0 with three sources.
+/// The same answer to another machine and life, under another nonce.
+fn answer_in_life(epoch: u8, machine: u8, nonce: u8) -> [u8; 40] {
+    let mut bytes = answer(machine, nonce);
+    bytes[23] = epoch;
+    bytes
+}
+
+/// A table of machine 0 with three sources, in the machine's first life.
 fn three_sources() -> Table {
-    Table::new(0, 3, Drift::new(200).unwrap())
+    Table::new(0, 3, Drift::new(200).unwrap(), 1)
 }
 
 /// The number of the refusal, if it is one.
@@ -82,6 +97,7 @@ fn refuses_a_receipt_before_the_sending(rt: HostRuntime) -> Result<(), Fail> {
         (SourceFault::NoncesUsedUp, 403),
         (SourceFault::BadMessage, 404),
         (SourceFault::NotMine, 405),
+        (SourceFault::OtherEpoch, 407),
         (SourceFault::NotOutstanding, 406),
     ] {
         assert_eq!(rt; fault.number(), number);
@@ -95,6 +111,10 @@ fn takes_the_answer_to_the_last_poll(rt: HostRuntime) -> Result<(), Fail> {
     assert_eq!(rt; table.poll(1, 500)?, request(1));
     assert_eq!(rt; table.poll(1, 600)?, request(2));
     assert_eq!(rt; refusal(table.take(1, 900, &answer(0, 1))), Some(406));
+    assert_eq!(rt;
+        refusal(table.take(1, 900, &answer_in_life(2, 0, 2))),
+        Some(407)
+    );
     assert_eq!(rt; table.known(), 0);
     table.take(1, 900, &answer(0, 2))?;
     let aged = table.aged(1, 900)?;
@@ -126,8 +146,17 @@ fn refuses_in_order(rt: HostRuntime) -> Result<(), Fail> {
     assert_eq!(rt; refusal(table.take(1, 499, &[])), Some(402));
     assert_eq!(rt; refusal(table.take(1, MAX_TIME + 1, &[])), Some(402));
     assert_eq!(rt; refusal(table.take(1, 900, &[0xff])), Some(404));
+    assert_eq!(rt; refusal(table.take(1, 900, &FIRST_FORMAT)), Some(404));
     assert_eq!(rt; refusal(table.take(1, 900, &request(1))), Some(405));
     assert_eq!(rt; refusal(table.take(1, 900, &answer(1, 1))), Some(405));
+    assert_eq!(rt;
+        refusal(table.take(1, 900, &answer_in_life(2, 1, 1))),
+        Some(405)
+    );
+    assert_eq!(rt;
+        refusal(table.take(1, 900, &answer_in_life(2, 0, 9))),
+        Some(407)
+    );
     assert_eq!(rt; refusal(table.take(1, 900, &answer(0, 9))), Some(406));
     assert_eq!(rt; refusal(table.aged(3, 499)), Some(401));
     assert_eq!(rt; refusal(table.aged(1, 499)), Some(402));
@@ -152,11 +181,23 @@ fn a_new_poll_keeps_the_statement(rt: HostRuntime) -> Result<(), Fail> {
 #[test]
 fn nonces_are_used_up(rt: HostRuntime) -> Result<(), Fail> {
     let drift = Drift::new(200).ok_or("a drift")?;
-    let mut table = Table::resume(7, 16, drift, u64::MAX);
+    let mut table = Table::resume(7, 16, drift, u64::MAX, u64::MAX);
     assert_eq!(rt; refusal(table.poll(0, 0)), Some(403));
     assert_eq!(rt; refusal(table.poll(0, MAX_TIME + 1)), Some(402));
     assert_eq!(rt; refusal(table.poll(16, 0)), Some(401));
-    assert_eq!(rt; (table.machine(), table.sources()), (7, 16));
-    assert_eq!(rt; table.drift().ppm(), 200);
+    assert_eq!(rt; table.sources(), 16);
+    Ok(())
+}
+
+#[test]
+fn a_restarted_machine_takes_no_answer_to_its_earlier_life(rt: HostRuntime) -> Result<(), Fail> {
+    let drift = Drift::new(200).ok_or("a drift")?;
+    let mut table = Table::new(0, 3, drift, 2);
+    let mut second_request = REQUEST;
+    second_request[23] = 2;
+    assert_eq!(rt; table.poll(1, 0)?, second_request);
+    assert_eq!(rt; refusal(table.take(1, 0, &ANSWER)), Some(407));
+    table.take(1, 0, &answer_in_life(2, 0, 1))?;
+    assert!(rt; table.is_known(1));
     Ok(())
 }

@@ -1,13 +1,15 @@
 -- What `age` answers to its words and its input.
 use Rattle.std.specs.Prelude.{ℕ, List, [], ◌∷◌, ◌++◌, ◌-◌, length, take, nat_eq, nat_lt, ◌||◌, Result, Ok, Err, codes, decimal, if◌then◌else◌}
-use Rattle.std.specs.List.{ends_with}
+use Rattle.std.specs.List.{starts_with, ends_with}
 use Rattle.hex.specs.Hex.{decode_of}
 use Rattle.tt_span.specs.Time.{max_time}
 use Rattle.tt_span.specs.Interval.{Interval}
 use Rattle.tt_poll.specs.declared.messages.Message.{Message}
 use Rattle.tt_poll.specs.declared.messages.Message.TheVariants.{Request, Answer}
+use Rattle.tt_poll.specs.declared.messages.Message2.{Message2}
+use Rattle.tt_poll.specs.declared.messages.Message2.TheVariants as two
 use Rattle.tt_poll.specs.declared.faults.PollFault.{PollFault}
-use Rattle.tt_poll.specs.Reading.{read_of}
+use Rattle.tt_poll.specs.Reading.{read_of, read_of2}
 use Rattle.tt_source.specs.declared.faults.SourceFault.TheVariants.{ClockBack, NotMine}
 use Rattle.tt_source.specs.Statement.{statement_at}
 use Rattle.hex.specs.declared.error.FromHexError.{FromHexError}
@@ -25,19 +27,30 @@ abbrev pub aged_of : Ageing → Interval → Result Interval Fault
 aged_of a span = if nat_lt a.got a.sent || (nat_lt a.clock a.got || nat_lt max_time a.clock) then Err (Source ClockBack)
     else Ok (statement_at a.drift (record { span = span; sent = a.sent; got = a.got }) a.clock)
 
--- The aged span of an answer; a request is refused with 405.
-abbrev pub aged_message : Ageing → Message → Result Interval Fault
-aged_message a (Request request) = Err (Source NotMine)
-aged_message a (Answer answer) = aged_of a answer.span
+-- The span of an answer of TTP1; a request is refused with 405, and what is no message with the number of the decoder's refusal.
+abbrev pub answered_in : Result Message PollFault → Result Interval Fault
+answered_in (Ok (Answer answer)) = Ok answer.span
+answered_in (Ok (Request request)) = Err (Source NotMine)
+answered_in (Err fault) = Err (Poll fault)
 
--- The aged span of what was decoded, or the number of the decoder's refusal.
-abbrev pub aged_decoded : Ageing → Result Message PollFault → Result Interval Fault
-aged_decoded a (Ok message) = aged_message a message
-aged_decoded a (Err fault) = Err (Poll fault)
+-- The same of TTP2.
+abbrev pub answered_in2 : Result Message2 PollFault → Result Interval Fault
+answered_in2 (Ok (two.Answer answer)) = Ok answer.span
+answered_in2 (Ok (two.Request request)) = Err (Source NotMine)
+answered_in2 (Err fault) = Err (Poll fault)
+
+-- The span of the answer that the bytes spell, in TTP2 where they begin with its name, else in TTP1.
+abbrev pub answered : List ℕ → Result Interval Fault
+answered bytes = if starts_with nat_eq bytes (codes "TTP2") then answered_in2 (read_of2 bytes) else answered_in (read_of bytes)
+
+-- The aged span of an answer, or its refusal.
+abbrev pub aged_answer : Ageing → Result Interval Fault → Result Interval Fault
+aged_answer a (Ok span) = aged_of a span
+aged_answer a (Err fault) = Err fault
 
 -- The aged span of the bytes that the hex digits write; bad hex is refused with 1602.
 abbrev pub aged_hex : Ageing → Result (List ℕ) FromHexError → Result Interval Fault
-aged_hex a (Ok bytes) = aged_decoded a (read_of bytes)
+aged_hex a (Ok bytes) = aged_answer a (answered bytes)
 aged_hex a (Err error) = Err BadHex
 
 -- The line that tells an aged span.

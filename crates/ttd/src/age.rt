@@ -2,14 +2,13 @@
 
 ghost use Rattle.std.specs.Prelude.{◌≡◌, ◌≤◌, ◌⊎◌, ◌≢◌, Err, string_bytes};
 ghost use Rattle.hex.specs.Hex.{decode_of};
-ghost use Rattle.tt_poll.specs.Reading.{read_of};
-ghost use Rattle.ttd.specs.Age.{age_of, aged_hex, aged_line, aged_message, without_line_feed as without_line_feed_of};
+ghost use Rattle.ttd.specs.Age.{age_of, aged_hex, aged_line, aged_of, answered as answered_of, without_line_feed as without_line_feed_of};
 ghost use Rattle.ttd.specs.Command.{HasText, IsUnlessMemory};
 
 use crate::faults::Fault;
 use hex::FromHexError;
 use std::alloc::Global;
-use tt_poll::{Message, decode};
+use tt_poll::{Message, Message2, decode, decode2};
 use tt_source::{SourceFault, Statement};
 use tt_span::{Drift, Span};
 
@@ -37,15 +36,30 @@ fn without_line_feed(text: &[u8]) -> &[u8]
     }
 }
 
-/// The aged span of a message. A request is refused by 405, and clock readings that are out of order by 402.
-fn aged(ageing: &Ageing, message: &Message) -> Result<Span, Fault>
-    ensures value { result ≡ aged_message ageing.now message.now }
+/// The span of the answer that the bytes spell: in TTP2 where they begin with its name, else in TTP1. What is not a
+/// message is refused with the decoder's number, a request with 405.
+fn answered(bytes: &[u8]) -> Result<Span, Fault>
+    ensures value { result ≡ answered_of bytes.now }
     ensures no_device { result ≢ Err Fault.ReadFailed }
 {
-    let Message::Answer(answer) = message else {
-        return Err(Fault::Source(SourceFault::NotMine));
-    };
-    let statement = Statement::new(answer.span(), ageing.sent, ageing.got).map_err(Fault::Source)?;
+    if bytes.starts_with(b"TTP2") {
+        return match decode2(bytes).map_err(Fault::Poll)? {
+            Message2::Answer(answer) => Ok(answer.span()),
+            Message2::Request(_) => Err(Fault::Source(SourceFault::NotMine)),
+        };
+    }
+    match decode(bytes).map_err(Fault::Poll)? {
+        Message::Answer(answer) => Ok(answer.span()),
+        Message::Request(_) => Err(Fault::Source(SourceFault::NotMine)),
+    }
+}
+
+/// The aged span of an answer. Clock readings that are out of order are refused with 402.
+fn aged(ageing: &Ageing, span: Span) -> Result<Span, Fault>
+    ensures value { result ≡ aged_of ageing.now span }
+    ensures no_device { result ≢ Err Fault.ReadFailed }
+{
+    let statement = Statement::new(span, ageing.sent, ageing.got).map_err(Fault::Source)?;
     statement
         .aged(ageing.drift, ageing.clock)
         .map_err(Fault::Source)
@@ -61,11 +75,12 @@ fn aged_from_hex(alloc: Global, ageing: &Ageing, text: &[u8]) -> Result<Span, Fa
         Err(FromHexError::OutOfMemory) => return Err(Fault::Memory),
         Err(_) => return Err(Fault::BadHex),
     };
-    let message = decode(bytes.as_slice()).map_err(Fault::Poll)?;
-    aged(ageing, &message)
+    let span = answered(bytes.as_slice())?;
+    aged(ageing, span)
 }
 
-/// What `age` answers to its input: one poll answer in hex, of either case, with one line feed allowed after it.
+/// What `age` answers to its input: one poll answer of either format in hex, of either case, with one line feed allowed
+/// after it.
 ///
 /// Refuses, in this order, with 1602 `BadHex` what is no hex; with the decoder's number what is no poll message; with 405
 /// a request; with 402 clock readings that are out of order or past the greatest time; and with 1 `Memory`.

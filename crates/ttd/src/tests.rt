@@ -31,6 +31,10 @@ fn refuses(alloc: Global, words: &[&str], input: &[u8], text: &str) -> bool {
     writes(alloc, words, input, Status::Bad, text)
 }
 
+// The same answer in TTP2, in the machine's first life.
+const ANSWER2: &str =
+    "545450320200010000000000000000010000000000000001000000003b9aca00000000003b9acde8";
+
 #[test]
 fn ages_an_answer(rt: HostRuntime) {
     let aged = "aged 30994000000 31006001401\n";
@@ -40,6 +44,7 @@ fn ages_an_answer(rt: HostRuntime) {
     assert!(rt; writes(rt.alloc(), &AGE, line, Status::Fine, aged));
     let upper = b"54545031020001000000000000000001000000003B9ACA00000000003B9ACDE8";
     assert!(rt; writes(rt.alloc(), &AGE, upper, Status::Fine, aged));
+    assert!(rt; writes(rt.alloc(), &AGE, ANSWER2.as_bytes(), Status::Fine, aged));
 }
 
 #[test]
@@ -72,6 +77,14 @@ fn refuses_what_is_no_answer(rt: HostRuntime) {
     // A request.
     let request = b"54545031010001000000000000000001";
     assert!(rt; refuses(alloc, &AGE, request, "refused 405\n"));
+    // Of TTP2: a request, an epoch of 0, and the length of an answer of TTP1.
+    let request = b"545450320100010000000000000000010000000000000001";
+    assert!(rt; refuses(alloc, &AGE, request, "refused 405\n"));
+    let no_epoch =
+        b"545450320200010000000000000000010000000000000000000000003b9aca00000000003b9acde8";
+    assert!(rt; refuses(alloc, &AGE, no_epoch, "refused 208\n"));
+    let short = b"54545032020001000000000000000001000000003b9aca00000000003b9acde8";
+    assert!(rt; refuses(alloc, &AGE, short, "refused 201\n"));
 }
 
 #[test]
