@@ -1,7 +1,9 @@
 -- Runs of stamps, and the entries in them under some numbers.
-use Rattle.std.proofs.Common.{◌≡◌, ℕ, zero, suc, ◌+◌, ◌<◌, ◌≤◌, ◌==◌, cond, Bool, true, false, List, [], ◌∷◌, ◌++◌, length, ◌⊎◌, inl, inr, ⊎_elim, refl, sym, ap, ◌∙◌, arith, append-nil}
+use Rattle.std.proofs.Common.{◌≡◌, ℕ, zero, suc, ◌+◌, ◌<◌, ◌≤◌, ◌==◌, cond, Bool, true, false, List, [], ◌∷◌, ◌++◌, length, All, ◌⊎◌, inl, inr, ⊎_elim, refl, sym, ap, ◌∙◌, arith, append-nil}
 use Rattle.std.proofs.lemmas.Bool.{true≢false, false≢true, cases_Bool, or_cases, eq-eqb, eqb-true}
 use Rattle.std.specs.List.{range_with_len}
+use Rattle.std.proofs.lemmas.List.Elements.{All-nil, All-cons}
+use Rattle.tt_span.specs.Interval.{Holds}
 use Rattle.tt_stamp.specs.Stamp.{least_above}
 use Rattle.tt_stamp.specs.Stamping.{stamps_of, is_in, entries_of, IsLegalRun, last_of}
 use Rattle.tt_stamp.specs.Sequencing.{nothing, view_of, Follows, AreAmong, Fits}
@@ -125,3 +127,9 @@ pub entries_of-all : (seats : ℕ) (numbers : List ℕ) (run : List Stamping) �
 entries_of-all seats numbers [] all legal = refl
 entries_of-all seats numbers (e ∷ run) all legal =
     entries_of-take numbers e run (all e.number legal.0.of_a_seat) ∙ ap (λ (r : List Stamping). e ∷ r) (entries_of-all seats numbers run all legal.1)
+
+-- ---- each stamp lies in its lease
+pub All-in_lease : (seats : ℕ) (run : List Stamping) → IsLegalRun seats run → All (λ (entry : Stamping). Holds entry.lease entry.stamp) run
+All-in_lease seats [] legal = All-nil (λ (entry : Stamping). Holds entry.lease entry.stamp)
+All-in_lease seats (e ∷ run) legal =
+    All-cons (λ (entry : Stamping). Holds entry.lease entry.stamp) e run (legal.0.least.may_give.from_lease, legal.0.in_lease) (All-in_lease seats run legal.1)

@@ -4,6 +4,7 @@ use Rattle.std.specs.Option.{SomeIff}
 use Rattle.std.specs.List.{range_with_len}
 use Rattle.std.proofs.lemmas.Bool.{eqb-true, or_cases, false≢true}
 use Rattle.atomic_table.specs.Seated.{TableId}
+use Rattle.tt_span.specs.Interval.{Interval}
 use Rattle.tt_stamp.specs.Stamping.{is_in, entries_of, IsLegalRun, Continues, SeatState, IsSameSeat, Looks, Gives, Unites}
 use Rattle.tt_stamp.specs.Sequencing.{view_of, Follows, HasLooked, HasGiven, met, state_of}
 use Rattle.tt_stamp.specs.declared.stampings.Stamping.{Stamping}
@@ -13,9 +14,9 @@ use Rattle.tt_stamp.proofs.Stamps.{after}
 use Rattle.tt_stamp.proofs.Runs.{entries_of-take, entries_of-within, AreAmong-append_left, AreAmong-append_right, is_in-range}
 
 -- ---- a stamp was given
-given_at : (t : TableId) (seats : ℕ) (numbers : List ℕ) (seen before : List Stamping) (number latest floor stamp : ℕ) → is_in numbers number ≡ true → Follows (record { numbers = numbers; seen = seen }) before → IsLegalRun seats (record { number = number; latest = latest; floor = floor; stamp = stamp } ∷ before) → Gives (state_of t (view_of seats numbers seen)) (state_of t (view_of seats numbers (record { number = number; latest = latest; floor = floor; stamp = stamp } ∷ before))) latest floor stamp
-given_at t seats numbers seen before number latest floor stamp mine follows legal =
-    let entry : Stamping = record { number = number; latest = latest; floor = floor; stamp = stamp } in
+given_at : (t : TableId) (seats : ℕ) (numbers : List ℕ) (seen before : List Stamping) (number latest floor : ℕ) (lease : Interval) (stamp : ℕ) → is_in numbers number ≡ true → Follows (record { numbers = numbers; seen = seen }) before → IsLegalRun seats (record { number = number; latest = latest; floor = floor; lease = lease; stamp = stamp } ∷ before) → Gives (state_of t (view_of seats numbers seen)) (state_of t (view_of seats numbers (record { number = number; latest = latest; floor = floor; lease = lease; stamp = stamp } ∷ before))) latest floor lease stamp
+given_at t seats numbers seen before number latest floor lease stamp mine follows legal =
+    let entry : Stamping = record { number = number; latest = latest; floor = floor; lease = lease; stamp = stamp } in
     record {
       same = record { table = refl; seats = refl; numbers = refl; legal = legal; mine = refl };
       number = number;
@@ -25,13 +26,13 @@ given_at t seats numbers seen before number latest floor stamp mine follows lega
       own = entries_of-take numbers entry before mine ∙ ap (λ (r : List Stamping). entry ∷ r) follows.own;
     }
 
-pub Gives-from_step : (t u : TableId) (v w : View) (latest floor stamp : ℕ) → u ≡ t → v ≡ view_of v.seats v.numbers v.first.seen → 0 < v.seats → HasGiven v latest floor stamp w → Gives (state_of t v) (state_of u w) latest floor stamp
-Gives-from_step t u v w latest floor stamp table one opened given =
-    let entry : Stamping = record { number = given.number; latest = latest; floor = floor; stamp = stamp } in
+pub Gives-from_step : (t u : TableId) (v w : View) (latest floor : ℕ) (lease : Interval) (stamp : ℕ) → u ≡ t → v ≡ view_of v.seats v.numbers v.first.seen → 0 < v.seats → HasGiven v latest floor lease stamp w → Gives (state_of t v) (state_of u w) latest floor lease stamp
+Gives-from_step t u v w latest floor lease stamp table one opened given =
+    let entry : Stamping = record { number = given.number; latest = latest; floor = floor; lease = lease; stamp = stamp } in
     let follows = subst (λ (k : Known). Follows k given.before) (ap (λ (x : View). x.first) one) given.first in
     let legal = subst (λ (x : View). IsLegalRun v.seats x.first.seen) given.is (given.legal opened) in
-    subst (λ (x : TableId). Gives (state_of t v) (state_of x w) latest floor stamp) (sym table)
-    (subst (λ (x : View). Gives (state_of t v) (state_of t x) latest floor stamp) (sym given.is) (given_at t v.seats v.numbers v.first.seen given.before given.number latest floor stamp given.of_seat follows legal))
+    subst (λ (x : TableId). Gives (state_of t v) (state_of x w) latest floor lease stamp) (sym table)
+    (subst (λ (x : View). Gives (state_of t v) (state_of t x) latest floor lease stamp) (sym given.is) (given_at t v.seats v.numbers v.first.seen given.before given.number latest floor lease stamp given.of_seat follows legal))
 
 -- ---- one look after another
 pub Continues-trans : (a b c : List Stamping) → Continues a b → Continues b c → Continues a c
@@ -54,9 +55,9 @@ Looks-trans a b c f g = record {
   own = g.own ∙ f.own;
 }
 
-pub Gives-after_look : (a b c : SeatState) (latest floor stamp : ℕ) → Looks a b → Gives b c latest floor stamp → Gives a c latest floor stamp
-Gives-after_look a b c latest floor stamp f g =
-    let entry : Stamping = record { number = g.number; latest = latest; floor = floor; stamp = stamp } in
+pub Gives-after_look : (a b c : SeatState) (latest floor : ℕ) (lease : Interval) (stamp : ℕ) → Looks a b → Gives b c latest floor lease stamp → Gives a c latest floor lease stamp
+Gives-after_look a b c latest floor lease stamp f g =
+    let entry : Stamping = record { number = g.number; latest = latest; floor = floor; lease = lease; stamp = stamp } in
     record {
       same = same_trans a b c f.same g.same;
       number = g.number;

@@ -60,13 +60,13 @@ look_allowed seats slots id me st s kept homes at fits =
 
 -- ---- an exchange
 abbrev entry_for : ℕ → Ask → ℕ → Stamping
-entry_for number ask stamp = record { number = number; latest = ask.latest; floor = ask.floor; stamp = stamp }
+entry_for number ask stamp = record { number = number; latest = ask.latest; floor = ask.floor; lease = ask.lease; stamp = stamp }
 
-module _ (seats : ℕ) (words : List ℕ) (views : List View) (id : ℕ) (v : View) (kept : IsKept seats words views) (at : get_elem? views id ≡ some v) (ask : Ask) (number stamp : ℕ) (mine : is_in v.numbers number ≡ true) (near : ¬ IsTooFar ask.latest ask.floor) (least : stamp ≡ max (max ask.latest ask.floor) (slice_index words 0)) (in_time : stamp ≤ max_time) where
+module _ (seats : ℕ) (words : List ℕ) (views : List View) (id : ℕ) (v : View) (kept : IsKept seats words views) (at : get_elem? views id ≡ some v) (ask : Ask) (number stamp : ℕ) (mine : is_in v.numbers number ≡ true) (near : ¬ IsTooFar ask.latest ask.floor) (least : stamp ≡ max (max (max ask.latest ask.floor) ask.lease.lo) (slice_index words 0)) (in_time : stamp ≤ max_time) (in_lease : stamp ≤ ask.lease.hi) where
   word_is : slice_index words 0 ≡ least_above (stamps_of kept.log)
   word_is = ap (λ (ws : List ℕ). slice_index ws 0) kept.word
 
-  least_is : least_from (stamps_of kept.log) ask.latest ask.floor ≡ stamp
+  least_is : least_from (stamps_of kept.log) ask.latest ask.floor ask.lease ≡ stamp
   least_is = omega (arith, least, word_is)
 
   longer : IsLegalRun seats (entry_for number ask stamp ∷ kept.log)
@@ -74,7 +74,8 @@ module _ (seats : ℕ) (words : List ℕ) (views : List View) (id : ℕ) (v : Vi
       let may : MayAdd seats kept.log (entry_for number ask stamp) = record {
         of_a_seat = (kept.fit id v at).below number mine;
         near = near;
-        least = subst (IsLeastStamp (stamps_of kept.log) ask.latest ask.floor) least_is (IsLeastStamp-least_from (stamps_of kept.log) ask.latest ask.floor (omega (arith, least_is, in_time)));
+        least = subst (IsLeastStamp (stamps_of kept.log) ask.latest ask.floor ask.lease) least_is (IsLeastStamp-least_from (stamps_of kept.log) ask.latest ask.floor ask.lease (omega (arith, least_is, in_time)));
+        in_lease = in_lease;
       } in
       (may, kept.legal)
 
@@ -93,7 +94,7 @@ module _ (seats : ℕ) (words : List ℕ) (views : List View) (id : ℕ) (v : Vi
         apart = AreApart-set views id v _ at (λ n h. h) kept.apart;
       }
 
-  pub given_told : HasGiven v ask.latest ask.floor stamp (view_of v.seats v.numbers (entry_for number ask stamp ∷ kept.log))
+  pub given_told : HasGiven v ask.latest ask.floor ask.lease stamp (view_of v.seats v.numbers (entry_for number ask stamp ∷ kept.log))
   given_told = record {
     number = number;
     of_seat = mine;
@@ -106,20 +107,20 @@ module _ (seats : ℕ) (words : List ℕ) (views : List View) (id : ℕ) (v : Vi
 pub one_less : (n : ℕ) → (n + 1) - 1 ≡ n
 one_less n = omega arith
 
-pub try_allowed : (seats slots id : ℕ) (me : Me Ask View) (ask : Ask) (word stamp : ℕ) → 0 < length me.0.numbers → ¬ IsTooFar ask.latest ask.floor → stamp ≡ max (max ask.latest ask.floor) word → stamp ≤ max_time → Allows {S = Ask} {V = View} (λ s. IsKept seats s.words s.views) slots id me 0 (λ n. either (eqb n word) (stamp + 1) n) (TellsTry (step slots 0 word (stamp + 1) (some ask)) me)
-try_allowed seats slots id me ask word stamp numbered near least in_time s kept homes at fits =
+pub try_allowed : (seats slots id : ℕ) (me : Me Ask View) (ask : Ask) (word stamp : ℕ) → 0 < length me.0.numbers → ¬ IsTooFar ask.latest ask.floor → stamp ≡ max (max (max ask.latest ask.floor) ask.lease.lo) word → stamp ≤ max_time → stamp ≤ ask.lease.hi → Allows {S = Ask} {V = View} (λ s. IsKept seats s.words s.views) slots id me 0 (λ n. either (eqb n word) (stamp + 1) n) (TellsTry (step slots 0 word (stamp + 1) (some ask)) me)
+try_allowed seats slots id me ask word stamp numbered near least in_time in_lease s kept homes at fits =
     let v : View = me.0 in
     let found : ℕ = slice_index s.words 0 in
     let mine = is_in-first v.numbers numbered in
     exchanged found word (stamp + 1) (λ (m : ℕ). (w : View) × (a : Act Ask) × Valid s.homes me.1 a × IsKept seats (slice_set s.words 0 m) (slice_set s.views id w) × TellsTry (step slots 0 word (stamp + 1) (some ask)) me found (w, carried_after me.1 a))
     (λ hit.
-    let least' : stamp ≡ max (max ask.latest ask.floor) found = least ∙ ap (λ (n : ℕ). max (max ask.latest ask.floor) n) (sym hit) in
+    let least' : stamp ≡ max (max (max ask.latest ask.floor) ask.lease.lo) found = least ∙ ap (λ (n : ℕ). max (max (max ask.latest ask.floor) ask.lease.lo) n) (sym hit) in
     let w : View = view_of v.seats v.numbers (entry_for (mine.0) ask stamp ∷ kept.log) in (
       w,
       keeps,
       tt,
-      given_kept seats s.words s.views id v kept at ask (mine.0) stamp (mine.1) near least' in_time,
-      inl (hit, subst (λ (t : ℕ). HasGiven v ask.latest ask.floor t w) (sym (one_less stamp)) (given_told seats s.words s.views id v kept at ask (mine.0) stamp (mine.1) near least' in_time), refl),
+      given_kept seats s.words s.views id v kept at ask (mine.0) stamp (mine.1) near least' in_time in_lease,
+      inl (hit, subst (λ (t : ℕ). HasGiven v ask.latest ask.floor ask.lease t w) (sym (one_less stamp)) (given_told seats s.words s.views id v kept at ask (mine.0) stamp (mine.1) near least' in_time in_lease), refl),
     ))
     (λ miss. (view_of v.seats v.numbers kept.log, keeps, tt, look_kept seats s.words s.views id v kept at, inr (miss, look_told seats s.words s.views id v kept at, refl)))
 

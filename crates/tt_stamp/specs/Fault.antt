@@ -12,6 +12,7 @@ use Rattle.tt_stamp.specs.declared.faults.BookFault.TheVariants as book
 abbrev pub number_of : StampFault → ℕ
 number_of stamp.UsedUp = 901
 number_of stamp.FloorTooFar = 902
+number_of stamp.LeaseOver = 903
 number_of stamp.Seats = 904
 number_of stamp.Memory = 1
 

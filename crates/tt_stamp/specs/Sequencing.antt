@@ -4,6 +4,7 @@ use mathlib.Core.Option.{Option, some, none}
 use lib.ListN.{get_elem?}
 use Rattle.atomic_table.specs.Table.{Step, Me}
 use Rattle.atomic_table.specs.Seated.{TableId}
+use Rattle.tt_span.specs.Interval.{Interval}
 use Rattle.tt_stamp.specs.Stamp.{least_above}
 use Rattle.tt_stamp.specs.Stamping.{stamps_of, is_in, entries_of, IsLegalRun, Continues, SeatState}
 use Rattle.tt_stamp.specs.declared.stampings.Stamping.{Stamping}
@@ -62,11 +63,11 @@ pub record HasLooked (v : View) (found : ℕ) (w : View) : Type 0 where
   pub legal : 0 < v.seats → IsLegalRun v.seats w.first.seen
 
 -- an exchange that found what it expected: the seat has seen the whole log, and after it its own entry
-pub record HasGiven (v : View) (latest floor stamp : ℕ) (w : View) : Type 0 where
+pub record HasGiven (v : View) (latest floor : ℕ) (lease : Interval) (stamp : ℕ) (w : View) : Type 0 where
   pub number : ℕ
   pub of_seat : is_in v.numbers number ≡ true
   pub before : List Stamping
-  pub is : w ≡ view_of v.seats v.numbers (record { number = number; latest = latest; floor = floor; stamp = stamp } ∷ before)
+  pub is : w ≡ view_of v.seats v.numbers (record { number = number; latest = latest; floor = floor; lease = lease; stamp = stamp } ∷ before)
   pub first : Follows v.first before
   pub legal : 0 < v.seats → IsLegalRun v.seats w.first.seen
 
@@ -76,7 +77,7 @@ TellsLook step before found after = HasLooked before.0 found after.0 × (after.1
 
 -- a stamp for what was asked
 abbrev pub GivesFor : Option Ask → View → ℕ → View → Type 0
-GivesFor (some ask) v stamp w = HasGiven v ask.latest ask.floor stamp w
+GivesFor (some ask) v stamp w = HasGiven v ask.latest ask.floor ask.lease stamp w
 GivesFor none v stamp w = Unit {0}
 
 -- what an exchange tells: it found the word that it expected, and gave the stamp below the new word, or it has only looked

@@ -1,6 +1,7 @@
 -- The stamps that the seats of one sequencer gave, newest first.
-use Rattle.std.specs.Prelude.{ℕ, ◌≡◌, ◌<◌, ◌==◌, ◌||◌, Bool, true, false, List, [], ◌∷◌, ◌++◌, map, filter, Option, Some, None}
+use Rattle.std.specs.Prelude.{ℕ, ◌≡◌, ◌<◌, ◌≤◌, ◌==◌, ◌||◌, Bool, true, false, List, [], ◌∷◌, ◌++◌, map, filter, Option, Some, None}
 use Rattle.atomic_table.specs.Seated.{TableId}
+use Rattle.tt_span.specs.Interval.{Interval}
 use Rattle.tt_stamp.specs.Stamp.{IsLeastStamp, IsTooFar}
 use Rattle.tt_stamp.specs.declared.stampings.Stamping.{Stamping}
 
@@ -21,11 +22,12 @@ is_in (m ∷ numbers) n = (m == n) || is_in numbers n
 abbrev pub entries_of : List ℕ → List Stamping → List Stamping
 entries_of numbers run = filter (λ entry. is_in numbers entry.number) run
 
--- after these, the entry's stamp is what the rule gives, and its number is that of a seat
+-- after these, the entry's stamp is what the rule gives and lies in its lease, and its number is that of a seat
 pub record MayAdd (seats : ℕ) (past : List Stamping) (entry : Stamping) : Type 0 where
   pub of_a_seat : entry.number < seats
   pub near : ¬ IsTooFar entry.latest entry.floor
-  pub least : IsLeastStamp (stamps_of past) entry.latest entry.floor entry.stamp
+  pub least : IsLeastStamp (stamps_of past) entry.latest entry.floor entry.lease entry.stamp
+  pub in_lease : entry.stamp ≤ entry.lease.hi
 
 -- each entry may follow those before it
 abbrev pub IsLegalRun : ℕ → List Stamping → Type 0
@@ -68,13 +70,13 @@ pub record Looks (old new : SeatState) : Type 0 where
   pub own : new.own ≡ old.own
 
 -- the seat gave a stamp: what it has seen goes on, and ends with this entry, the one by which its own grow
-pub record Gives (old new : SeatState) (latest floor stamp : ℕ) : Type 0 where
+pub record Gives (old new : SeatState) (latest floor : ℕ) (lease : Interval) (stamp : ℕ) : Type 0 where
   pub same : IsSameSeat old new
   pub number : ℕ
   pub of_seat : is_in old.numbers number ≡ true
   pub between : List Stamping
-  pub after : new.seen ≡ record { number = number; latest = latest; floor = floor; stamp = stamp } ∷ (between ++ old.seen)
-  pub own : new.own ≡ record { number = number; latest = latest; floor = floor; stamp = stamp } ∷ old.own
+  pub after : new.seen ≡ record { number = number; latest = latest; floor = floor; lease = lease; stamp = stamp } ∷ (between ++ old.seen)
+  pub own : new.own ≡ record { number = number; latest = latest; floor = floor; lease = lease; stamp = stamp } ∷ old.own
 
 -- two seats were joined: the one has seen what both had, and has the numbers and the own entries of both, and no others
 pub record Unites (first second both : SeatState) : Type 0 where

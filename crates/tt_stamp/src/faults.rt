@@ -13,6 +13,8 @@ pub enum StampFault {
     UsedUp,
     #[error("the floor is too far ahead of the latest")]
     FloorTooFar,
+    #[error("the lease is over")]
+    LeaseOver,
     #[error("there are no seats, or too many")]
     Seats,
     #[error("out of memory")]
@@ -20,13 +22,14 @@ pub enum StampFault {
 }
 
 impl StampFault {
-    /// The fault's number: 901 `UsedUp`, 902 `FloorTooFar`, 904 `Seats`, 1 `Memory`.
+    /// The fault's number: 901 `UsedUp`, 902 `FloorTooFar`, 903 `LeaseOver`, 904 `Seats`, 1 `Memory`.
     pub fn number(&self) -> u16
         ensures { result ≡ number_of self.now }
     {
         match self {
             StampFault::UsedUp => 901,
             StampFault::FloorTooFar => 902,
+            StampFault::LeaseOver => 903,
             StampFault::Seats => 904,
             StampFault::Memory => 1,
         }
@@ -45,7 +48,7 @@ pub enum BeginFault {
 }
 
 impl BeginFault {
-    /// The fault's number, that of the fault within: 801, 802, 803, 901, 902.
+    /// The fault's number, that of the fault within: 801, 802, 803, 901, 902, 903.
     pub fn number(&self) -> u16
         ensures { result ≡ begin_number_of self.now }
     {

@@ -1,8 +1,8 @@
 //! Timestamps of commits, and the commits that wait until theirs has surely passed: the start rule and commit wait of
 //! Spanner (Corbett et al., OSDI 2012, sections 4.1.2 and 4.2.1).
 //!
-//! A stamp is the least that is no less than the latest of a reading and the caller's floor, and above every stamp
-//! given before. A [`Row`] gives the stamps of one thread. A [`Sequencer`] gives those of up to [`MAX_SEATS`] threads,
+//! A stamp is the least that is no less than the latest of a reading, the caller's floor and the start of the leader's
+//! lease, and above every stamp given before; it is given only where it lies in the lease. A [`Row`] gives the stamps of one thread. A [`Sequencer`] gives those of up to [`MAX_SEATS`] threads,
 //! each of which draws with a [`Seat`] of its own: all stamps stand in one legal order, of which each seat has seen a
 //! beginning.
 //!

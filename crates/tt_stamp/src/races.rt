@@ -30,7 +30,7 @@ fn draw<R: Wait>(
 {
     let mut stamps = Vec::new(alloc);
     for _ in 0..count {
-        let stamp = sequencer.stamp(rt, &mut seat, now, 0)?;
+        let stamp = sequencer.stamp(rt, &mut seat, now, 0, &Span::whole())?;
         let Ok(()) = stamps.push(stamp) else {
             return Err(StampFault::Memory);
         };
@@ -84,9 +84,16 @@ fn seats_share_one_row_of_stamps(rt: HostRuntime) -> Result<(), Fail> {
     let (sequencer, mut seats) = Sequencer::open(rt.alloc(), 2)?;
     let mut second = seats.pop().ok_or("a seat")?;
     let mut first = seats.pop().ok_or("a seat")?;
+    let whole = Span::whole();
     assert_eq!(rt; sequencer.last(&mut first), None);
-    assert_eq!(rt; sequencer.stamp(&rt, &mut first, &reading(100)?, 0)?, 100);
-    assert_eq!(rt; sequencer.stamp(&rt, &mut second, &reading(100)?, 0)?, 101);
+    assert_eq!(rt;
+        sequencer.stamp(&rt, &mut first, &reading(100)?, 0, &whole)?,
+        100
+    );
+    assert_eq!(rt;
+        sequencer.stamp(&rt, &mut second, &reading(100)?, 0, &whole)?,
+        101
+    );
     assert_eq!(rt; sequencer.last(&mut first), Some(101));
     Ok(())
 }
@@ -119,11 +126,11 @@ fn all_threads_draw_each_stamp_once(rt: HostRuntime) -> Result<(), Fail> {
 fn a_seat_gives_the_least_above_all(rt: HostRuntime) -> Result<(), Fail> {
     let (sequencer, mut seats) = Sequencer::open(rt.alloc(), 1)?;
     let mut seat = seats.pop().ok_or("a seat")?;
-    let (zero, now) = (reading(0)?, reading(100)?);
-    assert_eq!(rt; sequencer.stamp(&rt, &mut seat, &zero, 0), Ok(0));
-    assert_eq!(rt; sequencer.stamp(&rt, &mut seat, &zero, 0), Ok(1));
-    assert_eq!(rt; sequencer.stamp(&rt, &mut seat, &now, 500), Ok(500));
-    assert_eq!(rt; sequencer.stamp(&rt, &mut seat, &now, 0), Ok(501));
+    let (zero, now, whole) = (reading(0)?, reading(100)?, Span::whole());
+    assert_eq!(rt; sequencer.stamp(&rt, &mut seat, &zero, 0, &whole), Ok(0));
+    assert_eq!(rt; sequencer.stamp(&rt, &mut seat, &zero, 0, &whole), Ok(1));
+    assert_eq!(rt; sequencer.stamp(&rt, &mut seat, &now, 500, &whole), Ok(500));
+    assert_eq!(rt; sequencer.stamp(&rt, &mut seat, &now, 0, &whole), Ok(501));
     Ok(())
 }
 
@@ -131,17 +138,36 @@ fn a_seat_gives_the_least_above_all(rt: HostRuntime) -> Result<(), Fail> {
 fn a_seat_refuses_as_a_row_does(rt: HostRuntime) -> Result<(), Fail> {
     let (sequencer, mut seats) = Sequencer::open(rt.alloc(), 1)?;
     let mut seat = seats.pop().ok_or("a seat")?;
-    let (now, end) = (reading(100)?, reading(MAX_TIME)?);
+    let (now, end, whole) = (reading(100)?, reading(MAX_TIME)?, Span::whole());
     assert_eq!(rt;
-        sequencer.stamp(&rt, &mut seat, &now, 10_000_000_101),
+        sequencer.stamp(&rt, &mut seat, &now, 10_000_000_101, &whole),
         Err(StampFault::FloorTooFar)
     );
-    assert_eq!(rt; sequencer.stamp(&rt, &mut seat, &end, 0), Ok(MAX_TIME));
     assert_eq!(rt;
-        sequencer.stamp(&rt, &mut seat, &end, MAX_TIME + 1),
+        sequencer.stamp(&rt, &mut seat, &end, 0, &whole),
+        Ok(MAX_TIME)
+    );
+    assert_eq!(rt;
+        sequencer.stamp(&rt, &mut seat, &end, MAX_TIME + 1, &whole),
         Err(StampFault::UsedUp)
     );
     assert_eq!(rt; sequencer.last(&mut seat), Some(MAX_TIME));
+    Ok(())
+}
+
+#[test]
+fn a_seat_gives_stamps_within_the_lease(rt: HostRuntime) -> Result<(), Fail> {
+    let (sequencer, mut seats) = Sequencer::open(rt.alloc(), 2)?;
+    let mut second = seats.pop().ok_or("a seat")?;
+    let mut first = seats.pop().ok_or("a seat")?;
+    let (now, lease) = (reading(100)?, Span::new(150, 151)?);
+    assert_eq!(rt; sequencer.stamp(&rt, &mut first, &now, 0, &lease), Ok(150));
+    assert_eq!(rt; sequencer.stamp(&rt, &mut second, &now, 0, &lease), Ok(151));
+    assert_eq!(rt;
+        sequencer.stamp(&rt, &mut first, &now, 0, &lease),
+        Err(StampFault::LeaseOver)
+    );
+    assert_eq!(rt; sequencer.last(&mut first), Some(151));
     Ok(())
 }
 

@@ -2,12 +2,13 @@
 
 ghost use Rattle.std.specs.Prelude.{◌≡◌, ℕ, ◌+◌, ◌<◌, ◌≤◌, ◌↔◌, List, ◌∷◌, Some, None, Ok, Err, IfOk, OnErr, IsErrOf};
 ghost use Rattle.tt_span.specs.Time.{max_time};
-ghost use Rattle.tt_stamp.specs.Stamp.{IsLeastStamp, HasNoStamp, IsTooFar, IsAnswer, least_above, stamp_of, greatest_of};
+ghost use Rattle.tt_span.specs.Interval.{Interval, Holds, whole};
+ghost use Rattle.tt_stamp.specs.Stamp.{IsLeastStamp, HasNoStamp, IsPastLease, IsTooFar, IsAnswer, least_above, stamp_of, greatest_of};
 
 use crate::faults::StampFault;
 use std::marker::Model;
 use tt_publish::Reading;
-use tt_span::MAX_TIME;
+use tt_span::{MAX_TIME, Span};
 
 /// How far a floor may lie ahead of the reading's latest, in nanoseconds: ten seconds.
 pub const MAX_AHEAD: u64 = 10_000_000_000;
@@ -38,20 +39,27 @@ impl Row {
         Row { last: None }
     }
 
-    /// Gives the commit of this reading its stamp: the least up to [`MAX_TIME`] that is no less than the
-    /// reading's latest and the floor, and above every stamp given before (Spanner, OSDI 2012, section 4.1.2).
+    /// Gives the commit of this reading its stamp: the least up to [`MAX_TIME`] that is no less than the reading's
+    /// latest, the floor and the lower end of the lease, and above every stamp given before. It lies in the lease: a
+    /// leader gives stamps within its lease alone (Spanner, OSDI 2012, section 4.1.2).
     ///
     /// Refuses, in this order: 902 `FloorTooFar` where the floor is more than [`MAX_AHEAD`] above the reading's
-    /// latest, 901 `UsedUp` where there is no such stamp. After a refusal the row is as it was.
-    pub fn stamp(&mut self, reading: &Reading, floor: u64) -> Result<u64, StampFault>
+    /// latest, 901 `UsedUp` where there is no such stamp, 903 `LeaseOver` where it is above the upper end of the
+    /// lease. After a refusal the row is as it was.
+    pub fn stamp(&mut self, reading: &Reading, floor: u64, lease: &Span) -> Result<u64, StampFault>
         // Whatever stamps were given before, as long as the row's value is the greatest of them.
         ensures value { (given : List ℕ) → greatest_of given ≡ self.old →
-            result ≡ stamp_of given reading.now.hi floor }
+            result ≡ stamp_of given reading.now.hi floor lease.now }
         ensures least { (given : List ℕ) → greatest_of given ≡ self.old →
-            IfOk result (λ s. IsLeastStamp given reading.now.hi floor s) }
+            IfOk result (λ s. IsLeastStamp given reading.now.hi floor lease.now s) }
+        ensures in_lease { IfOk result (λ s. Holds lease.now s) }
         ensures too_far { IsErrOf result StampFault.FloorTooFar ↔ IsTooFar reading.now.hi floor }
         ensures used_up { (given : List ℕ) → greatest_of given ≡ self.old →
-            IsErrOf result StampFault.UsedUp ↔ ((¬ IsTooFar reading.now.hi floor) × HasNoStamp given reading.now.hi floor) }
+            IsErrOf result StampFault.UsedUp
+            ↔ ((¬ IsTooFar reading.now.hi floor) × HasNoStamp given reading.now.hi floor lease.now) }
+        ensures lease_over { (given : List ℕ) → greatest_of given ≡ self.old →
+            IsErrOf result StampFault.LeaseOver
+            ↔ ((¬ IsTooFar reading.now.hi floor) × IsPastLease given reading.now.hi floor lease.now) }
 
         ensures last { IfOk result (λ s. self.new ≡ Some s) }
         ensures greatest { (given : List ℕ) → greatest_of given ≡ self.old →
@@ -62,9 +70,12 @@ impl Row {
         if floor > latest + MAX_AHEAD {
             return Err(StampFault::FloorTooFar);
         }
-        let stamp = latest.max(floor).max(self.least_free());
+        let stamp = latest.max(floor).max(lease.lo()).max(self.least_free());
         if stamp > MAX_TIME {
             return Err(StampFault::UsedUp);
+        }
+        if stamp > lease.hi() {
+            return Err(StampFault::LeaseOver);
         }
         self.last = Some(stamp);
         Ok(stamp)
@@ -82,7 +93,13 @@ impl Row {
     }
 }
 
-/// The answer of `stamp_of` is the least stamp that may be given, or says truly why there is none.
+/// The answer of `stamp_of` is the least stamp that may be given, or says truly why there is none. A stamp lies in its
+/// lease, which the whole of time never refuses.
 pub fn stamp_laws()
-    ensures { (given : List ℕ) (latest floor : ℕ) → IsAnswer given latest floor (stamp_of given latest floor) }
+    ensures answer { (given : List ℕ) (latest floor : ℕ) (lease : Interval) →
+        IsAnswer given latest floor lease (stamp_of given latest floor lease) }
+    ensures in_lease { (given : List ℕ) (latest floor : ℕ) (lease : Interval) →
+        IfOk (stamp_of given latest floor lease) (λ s. Holds lease s) }
+    ensures whole_lease { (given : List ℕ) (latest floor : ℕ) →
+        ¬ IsErrOf (stamp_of given latest floor whole) StampFault.LeaseOver }
 {}

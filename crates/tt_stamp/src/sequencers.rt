@@ -3,7 +3,8 @@
 ghost use Rattle.std.specs.Prelude.{◌≡◌, ℕ, ◌<◌, ◌≤◌, ◌↔◌, ◌⊎◌, List, [], All, true, max, map, IfOk, IfErr, OnOk, IsErrOf};
 ghost use Rattle.std.specs.List.{range_with_len};
 ghost use Rattle.tt_span.specs.Time.{max_time};
-ghost use Rattle.tt_stamp.specs.Stamp.{IsTooFar, HasNoStamp, least_above};
+ghost use Rattle.tt_span.specs.Interval.{Holds};
+ghost use Rattle.tt_stamp.specs.Stamp.{IsTooFar, HasNoStamp, IsPastLease, least_above};
 ghost use Rattle.tt_stamp.specs.Stamping.{IsLegalRun, Looks, Gives, Unites, new_seat, stamps_of, last_of, is_in, entries_of, max_seats};
 ghost use Rattle.tt_stamp.specs.Sequencing.{met};
 ghost use Rattle.tt_stamp.specs.declared.stampings.Stamping.{Stamping};
@@ -18,7 +19,7 @@ use std::alloc::Global;
 use std::marker::Model;
 use std::sync::Wait;
 use tt_publish::Reading;
-use tt_span::MAX_TIME;
+use tt_span::{MAX_TIME, Span};
 
 /// The most seats of a sequencer.
 pub const MAX_SEATS: usize = 32;
@@ -102,25 +103,29 @@ impl Sequencer {
     }
 
     /// Gives the commit of this reading its stamp, as [`Row::stamp`](crate::Row::stamp) does, after all stamps that
-    /// any seat of the sequencer gave before. It is one load and one exchange, and a further exchange whenever
-    /// another seat was faster.
+    /// any seat of the sequencer gave before, and within the lease. It is one load and one exchange, and a further
+    /// exchange whenever another seat was faster.
     ///
-    /// Refuses, in this order: 902 `FloorTooFar`, which leaves the seat as it was, and 901 `UsedUp`, after which the
-    /// seat may have seen more. It may wait: nothing says that an exchange succeeds.
+    /// Refuses, in this order: 902 `FloorTooFar`, which leaves the seat as it was, 901 `UsedUp` and 903 `LeaseOver`,
+    /// after which the seat may have seen more. It may wait: nothing says that an exchange succeeds.
     pub fn stamp<R: Wait>(
         &self,
         rt: &R,
         seat: &mut Seat,
         reading: &Reading,
         floor: u64,
+        lease: &Span,
     ) -> Result<u64, StampFault>
         requires { seat.old.table ≡ self.now }
-        ensures given { IfOk result (λ s. Gives seat.old seat.new reading.now.hi floor s) }
+        ensures given { IfOk result (λ s. Gives seat.old seat.new reading.now.hi floor lease.now s) }
+        ensures in_lease { IfOk result (λ s. Holds lease.now s) }
         ensures too_far { IsErrOf result StampFault.FloorTooFar ↔ IsTooFar reading.now.hi floor }
         ensures too_far_keeps { IsTooFar reading.now.hi floor → seat.new ≡ seat.old }
         ensures used_up { IsErrOf result StampFault.UsedUp →
-            Looks seat.old seat.new × HasNoStamp (stamps_of seat.new.seen) reading.now.hi floor }
-        ensures faults { IfErr result (λ e. (e ≡ StampFault.FloorTooFar) ⊎ (e ≡ StampFault.UsedUp)) }
+            Looks seat.old seat.new × HasNoStamp (stamps_of seat.new.seen) reading.now.hi floor lease.now }
+        ensures lease_over { IsErrOf result StampFault.LeaseOver →
+            Looks seat.old seat.new × IsPastLease (stamps_of seat.new.seen) reading.now.hi floor lease.now }
+        ensures faults { IfErr result (λ e. (e ≡ StampFault.FloorTooFar) ⊎ (e ≡ StampFault.UsedUp) ⊎ (e ≡ StampFault.LeaseOver)) }
         ensures legal { IsLegalRun seat.new.seats seat.new.seen }
         ensures mine { entries_of seat.new.numbers seat.new.seen ≡ seat.new.own }
     {
@@ -129,13 +134,22 @@ impl Sequencer {
             seat.laws();
             return Err(StampFault::FloorTooFar);
         }
+        let least = latest.max(floor).max(lease.lo());
         let mut word = self.look(seat);
         for _ in rt.forever() {
-            let stamp = latest.max(floor).max(word);
+            let stamp = least.max(word);
             if stamp > MAX_TIME {
                 return Err(StampFault::UsedUp);
             }
-            match self.try_stamp(seat, Ask { latest, floor }, word, stamp) {
+            if stamp > lease.hi() {
+                return Err(StampFault::LeaseOver);
+            }
+            let ask = Ask {
+                latest,
+                floor,
+                lease: *lease,
+            };
+            match self.try_stamp(seat, ask, word, stamp) {
                 Ok(()) => return Ok(stamp),
                 Err(found) => word = found,
             }
@@ -193,9 +207,10 @@ impl Sequencer {
     fn try_stamp(&self, seat: &mut Seat, ask: Ask, word: u64, stamp: u64) -> Result<(), u64>
         requires seat { seat.old.table ≡ self.now }
         requires near { ¬ IsTooFar ask.latest ask.floor }
-        requires least { stamp ≡ max (max ask.latest ask.floor) word }
+        requires least { stamp ≡ max (max (max ask.latest ask.floor) ask.lease.lo) word }
         requires in_time { stamp ≤ max_time }
-        ensures given { OnOk result (Gives seat.old seat.new ask.latest ask.floor stamp) }
+        requires in_lease { stamp ≤ ask.lease.hi }
+        ensures given { OnOk result (Gives seat.old seat.new ask.latest ask.floor ask.lease stamp) }
         ensures missed { IfErr result (λ found. Looks seat.old seat.new × (found ≡ least_above (stamps_of seat.new.seen))) }
     {
         let shared = &self.table.shared;
@@ -204,8 +219,11 @@ impl Sequencer {
     }
 }
 
-/// Once all numbers are joined in one seat, what it has seen are its own stamps alone.
+/// Once all numbers are joined in one seat, what it has seen are its own stamps alone. Each stamp lies in the lease
+/// under which it was given.
 pub fn seat_laws()
     ensures alone { (seats : ℕ) (numbers : List ℕ) (seen : List Stamping) → ((n : ℕ) → n < seats → is_in numbers n ≡ true) →
         IsLegalRun seats seen → entries_of numbers seen ≡ seen }
+    ensures in_lease { (seats : ℕ) (seen : List Stamping) → IsLegalRun seats seen →
+        All (λ entry. Holds entry.lease entry.stamp) seen }
 {}

@@ -2,8 +2,10 @@
 //! is made.
 
 use std::collections::LinkedList;
+use tt_span::Span;
 
-/// A stamp that was given: under which of its seat's numbers, and for which latest and floor, in nanoseconds.
+/// A stamp that was given: under which of its seat's numbers, for which latest and floor, in nanoseconds, and under
+/// which lease.
 pub struct Stamping {
     /// The number, of those that the seat has.
     pub number: u64,
@@ -11,6 +13,8 @@ pub struct Stamping {
     pub latest: u64,
     /// The least that was wanted.
     pub floor: u64,
+    /// The lease.
+    pub lease: Span,
     /// The stamp.
     pub stamp: u64,
 }

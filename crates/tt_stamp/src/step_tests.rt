@@ -16,13 +16,15 @@ fn drift() -> Result<Drift, Fail> {
 
 #[test]
 fn a_commit_begins_with_a_reading_of_its_own(rt: HostRuntime) -> Result<(), Fail> {
-    let fused = fused()?;
+    let (fused, lease) = (fused()?, Span::new(0, 300)?);
     let (sequencer, mut seats) = Sequencer::open(rt.alloc(), 1)?;
     let mut seat = seats.pop().ok_or("a seat")?;
-    let mut clock = MemoryClock::new(&[50, 60], None);
+    let mut clock = MemoryClock::new(&[50, 60, 60], None);
     let (mut teller, mut watches) = open(&rt, rt.alloc(), drift()?, 1)?;
     let watch = &mut watches[0];
-    let mut begin = |floor| begin_step(&rt, &sequencer, &mut seat, watch, &mut clock, floor);
+    let mut begin = |floor| begin_step(
+        &rt, &sequencer, &mut seat, watch, &mut clock, floor, &lease,
+    );
     assert_eq!(rt; begin(0), Err(BeginFault::Read(ReadFault::Nothing)));
     assert_eq!(rt; teller.publish(&rt, fused), Ok(()));
     assert_eq!(rt; begin(0), Ok(250));
@@ -30,6 +32,7 @@ fn a_commit_begins_with_a_reading_of_its_own(rt: HostRuntime) -> Result<(), Fail
         begin(10_000_000_261),
         Err(BeginFault::Stamp(StampFault::FloorTooFar))
     );
+    assert_eq!(rt; begin(301), Err(BeginFault::Stamp(StampFault::LeaseOver)));
     assert_eq!(rt; begin(0), Err(BeginFault::Read(ReadFault::ClockFailed)));
     teller.close(&rt);
     Ok(())
@@ -64,5 +67,6 @@ fn a_release_takes_a_reading_of_its_own(rt: HostRuntime) -> Result<(), Fail> {
 fn a_refused_beginning_has_the_number_of_its_cause(rt: HostRuntime) -> Result<(), Fail> {
     assert_eq!(rt; BeginFault::Read(ReadFault::ClockBack).number(), 802);
     assert_eq!(rt; BeginFault::Stamp(StampFault::UsedUp).number(), 901);
+    assert_eq!(rt; BeginFault::Stamp(StampFault::LeaseOver).number(), 903);
     Ok(())
 }

@@ -3,9 +3,9 @@
 ghost use Rattle.std.specs.Prelude.{◌≡◌, ◌≤◌, ◌↔◌, [], Some, None, IfOk, OnErr, IsErrOf, length};
 ghost use mathlib.Core.List.{IsPrefix};
 ghost use Rattle.tt_stream.specs.Counts.{HasFailed};
-ghost use Rattle.tt_span.specs.Interval.{Interval};
+ghost use Rattle.tt_span.specs.Interval.{Interval, Holds};
 ghost use Rattle.tt_publish.specs.Known.{ReadsLast, MissesLast};
-ghost use Rattle.tt_stamp.specs.Stamp.{IsTooFar, HasNoStamp};
+ghost use Rattle.tt_stamp.specs.Stamp.{IsTooFar, HasNoStamp, IsPastLease};
 ghost use Rattle.tt_stamp.specs.Stamping.{IsLegalRun, Looks, Gives, stamps_of, entries_of};
 ghost use Rattle.tt_stamp.specs.History.{waiting_of, release_of, with_receipts};
 
@@ -14,11 +14,12 @@ use crate::faults::{BeginFault, StampFault};
 use crate::sequencers::{Seat, Sequencer};
 use std::sync::Wait;
 use tt_publish::{Clock, ReadFault, Watch};
+use tt_span::Span;
 
 /// Begins a commit: it is one [`Watch::now`] and, with the reading that this gave, one [`Sequencer::stamp`]. So the
-/// stamp is no less than the latest of a reading that was taken in this call.
+/// stamp is no less than the latest of a reading that was taken in this call. It lies in the lease.
 ///
-/// Refuses as `now` does, which leaves the seat as it was, and then as `stamp` does: 801, 803, 802, 902, 901. The watch
+/// Refuses as `now` does, which leaves the seat as it was, and then as `stamp` does: 801, 803, 802, 902, 901, 903. The watch
 /// may have seen more all the same. It may wait, as `stamp` does.
 pub fn begin_step<R: Wait, C: Clock>(
     rt: &R,
@@ -27,19 +28,24 @@ pub fn begin_step<R: Wait, C: Clock>(
     watch: &mut Watch,
     clock: &mut C,
     floor: u64,
+    lease: &Span,
 ) -> Result<u64, BeginFault>
     requires { seat.old.table ≡ sequencer.now }
 
     ensures given { IfOk result (λ s. (reading : Interval)
         × ReadsLast watch.new (λ c. C.gives clock.old (Some c) clock.new) reading
-        × Gives seat.old seat.new reading.hi floor s × (reading.hi ≤ s)) }
+        × Gives seat.old seat.new reading.hi floor lease.now s × (reading.hi ≤ s) × Holds lease.now s) }
     ensures too_far { IsErrOf result (BeginFault.Stamp StampFault.FloorTooFar) → (reading : Interval)
         × ReadsLast watch.new (λ c. C.gives clock.old (Some c) clock.new) reading
         × IsTooFar reading.hi floor × (seat.new ≡ seat.old) }
     ensures used_up { IsErrOf result (BeginFault.Stamp StampFault.UsedUp) → (reading : Interval)
         × ReadsLast watch.new (λ c. C.gives clock.old (Some c) clock.new) reading
         × (¬ IsTooFar reading.hi floor) × Looks seat.old seat.new
-        × HasNoStamp (stamps_of seat.new.seen) reading.hi floor }
+        × HasNoStamp (stamps_of seat.new.seen) reading.hi floor lease.now }
+    ensures lease_over { IsErrOf result (BeginFault.Stamp StampFault.LeaseOver) → (reading : Interval)
+        × ReadsLast watch.new (λ c. C.gives clock.old (Some c) clock.new) reading
+        × (¬ IsTooFar reading.hi floor) × Looks seat.old seat.new
+        × IsPastLease (stamps_of seat.new.seen) reading.hi floor lease.now }
     ensures no_seats { ¬ IsErrOf result (BeginFault.Stamp StampFault.Seats) }
     ensures no_memory { ¬ IsErrOf result (BeginFault.Stamp StampFault.Memory) }
     ensures legal { IsLegalRun seat.new.seats seat.new.seen }
@@ -59,7 +65,7 @@ pub fn begin_step<R: Wait, C: Clock>(
     seat.laws();
     let reading = watch.now(clock).map_err(BeginFault::Read)?;
     sequencer
-        .stamp(rt, seat, &reading, floor)
+        .stamp(rt, seat, &reading, floor, lease)
         .map_err(BeginFault::Stamp)
 }
 

@@ -12,30 +12,61 @@ fn reading(lo: u64, hi: u64) -> Result<Reading, Fail> {
 
 #[test]
 fn each_stamp_is_the_least_above_all(rt: HostRuntime) -> Result<(), Fail> {
-    let now = reading(0, 100)?;
+    let (now, whole) = (reading(0, 100)?, Span::whole());
     let mut row = Row::new();
-    assert_eq!(rt; row.stamp(&now, 0), Ok(100));
-    assert_eq!(rt; row.stamp(&now, 0), Ok(101));
-    assert_eq!(rt; row.stamp(&now, 500), Ok(500));
-    assert_eq!(rt; row.stamp(&now, 0), Ok(501));
+    assert_eq!(rt; row.stamp(&now, 0, &whole), Ok(100));
+    assert_eq!(rt; row.stamp(&now, 0, &whole), Ok(101));
+    assert_eq!(rt; row.stamp(&now, 500, &whole), Ok(500));
+    assert_eq!(rt; row.stamp(&now, 0, &whole), Ok(501));
     assert_eq!(rt;
-        row.stamp(&now, 10_000_000_101),
+        row.stamp(&now, 10_000_000_101, &whole),
         Err(StampFault::FloorTooFar)
     );
-    assert_eq!(rt; row.stamp(&now, 10_000_000_100), Ok(10_000_000_100));
+    assert_eq!(rt; row.stamp(&now, 10_000_000_100, &whole), Ok(10_000_000_100));
     Ok(())
 }
 
 #[test]
 fn the_last_stamp_is_the_greatest_time(rt: HostRuntime) -> Result<(), Fail> {
-    let end = reading(0, MAX_TIME)?;
+    let (end, whole) = (reading(0, MAX_TIME)?, Span::whole());
     let mut row = Row::new();
-    assert_eq!(rt; row.stamp(&end, 0), Ok(MAX_TIME));
-    assert_eq!(rt; row.stamp(&end, 0), Err(StampFault::UsedUp));
-    assert_eq!(rt; row.stamp(&end, MAX_TIME + 1), Err(StampFault::UsedUp));
+    assert_eq!(rt; row.stamp(&end, 0, &whole), Ok(MAX_TIME));
+    assert_eq!(rt; row.stamp(&end, 0, &whole), Err(StampFault::UsedUp));
+    assert_eq!(rt;
+        row.stamp(&end, MAX_TIME + 1, &whole),
+        Err(StampFault::UsedUp)
+    );
     let mut start = Row::new();
-    assert_eq!(rt; start.stamp(&reading(0, 0)?, 0), Ok(0));
-    assert_eq!(rt; start.stamp(&reading(0, 0)?, 0), Ok(1));
+    assert_eq!(rt; start.stamp(&reading(0, 0)?, 0, &whole), Ok(0));
+    assert_eq!(rt; start.stamp(&reading(0, 0)?, 0, &whole), Ok(1));
+    Ok(())
+}
+
+#[test]
+fn each_stamp_lies_in_its_lease(rt: HostRuntime) -> Result<(), Fail> {
+    let (now, later) = (reading(0, 100)?, reading(0, 155)?);
+    let lease = Span::new(150, 160)?;
+    let mut row = Row::new();
+    assert_eq!(rt; row.stamp(&now, 0, &lease), Ok(150));
+    assert_eq!(rt; row.stamp(&now, 0, &lease), Ok(151));
+    assert_eq!(rt; row.stamp(&now, 161, &lease), Err(StampFault::LeaseOver));
+    assert_eq!(rt; row.stamp(&later, 0, &lease), Ok(155));
+    assert_eq!(rt; row.stamp(&now, 160, &lease), Ok(160));
+    assert_eq!(rt; row.stamp(&now, 0, &lease), Err(StampFault::LeaseOver));
+    assert_eq!(rt; row.stamp(&now, 0, &Span::new(170, 180)?), Ok(170));
+    assert_eq!(rt;
+        row.stamp(&now, 10_000_000_101, &Span::new(5, 5)?),
+        Err(StampFault::FloorTooFar)
+    );
+    Ok(())
+}
+
+#[test]
+fn a_lease_may_be_the_greatest_time_alone(rt: HostRuntime) -> Result<(), Fail> {
+    let (zero, last) = (reading(0, 0)?, Span::new(MAX_TIME, MAX_TIME)?);
+    let mut row = Row::new();
+    assert_eq!(rt; row.stamp(&zero, 0, &last), Ok(MAX_TIME));
+    assert_eq!(rt; row.stamp(&zero, 0, &last), Err(StampFault::UsedUp));
     Ok(())
 }
 
@@ -117,6 +148,7 @@ fn each_refusal_has_its_number(rt: HostRuntime) -> Result<(), Fail> {
     for (fault, number) in [
         (StampFault::UsedUp, 901),
         (StampFault::FloorTooFar, 902),
+        (StampFault::LeaseOver, 903),
         (StampFault::Seats, 904),
         (StampFault::Memory, 1),
     ] {
