@@ -9,6 +9,7 @@ use Rattle.tt_stamp.specs.declared.faults.StampFault.{StampFault}
 use Rattle.tt_stamp.specs.declared.faults.BookFault.{BookFault}
 use Rattle.tt_stamp.specs.Stamp.{stamp_of}
 use Rattle.tt_stamp.specs.History.{waiting_of, release_of, with_receipts, first_queue_fault}
+use Rattle.tt_world.specs.Lease.{lease_of}
 use Rattle.tt_world.specs.Life.{Life, is_of}
 use Rattle.tt_world.specs.declared.events.Event.{Event}
 use Rattle.tt_world.specs.declared.events.Action.{Action}
@@ -47,11 +48,11 @@ reading_since config (event ∷ past) life w =
     if is_some (arrived_by past life w event.action) then None
     else option_or (read_by config past life w event.action) (reading_since config past life w)
 
--- the stamp of a commit by a reading after these stamps were given, or its refusal, if there is a commit and a reading
-abbrev pub stamping_after : List ℕ → Option Arrival → Option Interval → Option (Result ℕ StampFault)
-stamping_after given None reading = None
-stamping_after given (Some arrival) None = None
-stamping_after given (Some arrival) (Some reading) = Some (stamp_of given reading.hi arrival.floor)
+-- the stamp of a commit by a reading within this lease after these stamps were given, or its refusal, if there is a commit and a reading
+abbrev pub stamping_after : List ℕ → Interval → Option Arrival → Option Interval → Option (Result ℕ StampFault)
+stamping_after given lease None reading = None
+stamping_after given lease (Some arrival) None = None
+stamping_after given lease (Some arrival) (Some reading) = Some (stamp_of given reading.hi arrival.floor lease)
 
 -- the stamp that was given, if one was
 abbrev pub stamp_given : Option (Result ℕ StampFault) → Option ℕ
@@ -73,7 +74,7 @@ with_stamp given (Some stamp) = stamp ∷ given
 abbrev pub stamps_after : Configuration → List Event → Life → List ℕ → Option ℕ → List ℕ
 stamps_after config past life given None = given
 stamps_after config past life given (Some w) =
-    with_stamp given (stamp_given (stamping_after given (arrival_of past life w) (reading_since config past life w)))
+    with_stamp given (stamp_given (stamping_after given (lease_of past life.machine) (arrival_of past life w) (reading_since config past life w)))
 
 -- all stamps that this life has given, the newest first
 abbrev pub stamps_of : Configuration → List Event → Life → List ℕ
@@ -82,7 +83,7 @@ stamps_of config (event ∷ past) life = stamps_after config past life (stamps_o
 
 -- what the stamping of the last commit of worker w of this life gives: the stamp by the last reading since the worker was asked for it, or the refusal
 abbrev pub stamping_of : Configuration → List Event → Life → ℕ → Option (Result ℕ StampFault)
-stamping_of config past life w = stamping_after (stamps_of config past life) (arrival_of past life w) (reading_since config past life w)
+stamping_of config past life w = stamping_after (stamps_of config past life) (lease_of past life.machine) (arrival_of past life w) (reading_since config past life w)
 
 -- whether an event stamps for worker w of this life
 abbrev pub stamps_for : List Event → Life → ℕ → Action → Bool

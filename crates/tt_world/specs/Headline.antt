@@ -4,6 +4,7 @@ use Rattle.tt_span.specs.Interval.{Interval, IsInterval, Holds}
 use Rattle.tt_fuse.specs.Fusion.{IsFusion}
 use Rattle.tt_cert.specs.Valid.{IsCertificate}
 use Rattle.tt_cert.specs.Canonical.{IsCanonical}
+use Rattle.tt_world.specs.Lease.{lease_of}
 use Rattle.tt_world.specs.Life.{Life, life_at}
 use Rattle.tt_world.specs.declared.events.Event.{Event}
 use Rattle.tt_world.specs.declared.events.Action.{Action}
@@ -65,14 +66,15 @@ NoFusionRefused configs events replies =
     MeetsAssumptions configs (record { at = at; action = does.Fuse m clock } ∷ reverse before) →
     (number : ℕ) × (span : Interval) × (slice_get replies (length before) ≡ Some (Published number span))
 
--- a commit was asked for, its worker has read the time since, the floor is not too far above that reading's latest, and the stamp is the least that may be given to it by that reading, after the stamps that the machine has given
+-- a commit was asked for, its worker has read the time since, the floor is not too far above that reading's latest, and the stamp is the least that may be given to it by that reading and the lease, after the stamps that the machine has given in this life; it is within the lease
 pub record IsLeastFor (config : Configuration) (past : List Event) (life : Life) (w s : ℕ) : Type 0 where
   pub arrival : Arrival
   pub reading : Interval
   pub asked : arrival_of past life w ≡ Some arrival
   pub read_since : reading_since config past life w ≡ Some reading
   pub near : ¬ IsTooFar reading.hi arrival.floor
-  pub least : IsLeastStamp (stamps_of config past life) reading.hi arrival.floor s
+  pub least : IsLeastStamp (stamps_of config past life) reading.hi arrival.floor (lease_of past life.machine) s
+  pub in_lease : s ≤ (lease_of past life.machine).hi
 
 -- every stamp is the least that its rules allow, whatever the run
 abbrev pub StampsAreLeast : List Configuration → List Event → List Reply → Type 0

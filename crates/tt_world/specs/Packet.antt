@@ -1,8 +1,8 @@
 -- The packets on their way between machines and sources.
 use Rattle.std.specs.Prelude.{ℕ, Bool, true, false, List, [], ◌∷◌, Option, Some, None}
 use Rattle.tt_span.specs.Interval.{Interval}
-use Rattle.tt_poll.specs.declared.messages.Message.TheVariants.{Request, Answer}
-use Rattle.tt_poll.specs.Spelling.{spelling_of}
+use Rattle.tt_poll.specs.declared.messages.Message2.TheVariants.{Request, Answer}
+use Rattle.tt_poll.specs.Spelling.{spelling_of2}
 use Rattle.tt_world.specs.declared.packets.Packet.{Packet}
 use Rattle.tt_world.specs.declared.packets.Packet.TheVariants.{Asked, Answered, Forged}
 
@@ -20,8 +20,8 @@ source_of_packet (Forged machine source payload) = source
 
 -- the bytes of a packet
 abbrev pub bytes_of : Packet → List ℕ
-bytes_of (Asked request) = spelling_of (Request request)
-bytes_of (Answered answer) = spelling_of (Answer answer)
+bytes_of (Asked request) = spelling_of2 (Request request)
+bytes_of (Answered answer) = spelling_of2 (Answer answer)
 bytes_of (Forged machine source payload) = payload
 
 -- whether a packet is a request
@@ -34,6 +34,6 @@ is_asked (Forged machine source payload) = false
 abbrev pub answer_to : Option Packet → Interval → List Packet
 answer_to None span = []
 answer_to (Some (Asked request)) span =
-    Answered (record { machine = request.machine; source = request.source; nonce = request.nonce; span = span }) ∷ []
+    Answered (record { machine = request.machine; source = request.source; nonce = request.nonce; epoch = request.epoch; span = span }) ∷ []
 answer_to (Some (Answered answer)) span = []
 answer_to (Some (Forged machine source payload)) span = []

@@ -1,8 +1,8 @@
 -- What has happened, searched back. Each list has the newest event first, and only events that were not bad.
-use Rattle.std.specs.Prelude.{ℕ, ◌+◌, ◌==◌, Bool, false, if◌then◌else◌, List, [], ◌∷◌, ◌++◌, slice_get, Option, Some, None}
+use Rattle.std.specs.Prelude.{ℕ, ◌+◌, Bool, false, if◌then◌else◌, List, [], ◌∷◌, ◌++◌, slice_get, Option, Some, None}
 use Rattle.std.specs.Option.{option_map}
 use Rattle.tt_span.specs.Drift.{Moment}
-use Rattle.tt_world.specs.Life.{Life, life_at, same_life, is_of}
+use Rattle.tt_world.specs.Life.{Life, life_of, life_at, same_life, is_of}
 use Rattle.tt_world.specs.declared.events.Event.{Event}
 use Rattle.tt_world.specs.declared.events.Action.{Action}
 use Rattle.tt_world.specs.declared.events.Action.TheVariants.{Send, Answer, Forge, Deliver, Fuse, Read, Arrive, Stamp, Queue, Release}
@@ -29,17 +29,17 @@ sends_of (event ∷ past) life = if is_send_of past life event.action then sends
 abbrev pub sends_now : List Event → ℕ → ℕ
 sends_now past m = sends_of past (life_at past m)
 
--- the packets that an event puts on their way: sends says how many polls a machine has sent in its life, and packets have been put before
-abbrev pub put_by : (ℕ → ℕ) → List Packet → Action → List Packet
-put_by sends packets (Send machine source clock) = Asked (record { machine = machine; source = source; nonce = sends machine + 1 }) ∷ []
-put_by sends packets (Answer packet span) = answer_to (slice_get packets packet) span
-put_by sends packets (Forge machine source payload) = Forged machine source payload ∷ []
-put_by sends packets _ = []
+-- the packets that an event puts on their way: lives says which life a machine is in, sends how many polls it has sent in it, and packets have been put before
+abbrev pub put_by : (ℕ → ℕ) → (ℕ → ℕ) → List Packet → Action → List Packet
+put_by lives sends packets (Send machine source clock) = Asked (record { machine = machine; source = source; nonce = sends machine + 1; epoch = lives machine }) ∷ []
+put_by lives sends packets (Answer packet span) = answer_to (slice_get packets packet) span
+put_by lives sends packets (Forge machine source payload) = Forged machine source payload ∷ []
+put_by lives sends packets _ = []
 
 -- all packets that were put on their way, in the order in which they were put
 abbrev pub packets_of : List Event → List Packet
 packets_of [] = []
-packets_of (event ∷ past) = packets_of past ++ put_by (sends_now past) (packets_of past) event.action
+packets_of (event ∷ past) = packets_of past ++ put_by (life_of past) (sends_now past) (packets_of past) event.action
 
 -- a reading of the clock of a machine, in one of its lives
 pub record ClockReading : Type 0 where

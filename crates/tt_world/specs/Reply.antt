@@ -1,6 +1,6 @@
 -- The reply to each event.
 use Rattle.std.specs.Prelude.{◌≡◌, ℕ, ◌+◌, ◌≤◌, List, [], ◌∷◌, length, slice_get, Option, Some, None, Result, Ok, Err}
-use Rattle.tt_poll.specs.Reading.{read_of}
+use Rattle.tt_poll.specs.Reading.{read_of2}
 use Rattle.tt_source.specs.Fault.{number_of}
 use Rattle.tt_source.specs.Statement.{Statement}
 use Rattle.tt_source.specs.Table.{statement_of_message}
@@ -8,7 +8,7 @@ use Rattle.tt_source.specs.declared.faults.SourceFault.{SourceFault}
 use Rattle.tt_stamp.specs.declared.faults.StampFault.{StampFault}
 use Rattle.tt_stamp.specs.declared.faults.BookFault.{BookFault}
 use Rattle.tt_stamp.specs.Fault.{number_of as stamp_number_of, book_number_of}
-use Rattle.tt_world.specs.Life.{Life, life_at}
+use Rattle.tt_world.specs.Life.{Life, life_of, life_at}
 use Rattle.tt_world.specs.declared.events.Event.{Event}
 use Rattle.tt_world.specs.declared.events.Action.{Action}
 use Rattle.tt_world.specs.declared.events.Action.TheVariants as does
@@ -40,7 +40,7 @@ reply_to_packet past clock None = bad_reply bad.NoPacket
 reply_to_packet past clock (Some packet) =
     let m = machine_of_packet packet in
     let i = source_of_packet packet in
-    delivery_reply (statement_of_message m i (outstanding past (life_at past m) i) clock (read_of (bytes_of packet)))
+    delivery_reply (statement_of_message m (life_of past m) i (outstanding past (life_at past m) i) clock (read_of2 (bytes_of packet)))
 
 -- the reply to a fusion, after so many publications
 abbrev pub fusion_reply : ℕ → Result Publication ℕ → Reply

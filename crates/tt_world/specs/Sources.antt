@@ -2,7 +2,7 @@
 use Rattle.std.specs.Prelude.{ℕ, ◌+◌, ◌==◌, ◌&&◌, ◌||◌, Bool, false, if◌then◌else◌, List, [], ◌∷◌, slice_get, is_some, Option, Some, None}
 use Rattle.std.specs.Option.{option_or}
 use Rattle.std.specs.Result.{result_ok}
-use Rattle.tt_poll.specs.Reading.{read_of}
+use Rattle.tt_poll.specs.Reading.{read_of2}
 use Rattle.tt_source.specs.Statement.{Statement}
 use Rattle.tt_source.specs.Table.{Sending, statement_of_message}
 use Rattle.tt_world.specs.Life.{Life, is_of}
@@ -28,7 +28,7 @@ abbrev pub stated_in : List Event → Life → ℕ → Option Sending → ℕ �
 stated_in past life i waiting clock None = None
 stated_in past life i waiting clock (Some packet) =
     if is_of past life (machine_of_packet packet) && source_of_packet packet == i
-    then result_ok (statement_of_message life.machine i waiting clock (read_of (bytes_of packet)))
+    then result_ok (statement_of_message life.machine life.number i waiting clock (read_of2 (bytes_of packet)))
     else None
 
 -- what an event states for source i of this life, if this is the poll that waits

@@ -1,10 +1,12 @@
 -- What the model of a run keeps, and which runs it stands for.
-use Rattle.std.specs.Prelude.{◌≡◌, ◌≤◌, ℕ, ◌==◌, ◌&&◌, Bool, false, if◌then◌else◌, List, [], ◌∷◌, map, length, slice_get, is_some, Option, Some, None}
+use Rattle.std.specs.Prelude.{◌≡◌, ◌<◌, ◌≤◌, ℕ, ◌&&◌, Bool, false, if◌then◌else◌, List, [], ◌∷◌, map, length, slice_get, is_some, Option, Some, None}
 use Rattle.std.specs.List.{range_with_len}
 use Rattle.tt_span.specs.Time.{max_time}
 use Rattle.tt_source.specs.Table.{TableState, SourceState, Sending}
 use Rattle.tt_stamp.specs.declared.commits.Entry.{Entry}
 use Rattle.tt_stamp.specs.Stamp.{greatest_of}
+use Rattle.tt_span.specs.Interval.{Interval}
+use Rattle.tt_world.specs.Lease.{lease_of}
 use Rattle.tt_world.specs.Life.{Life, life_at, is_of}
 use Rattle.tt_world.specs.declared.events.Event.{Event}
 use Rattle.tt_world.specs.declared.events.Action.{Action}
@@ -25,6 +27,8 @@ use Rattle.tt_world.specs.Bad.{has_source, accepted}
 pub record MachineState : Type 0 where
   pub config : Configuration
   pub table : TableState
+  pub life : ℕ
+  pub lease : Interval
   pub clock : ℕ
   pub publications : List Publication
   pub row : Option ℕ
@@ -35,6 +39,8 @@ pub record MachineState : Type 0 where
 pub record IsMachine (machine : MachineState) : Type 0 where
   pub each_source : length machine.table.sources ≡ machine.config.sources
   pub same_drift : machine.table.drift ≡ machine.config.drift
+  pub same_life : machine.table.epoch ≡ machine.life
+  pub some_life : 0 < machine.life
   pub table_behind : machine.table.clock ≤ machine.clock
   pub in_time : machine.clock ≤ max_time
 
@@ -84,11 +90,14 @@ machine_of config past life = record {
   config = config;
   table = record {
     machine = life.machine;
+    epoch = life.number;
     drift = config.drift;
     last = sends_of past life;
     clock = polled_clock_of past life;
     sources = map (λ i. source_of past life i) (range_with_len 0 config.sources);
   };
+  life = life.number;
+  lease = lease_of past life.machine;
   clock = clock_of past life;
   publications = publications_of config past life;
   row = greatest_of (stamps_of config past life);

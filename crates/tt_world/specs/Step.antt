@@ -67,7 +67,7 @@ with_table machine clock table = record machine { table = table; clock = clock }
 abbrev pub after_poll : WorldState → ℕ → ℕ → ℕ → ℕ → MachineState → Result TableState SourceFault → Outcome
 after_poll world at m i clock machine (Ok table) =
     after_turn world at m (record { machine = with_table machine clock table; reply = replies.Sent (length world.packets) })
-    (Asked (record { machine = m; source = i; nonce = table.last }) ∷ [])
+    (Asked (record { machine = m; source = i; nonce = table.last; epoch = table.epoch }) ∷ [])
 after_poll world at m i clock machine (Err fault) =
     after_turn world at m (record { machine = record machine { clock = clock }; reply = replies.Refused (number_of fault) }) []
 
@@ -229,7 +229,7 @@ stamp_with world at m w machine None reading = refused world bad.NothingThere
 stamp_with world at m w machine (Some (tasks.Stamped id stamp)) reading = refused world bad.NothingThere
 stamp_with world at m w machine (Some (tasks.Arrived arrival)) None = refused world bad.NothingThere
 stamp_with world at m w machine (Some (tasks.Arrived arrival)) (Some reading) =
-    after_turn world at m (stamp_turn machine w arrival.id (stamp_of (given_in machine.row) reading.hi arrival.floor)) []
+    after_turn world at m (stamp_turn machine w arrival.id (stamp_of (given_in machine.row) reading.hi arrival.floor machine.lease)) []
 
 -- worker w of machine m, if it is there, stamps its task by its last reading since the arrival
 abbrev pub stamp_on : WorldState → ℕ → ℕ → ℕ → Option MachineState → Outcome

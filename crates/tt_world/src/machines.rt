@@ -26,17 +26,19 @@ use arrayvec::ArrayVec;
 use std::alloc::Global;
 use std::marker::Model;
 use tt_daemon::{Config, Daemon, MAX_WORKERS};
-use tt_poll::{encode_answer, encode_request};
+use tt_poll::{encode_answer2, encode_request2};
 use tt_publish::Reading;
 use tt_source::SourceFault;
-use tt_span::MAX_TIME;
+use tt_span::{MAX_TIME, Span};
 use tt_stamp::{Book, BookFault, Entry, Id, Receipt, Row, book_laws};
 
-/// One machine: its daemon, what its clock showed last, what it has published, the greatest stamp that it has given,
+/// One machine: its daemon, the number of its life, its lease, what its clock showed last, what it has published, the greatest stamp that it has given,
 /// the book of its commits, and its workers.
 #[derive(Drop)]
 pub struct Machine {
     daemon: Daemon,
+    life: u64,
+    lease: Span,
     clock: u64,
     publications: Vec<Publication>,
     row: Row,
@@ -51,9 +53,9 @@ impl Model for Machine {
 
     ghost Value = { MachineState };
 
-    ghost view = { λ m. record { config = m.daemon.config; table = m.daemon.table; clock = m.clock; publications = m.publications.items; row = m.row; book = m.book; workers = m.workers.items } };
+    ghost view = { λ m. record { config = m.daemon.config; table = m.daemon.table; life = m.life; lease = m.lease; clock = m.clock; publications = m.publications.items; row = m.row; book = m.book; workers = m.workers.items } };
 
-    ghost invariant = { λ m. IsMachine (record { config = m.daemon.config; table = m.daemon.table; clock = m.clock; publications = m.publications.items; row = m.row; book = m.book; workers = m.workers.items }) };
+    ghost invariant = { λ m. IsMachine (record { config = m.daemon.config; table = m.daemon.table; life = m.life; lease = m.lease; clock = m.clock; publications = m.publications.items; row = m.row; book = m.book; workers = m.workers.items }) };
 }
 
 impl Machine {
@@ -66,7 +68,9 @@ impl Machine {
         let mut workers = ArrayVec::from([Worker::new(); MAX_WORKERS]);
         workers.truncate(config.workers());
         Machine {
-            daemon: Daemon::new(number, &config),
+            daemon: Daemon::new(number, &config, 1),
+            life: 1,
+            lease: Span::whole(),
             clock: 0,
             publications: Vec::new(alloc),
             row: Row::new(),
@@ -98,17 +102,17 @@ impl Machine {
         self.daemon.is_known(source)
     }
 
-    /// Polls a source, and answers the nonce.
-    pub fn poll(&mut self, source: u8, clock: u64) -> Result<u64, SourceFault>
+    /// Polls a source, and answers the nonce and the number of the life.
+    pub fn poll(&mut self, source: u8, clock: u64) -> Result<(u64, u64), SourceFault>
         requires forward { self.old.clock ≤ clock }
         requires in_time { clock ≤ max_time }
-        ensures polled { IfOk result (λ nonce. (poll_of self.old.table source clock ≡ Ok self.new.table)
-            × (self.new ≡ with_table self.old clock self.new.table) × (nonce ≡ self.new.table.last) × (0 < nonce)) }
+        ensures polled { IfOk result (λ made. (poll_of self.old.table source clock ≡ Ok self.new.table)
+            × (self.new ≡ with_table self.old clock self.new.table) × (made.0 ≡ self.new.table.last) × (0 < made.0) × (made.1 ≡ self.new.table.epoch) × (0 < made.1)) }
         ensures refused { IfErr result (λ e. (poll_of self.old.table source clock ≡ Err e) × (self.new ≡ record self.old { clock = clock })) }
     {
         self.clock = clock;
         self.daemon.poll(source, clock)?;
-        Ok(self.daemon.last())
+        Ok((self.daemon.last(), self.life))
     }
 
     /// Takes what a packet from a source says.
@@ -131,8 +135,8 @@ impl Machine {
         ensures { record { machine = self.new; reply = result } ≡ take_turn self.old clock (take_of self.old.table (source_of_packet packet.now) clock (bytes_of packet.now)) }
     {
         match packet {
-            Packet::Asked(request) => self.take(request.source(), clock, &encode_request(request)),
-            Packet::Answered(answer) => self.take(answer.source(), clock, &encode_answer(answer)),
+            Packet::Asked(request) => self.take(request.source(), clock, &encode_request2(request)),
+            Packet::Answered(answer) => self.take(answer.source(), clock, &encode_answer2(answer)),
             Packet::Forged {
                 source,
                 payload,
@@ -253,9 +257,9 @@ impl Machine {
     pub fn stamp(&mut self, worker: u8, arrival: &Arrival, reading: &Reading) -> Reply
         requires { worker < length self.old.workers }
         ensures { record { machine = self.new; reply = result }
-            ≡ stamp_turn self.old worker arrival.now.id (stamp_of (given_in self.old.row) reading.now.hi arrival.now.floor) }
+            ≡ stamp_turn self.old worker arrival.now.id (stamp_of (given_in self.old.row) reading.now.hi arrival.now.floor self.old.lease) }
     {
-        match self.row.stamp(reading, arrival.floor) {
+        match self.row.stamp(reading, arrival.floor, &self.lease) {
             Ok(stamp) => {
                 let id = arrival.id;
                 self.workers[usize::from(worker)].task = Some(Task::Stamped { id, stamp });

@@ -4,15 +4,15 @@ ghost use Rattle.std.specs.Prelude.{◌≡◌};
 ghost use Rattle.tt_world.specs.Packet.{machine_of_packet, is_asked};
 
 use crate::events::Payload;
-use tt_poll::{Answer, Request};
+use tt_poll::{Answer2, Request2};
 
 /// A packet between a machine and a source.
 #[derive(Clone, Debug, Drop)]
 pub enum Packet {
     /// A machine's request.
-    Asked(Request),
+    Asked(Request2),
     /// A source's answer to a request.
-    Answered(Answer),
+    Answered(Answer2),
     /// Bytes that a source made up.
     Forged {
         machine: u8,

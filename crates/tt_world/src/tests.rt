@@ -89,20 +89,21 @@ pub(crate) fn replies(
     }
 }
 
-/// The bytes of a message of this kind between a machine and a source, under nonce 1, and the span [5, 9] of an
-/// answer.
-fn message(kind: u8, machine: u8, source: u8) -> [u8; 32] {
-    let mut bytes = [0; 32];
+/// The bytes of a message of this kind between a machine in life `epoch` and a source, under nonce 1, and the span
+/// [5, 9] of an answer.
+fn message(kind: u8, machine: u8, source: u8, epoch: u8) -> [u8; 40] {
+    let mut bytes = [0; 40];
     bytes[0] = 0x54;
     bytes[1] = 0x54;
     bytes[2] = 0x50;
-    bytes[3] = 0x31;
+    bytes[3] = 0x32;
     bytes[4] = kind;
     bytes[5] = machine;
     bytes[6] = source;
     bytes[15] = 1;
-    bytes[23] = 5;
-    bytes[31] = 9;
+    bytes[23] = epoch;
+    bytes[31] = 5;
+    bytes[39] = 9;
     bytes
 }
 
@@ -389,10 +390,10 @@ fn forged_bytes_are_refused(rt: HostRuntime) -> Result<(), Fail> {
     let events = [
         send(5, 0, 0, 0),
         forge(5, 0, 0, &[0xff])?,
-        forge(5, 0, 0, &message(1, 0, 0)[..16])?,
-        forge(5, 0, 0, &message(2, 1, 0))?,
-        forge(5, 0, 0, &message(2, 0, 1))?,
-        forge(5, 0, 0, &message(2, 0, 0))?,
+        forge(5, 0, 0, &message(1, 0, 0, 1)[..24])?,
+        forge(5, 0, 0, &message(2, 1, 0, 1))?,
+        forge(5, 0, 0, &message(2, 0, 1, 1))?,
+        forge(5, 0, 0, &message(2, 0, 0, 1))?,
         deliver(6, 1, 1),
         deliver(6, 2, 1),
         deliver(6, 3, 1),

@@ -21,7 +21,7 @@ use crate::workers::{Arrival, Task};
 use std::alloc::Global;
 use std::marker::Model;
 use tt_daemon::Config;
-use tt_poll::{Answer, Request};
+use tt_poll::{Answer2, Request2};
 use tt_span::{MAX_TIME, Span};
 
 /// How many machines a run has at most.
@@ -72,8 +72,8 @@ impl World {
         let number = self.packets.len() as u64;
         self.time = at;
         match self.machines[place].poll(source, clock) {
-            Ok(nonce) => {
-                let request = Request::new(machine, source, nonce).unwrap();
+            Ok((nonce, life)) => {
+                let request = Request2::new(machine, source, nonce, life).unwrap();
                 self.packets.push(Packet::Asked(request)).unwrap();
                 Ok(Reply::Sent(number))
             }
@@ -226,12 +226,14 @@ impl World {
         let Some(Packet::Asked(request)) = self.packets.get(packet as usize) else {
             return Err(WorldFault::NoPacket);
         };
-        let answer = Answer::new(
+        let answer = Answer2::new(
             request.machine(),
             request.source(),
             request.nonce(),
+            request.epoch(),
             span,
-        ).unwrap();
+        )
+        .unwrap();
         let number = self.packets.len() as u64;
         self.packets.push(Packet::Answered(answer))?;
         self.time = at;

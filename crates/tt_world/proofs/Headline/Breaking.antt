@@ -1,10 +1,10 @@
 -- The assumptions hold exactly where no event breaks one.
-use Rattle.std.proofs.Common.{◌≡◌, ◌↔◌, ℕ, ◌<◌, Bool, true, false, cond, List, [], ◌∷◌, ◌++◌, length, slice_get, is_some, Option, Some, None, refl, subst, ap, eqb, ltb-true}
+use Rattle.std.proofs.Common.{◌≡◌, ◌↔◌, ℕ, ◌<◌, Bool, true, false, cond, List, [], ◌∷◌, ◌++◌, length, slice_get, is_some, Option, Some, None, refl, subst, ap, ltb-true}
 use Rattle.std.specs.Prelude.{nat_le}
 use Rattle.std.specs.List.{AllByRecursion}
 use Rattle.std.specs.Option.{option_or, option_map}
 use Rattle.std.proofs.lemmas.Option.{same_Some}
-use Rattle.std.proofs.lemmas.Bool.{and_parts, not-false, leb-true, le-leb, eqb-true, eq-eqb}
+use Rattle.std.proofs.lemmas.Bool.{and_parts, not-false, leb-true, le-leb}
 use Rattle.tt_span.specs.Drift.{Moment, AgreesWith, KeepsDrift, distance, widening}
 use Rattle.tt_world.proofs.Simulation.Lives.{same_life-true, same_life-own}
 use Rattle.tt_world.specs.Life.{Life, life_at, same_life}
@@ -66,9 +66,9 @@ module _ (configs : List Configuration) (past : List Event) (at : ℕ) where
   drift_part None there = (λ h. (h, refl), λ h. h.0)
   drift_part (Some reading) there = (
     λ h.
-      let own = subst (λ (b : Bool). KeepsDrift (config_at configs reading.life.machine).drift (cond b (record { clock = reading.clock; time = at } ∷ []) [] ++ moments_of past reading.life)) (same_life-own reading.life) (h reading.life (there reading refl)) in
-      let agrees : agrees_with_all (config_at configs reading.life.machine).drift (record { clock = reading.clock; time = at }) (moments_of past reading.life) ≡ true = true-agrees _ _ _ own.0 in
-      (λ life inside. before_one reading life (same_life reading.life life) (h life inside), rw agrees refl),
+        let own = subst (λ (b : Bool). KeepsDrift (config_at configs reading.life.machine).drift (cond b (record { clock = reading.clock; time = at } ∷ []) [] ++ moments_of past reading.life)) (same_life-own reading.life) (h reading.life (there reading refl)) in
+        let agrees : agrees_with_all (config_at configs reading.life.machine).drift (record { clock = reading.clock; time = at }) (moments_of past reading.life) ≡ true = true-agrees _ _ _ own.0 in
+        (λ life inside. before_one reading life (same_life reading.life life) (h life inside), rw agrees refl),
     λ h life inside. after_one reading life (same_life reading.life life) refl (agrees-true _ _ _ (passes _ _ h.1)) (h.0 life inside),
   )
 

@@ -5,7 +5,7 @@ use Rattle.std.specs.List.{AllByRecursion}
 use Rattle.std.proofs.lemmas.Bool.{ltb-true}
 use Rattle.std.proofs.lemmas.List.Elements.{All-from_recursion, All-contains}
 use Rattle.tt_span.specs.Interval.{Interval}
-use Rattle.tt_poll.specs.Reading.{read_of}
+use Rattle.tt_poll.specs.Reading.{read_of2}
 use Rattle.tt_source.specs.Statement.{Statement}
 use Rattle.tt_source.specs.Table.{statement_of_message}
 use Rattle.tt_source.specs.declared.faults.SourceFault.{SourceFault}
@@ -16,7 +16,8 @@ use Rattle.tt_stamp.specs.declared.faults.StampFault.{StampFault}
 use Rattle.tt_stamp.specs.declared.faults.BookFault.{BookFault}
 use Rattle.tt_stamp.specs.Stamp.{IsAnswer, stamp_of}
 use Rattle.tt_stamp.specs.History.{waiting_of, release_of}
-use Rattle.tt_world.specs.Life.{life_at}
+use Rattle.tt_world.specs.Lease.{lease_of}
+use Rattle.tt_world.specs.Life.{life_of, life_at}
 use Rattle.tt_world.specs.declared.faults.WorldFault.{WorldFault}
 use Rattle.tt_world.specs.declared.events.Event.{Event}
 use Rattle.tt_world.specs.declared.events.Action.{Action}
@@ -39,7 +40,7 @@ use Rattle.tt_world.specs.Headline.{IsLeastFor}
 
 -- what the proofs need of stamps: the one that is computed is the answer
 abbrev pub StampLaws : Type 0
-StampLaws = (given : List ℕ) (latest floor : ℕ) → IsAnswer given latest floor (stamp_of given latest floor)
+StampLaws = (given : List ℕ) (latest floor : ℕ) (lease : Interval) → IsAnswer given latest floor lease (stamp_of given latest floor lease)
 
 -- ---- commits that are asked for
 
@@ -66,18 +67,18 @@ stamping_made (Some (Ok stamp)) s h = ap (λ (n : ℕ). Some (Ok n)) (same_stamp
 stamping_made (Some (Err fault)) s h = absurd cc
 
 -- where a stamp was given, there was a commit and a reading
-record IsStamped (given : List ℕ) (arrived : Option Arrival) (read : Option Interval) (s : ℕ) : Type 0 where
+record IsStamped (given : List ℕ) (lease : Interval) (arrived : Option Arrival) (read : Option Interval) (s : ℕ) : Type 0 where
   arrival : Arrival
   reading : Interval
   asked : arrived ≡ Some arrival
   read_since : read ≡ Some reading
-  answer : stamp_of given reading.hi arrival.floor ≡ Ok s
+  answer : stamp_of given reading.hi arrival.floor lease ≡ Ok s
 
-stamped_of : (given : List ℕ) (arrived : Option Arrival) (read : Option Interval) (s : ℕ) → stamping_after given arrived read ≡ Some (Ok s) → IsStamped given arrived read s
-stamped_of given None read s h = absurd cc
-stamped_of given (Some arrival) None s h = absurd cc
-stamped_of given (Some arrival) (Some reading) s h =
-    record { arrival = arrival; reading = reading; asked = refl; read_since = refl; answer = same_answer (stamp_of given reading.hi arrival.floor) (Ok s) h }
+stamped_of : (given : List ℕ) (lease : Interval) (arrived : Option Arrival) (read : Option Interval) (s : ℕ) → stamping_after given lease arrived read ≡ Some (Ok s) → IsStamped given lease arrived read s
+stamped_of given lease None read s h = absurd cc
+stamped_of given lease (Some arrival) None s h = absurd cc
+stamped_of given lease (Some arrival) (Some reading) s h =
+    record { arrival = arrival; reading = reading; asked = refl; read_since = refl; answer = same_answer (stamp_of given reading.hi arrival.floor lease) (Ok s) h }
   where
     same_answer : (a b : Result ℕ StampFault) → Some a ≡ Some b → a ≡ b
     same_answer a b h = cc
@@ -89,8 +90,8 @@ stamp_least laws configs past at m w s h =
     let config : Configuration = config_at configs m in
     let event : Event = record { at = at; action = does.Stamp m w } in
     let made = stamping_made (stamping_of config before (life_at before m) w) s (stamped_not_bad (first_bad configs before event) (reply_to configs before (does.Stamp m w)) s h) in
-    let stamped = stamped_of (stamps_of config before (life_at before m)) (arrival_of before (life_at before m) w) (reading_since config before (life_at before m) w) s made in
-    let answer = subst (IsAnswer (stamps_of config before (life_at before m)) stamped.reading.hi stamped.arrival.floor) stamped.answer (laws (stamps_of config before (life_at before m)) stamped.reading.hi stamped.arrival.floor) in
+    let stamped = stamped_of (stamps_of config before (life_at before m)) (lease_of before m) (arrival_of before (life_at before m) w) (reading_since config before (life_at before m) w) s made in
+    let answer = subst (IsAnswer (stamps_of config before (life_at before m)) stamped.reading.hi stamped.arrival.floor (lease_of before m)) stamped.answer (laws (stamps_of config before (life_at before m)) stamped.reading.hi stamped.arrival.floor (lease_of before m)) in
     record {
       arrival = stamped.arrival;
       reading = stamped.reading;
@@ -98,6 +99,7 @@ stamp_least laws configs past at m w s h =
       read_since = stamped.read_since;
       near = answer.0;
       least = answer.1;
+      in_lease = answer.2;
     }
 
 -- ---- releases
@@ -113,7 +115,7 @@ no_release_delivered (Err e) receipts h = cc
 no_release_of_packet : (past : List Event) (clock : ℕ) (packet : Option Packet) (receipts : List Receipt) → reply_to_packet past clock packet ≡ Released receipts → ⊥
 no_release_of_packet past clock None receipts h = cc
 no_release_of_packet past clock (Some packet) receipts h =
-    no_release_delivered (statement_of_message (machine_of_packet packet) (source_of_packet packet) (outstanding past (life_at past (machine_of_packet packet)) (source_of_packet packet)) clock (read_of (bytes_of packet))) receipts h
+    no_release_delivered (statement_of_message (machine_of_packet packet) (life_of past (machine_of_packet packet)) (source_of_packet packet) (outstanding past (life_at past (machine_of_packet packet)) (source_of_packet packet)) clock (read_of2 (bytes_of packet))) receipts h
 
 no_release_fused : (count : ℕ) (made : Result Publication ℕ) (receipts : List Receipt) → fusion_reply count made ≡ Released receipts → ⊥
 no_release_fused count (Ok publication) receipts h = cc

@@ -4,7 +4,7 @@ use Rattle.std.specs.Prelude.{Ok, Err}
 use Rattle.std.specs.Result.{result_ok}
 use Rattle.std.proofs.lemmas.Bool.{and_parts, eqb-true, eq-eqb}
 use Rattle.tt_span.specs.Interval.{Interval}
-use Rattle.tt_poll.specs.Reading.{read_of}
+use Rattle.tt_poll.specs.Reading.{read_of2}
 use Rattle.tt_source.specs.Statement.{Statement}
 use Rattle.tt_source.specs.Table.{statement_of_message}
 use Rattle.tt_source.specs.declared.faults.SourceFault.{SourceFault}
@@ -12,8 +12,9 @@ use Rattle.tt_stamp.specs.declared.faults.StampFault.{StampFault}
 use Rattle.tt_stamp.specs.declared.faults.StampFault.TheVariants as stamp_fault
 use Rattle.tt_stamp.specs.declared.faults.BookFault.{BookFault}
 use Rattle.tt_stamp.specs.declared.faults.BookFault.TheVariants as book_fault
+use Rattle.tt_world.specs.Lease.{lease_of}
 use Rattle.tt_world.proofs.Simulation.Lives.{is_of-own, same_life-true}
-use Rattle.tt_world.specs.Life.{Life, life_at, is_of}
+use Rattle.tt_world.specs.Life.{Life, life_of, life_at, is_of}
 use Rattle.tt_world.specs.declared.faults.WorldFault.{WorldFault}
 use Rattle.tt_world.specs.declared.events.Event.{Event}
 use Rattle.tt_world.specs.declared.events.Action.{Action}
@@ -25,7 +26,6 @@ use Rattle.tt_world.specs.declared.workers.Arrival.{Arrival}
 use Rattle.tt_daemon.specs.Config.{Configuration}
 use Rattle.tt_world.specs.Config.{config_at}
 use Rattle.tt_world.specs.Packet.{machine_of_packet, source_of_packet, bytes_of}
-use Rattle.tt_world.specs.Past.{packets_of}
 use Rattle.tt_world.specs.Sources.{outstanding, stated_in, stated_by}
 use Rattle.tt_world.specs.Publications.{published}
 use Rattle.tt_world.specs.Commits.{arrival_of, reading_since, stamp_held, is_queued, task_with, stamps_of, stamping_after}
@@ -52,17 +52,18 @@ fusion-good count clock false (Some span) h = h
 stamping-good : (r : Result ℕ StampFault) → ¬ IsBadReply (stamping_reply (Some r))
 stamping-good (Ok stamp) h = h
 stamping-good (Err stamp_fault.UsedUp) h = omega (arith, h.0)
+stamping-good (Err stamp_fault.LeaseOver) h = omega (arith, h.0)
 stamping-good (Err stamp_fault.FloorTooFar) h = omega (arith, h.0)
 stamping-good (Err stamp_fault.Seats) h = omega (arith, h.0)
 stamping-good (Err stamp_fault.Memory) h = omega (arith, h.0)
 
-asked-stamping-good : (given : List ℕ) (queued : Bool) (asked : Option Arrival) (held : Option ℕ) (since : Option Interval)
-    → (not (is_arrived (cond queued None (task_with asked held))) || not (is_some since)) ≡ false → ¬ IsBadReply (stamping_reply (stamping_after given asked since))
-asked-stamping-good given true asked held since there h = absurd cc
-asked-stamping-good given false None held since there h = absurd cc
-asked-stamping-good given false (Some arrival) (Some stamp) since there h = absurd cc
-asked-stamping-good given false (Some arrival) None None there h = absurd cc
-asked-stamping-good given false (Some arrival) None (Some reading) there h = stamping-good _ h
+asked-stamping-good : (given : List ℕ) (lease : Interval) (queued : Bool) (asked : Option Arrival) (held : Option ℕ) (since : Option Interval)
+    → (not (is_arrived (cond queued None (task_with asked held))) || not (is_some since)) ≡ false → ¬ IsBadReply (stamping_reply (stamping_after given lease asked since))
+asked-stamping-good given lease true asked held since there h = absurd cc
+asked-stamping-good given lease false None held since there h = absurd cc
+asked-stamping-good given lease false (Some arrival) (Some stamp) since there h = absurd cc
+asked-stamping-good given lease false (Some arrival) None None there h = absurd cc
+asked-stamping-good given lease false (Some arrival) None (Some reading) there h = stamping-good _ h
 
 queueing-good : (o : Option BookFault) → ¬ IsBadReply (queueing_reply o)
 queueing-good None h = h
@@ -77,7 +78,7 @@ good_reply configs past at (Fuse m clock) good h = fusion-good _ clock _ _ h
 good_reply configs past at (Stamp m w) good h =
     let config = config_at configs m in
     let life = life_at past m in
-    asked-stamping-good (stamps_of config past life) (is_queued config past life w) (arrival_of past life w) (stamp_held config past life w) (reading_since config past life w) good.thing_there h
+    asked-stamping-good (stamps_of config past life) (lease_of past m) (is_queued config past life w) (arrival_of past life w) (stamp_held config past life w) (reading_since config past life w) good.thing_there h
 good_reply configs past at (Queue m w) good h = queueing-good _ h
 good_reply configs past at _ good h = h
 
@@ -123,7 +124,7 @@ packet_states past clock (Some packet) h =
     let m = machine_of_packet packet in
     let life : Life = life_at past m in
     let i = source_of_packet packet in
-    let s = stated-taken (statement_of_message m i (outstanding past life i) clock (read_of (bytes_of packet))) h in
+    let s = stated-taken (statement_of_message m (life_of past m) i (outstanding past life i) clock (read_of2 (bytes_of packet))) h in
     let same_machine : is_of past life m ≡ true = is_of-own past m in
     let same_source : eqb i i ≡ true = eq-eqb i i refl in
     (life, i, s.0, rw (same_machine, same_source) s.1)
@@ -140,11 +141,11 @@ states_packet past clock (Some packet) life i s h =
     at_own life i (same_life-true (life_at past (machine_of_packet packet)) life here.0) (eqb-true _ _ here.1) mine.1
   where
     at_own : (other : Life) (j : ℕ) → life_at past (machine_of_packet packet) ≡ other → source_of_packet packet ≡ j
-        → result_ok (statement_of_message other.machine j (outstanding past other j) clock (read_of (bytes_of packet))) ≡ Some s
+        → result_ok (statement_of_message other.machine other.number j (outstanding past other j) clock (read_of2 (bytes_of packet))) ≡ Some s
         → reply_to_packet past clock (Some packet) ≡ Taken
     at_own other j e f h =
-        taken-stated _ s (subst (λ (k : Life). result_ok (statement_of_message k.machine (source_of_packet packet) (outstanding past k (source_of_packet packet)) clock (read_of (bytes_of packet))) ≡ Some s) (sym e)
-        (subst (λ (n : ℕ). result_ok (statement_of_message other.machine n (outstanding past other n) clock (read_of (bytes_of packet))) ≡ Some s) (sym f) h))
+        taken-stated _ s (subst (λ (k : Life). result_ok (statement_of_message k.machine k.number (source_of_packet packet) (outstanding past k (source_of_packet packet)) clock (read_of2 (bytes_of packet))) ≡ Some s) (sym e)
+        (subst (λ (n : ℕ). result_ok (statement_of_message other.machine other.number n (outstanding past other n) clock (read_of2 (bytes_of packet))) ≡ Some s) (sym f) h))
 
 taken_states : (configs : List Configuration) (past : List Event) (action : Action) → reply_to configs past action ≡ Taken → States past action
 taken_states configs past (Send m s clock) h = absurd cc

@@ -6,14 +6,14 @@ use Rattle.std.proofs.lemmas.Bool.{and_parts, or_parts, not-false, ltb-true, ltb
 use Rattle.std.proofs.lemmas.List.Elements.{All-from_recursion}
 use Rattle.tt_span.specs.Interval.{Interval, Holds}
 use Rattle.tt_span.specs.Drift.{Moment, AgreesWith, KeepsDrift}
-use Rattle.tt_poll.specs.Reading.{read_of}
+use Rattle.tt_poll.specs.Reading.{read_of2}
 use Rattle.tt_source.specs.Statement.{Statement}
 use Rattle.tt_source.specs.Table.{statement_of_message}
 use Rattle.tt_source.specs.declared.faults.SourceFault.{SourceFault}
 use Rattle.tt_fuse.specs.Fusion.{IsFusion}
 use Rattle.tt_stamp.specs.declared.faults.StampFault.{StampFault}
 use Rattle.tt_stamp.specs.declared.faults.BookFault.{BookFault}
-use Rattle.tt_world.specs.Life.{life_at}
+use Rattle.tt_world.specs.Life.{life_of, life_at}
 use Rattle.tt_world.specs.declared.faults.WorldFault.{WorldFault}
 use Rattle.tt_world.specs.declared.events.Event.{Event}
 use Rattle.tt_world.specs.declared.events.Action.{Action}
@@ -57,7 +57,7 @@ no_reading_delivered (Err e) reading h = cc
 no_reading_of_packet : (past : List Event) (clock : ℕ) (packet : Option Packet) (reading : Interval) → reply_to_packet past clock packet ≡ Read reading → ⊥
 no_reading_of_packet past clock None reading h = cc
 no_reading_of_packet past clock (Some packet) reading h =
-    no_reading_delivered (statement_of_message (machine_of_packet packet) (source_of_packet packet) (outstanding past (life_at past (machine_of_packet packet)) (source_of_packet packet)) clock (read_of (bytes_of packet))) reading h
+    no_reading_delivered (statement_of_message (machine_of_packet packet) (life_of past (machine_of_packet packet)) (source_of_packet packet) (outstanding past (life_at past (machine_of_packet packet)) (source_of_packet packet)) clock (read_of2 (bytes_of packet))) reading h
 
 no_reading_fused : (count : ℕ) (made : Result Publication ℕ) (reading : Interval) → fusion_reply count made ≡ Read reading → ⊥
 no_reading_fused count (Ok publication) reading h = cc

@@ -1,56 +1,35 @@
 -- What is read from bytes as an answer.
-use Rattle.std.proofs.Common.{◌≡◌, ℕ, zero, suc, ◌^◌, ◌%◌, ◌<◌, ◌≤◌, Bool, true, false, cond, eqb, ltb, ◌||◌, List, [], ◌∷◌, length, Option, Some, None, Ok, inl, inr, refl, ap, subst, ◌∙◌, arith, lit<}
-use Rattle.std.specs.Prelude.{find}
+use Rattle.std.proofs.Common.{◌≡◌, ℕ, zero, suc, ◌^◌, ◌%◌, ◌<◌, ◌≤◌, Bool, true, false, cond, eqb, ltb, ◌||◌, ◌&&◌, not, List, [], ◌∷◌, length, Ok, inl, inr, refl, ap, subst, ◌∙◌, arith, lit<}
 use Rattle.std.specs.Int.{w64, from_be_bytes, to_be_bytes, bytes_high_first}
 use Rattle.std.proofs.lemmas.Bool.{cases_lt, not-false, or_cases, or_parts, and_cases, eqb-true, eqb-false, ltb-false}
 use Rattle.std.proofs.lemmas.Nat.{from_be_bytes-to_be_bytes_8, mod_below}
 use Rattle.tt_span.specs.Time.{max_time}
 use Rattle.tt_span.specs.Interval.{Interval, IsInterval}
-use Rattle.tt_poll.specs.declared.faults.PollFault.{PollFault}
-use Rattle.tt_poll.specs.declared.faults.PollFault.TheVariants.{Length, Magic, Kind, Reserved, Number, Nonce, Span}
-use Rattle.tt_poll.specs.declared.messages.Message.{Message}
-use Rattle.tt_poll.specs.declared.messages.Message.TheVariants.{Request, Answer}
-use Rattle.tt_poll.specs.Message.{PollRequest, PollAnswer}
-use Rattle.tt_poll.specs.Spelling.{spelling_of}
-use Rattle.tt_poll.specs.Reading.{IsBytes, number_at, span_at, request_at, answer_at, message_at, applies, poll_faults, first_poll_fault, unless_refused, read_of}
+use Rattle.tt_poll.specs.declared.messages.Message2.TheVariants.{Request, Answer}
+use Rattle.tt_poll.specs.Message.{PollRequest2, PollAnswer2}
+use Rattle.tt_poll.specs.Spelling.{spelling_of2}
+use Rattle.tt_poll.specs.Reading.{IsBytes, number_at, span_at2, request_at2, answer_at2, are_no_span, read_of2}
+use Rattle.tt_poll.proofs.Refusing.{fields_of_read2}
 
--- what is read is not refused
-taken_as : (o : Option PollFault) (m n : Message) → unless_refused o m ≡ Ok n → (o ≡ None) × (m ≡ n)
-taken_as None m n h = (refl, cc)
-taken_as (Some e) m n h = absurd cc
-
-passed : (b : Bool) (e : PollFault) (found : Option PollFault) → cond b (Some e) found ≡ None → (b ≡ false) × (found ≡ None)
-passed true e found h = absurd cc
-passed false e found h = (refl, h)
-
--- where no refusal is found, those of the length and the span do not apply
-none_of : (p : PollFault → Bool) → find p poll_faults ≡ None → (p Length ≡ false) × (p Span ≡ false)
-none_of p h =
-    let length = passed (p Length) Length _ h in
-    let magic = passed (p Magic) Magic _ length.1 in
-    let kind = passed (p Kind) Kind _ magic.1 in
-    let reserved = passed (p Reserved) Reserved _ kind.1 in
-    let number = passed (p Number) Number _ reserved.1 in
-    let nonce = passed (p Nonce) Nonce _ number.1 in
-    let span = passed (p Span) Span _ nonce.1 in
-    (length.0, span.0)
-
-is_answer : (b : Bool) (r : PollRequest) (a c : PollAnswer) → cond b (Request r) (Answer a) ≡ Answer c → (b ≡ false) × (a ≡ c)
+is_answer : (b : Bool) (r : PollRequest2) (a c : PollAnswer2) → cond b (Request r) (Answer a) ≡ Answer c → (b ≡ false) × (a ≡ c)
 is_answer true r a c h = absurd cc
 is_answer false r a c h = (refl, cc)
 
--- bytes that are read as an answer have its fields, are as long as one, and its span is one of time
-answer_read : (bytes : List ℕ) (a : PollAnswer) → read_of bytes ≡ Ok (Answer a) → (answer_at bytes ≡ a) × (applies bytes Length ≡ false) × (applies bytes Span ≡ false) × (eqb (length bytes) 16 ≡ false)
-unfolding read_of first_poll_fault
-answer_read bytes a h =
-    let taken = taken_as (find (applies bytes) poll_faults) (message_at bytes) (Answer a) h in
-    let none = none_of (applies bytes) taken.0 in
-    let kind = is_answer (eqb (length bytes) 16) (request_at bytes) (answer_at bytes) a taken.1 in
-    (kind.1, none.0, none.1, kind.0)
+-- bytes as long as an answer end with no span of time
+abbrev has_no_span : List ℕ → Bool
+has_no_span bytes = eqb (length bytes) 40 && are_no_span (span_at2 bytes)
 
-span_of : (bytes : List ℕ) → length bytes ≡ 32 → applies bytes Span ≡ false → IsInterval (span_at bytes)
+-- bytes that are read as an answer have its fields, are as long as one, and its span is one of time
+answer_read : (bytes : List ℕ) (a : PollAnswer2) → read_of2 bytes ≡ Ok (Answer a)
+    → (answer_at2 bytes ≡ a) × (not (eqb (length bytes) 24 || eqb (length bytes) 40) ≡ false) × (has_no_span bytes ≡ false) × (eqb (length bytes) 24 ≡ false)
+answer_read bytes a h =
+    let fields = fields_of_read2 bytes (Answer a) h in
+    let kind = is_answer (eqb (length bytes) 24) (request_at2 bytes) (answer_at2 bytes) a fields.1 in
+    (kind.1, fields.0.0, fields.0.1.1.1.1.1.1.1.0, kind.0)
+
+span_of : (bytes : List ℕ) → length bytes ≡ 40 → has_no_span bytes ≡ false → IsInterval (span_at2 bytes)
 span_of bytes len h =
-    let ends : (ltb (number_at bytes 24) (number_at bytes 16) || ltb max_time (number_at bytes 24)) ≡ false = elim (and_cases _ _ h) [
+    let ends : (ltb (number_at bytes 32) (number_at bytes 24) || ltb max_time (number_at bytes 32)) ≡ false = elim (and_cases _ _ h) [
       | inl other ↦ absurd (eqb-false _ _ other len)
       | inr ends ↦ ends
     ] in
@@ -58,14 +37,14 @@ span_of bytes len h =
     record { ordered = ltb-false _ _ both.0; in_time = ltb-false _ _ both.1 }
 
 -- what is read as an answer has a span of time
-pub answer_valid : (bytes : List ℕ) (a : PollAnswer) → read_of bytes ≡ Ok (Answer a) → IsInterval a.span
+pub answer_valid : (bytes : List ℕ) (a : PollAnswer2) → read_of2 bytes ≡ Ok (Answer a) → IsInterval a.span
 answer_valid bytes a h =
     let read = answer_read bytes a h in
-    let len : length bytes ≡ 32 = elim (or_cases _ _ (not-false _ read.1)) [
+    let len : length bytes ≡ 40 = elim (or_cases _ _ (not-false _ read.1)) [
       | inl short ↦ absurd (eqb-false _ _ read.3 (eqb-true _ _ short))
       | inr long ↦ eqb-true _ _ long
     ] in
-    subst (λ (b : PollAnswer). IsInterval b.span) read.0 (span_of bytes len read.2)
+    subst (λ (b : PollAnswer2). IsInterval b.span) read.0 (span_of bytes len read.2)
 
 IsBytes-cons : (b : ℕ) (bytes : List ℕ) → b < 256 → IsBytes bytes → IsBytes (b ∷ bytes)
 IsBytes-cons b bytes lt h zero = lt
@@ -88,27 +67,33 @@ number_back n =
       | inr ge ↦ let fits : from_be_bytes w64 (to_be_bytes w64 n) < 2 ^ 64 = number_fits (to_be_bytes w64 n) (IsBytes-high_first 8 n) in omega arith
     ]
 
--- what is read from the spelling of an answer: its span where that is one of time, and no greater nonce
-pub record IsReadFrom (a b : PollAnswer) : Type 0 where
+-- what is read from the spelling of an answer: its span where that is one of time, its epoch where that fits eight bytes, and no greater nonce
+pub record IsReadFrom (a b : PollAnswer2) : Type 0 where
   pub nonce : b.nonce ≤ a.nonce
+  pub epoch : a.epoch < 2 ^ 64 → b.epoch ≡ a.epoch
   pub span : b.span ≡ a.span
 
-spelled_nonce : (a : PollAnswer) → (answer_at (spelling_of (Answer a))).nonce ≤ a.nonce
-unfolding spelling_of
+spelled_nonce : (a : PollAnswer2) → (answer_at2 (spelling_of2 (Answer a))).nonce ≤ a.nonce
+unfolding spelling_of2
 spelled_nonce a = number_back a.nonce
 
-spelled_span : (a : PollAnswer) → IsInterval a.span → (answer_at (spelling_of (Answer a))).span ≡ a.span
-unfolding spelling_of
-spelled_span a valid =
-    let lo : number_at (spelling_of (Answer a)) 16 ≡ a.span.lo = from_be_bytes-to_be_bytes_8 a.span.lo (omega (arith, valid.ordered, valid.in_time)) in
-    let hi : number_at (spelling_of (Answer a)) 24 ≡ a.span.hi = from_be_bytes-to_be_bytes_8 a.span.hi (omega (arith, valid.in_time)) in
-    let from_ends : ℕ → ℕ → Interval = λ x y. record { lo = x; hi = y } in
-    ap (λ (x : ℕ). from_ends x (number_at (spelling_of (Answer a)) 24)) lo ∙ ap (λ (y : ℕ). from_ends a.span.lo y) hi
+spelled_epoch : (a : PollAnswer2) → a.epoch < 2 ^ 64 → (answer_at2 (spelling_of2 (Answer a))).epoch ≡ a.epoch
+unfolding spelling_of2
+spelled_epoch a fits = from_be_bytes-to_be_bytes_8 a.epoch fits
 
-pub answer_back : (a b : PollAnswer) → IsInterval a.span → read_of (spelling_of (Answer a)) ≡ Ok (Answer b) → IsReadFrom a b
+spelled_span : (a : PollAnswer2) → IsInterval a.span → (answer_at2 (spelling_of2 (Answer a))).span ≡ a.span
+unfolding spelling_of2
+spelled_span a valid =
+    let lo : number_at (spelling_of2 (Answer a)) 24 ≡ a.span.lo = from_be_bytes-to_be_bytes_8 a.span.lo (omega (arith, valid.ordered, valid.in_time)) in
+    let hi : number_at (spelling_of2 (Answer a)) 32 ≡ a.span.hi = from_be_bytes-to_be_bytes_8 a.span.hi (omega (arith, valid.in_time)) in
+    let from_ends : ℕ → ℕ → Interval = λ x y. record { lo = x; hi = y } in
+    ap (λ (x : ℕ). from_ends x (number_at (spelling_of2 (Answer a)) 32)) lo ∙ ap (λ (y : ℕ). from_ends a.span.lo y) hi
+
+pub answer_back : (a b : PollAnswer2) → IsInterval a.span → read_of2 (spelling_of2 (Answer a)) ≡ Ok (Answer b) → IsReadFrom a b
 answer_back a b valid h =
-    let read = answer_read (spelling_of (Answer a)) b h in
+    let read = answer_read (spelling_of2 (Answer a)) b h in
     record {
-      nonce = subst (λ (c : PollAnswer). c.nonce ≤ a.nonce) read.0 (spelled_nonce a);
-      span = subst (λ (c : PollAnswer). c.span ≡ a.span) read.0 (spelled_span a valid);
+      nonce = subst (λ (c : PollAnswer2). c.nonce ≤ a.nonce) read.0 (spelled_nonce a);
+      epoch = λ fits. subst (λ (c : PollAnswer2). c.epoch ≡ a.epoch) read.0 (spelled_epoch a fits);
+      span = subst (λ (c : PollAnswer2). c.span ≡ a.span) read.0 (spelled_span a valid);
     }

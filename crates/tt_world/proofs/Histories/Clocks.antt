@@ -1,13 +1,13 @@
 -- What the clocks showed: they never go back, and each reading is a moment.
-use Rattle.std.proofs.Common.{◌≡◌, ℕ, ◌≤◌, Bool, true, false, cond, eqb, List, [], ◌∷◌, ◌++◌, Option, Some, None, refl, ap, subst, ◌∙◌, arith}
-use Rattle.std.proofs.lemmas.Bool.{or_parts, ltb-false, eqb-true, eq-eqb}
+use Rattle.std.proofs.Common.{◌≡◌, ℕ, ◌≤◌, Bool, true, false, cond, List, [], ◌∷◌, ◌++◌, Option, Some, None, refl, ap, subst, ◌∙◌, arith}
+use Rattle.std.proofs.lemmas.Bool.{or_parts, ltb-false}
 use Rattle.tt_span.specs.Time.{max_time}
 use Rattle.tt_span.specs.Drift.{Moment}
 use Rattle.tt_world.proofs.Simulation.Lives.{same_life-true, same_life-own}
 use Rattle.tt_world.specs.Life.{Life, same_life}
 use Rattle.tt_world.specs.declared.events.Event.{Event}
 use Rattle.tt_daemon.specs.Config.{Configuration}
-use Rattle.tt_world.specs.Past.{packets_of, ClockReading, clock_reading, clock_after, clock_of, moment_at, moments_of}
+use Rattle.tt_world.specs.Past.{ClockReading, clock_reading, clock_after, clock_of, moment_at, moments_of}
 use Rattle.tt_world.specs.Bad.{goes_back}
 use Rattle.tt_world.proofs.Histories.Places.{IsIn, in_back}
 use Rattle.tt_world.proofs.Histories.Judging.{IsGood}

@@ -15,7 +15,7 @@ use Rattle.tt_world.specs.Life.{Life}
 use Rattle.tt_world.specs.declared.events.Event.{Event}
 use Rattle.tt_world.specs.declared.publications.Publication.{Publication}
 use Rattle.tt_daemon.specs.Config.{Configuration, IsConfiguration}
-use Rattle.tt_world.specs.Past.{packets_of, clock_reading, time_of, clock_of, moments_of}
+use Rattle.tt_world.specs.Past.{clock_reading, time_of, clock_of, moments_of}
 use Rattle.tt_world.specs.Sources.{statement_of}
 use Rattle.tt_world.specs.Publications.{spans_of, known_of, published, fusion_of}
 use Rattle.tt_world.specs.Assumptions.{is_false_statement, false_count}

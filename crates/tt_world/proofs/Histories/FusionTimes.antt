@@ -1,7 +1,6 @@
 -- What each machine has published: it held the true time.
-use Rattle.std.proofs.Common.{◌≡◌, ℕ, ◌≤◌, Bool, true, false, cond, eqb, List, [], ◌∷◌, Option, Some, None, Result, Ok, Err, inl, refl, ap, subst, sym, ◌∙◌, arith}
+use Rattle.std.proofs.Common.{◌≡◌, ℕ, ◌≤◌, Bool, true, false, cond, List, [], ◌∷◌, Option, Some, None, Result, Ok, Err, inl, refl, ap, subst, sym, ◌∙◌, arith}
 use Rattle.std.specs.List.{AllByRecursion}
-use Rattle.std.proofs.lemmas.Bool.{eqb-true}
 use Rattle.tt_span.specs.Interval.{Holds}
 use Rattle.tt_span.specs.Drift.{Moment, KeepsDrift}
 use Rattle.tt_world.proofs.Simulation.Lives.{same_life-true}
@@ -12,7 +11,7 @@ use Rattle.tt_world.specs.declared.events.Action.TheVariants.{Fuse}
 use Rattle.tt_world.specs.declared.publications.Publication.{Publication}
 use Rattle.tt_daemon.specs.Config.{Configuration, IsConfiguration}
 use Rattle.tt_world.specs.Config.{config_at}
-use Rattle.tt_world.specs.Past.{packets_of, clock_reading, time_of, clock_of, moment_at, moments_of}
+use Rattle.tt_world.specs.Past.{clock_reading, time_of, clock_of, moment_at, moments_of}
 use Rattle.tt_world.specs.Publications.{fusion_of, one_if_made, fuses_at, published_at, publications_of}
 use Rattle.tt_world.specs.Assumptions.{false_count, HasFewFalse, FewLie}
 use Rattle.tt_world.specs.Headline.{IsAction}

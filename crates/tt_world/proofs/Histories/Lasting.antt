@@ -1,5 +1,5 @@
 -- What holds after every run.
-use Rattle.std.proofs.Common.{◌||◌, ◌≡◌, ℕ, ◌+◌, ◌≤◌, Bool, true, false, cond, eqb, ltb, ◌&&◌, List, [], ◌∷◌, ◌++◌, length, slice_get, is_some, All, Option, Some, None, refl, sym, subst, arith, length-append, eqb-true, ltb-false}
+use Rattle.std.proofs.Common.{◌||◌, ◌≡◌, ℕ, ◌+◌, ◌≤◌, Bool, true, false, cond, eqb, ltb, ◌&&◌, List, [], ◌∷◌, ◌++◌, length, slice_get, is_some, All, Option, Some, None, refl, sym, subst, arith, length-append, ltb-false}
 use Rattle.std.specs.Option.{option_map}
 use Rattle.std.specs.Result.{result_ok}
 use Rattle.std.proofs.lemmas.Bool.{or_parts, not-false, cond_both}
@@ -8,10 +8,10 @@ use Rattle.std.proofs.lemmas.List.Elements.{All-append, All-nil, All-cons}
 use Rattle.std.proofs.lemmas.Option.{slice_get_within, get_or_from_slice_get}
 use Rattle.tt_span.specs.Time.{max_time}
 use Rattle.tt_span.specs.Interval.{Interval}
-use Rattle.tt_poll.specs.Reading.{read_of}
+use Rattle.tt_poll.specs.Reading.{read_of2}
 use Rattle.tt_source.specs.Table.{statement_of_message}
 use Rattle.tt_world.proofs.Simulation.Lives.{same_life-true}
-use Rattle.tt_world.specs.Life.{Life, life_at, same_life, is_of}
+use Rattle.tt_world.specs.Life.{life_of, Life, life_at, same_life, is_of}
 use Rattle.tt_world.specs.declared.faults.WorldFault.{WorldFault}
 use Rattle.tt_world.specs.declared.faults.WorldFault.TheVariants as bad
 use Rattle.tt_world.specs.declared.events.Event.{Event}
@@ -37,7 +37,7 @@ no_fewer : (n : ℕ) (packets more : List Packet) → n ≤ length packets → n
 no_fewer n packets more h = omega (arith, length-append packets more)
 
 sends_more : (past : List Event) (life : Life) (action : Action) → sends_of past life ≤ length (packets_of past)
-    → cond (is_send_of past life action) (sends_of past life + 1) (sends_of past life) ≤ length (packets_of past ++ put_by (sends_now past) (packets_of past) action)
+    → cond (is_send_of past life action) (sends_of past life + 1) (sends_of past life) ≤ length (packets_of past ++ put_by (life_of past) (sends_now past) (packets_of past) action)
 sends_more past life (Send machine source clock) h = one_more (sends_of past life) (packets_of past) _ (is_of past life machine) h
 sends_more past life _ h = no_fewer (sends_of past life) (packets_of past) _ h
 
@@ -64,7 +64,7 @@ below_delivery : (past : List Event) (life : Life) (c : ℕ) (o : Option Packet)
 below_delivery past life c None fresh h = h
 below_delivery past life c (Some p) fresh h =
     let s = source_of_packet p in
-    below_reading (λ b. is_some (cond (b && eqb s s) (result_ok (statement_of_message life.machine s (outstanding past life s) c (read_of (bytes_of p)))) None))
+    below_reading (λ b. is_some (cond (b && eqb s s) (result_ok (statement_of_message life.machine life.number s (outstanding past life s) c (read_of2 (bytes_of p)))) None))
     (is_of past life (machine_of_packet p)) c (polled_clock_of past life) (clock_of past life) refl (not_below (clock_of past) (life_at past (machine_of_packet p)) c life fresh) h
 
 polled_more : (past : List Event) (life : Life) (at : ℕ) (action : Action) → goes_back (clock_of past) (clock_reading past action) ≡ false
@@ -97,12 +97,12 @@ module _ (configs : List Configuration) where
   known_answer packets k span (Some (Answered answer)) is all = All-nil (HasItsSource configs)
   known_answer packets k span (Some (Forged machine source payload)) is all = All-nil (HasItsSource configs)
 
-  known_put : (sends : ℕ → ℕ) (packets : List Packet) (action : Action) → names_unknown configs action ≡ false → All (HasItsSource configs) packets
-      → All (HasItsSource configs) (put_by sends packets action)
-  known_put sends packets (Send machine source clock) named all = All-one (HasItsSource configs) _ (not-false (has_source configs machine source) named)
-  known_put sends packets (Answer packet span) named all = known_answer packets packet span (slice_get packets packet) refl all
-  known_put sends packets (Forge machine source payload) named all = All-one (HasItsSource configs) _ (not-false (has_source configs machine source) named)
-  known_put sends packets _ named all = All-nil (HasItsSource configs)
+  known_put : (lives sends : ℕ → ℕ) (packets : List Packet) (action : Action) → names_unknown configs action ≡ false → All (HasItsSource configs) packets
+      → All (HasItsSource configs) (put_by lives sends packets action)
+  known_put lives sends packets (Send machine source clock) named all = All-one (HasItsSource configs) _ (not-false (has_source configs machine source) named)
+  known_put lives sends packets (Answer packet span) named all = known_answer packets packet span (slice_get packets packet) refl all
+  known_put lives sends packets (Forge machine source payload) named all = All-one (HasItsSource configs) _ (not-false (has_source configs machine source) named)
+  known_put lives sends packets _ named all = All-nil (HasItsSource configs)
 
   -- ---- both, after every run
 
@@ -128,8 +128,8 @@ module _ (configs : List Configuration) where
       let passed = tests_passed _ _ _ _ _ _ good in
       record {
         rises = λ life. polled_more past life event.at event.action passed.1 (before.rises life);
-        known = All-append (HasItsSource configs) (packets_of past) (put_by (sends_now past) (packets_of past) event.action) before.known
-            (known_put (sends_now past) (packets_of past) event.action passed.0 before.known);
+        known = All-append (HasItsSource configs) (packets_of past) (put_by (life_of past) (sends_now past) (packets_of past) event.action) before.known
+            (known_put (life_of past) (sends_now past) (packets_of past) event.action passed.0 before.known);
       }
 
   lasts_unless_bad : (past : List Event) (event : Event) (o : Option WorldFault) → first_bad configs past event ≡ o → Lasts past → Lasts (cond (is_some o) past (event ∷ past))

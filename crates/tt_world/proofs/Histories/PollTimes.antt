@@ -2,12 +2,12 @@
 use Rattle.std.proofs.Common.{◌≡◌, ℕ, ◌+◌, ◌≤◌, Bool, true, false, cond, eqb, ◌&&◌, List, [], ◌∷◌, length, Option, Some, None, inl, inr, refl, ap, subst, sym, ◌∙◌, arith}
 use Rattle.std.specs.Prelude.{slice_get}
 use Rattle.std.specs.Option.{option_or}
-use Rattle.std.proofs.lemmas.Bool.{and_parts, eqb-true, cases_lt}
+use Rattle.std.proofs.lemmas.Bool.{and_parts, cases_lt}
 use Rattle.std.proofs.lemmas.Option.{slice_get_within}
 use Rattle.tt_span.specs.Drift.{Moment}
 use Rattle.tt_source.specs.Table.{Sending}
 use Rattle.tt_world.proofs.Simulation.Lives.{same_life-true}
-use Rattle.tt_world.specs.Life.{Life, life_at, is_of}
+use Rattle.tt_world.specs.Life.{life_of, Life, life_at, is_of}
 use Rattle.tt_world.specs.declared.events.Event.{Event}
 use Rattle.tt_world.specs.declared.events.Action.{Action}
 use Rattle.tt_world.specs.declared.events.Action.TheVariants.{Send}
@@ -60,7 +60,7 @@ poll_sent configs past event life i sending good h =
       clock_by_now = omega (arith, reading.shows);
       before_answers = λ p packet origin there is later. elim (cases_lt p (length (packets_of past))) [
         | inl lt ↦
-            let old : nonce_of life packet ≤ sends_of past life = nonces_sent past life p packet (sym (get_front (packets_of past) (put_by (sends_now past) (packets_of past) event.action) p lt) ∙ there) in
+            let old : nonce_of life packet ≤ sends_of past life = nonces_sent past life p packet (sym (get_front (packets_of past) (put_by (life_of past) (sends_now past) (packets_of past) event.action) p lt) ∙ there) in
             absurd (omega arith)
         | inr ge ↦
             let new = origin-new past event p ge (slice_get_within (packets_of (event ∷ past)) p packet there) in
@@ -81,7 +81,7 @@ poll_stays configs past event life sending good poll =
       by_now = omega arith;
       clock_by_now = omega arith;
       before_answers = λ p packet origin there is later. elim (cases_lt p (length (packets_of past))) [
-        | inl lt ↦ poll.before_answers p packet origin (sym (get_front (packets_of past) (put_by (sends_now past) (packets_of past) event.action) p lt) ∙ there) (sym (origin-old past event p lt) ∙ is) later
+        | inl lt ↦ poll.before_answers p packet origin (sym (get_front (packets_of past) (put_by (life_of past) (sends_now past) (packets_of past) event.action) p lt) ∙ there) (sym (origin-old past event p lt) ∙ is) later
         | inr ge ↦
             let new = origin-new past event p ge (slice_get_within (packets_of (event ∷ past)) p packet there) in
             subst (λ (o : Event). poll.sent_at ≤ o.at) (same_event event origin (origin_of (event ∷ past) p) new is) (omega arith)

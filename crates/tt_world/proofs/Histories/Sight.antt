@@ -151,8 +151,8 @@ reading_since_holds laws configs configurations (event ∷ past) life w r sound 
     (λ s h. read_by_holds laws configs configurations past event.at event.action life w s sound h)
     (λ s h. (
       λ asked missed.
-        let unborn = not_mine-unborn past life before (not_asked_here past life w event.action asked missed) in
-        some-none s (sym h ∙ reading_since-unborn (config_at configs life.machine) past life w unborn),
+          let unborn = not_mine-unborn past life before (not_asked_here past life w event.action asked missed) in
+          some-none s (sym h ∙ reading_since-unborn (config_at configs life.machine) past life w unborn),
       reading_since_holds laws configs configurations past life w s (sound_before configs past event sound) before h,
     )) e
   where

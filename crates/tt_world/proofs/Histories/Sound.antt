@@ -6,7 +6,7 @@ use Rattle.tt_world.specs.declared.faults.WorldFault.{WorldFault}
 use Rattle.tt_world.specs.declared.events.Event.{Event}
 use Rattle.tt_daemon.specs.Config.{Configuration}
 use Rattle.tt_world.specs.Config.{config_at}
-use Rattle.tt_world.specs.Past.{packets_of, clock_reading, time_of, moment_at, moments_of}
+use Rattle.tt_world.specs.Past.{clock_reading, time_of, moment_at, moments_of}
 use Rattle.tt_world.specs.Bad.{first_bad, accepted}
 use Rattle.tt_world.specs.Assumptions.{FewLie, ClocksKeepDrift, MeetsAssumptions}
 use Rattle.tt_world.specs.Headline.{IsAction}

@@ -1,5 +1,5 @@
 -- What each source has stated: when it was true, where it is not false.
-use Rattle.std.proofs.Common.{◌≡◌, ℕ, ◌<◌, ◌≤◌, Bool, true, false, not, cond, eqb, ◌&&◌, List, [], ◌∷◌, length, Option, Some, None, Result, Ok, Err, inl, refl, ap, subst, sym, ◌∙◌, arith}
+use Rattle.std.proofs.Common.{◌≡◌, ℕ, ◌<◌, ◌≤◌, Bool, true, false, not, cond, eqb, ◌&&◌, List, [], ◌∷◌, length, Option, Some, None, Result, Ok, Err, inl, refl, ap, subst, sym, ◌∙◌, arith, ◌^◌}
 use Rattle.std.specs.Prelude.{slice_get, is_some}
 use Rattle.std.specs.List.{AllByRecursion}
 use Rattle.std.specs.Option.{option_or, option_and_then, option_map}
@@ -9,17 +9,17 @@ use Rattle.std.proofs.lemmas.List.{length-append}
 use Rattle.std.proofs.lemmas.Option.{slice_get_within}
 use Rattle.tt_span.specs.Interval.{Interval, IsInterval, Holds}
 use Rattle.tt_span.specs.Drift.{Moment}
-use Rattle.tt_poll.specs.Message.{PollAnswer}
-use Rattle.tt_poll.specs.Reading.{read_of}
+use Rattle.tt_poll.specs.Message.{PollAnswer2}
+use Rattle.tt_poll.specs.Reading.{read_of2}
 use Rattle.tt_poll.specs.declared.faults.PollFault.{PollFault}
-use Rattle.tt_poll.specs.declared.messages.Message.{Message}
-use Rattle.tt_poll.specs.declared.messages.Message.TheVariants as says
+use Rattle.tt_poll.specs.declared.messages.Message2.{Message2}
+use Rattle.tt_poll.specs.declared.messages.Message2.TheVariants as says
 use Rattle.tt_source.specs.Statement.{Statement}
 use Rattle.tt_source.specs.Table.{Sending, waiting_for, statement_of_answer, statement_of_message}
 use Rattle.tt_source.specs.declared.faults.SourceFault.{SourceFault}
-use Rattle.tt_source.specs.declared.faults.SourceFault.TheVariants.{NotMine}
-use Rattle.tt_world.proofs.Simulation.Lives.{life_of-one, same_life-true, same_life-own}
-use Rattle.tt_world.specs.Life.{Life, life_at, same_life, is_of}
+use Rattle.tt_source.specs.declared.faults.SourceFault.TheVariants.{NotMine, OtherEpoch}
+use Rattle.tt_world.proofs.Simulation.Lives.{same_life-true}
+use Rattle.tt_world.specs.Life.{life_of, Life, life_at, is_of}
 use Rattle.tt_world.specs.declared.events.Event.{Event}
 use Rattle.tt_world.specs.declared.events.Action.{Action}
 use Rattle.tt_world.specs.declared.events.Action.TheVariants.{Answer, Deliver}
@@ -27,7 +27,7 @@ use Rattle.tt_world.specs.declared.packets.Packet.{Packet}
 use Rattle.tt_world.specs.declared.packets.Packet.TheVariants.{Asked, Answered, Forged}
 use Rattle.tt_daemon.specs.Config.{Configuration}
 use Rattle.tt_world.specs.Packet.{machine_of_packet, source_of_packet, bytes_of, is_asked}
-use Rattle.tt_world.specs.Past.{sends_now, time_of, sends_of, put_by, packets_of, clock_reading, clock_of, moments_of}
+use Rattle.tt_world.specs.Past.{sends_now, time_of, put_by, packets_of, clock_reading, clock_of, moments_of}
 use Rattle.tt_world.specs.Sources.{last_send, stated_in, stated_by, is_answered, outstanding, statement_of}
 use Rattle.tt_world.specs.Bad.{can_be_delivered, lacks_packet}
 use Rattle.tt_world.specs.Assumptions.{origin_of, delivered_by, packet_of_statement, is_lie, is_lying, is_false_statement}
@@ -35,49 +35,53 @@ use Rattle.tt_world.specs.Headline.{IsAction}
 use Rattle.tt_world.proofs.Histories.Places.{IsIn}
 use Rattle.tt_world.proofs.Histories.Judging.{IsGood, AreGood}
 use Rattle.tt_world.proofs.Histories.Clocks.{reading_on, clock_on, reading_of, moment_stays}
-use Rattle.tt_world.proofs.Histories.Origins.{nonce_of, IsHonest, has_origin, origin-old}
+use Rattle.tt_world.proofs.Histories.Origins.{epoch_of, epochs_fit, nonce_of, IsHonest, has_origin, origin-old}
 use Rattle.tt_world.proofs.Histories.Answering.{answer_valid, answer_back}
 use Rattle.tt_world.proofs.Histories.PollTimes.{last_poll}
 
 -- what was said where a message made a statement
-record IsSaid (life : Life) (i : ℕ) (waiting : Option Sending) (clock : ℕ) (message : Result Message PollFault) (s : Statement) : Type 0 where
-  answer : PollAnswer
+record IsSaid (life : Life) (i : ℕ) (waiting : Option Sending) (clock : ℕ) (message : Result Message2 PollFault) (s : Statement) : Type 0 where
+  answer : PollAnswer2
   sending : Sending
   says_so : message ≡ Ok (says.Answer answer)
   waits : waiting ≡ Some sending
+  epoch : answer.epoch ≡ life.number
   nonce : sending.nonce ≡ answer.nonce
   span : s.span ≡ answer.span
   sent : s.sent ≡ sending.clock
   got : s.got ≡ clock
 
-mine : (b : Bool) (r : Result Statement SourceFault) (s : Statement) → result_ok (cond b r (Err NotMine)) ≡ Some s → result_ok r ≡ Some s
-mine true r s h = h
-mine false r s h = absurd cc
+mine : (b c : Bool) (r : Result Statement SourceFault) (s : Statement) → result_ok (cond (not b) (Err NotMine) (cond (not c) (Err OtherEpoch) r)) ≡ Some s → (c ≡ true) × (result_ok r ≡ Some s)
+mine true true r s h = (refl, h)
+mine true false r s h = absurd cc
+mine false c r s h = absurd cc
 
-awaited : (b : Bool) (sending : Sending) (answer : PollAnswer) (clock : ℕ) (s : Statement) → result_ok (statement_of_answer (cond b (Some sending) None) answer clock) ≡ Some s → (b ≡ true) × (s ≡ record { span = answer.span; sent = sending.clock; got = clock })
+awaited : (b : Bool) (sending : Sending) (answer : PollAnswer2) (clock : ℕ) (s : Statement) → result_ok (statement_of_answer (cond b (Some sending) None) answer clock) ≡ Some s → (b ≡ true) × (s ≡ record { span = answer.span; sent = sending.clock; got = clock })
 awaited true sending answer clock s h = (refl, cc)
 awaited false sending answer clock s h = absurd cc
 
-said_by_answer : (life : Life) (i : ℕ) (waiting : Option Sending) (clock : ℕ) (answer : PollAnswer) (s : Statement) → result_ok (statement_of_answer (waiting_for waiting answer.nonce) answer clock) ≡ Some s → IsSaid life i waiting clock (Ok (says.Answer answer)) s
-said_by_answer life i None clock answer s h = absurd cc
-said_by_answer life i (Some sending) clock answer s h =
+said_by_answer : (life : Life) (i : ℕ) (waiting : Option Sending) (clock : ℕ) (answer : PollAnswer2) (s : Statement) → answer.epoch ≡ life.number → result_ok (statement_of_answer (waiting_for waiting answer.nonce) answer clock) ≡ Some s → IsSaid life i waiting clock (Ok (says.Answer answer)) s
+said_by_answer life i None clock answer s same h = absurd cc
+said_by_answer life i (Some sending) clock answer s same h =
     let facts = awaited (eqb sending.nonce answer.nonce) sending answer clock s h in
     record {
       answer = answer;
       sending = sending;
       says_so = refl;
       waits = refl;
+      epoch = same;
       nonce = eqb-true sending.nonce answer.nonce facts.0;
       span = ap (λ (x : Statement). x.span) facts.1;
       sent = ap (λ (x : Statement). x.sent) facts.1;
       got = ap (λ (x : Statement). x.got) facts.1;
     }
 
-said : (life : Life) (i : ℕ) (waiting : Option Sending) (clock : ℕ) (message : Result Message PollFault) (s : Statement) → result_ok (statement_of_message life.machine i waiting clock message) ≡ Some s → IsSaid life i waiting clock message s
+said : (life : Life) (i : ℕ) (waiting : Option Sending) (clock : ℕ) (message : Result Message2 PollFault) (s : Statement) → result_ok (statement_of_message life.machine life.number i waiting clock message) ≡ Some s → IsSaid life i waiting clock message s
 said life i waiting clock (Err e) s h = absurd cc
 said life i waiting clock (Ok (says.Request request)) s h = absurd cc
 said life i waiting clock (Ok (says.Answer answer)) s h =
-    said_by_answer life i waiting clock answer s (mine (eqb answer.machine life.machine && eqb answer.source i) (statement_of_answer (waiting_for waiting answer.nonce) answer clock) s h)
+    let facts = mine (eqb answer.machine life.machine && eqb answer.source i) (eqb answer.epoch life.number) (statement_of_answer (waiting_for waiting answer.nonce) answer clock) s h in
+    said_by_answer life i waiting clock answer s (eqb-true answer.epoch life.number facts.0) facts.1
 
 -- what an event is that states something for source i of machine life
 record IsTaken (past : List Event) (life : Life) (i : ℕ) (waiting : Option Sending) (action : Action) (s : Statement) : Type 0 where
@@ -88,7 +92,7 @@ record IsTaken (past : List Event) (life : Life) (i : ℕ) (waiting : Option Sen
   machine : life_at past (machine_of_packet packet) ≡ life
   reading : clock_reading past action ≡ reading_on life s.got
   not_asked : lacks_packet (packets_of past) action ≡ false → is_asked packet ≡ false
-  is_said : IsSaid life i waiting s.got (read_of (bytes_of packet)) s
+  is_said : IsSaid life i waiting s.got (read_of2 (bytes_of packet)) s
 
 only_if : (b : Bool) (o : Option Statement) (s : Statement) → cond b o None ≡ Some s → (b ≡ true) × (o ≡ Some s)
 only_if true o s h = (refl, h)
@@ -102,10 +106,10 @@ not_a_request o packet e h =
 taken_of_packet : (past : List Event) (life : Life) (i : ℕ) (waiting : Option Sending) (place clock : ℕ) (s : Statement) (there : Option Packet) → slice_get (packets_of past) place ≡ there → stated_in past life i waiting clock there ≡ Some s → IsTaken past life i waiting (Deliver place clock) s
 taken_of_packet past life i waiting place clock s None e h = absurd cc
 taken_of_packet past life i waiting place clock s (Some packet) e h =
-    let mine = only_if (is_of past life (machine_of_packet packet) && eqb (source_of_packet packet) i) (result_ok (statement_of_message life.machine i waiting clock (read_of (bytes_of packet)))) s h in
+    let mine = only_if (is_of past life (machine_of_packet packet) && eqb (source_of_packet packet) i) (result_ok (statement_of_message life.machine life.number i waiting clock (read_of2 (bytes_of packet)))) s h in
     let here = and_parts (is_of past life (machine_of_packet packet)) (eqb (source_of_packet packet) i) mine.0 in
     let same : life_at past (machine_of_packet packet) ≡ life = same_life-true (life_at past (machine_of_packet packet)) life here.0 in
-    let facts = said life i waiting clock (read_of (bytes_of packet)) s mine.1 in
+    let facts = said life i waiting clock (read_of2 (bytes_of packet)) s mine.1 in
     record {
       place = place;
       packet = packet;
@@ -114,7 +118,7 @@ taken_of_packet past life i waiting place clock s (Some packet) e h =
       machine = same;
       reading = ap (λ (o : Option Packet). option_map (λ (p : Packet). record { life = life_at past (machine_of_packet p); clock = clock }) o) e ∙ ap (λ (k : Life). reading_on k clock) same ∙ ap (λ (c : ℕ). reading_on life c) (sym facts.got);
       not_asked = not_a_request (slice_get (packets_of past) place) packet e;
-      is_said = subst (λ (c : ℕ). IsSaid life i waiting c (read_of (bytes_of packet)) s) (sym facts.got) facts;
+      is_said = subst (λ (c : ℕ). IsSaid life i waiting c (read_of2 (bytes_of packet)) s) (sym facts.got) facts;
     }
 
 taken_of : (past : List Event) (life : Life) (i : ℕ) (waiting : Option Sending) (action : Action) (s : Statement) → stated_by past life i waiting action ≡ Some s → IsTaken past life i waiting action s
@@ -126,12 +130,12 @@ packet_put_after : (past : List Event) (event : Event) (life : Life) (i p : ℕ)
     cond (is_some stated) (delivered_by event.action) (packet_of_statement past life i) ≡ Some p → p < length (packets_of (event ∷ past))
 packet_put_after past event life i p None h old e =
     let before : p < length (packets_of past) = old e in
-    omega (arith, length-append (packets_of past) (put_by (sends_now past) (packets_of past) event.action))
+    omega (arith, length-append (packets_of past) (put_by (life_of past) (sends_now past) (packets_of past) event.action))
 packet_put_after past event life i p (Some s) h old e =
     let taken = taken_of past life i (outstanding past life i) event.action s h in
     let within : taken.place < length (packets_of past) = slice_get_within (packets_of past) taken.place taken.packet taken.there in
     let same : taken.place ≡ p = same_some taken.place p (delivered_by event.action) taken.delivers e in
-    omega (arith, length-append (packets_of past) (put_by (sends_now past) (packets_of past) event.action))
+    omega (arith, length-append (packets_of past) (put_by (life_of past) (sends_now past) (packets_of past) event.action))
   where
     same_some : (a b : ℕ) (o : Option ℕ) → o ≡ Some a → o ≡ Some b → a ≡ b
     same_some a b o h k = cc
@@ -192,14 +196,16 @@ stated_stays configs past event life i s good none old =
     }
 
 -- an honest packet that is read as an answer: its span held the true time, and it has the nonce of the answer or a later one
-honest_said : (past : List Event) (life : Life) (at : ℕ) (packet : Packet) (answer : PollAnswer) → IsHonest at packet → is_asked packet ≡ false → life_at past (machine_of_packet packet) ≡ life → read_of (bytes_of packet) ≡ Ok (says.Answer answer) → (answer.nonce ≤ nonce_of life packet) × Holds answer.span at
-honest_said past life at (Asked request) answer honest not_asked machine read = absurd cc
-honest_said past life at (Answered given) answer honest not_asked machine read =
-    let back = answer_back given answer honest.1 read in (
-      subst (λ (k : Life). answer.nonce ≤ cond (same_life (record { machine = given.machine; number = 1 }) k) given.nonce 0) (ap (λ (n : ℕ). record { machine = given.machine; number = n }) (sym (life_of-one past given.machine)) ∙ machine) (let own : same_life (record { machine = given.machine; number = 1 }) (record { machine = given.machine; number = 1 }) ≡ true = same_life-own (record { machine = given.machine; number = 1 }) in rw own back.nonce),
+honest_said : (past : List Event) (life : Life) (at : ℕ) (packet : Packet) (answer : PollAnswer2) → epoch_of packet < 2 ^ 64 → answer.epoch ≡ life.number → IsHonest at packet → is_asked packet ≡ false → life_at past (machine_of_packet packet) ≡ life → read_of2 (bytes_of packet) ≡ Ok (says.Answer answer) → (answer.nonce ≤ nonce_of life packet) × Holds answer.span at
+honest_said past life at (Asked request) answer fits epoch honest not_asked machine read = absurd cc
+honest_said past life at (Answered given) answer fits epoch honest not_asked machine read =
+    let back = answer_back given answer honest.1 read in
+    let here : eqb given.machine life.machine ≡ true = eq-eqb _ _ (ap (λ (k : Life). k.machine) machine) in
+    let now : eqb given.epoch life.number ≡ true = eq-eqb _ _ (sym (back.epoch fits) ∙ epoch) in (
+      rw (here, now) back.nonce,
       subst (λ (span : Interval). Holds span at) (sym back.span) honest.0,
     )
-honest_said past life at (Forged machine source payload) answer honest not_asked same read = absurd honest
+honest_said past life at (Forged machine source payload) answer fits epoch honest not_asked same read = absurd honest
 
 unless_answered : (b : Bool) (last : Option Sending) (sending : Sending) → cond b None last ≡ Some sending → last ≡ Some sending
 unless_answered true last sending h = absurd cc
@@ -227,7 +233,7 @@ stated_new configs past event life i s good all_good h =
           let from = has_origin configs past all_good valid.1 taken.place taken.packet taken.there in
           let lies : is_false_statement (event ∷ past) life i ≡ is_lie from.origin.at from.origin.action =
           ap (λ (o : Option ℕ). is_lying (option_and_then (origin_of (event ∷ past)) o)) place ∙ ap is_lying (origin-old past event taken.place within ∙ from.is) in
-          let honest = honest_said past life from.origin.at taken.packet said_so.answer (from.honest (sym lies ∙ honest_if)) (taken.not_asked good.packet_there) taken.machine said_so.says_so in
+          let honest = honest_said past life from.origin.at taken.packet said_so.answer (epochs_fit configs past all_good taken.place taken.packet taken.there) said_so.epoch (from.honest (sym lies ∙ honest_if)) (taken.not_asked good.packet_there) taken.machine said_so.says_so in
           record {
             sending = poll.sent_at;
             giving = from.origin.at;

@@ -5,7 +5,7 @@ use Rattle.std.proofs.lemmas.Bool.{and_parts, not-false}
 use Rattle.tt_source.specs.Fault.{number_of}
 use Rattle.tt_source.specs.Table.{TableState, poll_of}
 use Rattle.tt_source.specs.declared.faults.SourceFault.{SourceFault}
-use Rattle.tt_source.specs.declared.faults.SourceFault.TheVariants.{NoSource, ClockBack, NoncesUsedUp, BadMessage, NotMine, NotOutstanding}
+use Rattle.tt_source.specs.declared.faults.SourceFault.TheVariants.{NoSource, ClockBack, NoncesUsedUp, BadMessage, NotMine, OtherEpoch, NotOutstanding}
 use Rattle.tt_world.specs.Life.{life_at}
 use Rattle.tt_world.specs.declared.faults.WorldFault.TheVariants as bad
 use Rattle.tt_world.specs.declared.events.Event.{Event}
@@ -64,6 +64,7 @@ few_number ClockBack = omega arith
 few_number NoncesUsedUp = omega arith
 few_number BadMessage = omega arith
 few_number NotMine = omega arith
+few_number OtherEpoch = omega arith
 few_number NotOutstanding = omega arith
 
 -- the reply of a poll that was made is not to a bad event
@@ -144,9 +145,9 @@ module _ (configs : List Configuration) (past : List Event) (lasts : Lasts confi
   takes_if_good action good wants = elim (takes_or_has_room action) [
     | inl takes ↦ takes
     | inr other ↦
-      let did = stepped-state_of configs past (happens at action) (λ _. other.0) lasts
-      ∙ ap (judged (state_of configs past) (state_of configs (happens at action ∷ past)) (reply_to configs past action)) good in
-      other.1 _ (subst (WantsMemory action) (ap (λ (o : Outcome). o.reply) did) wants)
+        let did = stepped-state_of configs past (happens at action) (λ _. other.0) lasts
+        ∙ ap (judged (state_of configs past) (state_of configs (happens at action ∷ past)) (reply_to configs past action)) good in
+        other.1 _ (subst (WantsMemory action) (ap (λ (o : Outcome). o.reply) did) wants)
   ]
 
 pub memory_is_taken : (configs : List Configuration) (past : List Event) (event : Event) → WantsMemory event.action (stepped (state_of configs (accepted configs past)) event).reply → TakesMemory (reply_of configs past event)

@@ -1,5 +1,5 @@
 -- Whether a source is known, by what is kept.
-use Rattle.std.proofs.Common.{◌≡◌, ℕ, zero, suc, ◌<◌, ◌≤◌, Bool, true, false, ◌&&◌, List, [], ◌∷◌, length, get_or, is_some, slice_get, Some, inl, inr, refl, sym, ap, ◌∙◌, arith}
+use Rattle.std.proofs.Common.{◌≡◌, ℕ, zero, suc, ◌<◌, ◌≤◌, false, List, [], ◌∷◌, length, get_or, is_some, slice_get, Some, inl, inr, refl, sym, ap, ◌∙◌, arith}
 use Rattle.std.proofs.lemmas.Bool.{cases_lt, lt-ltb, le-ltb}
 use Rattle.std.proofs.lemmas.List.FromFn.{length-map-range_with_len}
 use Rattle.std.proofs.lemmas.Option.{same_Some, slice_get_within}
@@ -32,10 +32,10 @@ module _ (configs : List Configuration) (past : List Event) (world : WorldState)
       elim (cases_lt i config.sources) [
         | inl within ↦ inside within
         | inr beyond ↦
-          let none = le-ltb i config.sources beyond in
-          ap (λ (source : SourceState). is_some source.statement)
-          (get_or-past (machine_of config past (life_at past m)).table.sources i unknown (omega (arith, length-map-range_with_len (λ k. source_of past (life_at past m) k) 0 config.sources)))
-          ∙ (rw (named, none) refl)
+            let none = le-ltb i config.sources beyond in
+            ap (λ (source : SourceState). is_some source.statement)
+            (get_or-past (machine_of config past (life_at past m)).table.sources i unknown (omega (arith, length-map-range_with_len (λ k. source_of past (life_at past m) k) 0 config.sources)))
+            ∙ (rw (named, none) refl)
       ]
 
   -- what a machine that is there knows

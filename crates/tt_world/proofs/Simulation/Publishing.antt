@@ -1,5 +1,5 @@
 -- A machine that fuses keeps what its past says.
-use Rattle.std.proofs.Common.{◌≡◌, ℕ, ◌-◌, cond, ltb, List, ◌∷◌, ◌++◌, length, is_some, Result, Ok, Err, refl, sym, ap, ◌∙◌, append-nil, eq-eqb, ne_eqb}
+use Rattle.std.proofs.Common.{◌≡◌, ℕ, ◌-◌, cond, ltb, List, ◌∷◌, ◌++◌, length, is_some, Result, Ok, Err, refl, sym, ap, ◌∙◌, append-nil}
 use Rattle.std.specs.List.{range_with_len}
 use Rattle.tt_span.specs.Interval.{Interval}
 use Rattle.tt_source.specs.Table.{SourceState, stated_at, known_of as known_of_table}

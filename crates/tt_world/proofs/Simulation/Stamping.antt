@@ -6,6 +6,7 @@ use Rattle.std.proofs.lemmas.Bool.{cases_eq}
 use Rattle.tt_span.specs.Interval.{Interval}
 use Rattle.tt_stamp.specs.declared.faults.StampFault.{StampFault}
 use Rattle.tt_stamp.specs.Stamp.{stamp_of, greatest_of}
+use Rattle.tt_world.specs.Lease.{lease_of}
 use Rattle.tt_world.proofs.Simulation.Lives.{is_of-own, is_of-other}
 use Rattle.tt_world.specs.Life.{Life, life_at}
 use Rattle.tt_world.specs.declared.events.Event.{Event}
@@ -42,9 +43,9 @@ module _ (config : Configuration) (past : List Event) (at m w : ℕ) where
     abbrev with_task : Option Task → Worker → Worker
     with_task task worker = record worker { task = task }
 
-    module _ (made : Result ℕ StampFault) (is : stamp_of (stamps_of config past life) reading.hi a.floor ≡ made) where
+    module _ (made : Result ℕ StampFault) (is : stamp_of (stamps_of config past life) reading.hi a.floor (lease_of past m) ≡ made) where
       stamping_is : stamping_of config past life w ≡ Some made
-      stamping_is = ap₂ (stamping_after (stamps_of config past life)) asked since ∙ ap (λ (r : Result ℕ StampFault). Some r) is
+      stamping_is = ap₂ (stamping_after (stamps_of config past life) (lease_of past m)) asked since ∙ ap (λ (r : Result ℕ StampFault). Some r) is
 
       row_is : stamps_after config past life (stamps_of config past life) (Some w) ≡ with_stamp (stamps_of config past life) (stamp_given (Some made))
       row_is = ap (λ (o : Option (Result ℕ StampFault)). with_stamp (stamps_of config past life) (stamp_given o)) stamping_is
@@ -56,7 +57,7 @@ module _ (config : Configuration) (past : List Event) (at m w : ℕ) where
           ∙ ap (λ (b : Bool). task_if false (Some a) b (stamping_of config past life w)) (eq-eqb w w refl)
           ∙ ap (task_if false (Some a) true) stamping_is
 
-    workers_if_given : (s : ℕ) → stamp_of (stamps_of config past life) reading.hi a.floor ≡ Ok s
+    workers_if_given : (s : ℕ) → stamp_of (stamps_of config past life) reading.hi a.floor (lease_of past m) ≡ Ok s
         → set (map (λ v. worker_of config past life v) (range_with_len 0 config.workers)) w
         (with_task (Some (Stamped a.id s)) (get_or (map (λ v. worker_of config past life v) (range_with_len 0 config.workers)) w new_worker))
         ≡ map (λ v. worker_if_stamped config past life v (eqb w v) (stamping_of config past life v)) (range_with_len 0 config.workers)
@@ -70,7 +71,7 @@ module _ (config : Configuration) (past : List Event) (at m w : ℕ) where
     same_if_refused v e true = refl
     same_if_refused v e false = refl
 
-    workers_if_refused : (e : StampFault) → stamp_of (stamps_of config past life) reading.hi a.floor ≡ Err e
+    workers_if_refused : (e : StampFault) → stamp_of (stamps_of config past life) reading.hi a.floor (lease_of past m) ≡ Err e
         → map (λ v. worker_of config past life v) (range_with_len 0 config.workers)
         ≡ map (λ v. worker_if_stamped config past life v (eqb w v) (stamping_of config past life v)) (range_with_len 0 config.workers)
     workers_if_refused e is =
@@ -86,23 +87,23 @@ module _ (config : Configuration) (past : List Event) (at m w : ℕ) where
     abbrev replied : Option ℕ → List Worker → Reply → Turn
     replied row workers reply = record { machine = record (machine_of config past life) { row = row; workers = workers }; reply = reply }
 
-    stamp_turn-by : (made : Result ℕ StampFault) → stamp_of (stamps_of config past life) reading.hi a.floor ≡ made
+    stamp_turn-by : (made : Result ℕ StampFault) → stamp_of (stamps_of config past life) reading.hi a.floor (lease_of past m) ≡ made
         → stamp_turn (machine_of config past life) w a.id made
         ≡ record { machine = machine_if_stamped config past w life true; reply = stamping_reply (stamping_of config past life w) }
     stamp_turn-by (Ok s) is =
         ap₂ (λ (row : Option ℕ) (workers : List Worker). replied row workers (replies.Stamped s))
-        (sym (ap greatest_of (row_is (Ok s) is) ∙ greatest_of-given (stamps_of config past life) reading.hi a.floor s is)) (workers_if_given s is)
+        (sym (ap greatest_of (row_is (Ok s) is) ∙ greatest_of-given (stamps_of config past life) reading.hi a.floor (lease_of past m) s is)) (workers_if_given s is)
         ∙ ap (λ (reply : Reply). record { machine = machine_if_stamped config past w life true; reply = reply }) (sym (ap stamping_reply (stamping_is (Ok s) is)))
     stamp_turn-by (Err e) is =
         ap₂ (λ (row : Option ℕ) (workers : List Worker). replied row workers (stamping_reply (Some (Err e))))
         (sym (ap greatest_of (row_is (Err e) is))) (workers_if_refused e is)
         ∙ ap (λ (reply : Reply). record { machine = machine_if_stamped config past w life true; reply = reply }) (sym (ap stamping_reply (stamping_is (Err e) is)))
 
-    pub stamp_turn-machine_of : stamp_turn (machine_of config past life) w a.id (stamp_of (given_in (greatest_of (stamps_of config past life))) reading.hi a.floor)
+    pub stamp_turn-machine_of : stamp_turn (machine_of config past life) w a.id (stamp_of (given_in (greatest_of (stamps_of config past life))) reading.hi a.floor (lease_of past m))
         ≡ record { machine = machine_of config (happens at (Stamp m w) ∷ past) life; reply = stamping_reply (stamping_of config past life w) }
     stamp_turn-machine_of =
-        ap (stamp_turn (machine_of config past life) w a.id) (stamp_of-greatest (stamps_of config past life) reading.hi a.floor)
-        ∙ stamp_turn-by (stamp_of (stamps_of config past life) reading.hi a.floor) refl
+        ap (stamp_turn (machine_of config past life) w a.id) (stamp_of-greatest (stamps_of config past life) reading.hi a.floor (lease_of past m))
+        ∙ stamp_turn-by (stamp_of (stamps_of config past life) reading.hi a.floor (lease_of past m)) refl
         ∙ ap (λ (machine : MachineState). record { machine = machine; reply = stamping_reply (stamping_of config past life w) })
         (sym (machine_of-stamp config past at m w life ∙ ap (machine_if_stamped config past w life) (is_of-own past m)))
 

@@ -8,7 +8,7 @@ use Rattle.tt_span.specs.Time.{max_time}
 use Rattle.tt_span.specs.Interval.{Interval}
 use Rattle.tt_source.specs.Table.{poll_of}
 use Rattle.tt_stamp.specs.declared.commits.Id.{Id}
-use Rattle.tt_world.specs.Life.{Life, life_at}
+use Rattle.tt_world.specs.Life.{life_of, life_at}
 use Rattle.tt_world.specs.declared.faults.WorldFault.{WorldFault}
 use Rattle.tt_world.specs.declared.faults.WorldFault.TheVariants as bad
 use Rattle.tt_world.specs.declared.events.Event.{Event}
@@ -94,27 +94,27 @@ module _ (configs : List Configuration) (past : List Event) where
   -- after a machine's turn and what is shown of it the run has one more event
   with_shown-state_of : (at m : ℕ) (action : Action) (turn : Turn) → turn.machine ≡ machine_then at action m
       → ((j : ℕ) → (j ≡ m → ⊥) → machine_at j ≡ machine_then at action j)
-      → with_shown (after_turn (state_of configs past) at m turn (put_by (sends_now past) (packets_of past) action)) (shown_by configs past action)
+      → with_shown (after_turn (state_of configs past) at m turn (put_by (life_of past) (sends_now past) (packets_of past) action)) (shown_by configs past action)
       ≡ record { world = state_of configs (happens at action ∷ past); reply = turn.reply }
   with_shown-state_of at m action turn here others =
-      ap (λ (machines : List MachineState). made_of at (packets_of past ++ put_by (sends_now past) (packets_of past) action) machines (shown_of configs past ++ shown_by configs past action) turn.reply)
+      ap (λ (machines : List MachineState). made_of at (packets_of past ++ put_by (life_of past) (sends_now past) (packets_of past) action) machines (shown_of configs past ++ shown_by configs past action) turn.reply)
       (set-made machine_at (machine_then at action) (length configs) m turn.machine here others)
 
   -- after a machine's turn that shows nothing the run has one more event
   after_turn-state_of : (at m : ℕ) (action : Action) (turn : Turn) → turn.machine ≡ machine_then at action m
       → ((j : ℕ) → (j ≡ m → ⊥) → machine_at j ≡ machine_then at action j) → shown_by configs past action ≡ []
-      → after_turn (state_of configs past) at m turn (put_by (sends_now past) (packets_of past) action) ≡ record { world = state_of configs (happens at action ∷ past); reply = turn.reply }
+      → after_turn (state_of configs past) at m turn (put_by (life_of past) (sends_now past) (packets_of past) action) ≡ record { world = state_of configs (happens at action ∷ past); reply = turn.reply }
   after_turn-state_of at m action turn here others none =
-      ap (λ (shown : List Showing). made_of at (packets_of past ++ put_by (sends_now past) (packets_of past) action) (set (state_of configs past).machines m turn.machine) shown turn.reply)
+      ap (λ (shown : List Showing). made_of at (packets_of past ++ put_by (life_of past) (sends_now past) (packets_of past) action) (set (state_of configs past).machines m turn.machine) shown turn.reply)
       (same_shown action none)
       ∙ with_shown-state_of at m action turn here others
 
   -- after packets were put the run has one more event
   after_put-state_of : (at : ℕ) (action : Action) → ((j : ℕ) → machine_then at action j ≡ machine_at j) → shown_by configs past action ≡ []
-      → after_put (state_of configs past) at (put_by (sends_now past) (packets_of past) action)
+      → after_put (state_of configs past) at (put_by (life_of past) (sends_now past) (packets_of past) action)
       ≡ record { world = state_of configs (happens at action ∷ past); reply = replies.Put (length (packets_of past)) }
   after_put-state_of at action same none =
-      ap₂ (λ (machines : List MachineState) (shown : List Showing). made_of at (packets_of past ++ put_by (sends_now past) (packets_of past) action) machines shown (replies.Put (length (packets_of past))))
+      ap₂ (λ (machines : List MachineState) (shown : List Showing). made_of at (packets_of past ++ put_by (life_of past) (sends_now past) (packets_of past) action) machines shown (replies.Put (length (packets_of past))))
       (sym (map-same (machine_then at action) machine_at (length configs) same)) (same_shown action none)
 
   -- what an action makes, by the reason why it is bad

@@ -4,14 +4,14 @@ use Rattle.std.specs.List.{range_with_len}
 use Rattle.std.specs.Result.{result_ok}
 use Rattle.std.proofs.lemmas.Bool.{cases_eq}
 use Rattle.std.proofs.lemmas.List.FromFn.{length-map-range_with_len}
-use Rattle.tt_poll.specs.Reading.{read_of}
+use Rattle.tt_poll.specs.Reading.{read_of2}
 use Rattle.tt_poll.specs.declared.faults.PollFault.{PollFault}
-use Rattle.tt_poll.specs.declared.messages.Message.{Message}
+use Rattle.tt_poll.specs.declared.messages.Message2.{Message2}
 use Rattle.tt_source.specs.Statement.{Statement}
 use Rattle.tt_source.specs.Table.{SourceState, TableState, unknown, source_at, is_back, statement_of_message, after_statement, take_of}
 use Rattle.tt_source.specs.declared.faults.SourceFault.{SourceFault}
 use Rattle.tt_world.proofs.Simulation.Lives.{is_of-own, is_of-other}
-use Rattle.tt_world.specs.Life.{Life, life_at, is_of}
+use Rattle.tt_world.specs.Life.{Life, life_of, life_at, is_of}
 use Rattle.tt_world.specs.declared.events.Event.{Event}
 use Rattle.tt_world.specs.declared.events.Action.TheVariants.{Deliver}
 use Rattle.tt_world.specs.declared.packets.Packet.{Packet}
@@ -28,20 +28,20 @@ use Rattle.tt_world.proofs.Simulation.Waiting.{happens}
 use Rattle.tt_world.proofs.Simulation.Kept.{kept, after_delivery, machine_of-deliver, machine_if_delivered}
 
 pub take_of-taken : (table : TableState) (i clock : ℕ) (bytes : List ℕ) → ltb i (length table.sources) ≡ true → is_back table clock ≡ false
-    → take_of table i clock bytes ≡ after_statement table i clock (statement_of_message table.machine i (source_at table i).waiting clock (read_of bytes))
+    → take_of table i clock bytes ≡ after_statement table i clock (statement_of_message table.machine table.epoch i (source_at table i).waiting clock (read_of2 bytes))
 take_of-taken table i clock bytes there in_time = rw (there, in_time) refl
 
-module _ (config : Configuration) (past : List Event) (life : Life) (s clock : ℕ) (message : Result Message PollFault) where
+module _ (config : Configuration) (past : List Event) (life : Life) (s clock : ℕ) (message : Result Message2 PollFault) where
   -- what the message states for source i, if the poll of it waits
   abbrev stated_for : ℕ → Result Statement SourceFault
-  stated_for i = statement_of_message life.machine i (outstanding past life i) clock message
+  stated_for i = statement_of_message life.machine life.number i (outstanding past life i) clock message
 
   -- machine j after a message of source s of the machine, where here says whether it is in this life, and from whether a source is source s
   abbrev pub machine_if_reached : Life → Bool → (ℕ → Bool) → MachineState
   machine_if_reached j here from =
       kept (machine_of config past j) (sends_of past j)
-      (cond (is_some (cond (here && from s) (result_ok (statement_of_message j.machine s (outstanding past j s) clock message)) None)) clock (polled_clock_of past j))
-      (map (λ i. after_delivery config past (cond (here && from i) (result_ok (statement_of_message j.machine i (outstanding past j i) clock message)) None) (source_of past j i)) (range_with_len 0 config.sources))
+      (cond (is_some (cond (here && from s) (result_ok (statement_of_message j.machine j.number s (outstanding past j s) clock message)) None)) clock (polled_clock_of past j))
+      (map (λ i. after_delivery config past (cond (here && from i) (result_ok (statement_of_message j.machine j.number i (outstanding past j i) clock message)) None) (source_of past j i)) (range_with_len 0 config.sources))
       (cond here clock (clock_of past j)) (publications_of config past j)
 
   -- a source after the message, where from says whether it is the source that the message is from, which made this statement
@@ -99,12 +99,12 @@ module _ (config : Configuration) (past : List Event) (at k clock : ℕ) (p : Pa
 
   machine_of-reached : (j : Life)
       → machine_of config (happens at (Deliver k clock) ∷ past) j
-      ≡ machine_if_reached config past life (source_of_packet p) clock (read_of (bytes_of p)) j (is_of past j (machine_of_packet p)) (λ i. eqb (source_of_packet p) i)
+      ≡ machine_if_reached config past life (source_of_packet p) clock (read_of2 (bytes_of p)) j (is_of past j (machine_of_packet p)) (λ i. eqb (source_of_packet p) i)
   machine_of-reached j = machine_of-deliver config past at k clock j ∙ ap (machine_if_delivered config past clock j) is
 
   -- what the packet states, if the poll that waits is its own
   abbrev stated : Result Statement SourceFault
-  stated = statement_of_message (machine_of_packet p) (source_of_packet p) (outstanding past life (source_of_packet p)) clock (read_of (bytes_of p))
+  stated = statement_of_message (machine_of_packet p) (life_of past (machine_of_packet p)) (source_of_packet p) (outstanding past life (source_of_packet p)) clock (read_of2 (bytes_of p))
 
   pub take_turn-take_of : source_of_packet p < config.sources → is_back (machine_of config past life).table clock ≡ false
       → take_turn (machine_of config past life) clock (take_of (machine_of config past life).table (source_of_packet p) clock (bytes_of p))
@@ -116,13 +116,13 @@ module _ (config : Configuration) (past : List Event) (at k clock : ℕ) (p : Pa
       let known : get_or machine.table.sources s unknown ≡ source_of past life s = get_or-made (λ i. source_of past life i) config.sources s unknown there in
       let length_is : ltb s (length machine.table.sources) ≡ true = lt-ltb s _ (omega (arith, length-map-range_with_len (λ i. source_of past life i) 0 config.sources)) in
       ap (take_turn machine clock) (take_of-taken machine.table s clock (bytes_of p) length_is in_time)
-      ∙ ap (λ (source : SourceState). take_turn machine clock (after_statement machine.table s clock (statement_of_message m s source.waiting clock (read_of (bytes_of p))))) known
-      ∙ take_turn-by config past life s clock (read_of (bytes_of p)) stated refl
-      ∙ ap (λ (b : Bool). record { machine = machine_if_reached config past life s clock (read_of (bytes_of p)) life b (λ i. eqb s i); reply = delivery_reply stated }) (sym (is_of-own past m))
+      ∙ ap (λ (source : SourceState). take_turn machine clock (after_statement machine.table s clock (statement_of_message m (life_of past m) s source.waiting clock (read_of2 (bytes_of p))))) known
+      ∙ take_turn-by config past life s clock (read_of2 (bytes_of p)) stated refl
+      ∙ ap (λ (b : Bool). record { machine = machine_if_reached config past life s clock (read_of2 (bytes_of p)) life b (λ i. eqb s i); reply = delivery_reply stated }) (sym (is_of-own past m))
       ∙ ap (λ (t : MachineState). record { machine = t; reply = delivery_reply stated }) (sym (machine_of-reached life))
 
   pub machine_of-deliver_other : (j : ℕ) → (j ≡ machine_of_packet p → ⊥) → machine_of config past (life_at past j) ≡ machine_of config (happens at (Deliver k clock) ∷ past) (life_at past j)
   machine_of-deliver_other j other =
       sym (machine_of-reached (life_at past j)
-      ∙ ap (λ (b : Bool). machine_if_reached config past life (source_of_packet p) clock (read_of (bytes_of p)) (life_at past j) b (λ i. eqb (source_of_packet p) i))
+      ∙ ap (λ (b : Bool). machine_if_reached config past life (source_of_packet p) clock (read_of2 (bytes_of p)) (life_at past j) b (λ i. eqb (source_of_packet p) i))
       (is_of-other past (machine_of_packet p) j other))

@@ -46,12 +46,12 @@ returns-clause-no_fusion_refused c =
 pub returns-clause-stamps_are_least : goal.returns-clause-stamps_are_least
 returns-clause-stamps_are_least c =
     subst (λ (rs : List Reply). StampsAreLeast c.args.configs.now c.args.events.now rs) (sym (told c))
-    (stamps-least c.stamp_laws.ensures c.args.configs.now c.args.events.now c.in_ok-world.ensures.valid)
+    (stamps-least c.stamp_laws.ensures.answer c.args.configs.now c.args.events.now c.in_ok-world.ensures.valid)
 
 pub returns-clause-externally_consistent : goal.returns-clause-externally_consistent
 returns-clause-externally_consistent c =
     subst (λ (rs : List Reply). ExternallyConsistent c.args.configs.now c.args.events.now rs) (sym (told c))
-    (externally-consistent (laws c) c.stamp_laws.ensures c.args.configs.now c.args.events.now c.in_ok-world.ensures.valid (known c))
+    (externally-consistent (laws c) c.stamp_laws.ensures.answer c.args.configs.now c.args.events.now c.in_ok-world.ensures.valid (known c))
 
 pub returns-clause-shown : goal.returns-clause-shown
 returns-clause-shown c =

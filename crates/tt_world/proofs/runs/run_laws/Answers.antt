@@ -16,7 +16,7 @@ laws c = record { found_slowly = c.fusion_laws.ensures.found_slowly; none_slowly
 pub returns : goal.returns
 returns c = record {
   readings_hold = λ configs events configurations can_be. readings-hold (laws c) configs events configurations can_be;
-  externally_consistent = λ configs events configurations can_be. externally-consistent (laws c) c.stamp_laws.ensures configs events configurations can_be;
+  externally_consistent = λ configs events configurations can_be. externally-consistent (laws c) c.stamp_laws.ensures.answer configs events configurations can_be;
   breaches = meets-no_breach;
   accepted = accepted-reply;
   taken = taken-makes;
