@@ -15,7 +15,7 @@ use crate::configs::Config;
 use crate::faults::DaemonFault;
 use crate::fusions::Fused;
 use std::marker::Model;
-use tt_fuse::{MAX_SOURCES, fusion_laws};
+use tt_fuse::{MAX_SOURCES, SortedEnds, fusion_laws};
 use tt_poll::REQUEST2_LEN;
 use tt_source::{SourceFault, Table};
 use tt_span::Span;
@@ -187,10 +187,10 @@ impl Daemon {
             (λ e. (e ≡ DaemonFault.NoPoint) × (slow_fusion (spans_of self.now clock) self.now.config.faulty ≡ None)) }
     {
         fusion_laws();
-        let spans = self.spans_at(clock);
-        Fused::make(clock, &spans[..self.table.sources()], self.config.faulty())
-            .ok()
-            .ok_or(DaemonFault::NoPoint)
+        let all = self.spans_at(clock);
+        let spans = &all[..self.table.sources()];
+        let ends = SortedEnds::of(spans);
+        Fused::of(clock, spans, &ends, self.config.faulty()).ok_or(DaemonFault::NoPoint)
     }
 
     /// The spans of all sources at a clock reading, in front.

@@ -1,6 +1,7 @@
 -- One event makes of what a run has left what the definitions say.
 pub mod Fresh
 pub mod Fused
+pub mod Lives
 pub mod Turns
 pub mod Passing
 pub mod Ranges

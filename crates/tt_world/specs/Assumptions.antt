@@ -5,6 +5,7 @@ use Rattle.std.specs.Option.{option_and_then, option_or}
 use Rattle.tt_span.specs.Drift.{Moment, KeepsDrift, distance, widening}
 use Rattle.tt_world.specs.declared.breaches.Breach.{Breach}
 use Rattle.tt_world.specs.declared.breaches.Breach.TheVariants.{Drift, FalseStatements}
+use Rattle.tt_world.specs.Life.{Life, life_at}
 use Rattle.tt_world.specs.declared.events.Event.{Event}
 use Rattle.tt_world.specs.declared.events.Action.{Action}
 use Rattle.tt_world.specs.declared.events.Action.TheVariants.{Answer, Forge, Deliver, Fuse}
@@ -27,12 +28,12 @@ abbrev pub delivered_by : Action → Option ℕ
 delivered_by (Deliver packet clock) = Some packet
 delivered_by _ = None
 
--- the packet that made the statement of source i on machine m, if there is a statement
-abbrev pub packet_of_statement : List Event → ℕ → ℕ → Option ℕ
-packet_of_statement [] m i = None
-packet_of_statement (event ∷ past) m i =
-    if is_some (stated_by (packets_of past) m i (outstanding past m i) event.action) then delivered_by event.action
-    else packet_of_statement past m i
+-- the packet that made the statement of source i in this life, if there is a statement
+abbrev pub packet_of_statement : List Event → Life → ℕ → Option ℕ
+packet_of_statement [] life i = None
+packet_of_statement (event ∷ past) life i =
+    if is_some (stated_by past life i (outstanding past life i) event.action) then delivered_by event.action
+    else packet_of_statement past life i
 
 -- whether an action at a true time puts a lie on its way: bytes that were made up, or an answer whose span does not hold that time
 abbrev pub is_lie : ℕ → Action → Bool
@@ -45,17 +46,17 @@ abbrev pub is_lying : Option Event → Bool
 is_lying None = false
 is_lying (Some event) = is_lie event.at event.action
 
--- whether the statement of source i on machine m is false
-abbrev pub is_false_statement : List Event → ℕ → ℕ → Bool
-is_false_statement past m i = is_lying (option_and_then (origin_of past) (packet_of_statement past m i))
+-- whether the statement of source i in this life is false
+abbrev pub is_false_statement : List Event → Life → ℕ → Bool
+is_false_statement past life i = is_lying (option_and_then (origin_of past) (packet_of_statement past life i))
 
--- how many statements of machine m are false
-abbrev pub false_count : Configuration → List Event → ℕ → ℕ
-false_count config past m = count_by (λ i. is_false_statement past m i) (range_with_len 0 config.sources)
+-- how many statements of this life are false
+abbrev pub false_count : Configuration → List Event → Life → ℕ
+false_count config past life = count_by (λ i. is_false_statement past life i) (range_with_len 0 config.sources)
 
 -- where an action fuses, no more statements of that machine are false than may be
 abbrev pub HasFewFalse : List Configuration → List Event → Action → Type 0
-HasFewFalse configs past (Fuse machine clock) = false_count (config_at configs machine) past machine ≤ (config_at configs machine).faulty
+HasFewFalse configs past (Fuse machine clock) = false_count (config_at configs machine) past (life_at past machine) ≤ (config_at configs machine).faulty
 HasFewFalse configs past _ = Unit {0}
 
 -- at every fusion that was not bad few statements were false
@@ -63,9 +64,9 @@ abbrev pub FewLie : List Configuration → List Event → Type 0
 FewLie configs [] = Unit {0}
 FewLie configs (event ∷ past) = HasFewFalse configs past event.action × FewLie configs past
 
--- the clock of each machine keeps its drift bound over all its moments
+-- the clock of each machine keeps its drift bound over all moments of a life
 abbrev pub ClocksKeepDrift : List Configuration → List Event → Type 0
-ClocksKeepDrift configs past = (m : ℕ) → m < length configs → KeepsDrift (config_at configs m).drift (moments_of past m)
+ClocksKeepDrift configs past = (life : Life) → life.machine < length configs → KeepsDrift (config_at configs life.machine).drift (moments_of past life)
 
 -- the assumptions, over a list of events, bad ones among them, the newest first
 pub record MeetsAssumptions (configs : List Configuration) (past : List Event) : Type 0 where
@@ -83,13 +84,13 @@ agrees_with_all ppm moment (other ∷ others) =
 abbrev pub drift_breach : List Configuration → List Event → ℕ → Option ClockReading → Option Breach
 drift_breach configs past at None = None
 drift_breach configs past at (Some reading) =
-    if agrees_with_all (config_at configs reading.machine).drift (record { clock = reading.clock; time = at }) (moments_of past reading.machine) then None
-    else Some (Drift reading.machine)
+    if agrees_with_all (config_at configs reading.life.machine).drift (record { clock = reading.clock; time = at }) (moments_of past reading.life) then None
+    else Some (Drift reading.life.machine)
 
 -- the machine that fuses too many false statements in an action, if one does
 abbrev pub falsity_breach : List Configuration → List Event → Action → Option Breach
 falsity_breach configs past (Fuse machine clock) =
-    if nat_le (false_count (config_at configs machine) past machine) (config_at configs machine).faulty then None else Some (FalseStatements machine)
+    if nat_le (false_count (config_at configs machine) past (life_at past machine)) (config_at configs machine).faulty then None else Some (FalseStatements machine)
 falsity_breach configs past _ = None
 
 -- the first assumption that an event breaks after a list of events, bad ones among them: the drift bound first, then that few statements are false; a bad event breaks none
@@ -97,7 +98,7 @@ abbrev pub breach_of : List Configuration → List Event → Event → Option Br
 breach_of configs past event =
     let before = accepted configs past in
     if is_some (first_bad configs before event) then None
-    else option_or (drift_breach configs before event.at (clock_reading (packets_of before) event.action)) (falsity_breach configs before event.action)
+    else option_or (drift_breach configs before event.at (clock_reading before event.action)) (falsity_breach configs before event.action)
 
 -- none of the events breaks an assumption
 abbrev pub NoBreach : List Configuration → List Event → Type 0

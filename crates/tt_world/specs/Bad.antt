@@ -3,6 +3,7 @@ use Rattle.std.specs.Prelude.{ℕ, ◌==◌, ◌&&◌, ◌||◌, not, nat_lt, Bo
 use Rattle.tt_span.specs.Time.{max_time}
 use Rattle.tt_world.specs.declared.faults.WorldFault.{WorldFault}
 use Rattle.tt_world.specs.declared.faults.WorldFault.TheVariants as bad
+use Rattle.tt_world.specs.Life.{Life, life_at}
 use Rattle.tt_world.specs.declared.events.Event.{Event}
 use Rattle.tt_world.specs.declared.events.Action.{Action}
 use Rattle.tt_world.specs.declared.events.Action.TheVariants.{Send, Answer, Forge, Deliver, Fuse, Read, Arrive, Stamp, Queue, Release}
@@ -57,10 +58,10 @@ lacks_packet packets (Answer packet span) = not (is_request (slice_get packets p
 lacks_packet packets (Deliver packet clock) = not (can_be_delivered (slice_get packets packet))
 lacks_packet packets _ = false
 
--- a reading of a clock that went back, where clocks says what each clock showed last, or one past the greatest time
-abbrev pub goes_back : (ℕ → ℕ) → Option ClockReading → Bool
+-- a reading of a clock that went back, where clocks says what each clock showed last in each life, or one past the greatest time
+abbrev pub goes_back : (Life → ℕ) → Option ClockReading → Bool
 goes_back clocks None = false
-goes_back clocks (Some reading) = nat_lt reading.clock (clocks reading.machine) || nat_lt max_time reading.clock
+goes_back clocks (Some reading) = nat_lt reading.clock (clocks reading.life) || nat_lt max_time reading.clock
 
 -- publication k of so many can't be read by a worker that has read from publication seen
 abbrev pub is_unreadable : ℕ → ℕ → ℕ → Bool
@@ -69,7 +70,7 @@ is_unreadable publications seen k = k == 0 || nat_lt publications k || nat_lt k 
 -- the event reads from a publication that is not there, or older than one that its worker has read from
 abbrev pub lacks_publication : List Configuration → List Event → Action → Bool
 lacks_publication configs past (Read machine worker clock publication) =
-    is_unreadable (length (publications_of (config_at configs machine) past machine)) (seen_of past machine worker) publication
+    is_unreadable (length (publications_of (config_at configs machine) past (life_at past machine))) (seen_of past (life_at past machine) worker) publication
 lacks_publication configs past _ = false
 
 -- a task is there and has no stamp yet
@@ -87,10 +88,10 @@ is_stamped (Some (Stamped id stamp)) = true
 -- the event wants a task or a reading of its worker that is not there: to stamp, a task without a stamp and a reading since the worker was asked for it; to queue, a task with a stamp; to release, any reading
 abbrev pub lacks_its_thing : List Configuration → List Event → Action → Bool
 lacks_its_thing configs past (Stamp machine worker) =
-    not (is_arrived (task_of (config_at configs machine) past machine worker))
-    || not (is_some (reading_since (config_at configs machine) past machine worker))
-lacks_its_thing configs past (Queue machine worker) = not (is_stamped (task_of (config_at configs machine) past machine worker))
-lacks_its_thing configs past (Release machine worker) = not (is_some (reading_of (config_at configs machine) past machine worker))
+    not (is_arrived (task_of (config_at configs machine) past (life_at past machine) worker))
+    || not (is_some (reading_since (config_at configs machine) past (life_at past machine) worker))
+lacks_its_thing configs past (Queue machine worker) = not (is_stamped (task_of (config_at configs machine) past (life_at past machine) worker))
+lacks_its_thing configs past (Release machine worker) = not (is_some (reading_of (config_at configs machine) past (life_at past machine) worker))
 lacks_its_thing configs past _ = false
 
 -- true time falls, or passes the greatest time
@@ -103,7 +104,7 @@ first_bad configs past event =
     if breaks_time past event then Some bad.TimeBack
     else if names_unknown configs event.action then Some bad.UnknownNumber
     else if lacks_packet (packets_of past) event.action then Some bad.NoPacket
-    else if goes_back (clock_of past) (clock_reading (packets_of past) event.action) then Some bad.ClockBack
+    else if goes_back (clock_of past) (clock_reading past event.action) then Some bad.ClockBack
     else if lacks_publication configs past event.action then Some bad.NoPublication
     else if lacks_its_thing configs past event.action then Some bad.NothingThere
     else None

@@ -1,7 +1,7 @@
 -- What the workers of each machine were asked to commit, and what became of it, searched back. Each list has the newest event first, and only events that were not bad.
 use Rattle.std.specs.Prelude.{ℕ, ◌==◌, ◌&&◌, ◌||◌, not, Bool, false, if◌then◌else◌, List, [], ◌∷◌, is_some, Option, Some, None, Result, Ok, Err}
 use Rattle.std.specs.Option.{option_or}
-use Rattle.tt_span.specs.Interval.{Interval, whole}
+use Rattle.tt_span.specs.Interval.{Interval}
 use Rattle.tt_stamp.specs.declared.commits.Receipt.{Receipt}
 use Rattle.tt_stamp.specs.declared.commits.Entry.{Entry}
 use Rattle.tt_stamp.specs.declared.commits.Entry.TheVariants.{Queued}
@@ -9,6 +9,8 @@ use Rattle.tt_stamp.specs.declared.faults.StampFault.{StampFault}
 use Rattle.tt_stamp.specs.declared.faults.BookFault.{BookFault}
 use Rattle.tt_stamp.specs.Stamp.{stamp_of}
 use Rattle.tt_stamp.specs.History.{waiting_of, release_of, with_receipts, first_queue_fault}
+use Rattle.tt_world.specs.Lease.{lease_of}
+use Rattle.tt_world.specs.Life.{Life, is_of}
 use Rattle.tt_world.specs.declared.events.Event.{Event}
 use Rattle.tt_world.specs.declared.events.Action.{Action}
 use Rattle.tt_world.specs.declared.events.Action.TheVariants.{Read, Arrive, Stamp, Queue, Release}
@@ -18,39 +20,39 @@ use Rattle.tt_world.specs.declared.workers.Task.TheVariants.{Arrived, Stamped}
 use Rattle.tt_daemon.specs.Config.{Configuration}
 use Rattle.tt_world.specs.Publications.{publications_of, publication_at, reading_at}
 
--- the commit that an event asks worker w of machine m for, if it does
-abbrev pub arrived_by : ℕ → ℕ → Action → Option Arrival
-arrived_by m w (Arrive machine worker id floor) = if machine == m && worker == w then Some (record { id = id; floor = floor }) else None
-arrived_by m w _ = None
+-- the commit that an event asks worker w of this life for, if it does
+abbrev pub arrived_by : List Event → Life → ℕ → Action → Option Arrival
+arrived_by past life w (Arrive machine worker id floor) = if is_of past life machine && worker == w then Some (record { id = id; floor = floor }) else None
+arrived_by past life w _ = None
 
--- the last commit that worker w of machine m was asked for
-abbrev pub arrival_of : List Event → ℕ → ℕ → Option Arrival
-arrival_of [] m w = None
-arrival_of (event ∷ past) m w = option_or (arrived_by m w event.action) (arrival_of past m w)
+-- the last commit that worker w of this life was asked for
+abbrev pub arrival_of : List Event → Life → ℕ → Option Arrival
+arrival_of [] life w = None
+arrival_of (event ∷ past) life w = option_or (arrived_by past life w event.action) (arrival_of past life w)
 
--- the reading that worker w of machine m takes in an event after this past, if it does
-abbrev pub read_by : Configuration → List Event → ℕ → ℕ → Action → Option Interval
-read_by config past m w (Read machine worker clock publication) =
-    if machine == m && worker == w then Some (reading_at config.drift (publication_at (publications_of config past m) publication) clock) else None
-read_by config past m w _ = None
+-- the reading that worker w of this life takes in an event after this past, if it does
+abbrev pub read_by : Configuration → List Event → Life → ℕ → Action → Option Interval
+read_by config past life w (Read machine worker clock publication) =
+    if is_of past life machine && worker == w then Some (reading_at config.drift (publication_at (publications_of config past life) publication) clock) else None
+read_by config past life w _ = None
 
--- the last reading of worker w of machine m
-abbrev pub reading_of : Configuration → List Event → ℕ → ℕ → Option Interval
-reading_of config [] m w = None
-reading_of config (event ∷ past) m w = option_or (read_by config past m w event.action) (reading_of config past m w)
+-- the last reading of worker w of this life
+abbrev pub reading_of : Configuration → List Event → Life → ℕ → Option Interval
+reading_of config [] life w = None
+reading_of config (event ∷ past) life w = option_or (read_by config past life w event.action) (reading_of config past life w)
 
--- the last reading of worker w of machine m, if it is later than the last commit that the worker was asked for
-abbrev pub reading_since : Configuration → List Event → ℕ → ℕ → Option Interval
-reading_since config [] m w = None
-reading_since config (event ∷ past) m w =
-    if is_some (arrived_by m w event.action) then None
-    else option_or (read_by config past m w event.action) (reading_since config past m w)
+-- the last reading of worker w of this life, if it is later than the last commit that the worker was asked for
+abbrev pub reading_since : Configuration → List Event → Life → ℕ → Option Interval
+reading_since config [] life w = None
+reading_since config (event ∷ past) life w =
+    if is_some (arrived_by past life w event.action) then None
+    else option_or (read_by config past life w event.action) (reading_since config past life w)
 
--- the stamp of a commit by a reading after these stamps were given, or its refusal, if there is a commit and a reading
-abbrev pub stamping_after : List ℕ → Option Arrival → Option Interval → Option (Result ℕ StampFault)
-stamping_after given None reading = None
-stamping_after given (Some arrival) None = None
-stamping_after given (Some arrival) (Some reading) = Some (stamp_of given reading.hi arrival.floor whole)
+-- the stamp of a commit by a reading within this lease after these stamps were given, or its refusal, if there is a commit and a reading
+abbrev pub stamping_after : List ℕ → Interval → Option Arrival → Option Interval → Option (Result ℕ StampFault)
+stamping_after given lease None reading = None
+stamping_after given lease (Some arrival) None = None
+stamping_after given lease (Some arrival) (Some reading) = Some (stamp_of given reading.hi arrival.floor lease)
 
 -- the stamp that was given, if one was
 abbrev pub stamp_given : Option (Result ℕ StampFault) → Option ℕ
@@ -58,43 +60,43 @@ stamp_given None = None
 stamp_given (Some (Err fault)) = None
 stamp_given (Some (Ok stamp)) = Some stamp
 
--- the worker of machine m whose commit an event stamps, if it does
-abbrev pub stamping_worker : ℕ → Action → Option ℕ
-stamping_worker m (Stamp machine worker) = if machine == m then Some worker else None
-stamping_worker m _ = None
+-- the worker of this life whose commit an event stamps, if it does
+abbrev pub stamping_worker : List Event → Life → Action → Option ℕ
+stamping_worker past life (Stamp machine worker) = if is_of past life machine then Some worker else None
+stamping_worker past life _ = None
 
 -- the stamps with the one that was given, if one was
 abbrev pub with_stamp : List ℕ → Option ℕ → List ℕ
 with_stamp given None = given
 with_stamp given (Some stamp) = stamp ∷ given
 
--- the stamps of machine m once this worker's commit was stamped after them
-abbrev pub stamps_after : Configuration → List Event → ℕ → List ℕ → Option ℕ → List ℕ
-stamps_after config past m given None = given
-stamps_after config past m given (Some w) =
-    with_stamp given (stamp_given (stamping_after given (arrival_of past m w) (reading_since config past m w)))
+-- the stamps of this life once this worker's commit was stamped after them
+abbrev pub stamps_after : Configuration → List Event → Life → List ℕ → Option ℕ → List ℕ
+stamps_after config past life given None = given
+stamps_after config past life given (Some w) =
+    with_stamp given (stamp_given (stamping_after given (lease_of past life.machine) (arrival_of past life w) (reading_since config past life w)))
 
--- all stamps that machine m has given, the newest first
-abbrev pub stamps_of : Configuration → List Event → ℕ → List ℕ
-stamps_of config [] m = []
-stamps_of config (event ∷ past) m = stamps_after config past m (stamps_of config past m) (stamping_worker m event.action)
+-- all stamps that this life has given, the newest first
+abbrev pub stamps_of : Configuration → List Event → Life → List ℕ
+stamps_of config [] life = []
+stamps_of config (event ∷ past) life = stamps_after config past life (stamps_of config past life) (stamping_worker past life event.action)
 
--- what the stamping of the last commit of worker w of machine m gives: the stamp by the last reading since the worker was asked for it, or the refusal
-abbrev pub stamping_of : Configuration → List Event → ℕ → ℕ → Option (Result ℕ StampFault)
-stamping_of config past m w = stamping_after (stamps_of config past m) (arrival_of past m w) (reading_since config past m w)
+-- what the stamping of the last commit of worker w of this life gives: the stamp by the last reading since the worker was asked for it, or the refusal
+abbrev pub stamping_of : Configuration → List Event → Life → ℕ → Option (Result ℕ StampFault)
+stamping_of config past life w = stamping_after (stamps_of config past life) (lease_of past life.machine) (arrival_of past life w) (reading_since config past life w)
 
--- whether an event stamps for worker w of machine m
-abbrev pub stamps_for : ℕ → ℕ → Action → Bool
-stamps_for m w (Stamp machine worker) = machine == m && worker == w
-stamps_for m w _ = false
+-- whether an event stamps for worker w of this life
+abbrev pub stamps_for : List Event → Life → ℕ → Action → Bool
+stamps_for past life w (Stamp machine worker) = is_of past life machine && worker == w
+stamps_for past life w _ = false
 
--- the stamp that was given to the last commit that worker w of machine m was asked for, if one was
-abbrev pub stamp_held : Configuration → List Event → ℕ → ℕ → Option ℕ
-stamp_held config [] m w = None
-stamp_held config (event ∷ past) m w =
-    if is_some (arrived_by m w event.action) then None
-    else if stamps_for m w event.action then option_or (stamp_given (stamping_of config past m w)) (stamp_held config past m w)
-    else stamp_held config past m w
+-- the stamp that was given to the last commit that worker w of this life was asked for, if one was
+abbrev pub stamp_held : Configuration → List Event → Life → ℕ → Option ℕ
+stamp_held config [] life w = None
+stamp_held config (event ∷ past) life w =
+    if is_some (arrived_by past life w event.action) then None
+    else if stamps_for past life w event.action then option_or (stamp_given (stamping_of config past life w)) (stamp_held config past life w)
+    else stamp_held config past life w
 
 -- the book's history once a commit with a stamp was queued, if there is one and nothing refuses it
 abbrev pub with_queued : List Entry → Option Arrival → Option ℕ → List Entry
@@ -108,18 +110,18 @@ abbrev pub released_with : List Entry → Option Interval → List Receipt
 released_with book None = []
 released_with book (Some reading) = release_of (waiting_of book) reading.lo
 
--- the history of machine m's book after an event that comes after this past and this history
-abbrev pub book_after : Configuration → List Event → ℕ → List Entry → Action → List Entry
-book_after config past m book (Queue machine worker) =
-    if machine == m then with_queued book (arrival_of past m worker) (stamp_held config past m worker) else book
-book_after config past m book (Release machine worker) =
-    if machine == m then with_receipts (released_with book (reading_of config past m worker)) book else book
-book_after config past m book _ = book
+-- the history of this life's book after an event that comes after this past and this history
+abbrev pub book_after : Configuration → List Event → Life → List Entry → Action → List Entry
+book_after config past life book (Queue machine worker) =
+    if is_of past life machine then with_queued book (arrival_of past life worker) (stamp_held config past life worker) else book
+book_after config past life book (Release machine worker) =
+    if is_of past life machine then with_receipts (released_with book (reading_of config past life worker)) book else book
+book_after config past life book _ = book
 
--- the history of machine m's book, the newest entry first
-abbrev pub book_of : Configuration → List Event → ℕ → List Entry
-book_of config [] m = []
-book_of config (event ∷ past) m = book_after config past m (book_of config past m) event.action
+-- the history of this life's book, the newest entry first
+abbrev pub book_of : Configuration → List Event → Life → List Entry
+book_of config [] life = []
+book_of config (event ∷ past) life = book_after config past life (book_of config past life) event.action
 
 -- why a commit with a stamp is not queued after this history, if there is such a commit
 abbrev pub queue_fault : List Entry → Option Arrival → Option ℕ → Option BookFault
@@ -127,22 +129,22 @@ queue_fault book None stamp = None
 queue_fault book (Some arrival) None = None
 queue_fault book (Some arrival) (Some stamp) = first_queue_fault book arrival.id stamp
 
--- why the last commit of worker w of machine m is not queued, if something refuses it
-abbrev pub queueing_of : Configuration → List Event → ℕ → ℕ → Option BookFault
-queueing_of config past m w = queue_fault (book_of config past m) (arrival_of past m w) (stamp_held config past m w)
+-- why the last commit of worker w of this life is not queued, if something refuses it
+abbrev pub queueing_of : Configuration → List Event → Life → ℕ → Option BookFault
+queueing_of config past life w = queue_fault (book_of config past life) (arrival_of past life w) (stamp_held config past life w)
 
--- whether an event queues for worker w of machine m
-abbrev pub queues_for : ℕ → ℕ → Action → Bool
-queues_for m w (Queue machine worker) = machine == m && worker == w
-queues_for m w _ = false
+-- whether an event queues for worker w of this life
+abbrev pub queues_for : List Event → Life → ℕ → Action → Bool
+queues_for past life w (Queue machine worker) = is_of past life machine && worker == w
+queues_for past life w _ = false
 
--- whether the last commit that worker w of machine m was asked for was queued
-abbrev pub is_queued : Configuration → List Event → ℕ → ℕ → Bool
-is_queued config [] m w = false
-is_queued config (event ∷ past) m w =
-    if is_some (arrived_by m w event.action) then false
-    else if queues_for m w event.action then (not (is_some (queueing_of config past m w)) || is_queued config past m w)
-    else is_queued config past m w
+-- whether the last commit that worker w of this life was asked for was queued
+abbrev pub is_queued : Configuration → List Event → Life → ℕ → Bool
+is_queued config [] life w = false
+is_queued config (event ∷ past) life w =
+    if is_some (arrived_by past life w event.action) then false
+    else if queues_for past life w event.action then (not (is_some (queueing_of config past life w)) || is_queued config past life w)
+    else is_queued config past life w
 
 -- a task by the commit that was asked for, and its stamp
 abbrev pub task_with : Option Arrival → Option ℕ → Option Task
@@ -150,6 +152,6 @@ task_with None stamp = None
 task_with (Some arrival) None = Some (Arrived arrival)
 task_with (Some arrival) (Some stamp) = Some (Stamped arrival.id stamp)
 
--- the task of worker w of machine m: the last commit that the worker was asked for, with its stamp if it has one; none once that was queued
-abbrev pub task_of : Configuration → List Event → ℕ → ℕ → Option Task
-task_of config past m w = if is_queued config past m w then None else task_with (arrival_of past m w) (stamp_held config past m w)
+-- the task of worker w of this life: the last commit that the worker was asked for, with its stamp if it has one; none once that was queued
+abbrev pub task_of : Configuration → List Event → Life → ℕ → Option Task
+task_of config past life w = if is_queued config past life w then None else task_with (arrival_of past life w) (stamp_held config past life w)

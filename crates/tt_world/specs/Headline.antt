@@ -1,9 +1,11 @@
 -- What a whole run promises: events, the oldest first, and the replies to them.
 use Rattle.std.specs.Prelude.{◌≡◌, ℕ, ◌+◌, ◌-◌, ◌<◌, ◌≤◌, List, ◌∷◌, ◌++◌, length, reverse, take, slice_get, All, Contains, Some, None}
-use Rattle.tt_span.specs.Interval.{Interval, IsInterval, Holds, whole}
+use Rattle.tt_span.specs.Interval.{Interval, IsInterval, Holds}
 use Rattle.tt_fuse.specs.Fusion.{IsFusion}
 use Rattle.tt_cert.specs.Valid.{IsCertificate}
 use Rattle.tt_cert.specs.Canonical.{IsCanonical}
+use Rattle.tt_world.specs.Lease.{lease_of}
+use Rattle.tt_world.specs.Life.{Life, life_at}
 use Rattle.tt_world.specs.declared.events.Event.{Event}
 use Rattle.tt_world.specs.declared.events.Action.{Action}
 use Rattle.tt_world.specs.declared.events.Action.TheVariants as does
@@ -47,7 +49,7 @@ FusionsAreShortest configs events replies =
     (before : List Event) (at m clock : ℕ) (after : List Event) (number : ℕ) (span : Interval) →
     events ≡ before ++ record { at = at; action = does.Fuse m clock } ∷ after →
     slice_get replies (length before) ≡ Some (Published number span) →
-    IsFusion (spans_of (config_at configs m) (accepted configs (reverse before)) m clock) (config_at configs m).faulty span
+    IsFusion (spans_of (config_at configs m) (accepted configs (reverse before)) (life_at (accepted configs (reverse before)) m) clock) (config_at configs m).faulty span
 
 -- every publication that is shown has the canonical certificate that its span is the fusion of its spans
 abbrev pub CertificatesProve : List Shown → Type 0
@@ -60,18 +62,19 @@ NoFusionRefused configs events replies =
     (before : List Event) (at m clock : ℕ) (after : List Event) →
     events ≡ before ++ record { at = at; action = does.Fuse m clock } ∷ after →
     first_bad configs (accepted configs (reverse before)) (record { at = at; action = does.Fuse m clock }) ≡ None →
-    (config_at configs m).sources - (config_at configs m).faulty ≤ known_of (config_at configs m) (accepted configs (reverse before)) m →
+    (config_at configs m).sources - (config_at configs m).faulty ≤ known_of (config_at configs m) (accepted configs (reverse before)) (life_at (accepted configs (reverse before)) m) →
     MeetsAssumptions configs (record { at = at; action = does.Fuse m clock } ∷ reverse before) →
     (number : ℕ) × (span : Interval) × (slice_get replies (length before) ≡ Some (Published number span))
 
--- a commit was asked for, its worker has read the time since, the floor is not too far above that reading's latest, and the stamp is the least that may be given to it by that reading, after the stamps that the machine has given
-pub record IsLeastFor (config : Configuration) (past : List Event) (m w s : ℕ) : Type 0 where
+-- a commit was asked for, its worker has read the time since, the floor is not too far above that reading's latest, and the stamp is the least that may be given to it by that reading and the lease, after the stamps that the machine has given in this life; it is within the lease
+pub record IsLeastFor (config : Configuration) (past : List Event) (life : Life) (w s : ℕ) : Type 0 where
   pub arrival : Arrival
   pub reading : Interval
-  pub asked : arrival_of past m w ≡ Some arrival
-  pub read_since : reading_since config past m w ≡ Some reading
+  pub asked : arrival_of past life w ≡ Some arrival
+  pub read_since : reading_since config past life w ≡ Some reading
   pub near : ¬ IsTooFar reading.hi arrival.floor
-  pub least : IsLeastStamp (stamps_of config past m) reading.hi arrival.floor whole s
+  pub least : IsLeastStamp (stamps_of config past life) reading.hi arrival.floor (lease_of past life.machine) s
+  pub in_lease : s ≤ (lease_of past life.machine).hi
 
 -- every stamp is the least that its rules allow, whatever the run
 abbrev pub StampsAreLeast : List Configuration → List Event → List Reply → Type 0
@@ -79,7 +82,7 @@ StampsAreLeast configs events replies =
     (before : List Event) (at m w : ℕ) (after : List Event) (s : ℕ) →
     events ≡ before ++ record { at = at; action = does.Stamp m w } ∷ after →
     slice_get replies (length before) ≡ Some (Stamped s) →
-    IsLeastFor (config_at configs m) (accepted configs (reverse before)) m w s
+    IsLeastFor (config_at configs m) (accepted configs (reverse before)) (life_at (accepted configs (reverse before)) m) w s
 
 -- event j asks worker w of machine m for a commit
 pub record IsArrival (events : List Event) (replies : List Reply) (m w j : ℕ) : Type 0 where

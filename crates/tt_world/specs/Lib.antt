@@ -1,5 +1,7 @@
 pub mod Config
 pub mod Packet
+pub mod Life
+pub mod Lease
 pub mod Past
 pub mod Sources
 pub mod Publications

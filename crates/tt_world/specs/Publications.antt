@@ -5,6 +5,7 @@ use Rattle.tt_span.specs.Interval.{Interval, whole}
 use Rattle.tt_span.specs.Drift.{aged}
 use Rattle.tt_source.specs.Table.{stated_at}
 use Rattle.tt_fuse.specs.Depth.{slow_fusion}
+use Rattle.tt_world.specs.Life.{Life, life_at, is_of}
 use Rattle.tt_world.specs.declared.events.Event.{Event}
 use Rattle.tt_world.specs.declared.events.Action.{Action}
 use Rattle.tt_world.specs.declared.events.Action.TheVariants.{Fuse, Read}
@@ -13,44 +14,44 @@ use Rattle.tt_daemon.specs.Config.{Configuration}
 use Rattle.tt_world.specs.Config.{config_at}
 use Rattle.tt_world.specs.Sources.{statement_of}
 
--- the spans of all sources of machine m at a clock reading; a source that has made no statement stands as the whole
-abbrev pub spans_of : Configuration → List Event → ℕ → ℕ → List Interval
-spans_of config past m clock = map (λ i. stated_at config.drift (statement_of past m i) clock) (range_with_len 0 config.sources)
+-- the spans of all sources of this life at a clock reading; a source that has made no statement stands as the whole
+abbrev pub spans_of : Configuration → List Event → Life → ℕ → List Interval
+spans_of config past life clock = map (λ i. stated_at config.drift (statement_of past life i) clock) (range_with_len 0 config.sources)
 
--- how many sources of machine m have made a statement
-abbrev pub known_of : Configuration → List Event → ℕ → ℕ
-known_of config past m = count_by (λ i. is_some (statement_of past m i)) (range_with_len 0 config.sources)
+-- how many sources of this life have made a statement
+abbrev pub known_of : Configuration → List Event → Life → ℕ
+known_of config past life = count_by (λ i. is_some (statement_of past life i)) (range_with_len 0 config.sources)
 
 -- a publication of the fusion, or refusal 504 where no time is possible
 abbrev pub published : ℕ → Option Interval → Result Publication ℕ
 published clock None = Err 504
 published clock (Some span) = Ok (record { clock = clock; span = span })
 
--- what machine m publishes when it fuses at a clock reading, or its refusal: 701 where too few sources are known, 504 where no time is possible
-abbrev pub fusion_of : Configuration → List Event → ℕ → ℕ → Result Publication ℕ
-fusion_of config past m clock =
-    if nat_lt (known_of config past m) (config.sources - config.faulty) then Err 701
-    else published clock (slow_fusion (spans_of config past m clock) config.faulty)
+-- what this life publishes when it fuses at a clock reading, or its refusal: 701 where too few sources are known, 504 where no time is possible
+abbrev pub fusion_of : Configuration → List Event → Life → ℕ → Result Publication ℕ
+fusion_of config past life clock =
+    if nat_lt (known_of config past life) (config.sources - config.faulty) then Err 701
+    else published clock (slow_fusion (spans_of config past life clock) config.faulty)
 
 -- the one publication that was made, or none
 abbrev pub one_if_made : Result Publication ℕ → List Publication
 one_if_made (Ok publication) = publication ∷ []
 one_if_made (Err number) = []
 
--- the clock reading at which an event fuses on machine m, if it does
-abbrev pub fuses_at : ℕ → Action → Option ℕ
-fuses_at m (Fuse machine clock) = if machine == m then Some clock else None
-fuses_at m _ = None
+-- the clock reading at which an event fuses in this life, if it does
+abbrev pub fuses_at : List Event → Life → Action → Option ℕ
+fuses_at past life (Fuse machine clock) = if is_of past life machine then Some clock else None
+fuses_at past life _ = None
 
 -- what a fusion at this clock reading publishes, if there is one
-abbrev pub published_at : Configuration → List Event → ℕ → Option ℕ → List Publication
-published_at config past m None = []
-published_at config past m (Some clock) = one_if_made (fusion_of config past m clock)
+abbrev pub published_at : Configuration → List Event → Life → Option ℕ → List Publication
+published_at config past life None = []
+published_at config past life (Some clock) = one_if_made (fusion_of config past life clock)
 
--- the publications of machine m, the oldest first: the first of them has number 1
-abbrev pub publications_of : Configuration → List Event → ℕ → List Publication
-publications_of config [] m = []
-publications_of config (event ∷ past) m = publications_of config past m ++ published_at config past m (fuses_at m event.action)
+-- the publications of this life, the oldest first: the first of them has number 1
+abbrev pub publications_of : Configuration → List Event → Life → List Publication
+publications_of config [] life = []
+publications_of config (event ∷ past) life = publications_of config past life ++ published_at config past life (fuses_at past life event.action)
 
 -- a publication with all that was fused: whose it is, its number there, the clock reading, the fused span, and the spans of which so many may be false
 pub record Showing : Type 0 where
@@ -71,7 +72,8 @@ showing_of m number spans faulty (Err refusal) = []
 abbrev pub shown_by : List Configuration → List Event → Action → List Showing
 shown_by configs past (Fuse machine clock) =
     let config = config_at configs machine in
-    showing_of machine (length (publications_of config past machine) + 1) (spans_of config past machine clock) config.faulty (fusion_of config past machine clock)
+    let life = life_at past machine in
+    showing_of machine (length (publications_of config past life) + 1) (spans_of config past life clock) config.faulty (fusion_of config past life clock)
 shown_by configs past _ = []
 
 -- the publications of all machines, in the order of their events
@@ -79,15 +81,15 @@ abbrev pub shown_of : List Configuration → List Event → List Showing
 shown_of configs [] = []
 shown_of configs (event ∷ past) = shown_of configs past ++ shown_by configs past event.action
 
--- the number of the publication that worker w of machine m reads from in an event, or before if it reads none there
-abbrev pub seen_by : ℕ → ℕ → Action → ℕ → ℕ
-seen_by m w (Read machine worker clock publication) before = if machine == m && worker == w then max publication before else before
-seen_by m w _ before = before
+-- the number of the publication that worker w of this life reads from in an event, or before if it reads none there
+abbrev pub seen_by : List Event → Life → ℕ → Action → ℕ → ℕ
+seen_by past life w (Read machine worker clock publication) before = if is_of past life machine && worker == w then max publication before else before
+seen_by past life w _ before = before
 
--- the greatest number of a publication that worker w of machine m has read from, 0 where it has read from none
-abbrev pub seen_of : List Event → ℕ → ℕ → ℕ
-seen_of [] m w = 0
-seen_of (event ∷ past) m w = seen_by m w event.action (seen_of past m w)
+-- the greatest number of a publication that worker w of this life has read from, 0 where it has read from none
+abbrev pub seen_of : List Event → Life → ℕ → ℕ
+seen_of [] life w = 0
+seen_of (event ∷ past) life w = seen_by past life w event.action (seen_of past life w)
 
 -- no machine has made this publication
 abbrev pub no_publication : Publication

@@ -8,6 +8,7 @@ use Rattle.tt_source.specs.declared.faults.SourceFault.{SourceFault}
 use Rattle.tt_stamp.specs.declared.faults.StampFault.{StampFault}
 use Rattle.tt_stamp.specs.declared.faults.BookFault.{BookFault}
 use Rattle.tt_stamp.specs.Fault.{number_of as stamp_number_of, book_number_of}
+use Rattle.tt_world.specs.Life.{Life, life_of, life_at}
 use Rattle.tt_world.specs.declared.events.Event.{Event}
 use Rattle.tt_world.specs.declared.events.Action.{Action}
 use Rattle.tt_world.specs.declared.events.Action.TheVariants as does
@@ -19,7 +20,7 @@ use Rattle.tt_world.specs.declared.publications.Publication.{Publication}
 use Rattle.tt_daemon.specs.Config.{Configuration}
 use Rattle.tt_world.specs.Config.{config_at}
 use Rattle.tt_world.specs.Packet.{machine_of_packet, source_of_packet, bytes_of}
-use Rattle.tt_world.specs.Past.{first_life, packets_of}
+use Rattle.tt_world.specs.Past.{packets_of}
 use Rattle.tt_world.specs.Sources.{stated_by, outstanding}
 use Rattle.tt_world.specs.Publications.{fusion_of, publications_of, publication_at, reading_at}
 use Rattle.tt_world.specs.Commits.{reading_of, stamping_of, queueing_of, book_of, released_with}
@@ -39,7 +40,7 @@ reply_to_packet past clock None = bad_reply bad.NoPacket
 reply_to_packet past clock (Some packet) =
     let m = machine_of_packet packet in
     let i = source_of_packet packet in
-    delivery_reply (statement_of_message m first_life i (outstanding past m i) clock (read_of2 (bytes_of packet)))
+    delivery_reply (statement_of_message m (life_of past m) i (outstanding past (life_at past m) i) clock (read_of2 (bytes_of packet)))
 
 -- the reply to a fusion, after so many publications
 abbrev pub fusion_reply : ℕ → Result Publication ℕ → Reply
@@ -64,14 +65,14 @@ reply_to configs past (does.Answer packet span) = Put (length (packets_of past))
 reply_to configs past (does.Forge machine source payload) = Put (length (packets_of past))
 reply_to configs past (does.Deliver packet clock) = reply_to_packet past clock (slice_get (packets_of past) packet)
 reply_to configs past (does.Fuse machine clock) =
-    fusion_reply (length (publications_of (config_at configs machine) past machine)) (fusion_of (config_at configs machine) past machine clock)
+    fusion_reply (length (publications_of (config_at configs machine) past (life_at past machine))) (fusion_of (config_at configs machine) past (life_at past machine) clock)
 reply_to configs past (does.Read machine worker clock publication) =
-    replies.Read (reading_at (config_at configs machine).drift (publication_at (publications_of (config_at configs machine) past machine) publication) clock)
+    replies.Read (reading_at (config_at configs machine).drift (publication_at (publications_of (config_at configs machine) past (life_at past machine)) publication) clock)
 reply_to configs past (does.Arrive machine worker id floor) = replies.Arrived
-reply_to configs past (does.Stamp machine worker) = stamping_reply (stamping_of (config_at configs machine) past machine worker)
-reply_to configs past (does.Queue machine worker) = queueing_reply (queueing_of (config_at configs machine) past machine worker)
+reply_to configs past (does.Stamp machine worker) = stamping_reply (stamping_of (config_at configs machine) past (life_at past machine) worker)
+reply_to configs past (does.Queue machine worker) = queueing_reply (queueing_of (config_at configs machine) past (life_at past machine) worker)
 reply_to configs past (does.Release machine worker) =
-    replies.Released (released_with (book_of (config_at configs machine) past machine) (reading_of (config_at configs machine) past machine worker))
+    replies.Released (released_with (book_of (config_at configs machine) past (life_at past machine)) (reading_of (config_at configs machine) past (life_at past machine) worker))
 
 -- the reply has the number of a reason why an event is bad
 abbrev pub IsBadReply : Reply → Type 0
@@ -108,4 +109,4 @@ abbrev pub MakesStatement : List Configuration → List Event → Event → Type
 MakesStatement configs past event =
     let before = accepted configs past in
     (first_bad configs before event ≡ None)
-    × ((m i : ℕ) × (statement : Statement) × (stated_by (packets_of before) m i (outstanding before m i) event.action ≡ Some statement))
+    × ((life : Life) × (i : ℕ) × (statement : Statement) × (stated_by before life i (outstanding before life i) event.action ≡ Some statement))

@@ -1,7 +1,7 @@
 -- What one event makes of what is kept, and the reply to it.
 use Rattle.std.specs.Prelude.{◌≡◌, ℕ, ◌+◌, ◌-◌, ◌^◌, ◌<◌, ◌||◌, not, nat_lt, Bool, if◌then◌else◌, List, [], ◌∷◌, ◌++◌, map, length, slice_get, slice_set, slice_index_or, Option, Some, None, Result, Ok, Err}
 use Rattle.tt_span.specs.Time.{max_time}
-use Rattle.tt_span.specs.Interval.{Interval, whole}
+use Rattle.tt_span.specs.Interval.{Interval}
 use Rattle.tt_source.specs.Fault.{number_of}
 use Rattle.tt_source.specs.Table.{TableState, poll_of, take_of, stated_at, known_of as known_of_table}
 use Rattle.tt_source.specs.declared.faults.SourceFault.{SourceFault}
@@ -31,7 +31,6 @@ use Rattle.tt_world.specs.Packet.{machine_of_packet, source_of_packet, bytes_of,
 use Rattle.tt_world.specs.Fault.{bad_reply}
 use Rattle.tt_world.specs.Reply.{IsBadReply, TakesMemory}
 use Rattle.tt_world.specs.Publications.{Showing, showing_of, published, reading_at}
-use Rattle.tt_world.specs.Past.{first_life}
 use Rattle.tt_world.specs.Bad.{is_unreadable}
 use Rattle.tt_world.specs.State.{MachineState, WorldState}
 
@@ -68,7 +67,7 @@ with_table machine clock table = record machine { table = table; clock = clock }
 abbrev pub after_poll : WorldState → ℕ → ℕ → ℕ → ℕ → MachineState → Result TableState SourceFault → Outcome
 after_poll world at m i clock machine (Ok table) =
     after_turn world at m (record { machine = with_table machine clock table; reply = replies.Sent (length world.packets) })
-    (Asked (record { machine = m; source = i; nonce = table.last; epoch = first_life }) ∷ [])
+    (Asked (record { machine = m; source = i; nonce = table.last; epoch = table.epoch }) ∷ [])
 after_poll world at m i clock machine (Err fault) =
     after_turn world at m (record { machine = record machine { clock = clock }; reply = replies.Refused (number_of fault) }) []
 
@@ -230,7 +229,7 @@ stamp_with world at m w machine None reading = refused world bad.NothingThere
 stamp_with world at m w machine (Some (tasks.Stamped id stamp)) reading = refused world bad.NothingThere
 stamp_with world at m w machine (Some (tasks.Arrived arrival)) None = refused world bad.NothingThere
 stamp_with world at m w machine (Some (tasks.Arrived arrival)) (Some reading) =
-    after_turn world at m (stamp_turn machine w arrival.id (stamp_of (given_in machine.row) reading.hi arrival.floor whole)) []
+    after_turn world at m (stamp_turn machine w arrival.id (stamp_of (given_in machine.row) reading.hi arrival.floor machine.lease)) []
 
 -- worker w of machine m, if it is there, stamps its task by its last reading since the arrival
 abbrev pub stamp_on : WorldState → ℕ → ℕ → ℕ → Option MachineState → Outcome

@@ -3,10 +3,10 @@
 ghost use Rattle.std.specs.Prelude.{◌≡◌, List, [], ℕ, ◌+◌, ◌++◌, ◌<◌, ◌≤◌, length, map, OnOk, OnErr, IfOk, IfErr, IsErrOf, IsOk, IsTrue, Some, None, Ok, Err};
 ghost use Rattle.std.specs.Vec.{vec_len, vec_capacity};
 ghost use Rattle.tt_span.specs.Time.{max_time};
-ghost use Rattle.tt_span.specs.Interval.{whole};
 ghost use Rattle.tt_source.specs.Table.{poll_of, take_of, is_known_of};
 ghost use Rattle.tt_daemon.specs.Config.{IsConfiguration};
 ghost use Rattle.tt_world.specs.Packet.{source_of_packet, bytes_of};
+ghost use Rattle.tt_world.specs.Life.{life_at};
 ghost use Rattle.tt_world.specs.State.{MachineState, IsMachine, machine_of};
 ghost use Rattle.tt_world.specs.Headline.{CertificatesProve};
 ghost use Rattle.tt_world.specs.Publications.{showing_of};
@@ -32,14 +32,13 @@ use tt_source::SourceFault;
 use tt_span::{MAX_TIME, Span};
 use tt_stamp::{Book, BookFault, Entry, Id, Receipt, Row, book_laws};
 
-/// The number of the life that every machine is in.
-pub const FIRST_LIFE: u64 = 1;
-
-/// One machine: its daemon, what its clock showed last, what it has published, the greatest stamp that it has given,
+/// One machine: its daemon, the number of its life, its lease, what its clock showed last, what it has published, the greatest stamp that it has given,
 /// the book of its commits, and its workers.
 #[derive(Drop)]
 pub struct Machine {
     daemon: Daemon,
+    life: u64,
+    lease: Span,
     clock: u64,
     publications: Vec<Publication>,
     row: Row,
@@ -50,27 +49,28 @@ pub struct Machine {
 impl Model for Machine {
     ghost use Rattle.std.specs.Prelude.{◌≡◌, ◌≤◌, length};
     ghost use Rattle.tt_span.specs.Time.{max_time};
-ghost use Rattle.tt_span.specs.Interval.{whole};
     ghost use Rattle.tt_world.specs.State.{MachineState, IsMachine};
 
     ghost Value = { MachineState };
 
-    ghost view = { λ m. record { config = m.daemon.config; table = m.daemon.table; clock = m.clock; publications = m.publications.items; row = m.row; book = m.book; workers = m.workers.items } };
+    ghost view = { λ m. record { config = m.daemon.config; table = m.daemon.table; life = m.life; lease = m.lease; clock = m.clock; publications = m.publications.items; row = m.row; book = m.book; workers = m.workers.items } };
 
-    ghost invariant = { λ m. IsMachine (record { config = m.daemon.config; table = m.daemon.table; clock = m.clock; publications = m.publications.items; row = m.row; book = m.book; workers = m.workers.items }) };
+    ghost invariant = { λ m. IsMachine (record { config = m.daemon.config; table = m.daemon.table; life = m.life; lease = m.lease; clock = m.clock; publications = m.publications.items; row = m.row; book = m.book; workers = m.workers.items }) };
 }
 
 impl Machine {
     /// A machine of which nothing is known yet, as the one of this number.
     pub fn new(alloc: Global, number: u8, config: Config) -> Machine
         requires { number < 8 }
-        ensures fresh { result ≡ machine_of config [] number }
+        ensures fresh { result ≡ machine_of config [] (life_at [] number) }
         ensures valid { IsConfiguration config }
     {
         let mut workers = ArrayVec::from([Worker::new(); MAX_WORKERS]);
         workers.truncate(config.workers());
         Machine {
-            daemon: Daemon::new(number, &config, FIRST_LIFE),
+            daemon: Daemon::new(number, &config, 1),
+            life: 1,
+            lease: Span::whole(),
             clock: 0,
             publications: Vec::new(alloc),
             row: Row::new(),
@@ -102,17 +102,17 @@ impl Machine {
         self.daemon.is_known(source)
     }
 
-    /// Polls a source, and answers the nonce.
-    pub fn poll(&mut self, source: u8, clock: u64) -> Result<u64, SourceFault>
+    /// Polls a source, and answers the nonce and the number of the life.
+    pub fn poll(&mut self, source: u8, clock: u64) -> Result<(u64, u64), SourceFault>
         requires forward { self.old.clock ≤ clock }
         requires in_time { clock ≤ max_time }
-        ensures polled { IfOk result (λ nonce. (poll_of self.old.table source clock ≡ Ok self.new.table)
-            × (self.new ≡ with_table self.old clock self.new.table) × (nonce ≡ self.new.table.last) × (0 < nonce)) }
+        ensures polled { IfOk result (λ made. (poll_of self.old.table source clock ≡ Ok self.new.table)
+            × (self.new ≡ with_table self.old clock self.new.table) × (made.0 ≡ self.new.table.last) × (0 < made.0) × (made.1 ≡ self.new.table.epoch) × (0 < made.1)) }
         ensures refused { IfErr result (λ e. (poll_of self.old.table source clock ≡ Err e) × (self.new ≡ record self.old { clock = clock })) }
     {
         self.clock = clock;
         self.daemon.poll(source, clock)?;
-        Ok(self.daemon.last())
+        Ok((self.daemon.last(), self.life))
     }
 
     /// Takes what a packet from a source says.
@@ -257,9 +257,9 @@ impl Machine {
     pub fn stamp(&mut self, worker: u8, arrival: &Arrival, reading: &Reading) -> Reply
         requires { worker < length self.old.workers }
         ensures { record { machine = self.new; reply = result }
-            ≡ stamp_turn self.old worker arrival.now.id (stamp_of (given_in self.old.row) reading.now.hi arrival.now.floor whole) }
+            ≡ stamp_turn self.old worker arrival.now.id (stamp_of (given_in self.old.row) reading.now.hi arrival.now.floor self.old.lease) }
     {
-        match self.row.stamp(reading, arrival.floor, &Span::whole()) {
+        match self.row.stamp(reading, arrival.floor, &self.lease) {
             Ok(stamp) => {
                 let id = arrival.id;
                 self.workers[usize::from(worker)].task = Some(Task::Stamped { id, stamp });

@@ -8,6 +8,7 @@ ghost use Rattle.tt_world.specs.Bad.{first_bad, accepted};
 ghost use Rattle.tt_world.specs.Publications.{shown_of};
 ghost use Rattle.tt_world.specs.Trace.{outline, IsTraceOf};
 ghost use Rattle.tt_world.specs.Commits.{book_of};
+ghost use Rattle.tt_world.specs.Life.{Life};
 ghost use Rattle.tt_world.specs.Config.{config_at};
 ghost use Rattle.tt_world.specs.declared.events.Event.{Event};
 ghost use Rattle.tt_daemon.specs.Config.{Configuration};
@@ -126,8 +127,8 @@ pub fn run_laws()
 
     // The book of each machine is a legal history: each commit was queued where it might be, and each receipt was the
     // next one. So a commit waits there when it was queued and no later receipt names it.
-    ensures legal_books { (configs : List Configuration) (past : List Event) (m : ℕ) →
-        IsLegalHistory (book_of (config_at configs m) (accepted configs past) m) }
+    ensures legal_books { (configs : List Configuration) (past : List Event) (life : Life) →
+        IsLegalHistory (book_of (config_at configs life.machine) (accepted configs past) life) }
 {
     fusion_laws();
     stamp_laws();

@@ -89,7 +89,7 @@ pub(crate) fn replies(
     }
 }
 
-/// The bytes of a message of this kind between a machine and a source, under nonce 1, of this epoch, and the span
+/// The bytes of a message of this kind between a machine in life `epoch` and a source, under nonce 1, and the span
 /// [5, 9] of an answer.
 fn message(kind: u8, machine: u8, source: u8, epoch: u8) -> [u8; 40] {
     let mut bytes = [0; 40];
@@ -394,12 +394,10 @@ fn forged_bytes_are_refused(rt: HostRuntime) -> Result<(), Fail> {
         forge(5, 0, 0, &message(2, 1, 0, 1))?,
         forge(5, 0, 0, &message(2, 0, 1, 1))?,
         forge(5, 0, 0, &message(2, 0, 0, 1))?,
-        forge(5, 0, 0, &message(2, 0, 0, 2))?,
         deliver(6, 1, 1),
         deliver(6, 2, 1),
         deliver(6, 3, 1),
         deliver(6, 4, 1),
-        deliver(6, 6, 1),
         // True time and the clock have moved.
         deliver(5, 5, 1),
         deliver(6, 5, 0),
@@ -416,12 +414,10 @@ fn forged_bytes_are_refused(rt: HostRuntime) -> Result<(), Fail> {
         Reply::Put(3),
         Reply::Put(4),
         Reply::Put(5),
-        Reply::Put(6),
         refused(404),
         refused(405),
         refused(405),
         refused(405),
-        refused(407),
         refused(1201),
         refused(1202),
         Reply::Taken,

@@ -14,7 +14,7 @@ ghost use Rattle.tt_world.specs.Step.{Does, HasRoom, IsWorker, send_on, answer_o
 
 use crate::events::{Action, Event, Payload, Reply};
 use crate::faults::WorldFault;
-use crate::machines::{FIRST_LIFE, Machine};
+use crate::machines::Machine;
 use crate::packets::Packet;
 use crate::publications::Shown;
 use crate::workers::{Arrival, Task};
@@ -72,8 +72,8 @@ impl World {
         let number = self.packets.len() as u64;
         self.time = at;
         match self.machines[place].poll(source, clock) {
-            Ok(nonce) => {
-                let request = Request2::new(machine, source, nonce, FIRST_LIFE).unwrap();
+            Ok((nonce, life)) => {
+                let request = Request2::new(machine, source, nonce, life).unwrap();
                 self.packets.push(Packet::Asked(request)).unwrap();
                 Ok(Reply::Sent(number))
             }
@@ -232,7 +232,8 @@ impl World {
             request.nonce(),
             request.epoch(),
             span,
-        ).unwrap();
+        )
+        .unwrap();
         let number = self.packets.len() as u64;
         self.packets.push(Packet::Answered(answer))?;
         self.time = at;

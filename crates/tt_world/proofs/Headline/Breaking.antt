@@ -1,10 +1,13 @@
 -- The assumptions hold exactly where no event breaks one.
-use Rattle.std.proofs.Common.{◌≡◌, ◌↔◌, ℕ, ◌<◌, Bool, true, false, cond, List, [], ◌∷◌, ◌++◌, length, slice_get, is_some, Option, Some, None, refl, subst, eqb, ltb-true}
+use Rattle.std.proofs.Common.{◌≡◌, ◌↔◌, ℕ, ◌<◌, Bool, true, false, cond, List, [], ◌∷◌, ◌++◌, length, slice_get, is_some, Option, Some, None, refl, subst, ap, ltb-true}
 use Rattle.std.specs.Prelude.{nat_le}
 use Rattle.std.specs.List.{AllByRecursion}
 use Rattle.std.specs.Option.{option_or, option_map}
-use Rattle.std.proofs.lemmas.Bool.{and_parts, not-false, leb-true, le-leb, eqb-true, eq-eqb}
+use Rattle.std.proofs.lemmas.Option.{same_Some}
+use Rattle.std.proofs.lemmas.Bool.{and_parts, not-false, leb-true, le-leb}
 use Rattle.tt_span.specs.Drift.{Moment, AgreesWith, KeepsDrift, distance, widening}
+use Rattle.tt_world.proofs.Simulation.Lives.{same_life-true, same_life-own}
+use Rattle.tt_world.specs.Life.{Life, life_at, same_life}
 use Rattle.tt_world.specs.declared.breaches.Breach.{Breach}
 use Rattle.tt_world.specs.declared.events.Event.{Event}
 use Rattle.tt_world.specs.declared.events.Action.{Action}
@@ -39,42 +42,41 @@ passes true breach h = refl
 passes false breach h = absurd cc
 
 module _ (configs : List Configuration) (past : List Event) (at : ℕ) where
-  abbrev Before : ℕ → Type 0
-  Before m = KeepsDrift (config_at configs m).drift (moments_of past m)
+  abbrev Before : Life → Type 0
+  Before life = KeepsDrift (config_at configs life.machine).drift (moments_of past life)
 
-  abbrev After : Option ClockReading → ℕ → Type 0
-  After reading m = KeepsDrift (config_at configs m).drift (moment_at m at reading ++ moments_of past m)
+  abbrev After : Option ClockReading → Life → Type 0
+  After reading life = KeepsDrift (config_at configs life.machine).drift (moment_at life at reading ++ moments_of past life)
 
-  -- what is known of the reading of machine m, whose clock this is or is not
-  before_one : (reading : ClockReading) (m : ℕ) (b : Bool) → KeepsDrift (config_at configs m).drift (cond b (record { clock = reading.clock; time = at } ∷ []) [] ++ moments_of past m) → Before m
-  before_one reading m true h = h.1
-  before_one reading m false h = h
+  -- what is known of the reading in a life, whose clock this is or is not
+  before_one : (reading : ClockReading) (life : Life) (b : Bool) → KeepsDrift (config_at configs life.machine).drift (cond b (record { clock = reading.clock; time = at } ∷ []) [] ++ moments_of past life) → Before life
+  before_one reading life true h = h.1
+  before_one reading life false h = h
 
-  after_one : (reading : ClockReading) (m : ℕ) (b : Bool) → eqb reading.machine m ≡ b
-      → AllByRecursion (AgreesWith (config_at configs reading.machine).drift (record { clock = reading.clock; time = at })) (moments_of past reading.machine) → Before m
-      → KeepsDrift (config_at configs m).drift (cond b (record { clock = reading.clock; time = at } ∷ []) [] ++ moments_of past m)
-  after_one reading m true same agrees before =
-      let e : reading.machine ≡ m = eqb-true _ _ same in
-      (subst (λ (k : ℕ). AllByRecursion (AgreesWith (config_at configs k).drift (record { clock = reading.clock; time = at })) (moments_of past k)) e agrees, before)
-  after_one reading m false same agrees before = before
+  after_one : (reading : ClockReading) (life : Life) (b : Bool) → same_life reading.life life ≡ b
+      → AllByRecursion (AgreesWith (config_at configs reading.life.machine).drift (record { clock = reading.clock; time = at })) (moments_of past reading.life) → Before life
+      → KeepsDrift (config_at configs life.machine).drift (cond b (record { clock = reading.clock; time = at } ∷ []) [] ++ moments_of past life)
+  after_one reading life true same agrees before =
+      let e : reading.life ≡ life = same_life-true _ _ same in
+      (subst (λ (k : Life). AllByRecursion (AgreesWith (config_at configs k.machine).drift (record { clock = reading.clock; time = at })) (moments_of past k)) e agrees, before)
+  after_one reading life false same agrees before = before
 
-  drift_part : (reading : Option ClockReading) → ((r : ClockReading) → reading ≡ Some r → r.machine < length configs)
-      → ((m : ℕ) → m < length configs → After reading m) ↔ (((m : ℕ) → m < length configs → Before m) × (drift_breach configs past at reading ≡ None))
+  drift_part : (reading : Option ClockReading) → ((r : ClockReading) → reading ≡ Some r → r.life.machine < length configs)
+      → ((life : Life) → life.machine < length configs → After reading life) ↔ (((life : Life) → life.machine < length configs → Before life) × (drift_breach configs past at reading ≡ None))
   drift_part None there = (λ h. (h, refl), λ h. h.0)
   drift_part (Some reading) there = (
     λ h.
-      let here : eqb reading.machine reading.machine ≡ true = eq-eqb _ _ refl in
-      let own = subst (λ (b : Bool). KeepsDrift (config_at configs reading.machine).drift (cond b (record { clock = reading.clock; time = at } ∷ []) [] ++ moments_of past reading.machine)) here (h reading.machine (there reading refl)) in
-      let agrees : agrees_with_all (config_at configs reading.machine).drift (record { clock = reading.clock; time = at }) (moments_of past reading.machine) ≡ true = true-agrees _ _ _ own.0 in
-      (λ m inside. before_one reading m (eqb reading.machine m) (h m inside), rw agrees refl),
-    λ h m inside. after_one reading m (eqb reading.machine m) refl (agrees-true _ _ _ (passes _ _ h.1)) (h.0 m inside),
+        let own = subst (λ (b : Bool). KeepsDrift (config_at configs reading.life.machine).drift (cond b (record { clock = reading.clock; time = at } ∷ []) [] ++ moments_of past reading.life)) (same_life-own reading.life) (h reading.life (there reading refl)) in
+        let agrees : agrees_with_all (config_at configs reading.life.machine).drift (record { clock = reading.clock; time = at }) (moments_of past reading.life) ≡ true = true-agrees _ _ _ own.0 in
+        (λ life inside. before_one reading life (same_life reading.life life) (h life inside), rw agrees refl),
+    λ h life inside. after_one reading life (same_life reading.life life) refl (agrees-true _ _ _ (passes _ _ h.1)) (h.0 life inside),
   )
 
   -- ---- false statements
 
   falsity_part : (action : Action) → HasFewFalse configs past action ↔ (falsity_breach configs past action ≡ None)
   falsity_part (Fuse m clock) = (
-    λ h. let few : nat_le (false_count (config_at configs m) past m) (config_at configs m).faulty ≡ true = le-leb _ _ h in rw few refl,
+    λ h. let few : nat_le (false_count (config_at configs m) past (life_at past m)) (config_at configs m).faulty ≡ true = le-leb _ _ h in rw few refl,
     λ h. leb-true _ _ (passes _ _ h),
   )
   falsity_part _ = (λ h. refl, λ h. tt)
@@ -88,20 +90,20 @@ both_none (Some breach) b h = absurd cc
 none_both : (a b : Option Breach) → a ≡ None → b ≡ None → option_or a b ≡ None
 none_both a b h k = rw (h, k) refl
 
-same_reading : (a b : ClockReading) → Some a ≡ Some b → a.machine ≡ b.machine
-same_reading a b h = cc
+same_reading : (a b : ClockReading) → Some a ≡ Some b → a.life.machine ≡ b.life.machine
+same_reading a b h = ap (λ (r : ClockReading). r.life.machine) (same_Some a b h)
 
 module _ (configs : List Configuration) (past : List Event) (lasts : Lasts configs past) (at : ℕ) where
   -- the machine whose clock an event reads is there
   known_delivered : (clock : ℕ) (o : Option Packet) (k : ℕ) → slice_get (packets_of past) k ≡ o
-      → (r : ClockReading) → option_map (λ p. record { machine = machine_of_packet p; clock = clock }) o ≡ Some r → r.machine < length configs
+      → (r : ClockReading) → option_map (λ p. record { life = life_at past (machine_of_packet p); clock = clock }) o ≡ Some r → r.life.machine < length configs
   known_delivered clock None k e r h = absurd cc
   known_delivered clock (Some packet) k e r h =
       let named = and_parts _ _ (All-slice_get (HasItsSource configs) (packets_of past) k packet lasts.known e) in
       let there : machine_of_packet packet < length configs = ltb-true _ _ named.0 in
       subst (λ (m : ℕ). m < length configs) (same_reading _ r h) there
 
-  known_clock : (action : Action) → names_unknown configs action ≡ false → (r : ClockReading) → clock_reading (packets_of past) action ≡ Some r → r.machine < length configs
+  known_clock : (action : Action) → names_unknown configs action ≡ false → (r : ClockReading) → clock_reading past action ≡ Some r → r.life.machine < length configs
   known_clock (Send m s clock) named r h =
       let parts = and_parts _ _ (not-false (has_source configs m s) named) in
       subst (λ (k : ℕ). k < length configs) (same_reading _ r h) (ltb-true m _ parts.0)
@@ -119,12 +121,12 @@ module _ (configs : List Configuration) (past : List Event) (event : Event) wher
   one_more : (o : Option WorldFault) → first_bad configs (accepted configs past) event ≡ o
       → Holds (cond (is_some o) (accepted configs past) (event ∷ accepted configs past))
       ↔ (Holds (accepted configs past) × (cond (is_some o) None
-      (option_or (drift_breach configs (accepted configs past) event.at (clock_reading (packets_of (accepted configs past)) event.action)) (falsity_breach configs (accepted configs past) event.action)) ≡ None))
+      (option_or (drift_breach configs (accepted configs past) event.at (clock_reading (accepted configs past) event.action)) (falsity_breach configs (accepted configs past) event.action)) ≡ None))
   one_more (Some fault) is = (λ h. (h, refl), λ h. h.0)
   one_more None is =
       let before : List Event = accepted configs past in
       let good = good_of configs before event is in
-      let drift = drift_part configs before event.at (clock_reading (packets_of before) event.action) (known_clock configs before (Lasts-accepted configs past) event.at event.action good.named) in
+      let drift = drift_part configs before event.at (clock_reading before event.action) (known_clock configs before (Lasts-accepted configs past) event.at event.action good.named) in
       let falsity = falsity_part configs before event.at event.action in (
         λ h. let d = drift.0 h.0 in ((d.0, h.1.1), none_both _ _ d.1 (falsity.0 h.1.0)),
         λ h. let b = both_none _ _ h.1 in (drift.1 (h.0.0, b.0), (falsity.1 b.1, h.0.1)),

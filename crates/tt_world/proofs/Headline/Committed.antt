@@ -1,6 +1,7 @@
 -- What is promised of the commits of a whole run.
 use Rattle.std.proofs.Common.{◌≡◌, ℕ, suc, ◌+◌, ◌<◌, ◌≤◌, List, [], ◌∷◌, ◌++◌, take, reverse, Some, ap, subst, sym, ◌∙◌, arith}
 use Rattle.std.proofs.lemmas.List.{append-nil}
+use Rattle.tt_world.specs.Life.{life_at}
 use Rattle.tt_world.specs.declared.events.Event.{Event}
 use Rattle.tt_world.specs.declared.events.Action.TheVariants as does
 use Rattle.tt_world.specs.declared.events.Reply.{Reply}
@@ -79,9 +80,9 @@ externally-consistent fusions stamps configs events configurations valid i j k m
     let least = stamp_least stamps configs (before_place [] events k) stamping.at m w s (replied_at configs [] events k event (Stamped s) stamping.stamps stamping.gives) in
     in_order receipt.stamp release.reading.lo (time_of at_i) (time_of at_j) arrival.at (arrival_time_of at_k m w) least.reading.hi s
     release.below
-    (reading_not_ahead fusions configs configurations at_i release.machine release.worker release.reading sound_i release.last)
+    (reading_not_ahead fusions configs configurations at_i (life_at at_i release.machine) release.worker release.reading sound_i release.last)
     (time_if_after configs at_j at_i (accepted_before configs events i j (omega arith)) sound_j.good)
     arrived.later
     arrived.kept
-    (reading_since_holds fusions configs configurations at_k m w least.reading sound_k least.read_since)
+    (reading_since_holds fusions configs configurations at_k (life_at at_k m) w least.reading sound_k (omega arith) least.read_since)
     least.least.may_give.from_latest

@@ -4,7 +4,7 @@ use Rattle.std.specs.Prelude.{slice_get, Contains}
 use Rattle.std.specs.List.{AllByRecursion}
 use Rattle.std.proofs.lemmas.Bool.{ltb-true}
 use Rattle.std.proofs.lemmas.List.Elements.{All-from_recursion, All-contains}
-use Rattle.tt_span.specs.Interval.{Interval, whole}
+use Rattle.tt_span.specs.Interval.{Interval}
 use Rattle.tt_poll.specs.Reading.{read_of2}
 use Rattle.tt_source.specs.Statement.{Statement}
 use Rattle.tt_source.specs.Table.{statement_of_message}
@@ -16,6 +16,8 @@ use Rattle.tt_stamp.specs.declared.faults.StampFault.{StampFault}
 use Rattle.tt_stamp.specs.declared.faults.BookFault.{BookFault}
 use Rattle.tt_stamp.specs.Stamp.{IsAnswer, stamp_of}
 use Rattle.tt_stamp.specs.History.{waiting_of, release_of}
+use Rattle.tt_world.specs.Lease.{lease_of}
+use Rattle.tt_world.specs.Life.{life_of, life_at}
 use Rattle.tt_world.specs.declared.faults.WorldFault.{WorldFault}
 use Rattle.tt_world.specs.declared.events.Event.{Event}
 use Rattle.tt_world.specs.declared.events.Action.{Action}
@@ -28,7 +30,7 @@ use Rattle.tt_world.specs.declared.workers.Arrival.{Arrival}
 use Rattle.tt_daemon.specs.Config.{Configuration}
 use Rattle.tt_world.specs.Config.{config_at}
 use Rattle.tt_world.specs.Packet.{machine_of_packet, source_of_packet, bytes_of}
-use Rattle.tt_world.specs.Past.{first_life, packets_of}
+use Rattle.tt_world.specs.Past.{packets_of}
 use Rattle.tt_world.specs.Sources.{outstanding}
 use Rattle.tt_world.specs.Publications.{fusion_of, publications_of}
 use Rattle.tt_world.specs.Commits.{arrival_of, reading_of, reading_since, stamping_after, stamps_of, stamping_of, book_of, queueing_of, released_with}
@@ -65,31 +67,31 @@ stamping_made (Some (Ok stamp)) s h = ap (λ (n : ℕ). Some (Ok n)) (same_stamp
 stamping_made (Some (Err fault)) s h = absurd cc
 
 -- where a stamp was given, there was a commit and a reading
-record IsStamped (given : List ℕ) (arrived : Option Arrival) (read : Option Interval) (s : ℕ) : Type 0 where
+record IsStamped (given : List ℕ) (lease : Interval) (arrived : Option Arrival) (read : Option Interval) (s : ℕ) : Type 0 where
   arrival : Arrival
   reading : Interval
   asked : arrived ≡ Some arrival
   read_since : read ≡ Some reading
-  answer : stamp_of given reading.hi arrival.floor whole ≡ Ok s
+  answer : stamp_of given reading.hi arrival.floor lease ≡ Ok s
 
-stamped_of : (given : List ℕ) (arrived : Option Arrival) (read : Option Interval) (s : ℕ) → stamping_after given arrived read ≡ Some (Ok s) → IsStamped given arrived read s
-stamped_of given None read s h = absurd cc
-stamped_of given (Some arrival) None s h = absurd cc
-stamped_of given (Some arrival) (Some reading) s h =
-    record { arrival = arrival; reading = reading; asked = refl; read_since = refl; answer = same_answer (stamp_of given reading.hi arrival.floor whole) (Ok s) h }
+stamped_of : (given : List ℕ) (lease : Interval) (arrived : Option Arrival) (read : Option Interval) (s : ℕ) → stamping_after given lease arrived read ≡ Some (Ok s) → IsStamped given lease arrived read s
+stamped_of given lease None read s h = absurd cc
+stamped_of given lease (Some arrival) None s h = absurd cc
+stamped_of given lease (Some arrival) (Some reading) s h =
+    record { arrival = arrival; reading = reading; asked = refl; read_since = refl; answer = same_answer (stamp_of given reading.hi arrival.floor lease) (Ok s) h }
   where
     same_answer : (a b : Result ℕ StampFault) → Some a ≡ Some b → a ≡ b
     same_answer a b h = cc
 
 -- a stamp is the least that may be given by the last reading since the commit was asked for
-pub stamp_least : StampLaws → (configs : List Configuration) (past : List Event) (at m w s : ℕ) → reply_of configs past (record { at = at; action = does.Stamp m w }) ≡ Stamped s → IsLeastFor (config_at configs m) (accepted configs past) m w s
+pub stamp_least : StampLaws → (configs : List Configuration) (past : List Event) (at m w s : ℕ) → reply_of configs past (record { at = at; action = does.Stamp m w }) ≡ Stamped s → IsLeastFor (config_at configs m) (accepted configs past) (life_at (accepted configs past) m) w s
 stamp_least laws configs past at m w s h =
     let before : List Event = accepted configs past in
     let config : Configuration = config_at configs m in
     let event : Event = record { at = at; action = does.Stamp m w } in
-    let made = stamping_made (stamping_of config before m w) s (stamped_not_bad (first_bad configs before event) (reply_to configs before (does.Stamp m w)) s h) in
-    let stamped = stamped_of (stamps_of config before m) (arrival_of before m w) (reading_since config before m w) s made in
-    let answer = subst (IsAnswer (stamps_of config before m) stamped.reading.hi stamped.arrival.floor whole) stamped.answer (laws (stamps_of config before m) stamped.reading.hi stamped.arrival.floor whole) in
+    let made = stamping_made (stamping_of config before (life_at before m) w) s (stamped_not_bad (first_bad configs before event) (reply_to configs before (does.Stamp m w)) s h) in
+    let stamped = stamped_of (stamps_of config before (life_at before m)) (lease_of before m) (arrival_of before (life_at before m) w) (reading_since config before (life_at before m) w) s made in
+    let answer = subst (IsAnswer (stamps_of config before (life_at before m)) stamped.reading.hi stamped.arrival.floor (lease_of before m)) stamped.answer (laws (stamps_of config before (life_at before m)) stamped.reading.hi stamped.arrival.floor (lease_of before m)) in
     record {
       arrival = stamped.arrival;
       reading = stamped.reading;
@@ -97,6 +99,7 @@ stamp_least laws configs past at m w s h =
       read_since = stamped.read_since;
       near = answer.0;
       least = answer.1;
+      in_lease = answer.2;
     }
 
 -- ---- releases
@@ -112,7 +115,7 @@ no_release_delivered (Err e) receipts h = cc
 no_release_of_packet : (past : List Event) (clock : ℕ) (packet : Option Packet) (receipts : List Receipt) → reply_to_packet past clock packet ≡ Released receipts → ⊥
 no_release_of_packet past clock None receipts h = cc
 no_release_of_packet past clock (Some packet) receipts h =
-    no_release_delivered (statement_of_message (machine_of_packet packet) first_life (source_of_packet packet) (outstanding past (machine_of_packet packet) (source_of_packet packet)) clock (read_of2 (bytes_of packet))) receipts h
+    no_release_delivered (statement_of_message (machine_of_packet packet) (life_of past (machine_of_packet packet)) (source_of_packet packet) (outstanding past (life_at past (machine_of_packet packet)) (source_of_packet packet)) clock (read_of2 (bytes_of packet))) receipts h
 
 no_release_fused : (count : ℕ) (made : Result Publication ℕ) (receipts : List Receipt) → fusion_reply count made ≡ Released receipts → ⊥
 no_release_fused count (Ok publication) receipts h = cc
@@ -154,10 +157,10 @@ pub record IsReleasing (configs : List Configuration) (past : List Event) (recei
   pub machine : ℕ
   pub worker : ℕ
   pub reading : Interval
-  pub last : reading_of (config_at configs machine) past machine worker ≡ Some reading
+  pub last : reading_of (config_at configs machine) past (life_at past machine) worker ≡ Some reading
   pub below : receipt.stamp < reading.lo
 
-releasing_with : (configs : List Configuration) (past : List Event) (m w : ℕ) (receipt : Receipt) (book : List Entry) (read : Option Interval) → reading_of (config_at configs m) past m w ≡ read →
+releasing_with : (configs : List Configuration) (past : List Event) (m w : ℕ) (receipt : Receipt) (book : List Entry) (read : Option Interval) → reading_of (config_at configs m) past (life_at past m) w ≡ read →
     Contains (released_with book read) receipt → IsReleasing configs past receipt
 releasing_with configs past m w receipt book None e contained = absurd (omega (arith, contained.1))
 releasing_with configs past m w receipt book (Some reading) e contained = record {
@@ -171,12 +174,12 @@ releasing_with configs past m w receipt book (Some reading) e contained = record
 releasing_by : (configs : List Configuration) (past : List Event) (action : Action) (receipts : List Receipt) (receipt : Receipt) → reply_to configs past action ≡ Released receipts → Contains receipts receipt → IsReleasing configs past receipt
 releasing_by configs past (does.Deliver p clock) receipts receipt h contained = absurd (no_release_of_packet past clock (slice_get (packets_of past) p) receipts h)
 releasing_by configs past (does.Fuse m clock) receipts receipt h contained =
-    absurd (no_release_fused (length (publications_of (config_at configs m) past m)) (fusion_of (config_at configs m) past m clock) receipts h)
-releasing_by configs past (does.Stamp m w) receipts receipt h contained = absurd (no_release_stamped (stamping_of (config_at configs m) past m w) receipts h)
-releasing_by configs past (does.Queue m w) receipts receipt h contained = absurd (no_release_queued (queueing_of (config_at configs m) past m w) receipts h)
+    absurd (no_release_fused (length (publications_of (config_at configs m) past (life_at past m))) (fusion_of (config_at configs m) past (life_at past m) clock) receipts h)
+releasing_by configs past (does.Stamp m w) receipts receipt h contained = absurd (no_release_stamped (stamping_of (config_at configs m) past (life_at past m) w) receipts h)
+releasing_by configs past (does.Queue m w) receipts receipt h contained = absurd (no_release_queued (queueing_of (config_at configs m) past (life_at past m) w) receipts h)
 releasing_by configs past (does.Release m w) receipts receipt h contained =
-    let same = same_receipts (released_with (book_of (config_at configs m) past m) (reading_of (config_at configs m) past m w)) receipts h in
-    releasing_with configs past m w receipt (book_of (config_at configs m) past m) (reading_of (config_at configs m) past m w) refl (subst (λ (rs : List Receipt). Contains rs receipt) (sym same) contained)
+    let same = same_receipts (released_with (book_of (config_at configs m) past (life_at past m)) (reading_of (config_at configs m) past (life_at past m) w)) receipts h in
+    releasing_with configs past m w receipt (book_of (config_at configs m) past (life_at past m)) (reading_of (config_at configs m) past (life_at past m) w) refl (subst (λ (rs : List Receipt). Contains rs receipt) (sym same) contained)
 releasing_by configs past _ receipts receipt h contained = absurd cc
 
 -- a commit that is released

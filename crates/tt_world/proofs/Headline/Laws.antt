@@ -1,5 +1,5 @@
 -- Which replies come to which events.
-use Rattle.std.proofs.Common.{◌≡◌, ◌↔◌, ℕ, Bool, true, false, cond, ◌&&◌, ◌||◌, not, eqb, List, is_some, Option, Some, None, Result, refl, subst, arith}
+use Rattle.std.proofs.Common.{◌≡◌, ◌↔◌, ℕ, Bool, true, false, cond, ◌&&◌, ◌||◌, not, eqb, List, is_some, Option, Some, None, Result, refl, subst, sym, arith}
 use Rattle.std.specs.Prelude.{Ok, Err}
 use Rattle.std.specs.Result.{result_ok}
 use Rattle.std.proofs.lemmas.Bool.{and_parts, eqb-true, eq-eqb}
@@ -12,6 +12,9 @@ use Rattle.tt_stamp.specs.declared.faults.StampFault.{StampFault}
 use Rattle.tt_stamp.specs.declared.faults.StampFault.TheVariants as stamp_fault
 use Rattle.tt_stamp.specs.declared.faults.BookFault.{BookFault}
 use Rattle.tt_stamp.specs.declared.faults.BookFault.TheVariants as book_fault
+use Rattle.tt_world.specs.Lease.{lease_of}
+use Rattle.tt_world.proofs.Simulation.Lives.{is_of-own, same_life-true}
+use Rattle.tt_world.specs.Life.{Life, life_of, life_at, is_of}
 use Rattle.tt_world.specs.declared.faults.WorldFault.{WorldFault}
 use Rattle.tt_world.specs.declared.events.Event.{Event}
 use Rattle.tt_world.specs.declared.events.Action.{Action}
@@ -23,7 +26,6 @@ use Rattle.tt_world.specs.declared.workers.Arrival.{Arrival}
 use Rattle.tt_daemon.specs.Config.{Configuration}
 use Rattle.tt_world.specs.Config.{config_at}
 use Rattle.tt_world.specs.Packet.{machine_of_packet, source_of_packet, bytes_of}
-use Rattle.tt_world.specs.Past.{first_life, packets_of}
 use Rattle.tt_world.specs.Sources.{outstanding, stated_in, stated_by}
 use Rattle.tt_world.specs.Publications.{published}
 use Rattle.tt_world.specs.Commits.{arrival_of, reading_since, stamp_held, is_queued, task_with, stamps_of, stamping_after}
@@ -50,18 +52,18 @@ fusion-good count clock false (Some span) h = h
 stamping-good : (r : Result ℕ StampFault) → ¬ IsBadReply (stamping_reply (Some r))
 stamping-good (Ok stamp) h = h
 stamping-good (Err stamp_fault.UsedUp) h = omega (arith, h.0)
-stamping-good (Err stamp_fault.FloorTooFar) h = omega (arith, h.0)
 stamping-good (Err stamp_fault.LeaseOver) h = omega (arith, h.0)
+stamping-good (Err stamp_fault.FloorTooFar) h = omega (arith, h.0)
 stamping-good (Err stamp_fault.Seats) h = omega (arith, h.0)
 stamping-good (Err stamp_fault.Memory) h = omega (arith, h.0)
 
-asked-stamping-good : (given : List ℕ) (queued : Bool) (asked : Option Arrival) (held : Option ℕ) (since : Option Interval)
-    → (not (is_arrived (cond queued None (task_with asked held))) || not (is_some since)) ≡ false → ¬ IsBadReply (stamping_reply (stamping_after given asked since))
-asked-stamping-good given true asked held since there h = absurd cc
-asked-stamping-good given false None held since there h = absurd cc
-asked-stamping-good given false (Some arrival) (Some stamp) since there h = absurd cc
-asked-stamping-good given false (Some arrival) None None there h = absurd cc
-asked-stamping-good given false (Some arrival) None (Some reading) there h = stamping-good _ h
+asked-stamping-good : (given : List ℕ) (lease : Interval) (queued : Bool) (asked : Option Arrival) (held : Option ℕ) (since : Option Interval)
+    → (not (is_arrived (cond queued None (task_with asked held))) || not (is_some since)) ≡ false → ¬ IsBadReply (stamping_reply (stamping_after given lease asked since))
+asked-stamping-good given lease true asked held since there h = absurd cc
+asked-stamping-good given lease false None held since there h = absurd cc
+asked-stamping-good given lease false (Some arrival) (Some stamp) since there h = absurd cc
+asked-stamping-good given lease false (Some arrival) None None there h = absurd cc
+asked-stamping-good given lease false (Some arrival) None (Some reading) there h = stamping-good _ h
 
 queueing-good : (o : Option BookFault) → ¬ IsBadReply (queueing_reply o)
 queueing-good None h = h
@@ -75,7 +77,8 @@ good_reply configs past at (Deliver k clock) good h = packet-good past clock _ g
 good_reply configs past at (Fuse m clock) good h = fusion-good _ clock _ _ h
 good_reply configs past at (Stamp m w) good h =
     let config = config_at configs m in
-    asked-stamping-good (stamps_of config past m) (is_queued config past m w) (arrival_of past m w) (stamp_held config past m w) (reading_since config past m w) good.thing_there h
+    let life = life_at past m in
+    asked-stamping-good (stamps_of config past life) (lease_of past m) (is_queued config past life w) (arrival_of past life w) (stamp_held config past life w) (reading_since config past life w) good.thing_there h
 good_reply configs past at (Queue m w) good h = queueing-good _ h
 good_reply configs past at _ good h = h
 
@@ -104,7 +107,7 @@ not_taken_queued (Some fault) h = cc
 
 -- what an action states for some source after what has happened
 abbrev States : List Event → Action → Type 0
-States past action = (m i : ℕ) × (statement : Statement) × (stated_by (packets_of past) m i (outstanding past m i) action ≡ Some statement)
+States past action = (life : Life) × (i : ℕ) × (statement : Statement) × (stated_by past life i (outstanding past life i) action ≡ Some statement)
 
 stated-taken : (r : Result Statement SourceFault) → delivery_reply r ≡ Taken → (statement : Statement) × (result_ok r ≡ Some statement)
 stated-taken (Ok statement) h = (statement, refl)
@@ -115,33 +118,34 @@ taken-stated (Ok s) statement h = refl
 taken-stated (Err fault) statement h = absurd cc
 
 packet_states : (past : List Event) (clock : ℕ) (o : Option Packet) → reply_to_packet past clock o ≡ Taken
-    → (m i : ℕ) × (statement : Statement) × (stated_in m i (outstanding past m i) clock o ≡ Some statement)
+    → (life : Life) × (i : ℕ) × (statement : Statement) × (stated_in past life i (outstanding past life i) clock o ≡ Some statement)
 packet_states past clock None h = absurd cc
 packet_states past clock (Some packet) h =
     let m = machine_of_packet packet in
+    let life : Life = life_at past m in
     let i = source_of_packet packet in
-    let s = stated-taken (statement_of_message m first_life i (outstanding past m i) clock (read_of2 (bytes_of packet))) h in
-    let same_machine : eqb m m ≡ true = eq-eqb m m refl in
+    let s = stated-taken (statement_of_message m (life_of past m) i (outstanding past life i) clock (read_of2 (bytes_of packet))) h in
+    let same_machine : is_of past life m ≡ true = is_of-own past m in
     let same_source : eqb i i ≡ true = eq-eqb i i refl in
-    (m, i, s.0, rw (same_machine, same_source) s.1)
+    (life, i, s.0, rw (same_machine, same_source) s.1)
 
 only_if : (b : Bool) (o : Option Statement) (s : Statement) → cond b o None ≡ Some s → (b ≡ true) × (o ≡ Some s)
 only_if true o s h = (refl, h)
 only_if false o s h = absurd cc
 
-states_packet : (past : List Event) (clock : ℕ) (o : Option Packet) (m i : ℕ) (s : Statement) → stated_in m i (outstanding past m i) clock o ≡ Some s → reply_to_packet past clock o ≡ Taken
-states_packet past clock None m i s h = absurd cc
-states_packet past clock (Some packet) m i s h =
-    let mine = only_if (eqb (machine_of_packet packet) m && eqb (source_of_packet packet) i) _ s h in
-    let here = and_parts _ _ mine.0 in
-    subst (λ (k : ℕ). reply_to_packet past clock (Some packet) ≡ Taken) (eqb-true _ _ here.0)
-    (at_own (machine_of_packet packet) (source_of_packet packet) m i (eqb-true _ _ here.0) (eqb-true _ _ here.1) mine.1)
+states_packet : (past : List Event) (clock : ℕ) (o : Option Packet) (life : Life) (i : ℕ) (s : Statement) → stated_in past life i (outstanding past life i) clock o ≡ Some s → reply_to_packet past clock o ≡ Taken
+states_packet past clock None life i s h = absurd cc
+states_packet past clock (Some packet) life i s h =
+    let mine = only_if (is_of past life (machine_of_packet packet) && eqb (source_of_packet packet) i) _ s h in
+    let here = and_parts (is_of past life (machine_of_packet packet)) (eqb (source_of_packet packet) i) mine.0 in
+    at_own life i (same_life-true (life_at past (machine_of_packet packet)) life here.0) (eqb-true _ _ here.1) mine.1
   where
-    at_own : (a b m i : ℕ) → a ≡ m → b ≡ i → result_ok (statement_of_message m first_life i (outstanding past m i) clock (read_of2 (bytes_of packet))) ≡ Some s
-        → delivery_reply (statement_of_message a first_life b (outstanding past a b) clock (read_of2 (bytes_of packet))) ≡ Taken
-    at_own a b m i e f h =
-        let at : result_ok (statement_of_message a first_life b (outstanding past a b) clock (read_of2 (bytes_of packet))) ≡ Some s = rw (e, f) h in
-        taken-stated _ s at
+    at_own : (other : Life) (j : ℕ) → life_at past (machine_of_packet packet) ≡ other → source_of_packet packet ≡ j
+        → result_ok (statement_of_message other.machine other.number j (outstanding past other j) clock (read_of2 (bytes_of packet))) ≡ Some s
+        → reply_to_packet past clock (Some packet) ≡ Taken
+    at_own other j e f h =
+        taken-stated _ s (subst (λ (k : Life). result_ok (statement_of_message k.machine k.number (source_of_packet packet) (outstanding past k (source_of_packet packet)) clock (read_of2 (bytes_of packet))) ≡ Some s) (sym e)
+        (subst (λ (n : ℕ). result_ok (statement_of_message other.machine other.number n (outstanding past other n) clock (read_of2 (bytes_of packet))) ≡ Some s) (sym f) h))
 
 taken_states : (configs : List Configuration) (past : List Event) (action : Action) → reply_to configs past action ≡ Taken → States past action
 taken_states configs past (Send m s clock) h = absurd cc

@@ -13,6 +13,7 @@ use Rattle.tt_source.specs.declared.faults.SourceFault.{SourceFault}
 use Rattle.tt_fuse.specs.Fusion.{IsFusion}
 use Rattle.tt_stamp.specs.declared.faults.StampFault.{StampFault}
 use Rattle.tt_stamp.specs.declared.faults.BookFault.{BookFault}
+use Rattle.tt_world.specs.Life.{life_of, life_at}
 use Rattle.tt_world.specs.declared.faults.WorldFault.{WorldFault}
 use Rattle.tt_world.specs.declared.events.Event.{Event}
 use Rattle.tt_world.specs.declared.events.Action.{Action}
@@ -24,7 +25,7 @@ use Rattle.tt_world.specs.declared.publications.Publication.{Publication}
 use Rattle.tt_daemon.specs.Config.{Configuration}
 use Rattle.tt_world.specs.Config.{config_at}
 use Rattle.tt_world.specs.Packet.{machine_of_packet, source_of_packet, bytes_of}
-use Rattle.tt_world.specs.Past.{first_life, packets_of, clock_of, moments_of, time_of}
+use Rattle.tt_world.specs.Past.{packets_of, clock_of, moments_of, time_of}
 use Rattle.tt_world.specs.Sources.{outstanding}
 use Rattle.tt_world.specs.Publications.{spans_of, known_of, fusion_of, publications_of, seen_of, no_publication, publication_at, reading_at}
 use Rattle.tt_world.specs.Bad.{has_machine, has_worker, is_unreadable, first_bad, accepted}
@@ -56,7 +57,7 @@ no_reading_delivered (Err e) reading h = cc
 no_reading_of_packet : (past : List Event) (clock : ℕ) (packet : Option Packet) (reading : Interval) → reply_to_packet past clock packet ≡ Read reading → ⊥
 no_reading_of_packet past clock None reading h = cc
 no_reading_of_packet past clock (Some packet) reading h =
-    no_reading_delivered (statement_of_message (machine_of_packet packet) first_life (source_of_packet packet) (outstanding past (machine_of_packet packet) (source_of_packet packet)) clock (read_of2 (bytes_of packet))) reading h
+    no_reading_delivered (statement_of_message (machine_of_packet packet) (life_of past (machine_of_packet packet)) (source_of_packet packet) (outstanding past (life_at past (machine_of_packet packet)) (source_of_packet packet)) clock (read_of2 (bytes_of packet))) reading h
 
 no_reading_fused : (count : ℕ) (made : Result Publication ℕ) (reading : Interval) → fusion_reply count made ≡ Read reading → ⊥
 no_reading_fused count (Ok publication) reading h = cc
@@ -101,20 +102,20 @@ readable_place count seen k h =
 
 -- where each publication held the true time when it was made, a reading holds it now
 pub read_holds : (configs : List Configuration) (past : List Event) (at m w clock k : ℕ) → m < length configs → IsGood configs past (record { at = at; action = does.Read m w clock k }) →
-    KeepsDrift (config_at configs m).drift (moments_of (record { at = at; action = does.Read m w clock k } ∷ past) m) →
-    AllByRecursion (λ (p : Publication). WasRight past m p) (publications_of (config_at configs m) past m) →
-    Holds (reading_at (config_at configs m).drift (publication_at (publications_of (config_at configs m) past m) k) clock) at
+    KeepsDrift (config_at configs m).drift (moments_of (record { at = at; action = does.Read m w clock k } ∷ past) (life_at past m)) →
+    AllByRecursion (λ (p : Publication). WasRight past (life_at past m) p) (publications_of (config_at configs m) past (life_at past m)) →
+    Holds (reading_at (config_at configs m).drift (publication_at (publications_of (config_at configs m) past (life_at past m)) k) clock) at
 read_holds configs past at m w clock k there good drift right =
     let config : Configuration = config_at configs m in
-    let publications : List Publication = publications_of config past m in
-    let reading = reading_of configs past (record { at = at; action = does.Read m w clock k }) m clock good refl in
+    let publications : List Publication = publications_of config past (life_at past m) in
+    let reading = reading_of configs past (record { at = at; action = does.Read m w clock k }) (life_at past m) clock good refl in
     let agree = (subst (λ (ms : List Moment). KeepsDrift config.drift ms) reading.moment drift).0 in
-    let was = All-from_recursion (λ (p : Publication). WasRight past m p) publications right (k - 1) no_publication (readable_place (length publications) (seen_of past m w) k good.publication_there) in
+    let was = All-from_recursion (λ (p : Publication). WasRight past (life_at past m) p) publications right (k - 1) no_publication (readable_place (length publications) (seen_of past (life_at past m) w) k good.publication_there) in
     let publication : Publication = publication_at publications k in
-    let clock_by : publication.clock ≤ clock = le_steps publication.clock (clock_of past m) clock was.clock_by_now reading.not_before in
+    let clock_by : publication.clock ≤ clock = le_steps publication.clock (clock_of past (life_at past m)) clock was.clock_by_now reading.not_before in
     let on : was.fused_at ≤ at = le_steps was.fused_at (time_of past) at was.by_now good.not_before in
     aged_holds config.drift publication.span clock at publication.clock was.fused_at clock_by on good.in_time
-    (holds_in (AgreesWith config.drift (record { clock = clock; time = at })) (record { clock = publication.clock; time = was.fused_at }) (moments_of past m) agree was.moment)
+    (holds_in (AgreesWith config.drift (record { clock = clock; time = at })) (record { clock = publication.clock; time = was.fused_at }) (moments_of past (life_at past m)) agree was.moment)
     was.held
   where
     le_steps : (a b c : ℕ) → a ≤ b → b ≤ c → a ≤ c
@@ -132,30 +133,30 @@ valid_accepted configs past events = all_accepted (λ (e : Event). IsAction e.ac
 
 read_holds_at : FusionLaws → (configs : List Configuration) → AreConfigurations configs → (past : List Event) → AreEvents past → (at m w clock k : ℕ) → first_bad configs (accepted configs past) (record { at = at; action = does.Read m w clock k }) ≡ None →
     MeetsAssumptions configs (record { at = at; action = does.Read m w clock k } ∷ past) →
-    Holds (reading_at (config_at configs m).drift (publication_at (publications_of (config_at configs m) (accepted configs past) m) k) clock) at
+    Holds (reading_at (config_at configs m).drift (publication_at (publications_of (config_at configs m) (accepted configs past) (life_at (accepted configs past) m)) k) clock) at
 read_holds_at laws configs configurations past events at m w clock k not_bad meets =
     let event : Event = record { at = at; action = does.Read m w clock k } in
     let good = good_of configs (accepted configs past) event not_bad in
     let there = machine_of_worker configs m w good.named in
     let kept = assumed configs past event not_bad meets in
-    let drift = kept.0 m there in
-    let before = drift_kept_before (config_at configs m).drift (record { clock = clock; time = at } ∷ []) (moments_of (accepted configs past) m)
-    (subst (λ (ms : List Moment). KeepsDrift (config_at configs m).drift ms) (reading_of configs (accepted configs past) event m clock good refl).moment drift) in
+    let drift = kept.0 (life_at (accepted configs past) m) there in
+    let before = drift_kept_before (config_at configs m).drift (record { clock = clock; time = at } ∷ []) (moments_of (accepted configs past) (life_at (accepted configs past) m))
+    (subst (λ (ms : List Moment). KeepsDrift (config_at configs m).drift ms) (reading_of configs (accepted configs past) event (life_at (accepted configs past) m) clock good refl).moment drift) in
     read_holds configs (accepted configs past) at m w clock k there good drift
-    (publications_right laws configs (accepted configs past) m (configurations m there) (good_accepted configs past) (valid_accepted configs past events) before kept.1.1)
+    (publications_right laws configs (accepted configs past) (life_at (accepted configs past) m) (configurations m there) (good_accepted configs past) (valid_accepted configs past events) before kept.1.1)
 
 read_holds_by_action : FusionLaws → (configs : List Configuration) → AreConfigurations configs → (past : List Event) → AreEvents past → (at : ℕ) (action : Action) (reading : Interval) →
     first_bad configs (accepted configs past) (record { at = at; action = action }) ≡ None → reply_to configs (accepted configs past) action ≡ Read reading → MeetsAssumptions configs (record { at = at; action = action } ∷ past) → Holds reading at
 read_holds_by_action laws configs configurations past events at (does.Deliver p clock) reading not_bad h meets = absurd (no_reading_of_packet (accepted configs past) clock (slice_get (packets_of (accepted configs past)) p) reading h)
 read_holds_by_action laws configs configurations past events at (does.Fuse m clock) reading not_bad h meets =
-    absurd (no_reading_fused (length (publications_of (config_at configs m) (accepted configs past) m)) (fusion_of (config_at configs m) (accepted configs past) m clock) reading h)
+    absurd (no_reading_fused (length (publications_of (config_at configs m) (accepted configs past) (life_at (accepted configs past) m))) (fusion_of (config_at configs m) (accepted configs past) (life_at (accepted configs past) m) clock) reading h)
 read_holds_by_action laws configs configurations past events at (does.Read m w clock k) reading not_bad h meets =
-    subst (λ (i : Interval). Holds i at) (same_reading (reading_at (config_at configs m).drift (publication_at (publications_of (config_at configs m) (accepted configs past) m) k) clock) reading h)
+    subst (λ (i : Interval). Holds i at) (same_reading (reading_at (config_at configs m).drift (publication_at (publications_of (config_at configs m) (accepted configs past) (life_at (accepted configs past) m)) k) clock) reading h)
     (read_holds_at laws configs configurations past events at m w clock k not_bad meets)
 read_holds_by_action laws configs configurations past events at (does.Stamp m w) reading not_bad h meets =
-    absurd (no_reading_stamped (stamping_of (config_at configs m) (accepted configs past) m w) reading h)
+    absurd (no_reading_stamped (stamping_of (config_at configs m) (accepted configs past) (life_at (accepted configs past) m) w) reading h)
 read_holds_by_action laws configs configurations past events at (does.Queue m w) reading not_bad h meets =
-    absurd (no_reading_queued (queueing_of (config_at configs m) (accepted configs past) m w) reading h)
+    absurd (no_reading_queued (queueing_of (config_at configs m) (accepted configs past) (life_at (accepted configs past) m) w) reading h)
 read_holds_by_action laws configs configurations past events at _ reading not_bad h meets = absurd cc
 
 -- a reading holds the true time, if the run keeps the assumptions up to then
@@ -168,21 +169,21 @@ reading_holds laws configs configurations past events event reading h meets =
 
 -- a span that is published is the least that holds every possible time
 pub fusion_shortest : FusionLaws → (configs : List Configuration) → AreConfigurations configs → (past : List Event) (at m clock number : ℕ) (span : Interval) →
-    reply_of configs past (record { at = at; action = does.Fuse m clock }) ≡ Published number span → IsFusion (spans_of (config_at configs m) (accepted configs past) m clock) (config_at configs m).faulty span
+    reply_of configs past (record { at = at; action = does.Fuse m clock }) ≡ Published number span → IsFusion (spans_of (config_at configs m) (accepted configs past) (life_at (accepted configs past) m) clock) (config_at configs m).faulty span
 fusion_shortest laws configs configurations past at m clock number span h =
     let event : Event = record { at = at; action = does.Fuse m clock } in
     let config : Configuration = config_at configs m in
     let facts = published_not_bad (first_bad configs (accepted configs past) event) (reply_to configs (accepted configs past) (does.Fuse m clock)) number span h in
     let good = good_of configs (accepted configs past) event facts.0 in
     let there = machine_there configs m good.named in
-    let made = published_made (length (publications_of config (accepted configs past) m)) (fusion_of config (accepted configs past) m clock) number span facts.1 in
-    let fusion = made_is_fusion laws configs (accepted configs past) config m clock made.0 (configurations m there) (good_accepted configs past) made.1 in
-    subst (λ (i : Interval). IsFusion (spans_of config (accepted configs past) m clock) config.faulty i) made.2 fusion.0
+    let made = published_made (length (publications_of config (accepted configs past) (life_at (accepted configs past) m))) (fusion_of config (accepted configs past) (life_at (accepted configs past) m) clock) number span facts.1 in
+    let fusion = made_is_fusion laws configs (accepted configs past) config (life_at (accepted configs past) m) clock made.0 (configurations m there) (good_accepted configs past) made.1 in
+    subst (λ (i : Interval). IsFusion (spans_of config (accepted configs past) (life_at (accepted configs past) m) clock) config.faulty i) made.2 fusion.0
 
 -- a fusion that is not bad is not refused where all sources but as many as may lie are known, if the run keeps the assumptions up to then
 pub fusion_not_refused : FusionLaws → (configs : List Configuration) → AreConfigurations configs → (past : List Event) → AreEvents past → (at m clock : ℕ) →
     first_bad configs (accepted configs past) (record { at = at; action = does.Fuse m clock }) ≡ None →
-    (config_at configs m).sources - (config_at configs m).faulty ≤ known_of (config_at configs m) (accepted configs past) m →
+    (config_at configs m).sources - (config_at configs m).faulty ≤ known_of (config_at configs m) (accepted configs past) (life_at (accepted configs past) m) →
     MeetsAssumptions configs (record { at = at; action = does.Fuse m clock } ∷ past) →
     (number : ℕ) × (span : Interval) × (reply_of configs past (record { at = at; action = does.Fuse m clock }) ≡ Published number span)
 fusion_not_refused laws configs configurations past events at m clock not_bad known meets =
@@ -193,9 +194,9 @@ fusion_not_refused laws configs configurations past events at m clock not_bad kn
     let kept = assumed configs past event not_bad meets in
     let all_good = good_accepted configs past in
     let valid = valid_accepted configs past events in
-    let possible = true_time_possible configs (accepted configs past) event config m clock all_good valid good refl (kept.0 m there) kept.1.0 in
-    let made = fusion_made laws configs (accepted configs past) config m clock at (configurations m there) all_good known possible in
-    let count : ℕ = length (publications_of config (accepted configs past) m) in (
+    let possible = true_time_possible configs (accepted configs past) event config (life_at (accepted configs past) m) clock all_good valid good refl (kept.0 (life_at (accepted configs past) m) there) kept.1.0 in
+    let made = fusion_made laws configs (accepted configs past) config (life_at (accepted configs past) m) clock at (configurations m there) all_good known possible in
+    let count : ℕ = length (publications_of config (accepted configs past) (life_at (accepted configs past) m)) in (
       count + 1,
       made.0.span,
       ap (λ (reason : Option WorldFault). reply_unless_bad reason (reply_to configs (accepted configs past) (does.Fuse m clock))) not_bad ∙ ap (fusion_reply count) made.1,

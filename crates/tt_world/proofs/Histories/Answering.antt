@@ -1,55 +1,33 @@
 -- What is read from bytes as an answer.
-use Rattle.std.proofs.Common.{◌≡◌, ℕ, zero, suc, ◌^◌, ◌%◌, ◌<◌, ◌≤◌, Bool, true, false, cond, eqb, ltb, ◌||◌, List, [], ◌∷◌, length, Option, Some, None, Ok, inl, inr, refl, ap, subst, ◌∙◌, arith, lit<}
-use Rattle.std.specs.Prelude.{find}
+use Rattle.std.proofs.Common.{◌≡◌, ℕ, zero, suc, ◌^◌, ◌%◌, ◌<◌, ◌≤◌, Bool, true, false, cond, eqb, ltb, ◌||◌, ◌&&◌, not, List, [], ◌∷◌, length, Ok, inl, inr, refl, ap, subst, ◌∙◌, arith, lit<}
 use Rattle.std.specs.Int.{w64, from_be_bytes, to_be_bytes, bytes_high_first}
 use Rattle.std.proofs.lemmas.Bool.{cases_lt, not-false, or_cases, or_parts, and_cases, eqb-true, eqb-false, ltb-false}
 use Rattle.std.proofs.lemmas.Nat.{from_be_bytes-to_be_bytes_8, mod_below}
 use Rattle.tt_span.specs.Time.{max_time}
 use Rattle.tt_span.specs.Interval.{Interval, IsInterval}
-use Rattle.tt_poll.specs.declared.faults.PollFault.{PollFault}
-use Rattle.tt_poll.specs.declared.faults.PollFault.TheVariants.{Length, Magic, Kind, Reserved, Number, Nonce, Epoch, Span}
-use Rattle.tt_poll.specs.declared.messages.Message2.{Message2}
 use Rattle.tt_poll.specs.declared.messages.Message2.TheVariants.{Request, Answer}
 use Rattle.tt_poll.specs.Message.{PollRequest2, PollAnswer2}
 use Rattle.tt_poll.specs.Spelling.{spelling_of2}
-use Rattle.tt_poll.specs.Reading.{IsBytes, number_at, span_at2, request_at2, answer_at2, message_at2, applies2, poll_faults2, first_poll_fault2, unless_refused, read_of2}
-
--- what is read is not refused
-taken_as : (o : Option PollFault) (m n : Message2) → unless_refused o m ≡ Ok n → (o ≡ None) × (m ≡ n)
-taken_as None m n h = (refl, cc)
-taken_as (Some e) m n h = absurd cc
-
-passed : (b : Bool) (e : PollFault) (found : Option PollFault) → cond b (Some e) found ≡ None → (b ≡ false) × (found ≡ None)
-passed true e found h = absurd cc
-passed false e found h = (refl, h)
-
--- where no refusal is found, those of the length and the span do not apply
-none_of : (p : PollFault → Bool) → find p poll_faults2 ≡ None → (p Length ≡ false) × (p Span ≡ false)
-none_of p h =
-    let length = passed (p Length) Length _ h in
-    let magic = passed (p Magic) Magic _ length.1 in
-    let kind = passed (p Kind) Kind _ magic.1 in
-    let reserved = passed (p Reserved) Reserved _ kind.1 in
-    let number = passed (p Number) Number _ reserved.1 in
-    let nonce = passed (p Nonce) Nonce _ number.1 in
-    let epoch = passed (p Epoch) Epoch _ nonce.1 in
-    let span = passed (p Span) Span _ epoch.1 in
-    (length.0, span.0)
+use Rattle.tt_poll.specs.Reading.{IsBytes, number_at, span_at2, request_at2, answer_at2, are_no_span, read_of2}
+use Rattle.tt_poll.proofs.Refusing.{fields_of_read2}
 
 is_answer : (b : Bool) (r : PollRequest2) (a c : PollAnswer2) → cond b (Request r) (Answer a) ≡ Answer c → (b ≡ false) × (a ≡ c)
 is_answer true r a c h = absurd cc
 is_answer false r a c h = (refl, cc)
 
--- bytes that are read as an answer have its fields, are as long as one, and its span is one of time
-answer_read : (bytes : List ℕ) (a : PollAnswer2) → read_of2 bytes ≡ Ok (Answer a) → (answer_at2 bytes ≡ a) × (applies2 bytes Length ≡ false) × (applies2 bytes Span ≡ false) × (eqb (length bytes) 24 ≡ false)
-unfolding read_of2 first_poll_fault2
-answer_read bytes a h =
-    let taken = taken_as (find (applies2 bytes) poll_faults2) (message_at2 bytes) (Answer a) h in
-    let none = none_of (applies2 bytes) taken.0 in
-    let kind = is_answer (eqb (length bytes) 24) (request_at2 bytes) (answer_at2 bytes) a taken.1 in
-    (kind.1, none.0, none.1, kind.0)
+-- bytes as long as an answer end with no span of time
+abbrev has_no_span : List ℕ → Bool
+has_no_span bytes = eqb (length bytes) 40 && are_no_span (span_at2 bytes)
 
-span_of : (bytes : List ℕ) → length bytes ≡ 40 → applies2 bytes Span ≡ false → IsInterval (span_at2 bytes)
+-- bytes that are read as an answer have its fields, are as long as one, and its span is one of time
+answer_read : (bytes : List ℕ) (a : PollAnswer2) → read_of2 bytes ≡ Ok (Answer a)
+    → (answer_at2 bytes ≡ a) × (not (eqb (length bytes) 24 || eqb (length bytes) 40) ≡ false) × (has_no_span bytes ≡ false) × (eqb (length bytes) 24 ≡ false)
+answer_read bytes a h =
+    let fields = fields_of_read2 bytes (Answer a) h in
+    let kind = is_answer (eqb (length bytes) 24) (request_at2 bytes) (answer_at2 bytes) a fields.1 in
+    (kind.1, fields.0.0, fields.0.1.1.1.1.1.1.1.0, kind.0)
+
+span_of : (bytes : List ℕ) → length bytes ≡ 40 → has_no_span bytes ≡ false → IsInterval (span_at2 bytes)
 span_of bytes len h =
     let ends : (ltb (number_at bytes 32) (number_at bytes 24) || ltb max_time (number_at bytes 32)) ≡ false = elim (and_cases _ _ h) [
       | inl other ↦ absurd (eqb-false _ _ other len)
@@ -89,14 +67,19 @@ number_back n =
       | inr ge ↦ let fits : from_be_bytes w64 (to_be_bytes w64 n) < 2 ^ 64 = number_fits (to_be_bytes w64 n) (IsBytes-high_first 8 n) in omega arith
     ]
 
--- what is read from the spelling of an answer: its span where that is one of time, and no greater nonce
+-- what is read from the spelling of an answer: its span where that is one of time, its epoch where that fits eight bytes, and no greater nonce
 pub record IsReadFrom (a b : PollAnswer2) : Type 0 where
   pub nonce : b.nonce ≤ a.nonce
+  pub epoch : a.epoch < 2 ^ 64 → b.epoch ≡ a.epoch
   pub span : b.span ≡ a.span
 
 spelled_nonce : (a : PollAnswer2) → (answer_at2 (spelling_of2 (Answer a))).nonce ≤ a.nonce
 unfolding spelling_of2
 spelled_nonce a = number_back a.nonce
+
+spelled_epoch : (a : PollAnswer2) → a.epoch < 2 ^ 64 → (answer_at2 (spelling_of2 (Answer a))).epoch ≡ a.epoch
+unfolding spelling_of2
+spelled_epoch a fits = from_be_bytes-to_be_bytes_8 a.epoch fits
 
 spelled_span : (a : PollAnswer2) → IsInterval a.span → (answer_at2 (spelling_of2 (Answer a))).span ≡ a.span
 unfolding spelling_of2
@@ -111,5 +94,6 @@ answer_back a b valid h =
     let read = answer_read (spelling_of2 (Answer a)) b h in
     record {
       nonce = subst (λ (c : PollAnswer2). c.nonce ≤ a.nonce) read.0 (spelled_nonce a);
+      epoch = λ fits. subst (λ (c : PollAnswer2). c.epoch ≡ a.epoch) read.0 (spelled_epoch a fits);
       span = subst (λ (c : PollAnswer2). c.span ≡ a.span) read.0 (spelled_span a valid);
     }

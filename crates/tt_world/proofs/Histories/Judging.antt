@@ -17,7 +17,7 @@ pub record IsGood (configs : List Configuration) (past : List Event) (event : Ev
   pub in_time : event.at ≤ max_time
   pub named : names_unknown configs event.action ≡ false
   pub packet_there : lacks_packet (packets_of past) event.action ≡ false
-  pub clock_on : goes_back (clock_of past) (clock_reading (packets_of past) event.action) ≡ false
+  pub clock_on : goes_back (clock_of past) (clock_reading past event.action) ≡ false
   pub publication_there : lacks_publication configs past event.action ≡ false
   pub thing_there : lacks_its_thing configs past event.action ≡ false
 
@@ -31,7 +31,7 @@ good_of configs past event h =
     let time = passed (breaks_time past event) bad.TimeBack _ h in
     let named = passed (names_unknown configs event.action) bad.UnknownNumber _ time.1 in
     let packet = passed (lacks_packet (packets_of past) event.action) bad.NoPacket _ named.1 in
-    let clock = passed (goes_back (clock_of past) (clock_reading (packets_of past) event.action)) bad.ClockBack _ packet.1 in
+    let clock = passed (goes_back (clock_of past) (clock_reading past event.action)) bad.ClockBack _ packet.1 in
     let publication = passed (lacks_publication configs past event.action) bad.NoPublication _ clock.1 in
     let thing = passed (lacks_its_thing configs past event.action) bad.NothingThere _ publication.1 in
     let times = or_parts _ _ time.0 in

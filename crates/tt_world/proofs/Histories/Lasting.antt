@@ -1,5 +1,5 @@
 -- What holds after every run.
-use Rattle.std.proofs.Common.{◌||◌, ◌≡◌, ℕ, ◌+◌, ◌≤◌, Bool, true, false, cond, eqb, ltb, ◌&&◌, List, [], ◌∷◌, ◌++◌, length, slice_get, is_some, All, Option, Some, None, refl, sym, subst, arith, length-append, eqb-true, ltb-false}
+use Rattle.std.proofs.Common.{◌||◌, ◌≡◌, ℕ, ◌+◌, ◌≤◌, Bool, true, false, cond, eqb, ltb, ◌&&◌, List, [], ◌∷◌, ◌++◌, length, slice_get, is_some, All, Option, Some, None, refl, sym, subst, arith, length-append, ltb-false}
 use Rattle.std.specs.Option.{option_map}
 use Rattle.std.specs.Result.{result_ok}
 use Rattle.std.proofs.lemmas.Bool.{or_parts, not-false, cond_both}
@@ -10,6 +10,8 @@ use Rattle.tt_span.specs.Time.{max_time}
 use Rattle.tt_span.specs.Interval.{Interval}
 use Rattle.tt_poll.specs.Reading.{read_of2}
 use Rattle.tt_source.specs.Table.{statement_of_message}
+use Rattle.tt_world.proofs.Simulation.Lives.{same_life-true}
+use Rattle.tt_world.specs.Life.{life_of, Life, life_at, same_life, is_of}
 use Rattle.tt_world.specs.declared.faults.WorldFault.{WorldFault}
 use Rattle.tt_world.specs.declared.faults.WorldFault.TheVariants as bad
 use Rattle.tt_world.specs.declared.events.Event.{Event}
@@ -19,7 +21,7 @@ use Rattle.tt_world.specs.declared.packets.Packet.{Packet}
 use Rattle.tt_world.specs.declared.packets.Packet.TheVariants.{Asked, Answered, Forged}
 use Rattle.tt_daemon.specs.Config.{Configuration}
 use Rattle.tt_world.specs.Packet.{machine_of_packet, source_of_packet, bytes_of, answer_to}
-use Rattle.tt_world.specs.Past.{first_life, is_send_of, sends_of, put_by, packets_of, clock_reading, clock_after, clock_of}
+use Rattle.tt_world.specs.Past.{sends_now, is_send_of, sends_of, put_by, packets_of, clock_reading, clock_after, clock_of}
 use Rattle.tt_world.specs.Sources.{outstanding}
 use Rattle.tt_world.specs.Bad.{has_source, names_unknown, goes_back, first_bad, accepted}
 use Rattle.tt_world.specs.State.{is_taken, polled_clock_of}
@@ -34,14 +36,14 @@ one_more n packets p false h = omega (arith, length_push packets p)
 no_fewer : (n : ℕ) (packets more : List Packet) → n ≤ length packets → n ≤ length (packets ++ more)
 no_fewer n packets more h = omega (arith, length-append packets more)
 
-sends_more : (past : List Event) (m : ℕ) (action : Action) → sends_of past m ≤ length (packets_of past)
-    → cond (is_send_of m action) (sends_of past m + 1) (sends_of past m) ≤ length (packets_of past ++ put_by (sends_of past) (packets_of past) action)
-sends_more past m (Send machine source clock) h = one_more (sends_of past m) (packets_of past) _ (eqb machine m) h
-sends_more past m _ h = no_fewer (sends_of past m) (packets_of past) _ h
+sends_more : (past : List Event) (life : Life) (action : Action) → sends_of past life ≤ length (packets_of past)
+    → cond (is_send_of past life action) (sends_of past life + 1) (sends_of past life) ≤ length (packets_of past ++ put_by (life_of past) (sends_now past) (packets_of past) action)
+sends_more past life (Send machine source clock) h = one_more (sends_of past life) (packets_of past) _ (is_of past life machine) h
+sends_more past life _ h = no_fewer (sends_of past life) (packets_of past) _ h
 
-pub sends_of-le-packets : (past : List Event) (m : ℕ) → sends_of past m ≤ length (packets_of past)
-sends_of-le-packets [] m = omega arith
-sends_of-le-packets (event ∷ past) m = sends_more past m event.action (sends_of-le-packets past m)
+pub sends_of-le-packets : (past : List Event) (life : Life) → sends_of past life ≤ length (packets_of past)
+sends_of-le-packets [] life = omega arith
+sends_of-le-packets (event ∷ past) life = sends_more past life event.action (sends_of-le-packets past life)
 
 -- ---- what the clock showed at the last poll or taking, it has not fallen below
 
@@ -51,30 +53,30 @@ below_reading q true c polled clock none rises h =
     let risen = rises refl in
     cond_both (q true) c polled (λ x. x ≤ c) (λ e. omega arith) (λ e. omega arith)
 
-not_below : (clocks : ℕ → ℕ) (machine c m : ℕ) → (ltb c (clocks machine) || ltb max_time c) ≡ false → eqb machine m ≡ true → clocks m ≤ c
-not_below clocks machine c m fresh same =
-    subst (λ (j : ℕ). clocks j ≤ c) (eqb-true machine m same) (ltb-false c (clocks machine) (or_parts _ _ fresh).0)
+not_below : (clocks : Life → ℕ) (a : Life) (c : ℕ) (b : Life) → (ltb c (clocks a) || ltb max_time c) ≡ false → same_life a b ≡ true → clocks b ≤ c
+not_below clocks a c b fresh same =
+    subst (λ (j : Life). clocks j ≤ c) (same_life-true a b same) (ltb-false c (clocks a) (or_parts _ _ fresh).0)
 
-below_delivery : (past : List Event) (m c : ℕ) (o : Option Packet)
-    → goes_back (clock_of past) (option_map (λ p. record { machine = machine_of_packet p; clock = c }) o) ≡ false
-    → polled_clock_of past m ≤ clock_of past m
-    → cond (is_taken m (outstanding past m) c o) c (polled_clock_of past m) ≤ clock_after m (option_map (λ p. record { machine = machine_of_packet p; clock = c }) o) (clock_of past m)
-below_delivery past m c None fresh h = h
-below_delivery past m c (Some p) fresh h =
+below_delivery : (past : List Event) (life : Life) (c : ℕ) (o : Option Packet)
+    → goes_back (clock_of past) (option_map (λ p. record { life = life_at past (machine_of_packet p); clock = c }) o) ≡ false
+    → polled_clock_of past life ≤ clock_of past life
+    → cond (is_taken past life (outstanding past life) c o) c (polled_clock_of past life) ≤ clock_after life (option_map (λ p. record { life = life_at past (machine_of_packet p); clock = c }) o) (clock_of past life)
+below_delivery past life c None fresh h = h
+below_delivery past life c (Some p) fresh h =
     let s = source_of_packet p in
-    below_reading (λ b. is_some (cond (b && eqb s s) (result_ok (statement_of_message m first_life s (outstanding past m s) c (read_of2 (bytes_of p)))) None))
-    (eqb (machine_of_packet p) m) c (polled_clock_of past m) (clock_of past m) refl (not_below (clock_of past) (machine_of_packet p) c m fresh) h
+    below_reading (λ b. is_some (cond (b && eqb s s) (result_ok (statement_of_message life.machine life.number s (outstanding past life s) c (read_of2 (bytes_of p)))) None))
+    (is_of past life (machine_of_packet p)) c (polled_clock_of past life) (clock_of past life) refl (not_below (clock_of past) (life_at past (machine_of_packet p)) c life fresh) h
 
-polled_more : (past : List Event) (m at : ℕ) (action : Action) → goes_back (clock_of past) (clock_reading (packets_of past) action) ≡ false
-    → polled_clock_of past m ≤ clock_of past m → polled_clock_of (happens at action ∷ past) m ≤ clock_of (happens at action ∷ past) m
-polled_more past m at (Send machine source clock) fresh h =
-    below_reading (λ b. b) (eqb machine m) clock (polled_clock_of past m) (clock_of past m) refl (not_below (clock_of past) machine clock m fresh) h
-polled_more past m at (Deliver packet clock) fresh h = below_delivery past m clock (slice_get (packets_of past) packet) fresh h
-polled_more past m at (Fuse machine clock) fresh h =
-    below_reading (λ b. false) (eqb machine m) clock (polled_clock_of past m) (clock_of past m) refl (not_below (clock_of past) machine clock m fresh) h
-polled_more past m at (Read machine worker clock publication) fresh h =
-    below_reading (λ b. false) (eqb machine m) clock (polled_clock_of past m) (clock_of past m) refl (not_below (clock_of past) machine clock m fresh) h
-polled_more past m at _ fresh h = h
+polled_more : (past : List Event) (life : Life) (at : ℕ) (action : Action) → goes_back (clock_of past) (clock_reading past action) ≡ false
+    → polled_clock_of past life ≤ clock_of past life → polled_clock_of (happens at action ∷ past) life ≤ clock_of (happens at action ∷ past) life
+polled_more past life at (Send machine source clock) fresh h =
+    below_reading (λ b. b) (is_of past life machine) clock (polled_clock_of past life) (clock_of past life) refl (not_below (clock_of past) (life_at past machine) clock life fresh) h
+polled_more past life at (Deliver packet clock) fresh h = below_delivery past life clock (slice_get (packets_of past) packet) fresh h
+polled_more past life at (Fuse machine clock) fresh h =
+    below_reading (λ b. false) (is_of past life machine) clock (polled_clock_of past life) (clock_of past life) refl (not_below (clock_of past) (life_at past machine) clock life fresh) h
+polled_more past life at (Read machine worker clock publication) fresh h =
+    below_reading (λ b. false) (is_of past life machine) clock (polled_clock_of past life) (clock_of past life) refl (not_below (clock_of past) (life_at past machine) clock life fresh) h
+polled_more past life at _ fresh h = h
 
 -- ---- packets go to machines that are there, from sources that they ask
 
@@ -95,18 +97,18 @@ module _ (configs : List Configuration) where
   known_answer packets k span (Some (Answered answer)) is all = All-nil (HasItsSource configs)
   known_answer packets k span (Some (Forged machine source payload)) is all = All-nil (HasItsSource configs)
 
-  known_put : (sends : ℕ → ℕ) (packets : List Packet) (action : Action) → names_unknown configs action ≡ false → All (HasItsSource configs) packets
-      → All (HasItsSource configs) (put_by sends packets action)
-  known_put sends packets (Send machine source clock) named all = All-one (HasItsSource configs) _ (not-false (has_source configs machine source) named)
-  known_put sends packets (Answer packet span) named all = known_answer packets packet span (slice_get packets packet) refl all
-  known_put sends packets (Forge machine source payload) named all = All-one (HasItsSource configs) _ (not-false (has_source configs machine source) named)
-  known_put sends packets _ named all = All-nil (HasItsSource configs)
+  known_put : (lives sends : ℕ → ℕ) (packets : List Packet) (action : Action) → names_unknown configs action ≡ false → All (HasItsSource configs) packets
+      → All (HasItsSource configs) (put_by lives sends packets action)
+  known_put lives sends packets (Send machine source clock) named all = All-one (HasItsSource configs) _ (not-false (has_source configs machine source) named)
+  known_put lives sends packets (Answer packet span) named all = known_answer packets packet span (slice_get packets packet) refl all
+  known_put lives sends packets (Forge machine source payload) named all = All-one (HasItsSource configs) _ (not-false (has_source configs machine source) named)
+  known_put lives sends packets _ named all = All-nil (HasItsSource configs)
 
   -- ---- both, after every run
 
   -- what holds after every run without bad events
   pub record Lasts (past : List Event) : Type 0 where
-    pub rises : (m : ℕ) → polled_clock_of past m ≤ clock_of past m
+    pub rises : (life : Life) → polled_clock_of past life ≤ clock_of past life
     pub known : All (HasItsSource configs) (packets_of past)
 
   -- the first test that an event fails
@@ -125,9 +127,9 @@ module _ (configs : List Configuration) where
   lasts_more past event good before =
       let passed = tests_passed _ _ _ _ _ _ good in
       record {
-        rises = λ m. polled_more past m event.at event.action passed.1 (before.rises m);
-        known = All-append (HasItsSource configs) (packets_of past) (put_by (sends_of past) (packets_of past) event.action) before.known
-            (known_put (sends_of past) (packets_of past) event.action passed.0 before.known);
+        rises = λ life. polled_more past life event.at event.action passed.1 (before.rises life);
+        known = All-append (HasItsSource configs) (packets_of past) (put_by (life_of past) (sends_now past) (packets_of past) event.action) before.known
+            (known_put (life_of past) (sends_now past) (packets_of past) event.action passed.0 before.known);
       }
 
   lasts_unless_bad : (past : List Event) (event : Event) (o : Option WorldFault) → first_bad configs past event ≡ o → Lasts past → Lasts (cond (is_some o) past (event ∷ past))
@@ -135,6 +137,6 @@ module _ (configs : List Configuration) where
   lasts_unless_bad past event (Some number) is before = before
 
   pub Lasts-accepted : (past : List Event) → Lasts (accepted configs past)
-  Lasts-accepted [] = record { rises = λ m. omega arith; known = All-nil (HasItsSource configs) }
+  Lasts-accepted [] = record { rises = λ life. omega arith; known = All-nil (HasItsSource configs) }
   Lasts-accepted (event ∷ past) =
       lasts_unless_bad (accepted configs past) event (first_bad configs (accepted configs past) event) refl (Lasts-accepted past)

@@ -14,6 +14,7 @@ use Rattle.tt_stamp.specs.declared.commits.Entry.{Entry}
 use Rattle.tt_stamp.specs.declared.commits.Entry.TheVariants.{Queued, Passed}
 use Rattle.tt_stamp.specs.declared.faults.BookFault.{BookFault}
 use Rattle.tt_stamp.specs.History.{waiting_of, stamp_on, MayQueue, IsNextReceipt, IsLegalHistory, IsRelease, release_of, with_receipts, first_queue_fault}
+use Rattle.tt_world.specs.Life.{Life, is_of}
 use Rattle.tt_world.specs.declared.events.Event.{Event}
 use Rattle.tt_world.specs.declared.events.Action.{Action}
 use Rattle.tt_world.specs.declared.events.Action.TheVariants.{Queue, Release}
@@ -129,14 +130,14 @@ module _ (laws : BookLaws) where
   legal_either true here other h o = h
   legal_either false here other h o = o
 
-  legal_after : (config : Configuration) (past : List Event) (m : ℕ) (book : List Entry) (action : Action) → IsLegalHistory book → IsLegalHistory (book_after config past m book action)
-  legal_after config past m book (Queue machine worker) legal =
-      legal_either (machine == m) _ book (legal_queued book (arrival_of past m worker) (stamp_held config past m worker) legal) legal
-  legal_after config past m book (Release machine worker) legal =
-      legal_either (machine == m) _ book (legal_released book (reading_of config past m worker) legal) legal
-  legal_after config past m book _ legal = legal
+  legal_after : (config : Configuration) (past : List Event) (life : Life) (book : List Entry) (action : Action) → IsLegalHistory book → IsLegalHistory (book_after config past life book action)
+  legal_after config past life book (Queue machine worker) legal =
+      legal_either (is_of past life machine) _ book (legal_queued book (arrival_of past life worker) (stamp_held config past life worker) legal) legal
+  legal_after config past life book (Release machine worker) legal =
+      legal_either (is_of past life machine) _ book (legal_released book (reading_of config past life worker) legal) legal
+  legal_after config past life book _ legal = legal
 
   -- the book of a machine is a legal history, whatever the events
-  pub legal_book : (config : Configuration) (past : List Event) (m : ℕ) → IsLegalHistory (book_of config past m)
-  legal_book config [] m = tt
-  legal_book config (event ∷ past) m = legal_after config past m (book_of config past m) event.action (legal_book config past m)
+  pub legal_book : (config : Configuration) (past : List Event) (life : Life) → IsLegalHistory (book_of config past life)
+  legal_book config [] life = tt
+  legal_book config (event ∷ past) life = legal_after config past life (book_of config past life) event.action (legal_book config past life)

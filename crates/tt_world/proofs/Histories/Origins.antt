@@ -1,10 +1,12 @@
 -- The packets that were put: their nonces, and the events that put them.
-use Rattle.std.proofs.Common.{◌≡◌, ℕ, ◌+◌, ◌-◌, ◌<◌, ◌≤◌, Bool, true, false, not, cond, eqb, leb, ◌&&◌, List, [], ◌∷◌, length, Option, Some, None, inl, inr, refl, subst, sym, ◌∙◌, arith}
+use Rattle.std.proofs.Common.{◌≡◌, ℕ, ◌+◌, ◌-◌, ◌<◌, ◌≤◌, Bool, true, false, not, cond, leb, ◌&&◌, List, [], ◌∷◌, length, Option, Some, None, inl, inr, refl, subst, sym, ◌∙◌, arith, ◌^◌}
 use Rattle.std.specs.Prelude.{slice_get}
 use Rattle.std.specs.List.{AllByRecursion}
-use Rattle.std.proofs.lemmas.Bool.{and_parts, not-false, leb-true, eqb-true, cases_lt, lt-ltb, le-ltb}
+use Rattle.std.proofs.lemmas.Bool.{and_parts, not-false, leb-true, cases_lt, lt-ltb, le-ltb}
 use Rattle.std.proofs.lemmas.Option.{slice_get_within}
 use Rattle.tt_span.specs.Interval.{Interval, Holds, IsInterval}
+use Rattle.tt_world.proofs.Simulation.Lives.{life_of-one, same_life-true}
+use Rattle.tt_world.specs.Life.{life_of, Life, life_at, same_life, is_of}
 use Rattle.tt_world.specs.declared.events.Event.{Event}
 use Rattle.tt_world.specs.declared.events.Action.{Action}
 use Rattle.tt_world.specs.declared.events.Action.TheVariants.{Send, Answer, Forge}
@@ -12,56 +14,90 @@ use Rattle.tt_world.specs.declared.packets.Packet.{Packet}
 use Rattle.tt_world.specs.declared.packets.Packet.TheVariants.{Asked, Answered, Forged}
 use Rattle.tt_daemon.specs.Config.{Configuration}
 use Rattle.tt_world.specs.Packet.{answer_to}
-use Rattle.tt_world.specs.Past.{time_of, is_send_of, sends_of, put_by, packets_of}
+use Rattle.tt_world.specs.Past.{sends_now, time_of, is_send_of, sends_of, put_by, packets_of}
 use Rattle.tt_world.specs.Assumptions.{origin_of, is_lie}
 use Rattle.tt_world.specs.Headline.{IsAction}
 use Rattle.tt_world.proofs.Histories.Places.{get_front, get_back, get_one}
 use Rattle.tt_world.proofs.Histories.Judging.{AreGood}
 
--- the nonce in a packet of machine m, 0 in any other
-abbrev pub nonce_of : ℕ → Packet → ℕ
-nonce_of m (Asked request) = cond (eqb request.machine m) request.nonce 0
-nonce_of m (Answered answer) = cond (eqb answer.machine m) answer.nonce 0
-nonce_of m (Forged machine source payload) = 0
+-- the nonce in a packet of a life, 0 in any other
+abbrev pub nonce_of : Life → Packet → ℕ
+nonce_of life (Asked request) = cond (same_life (record { machine = request.machine; number = request.epoch }) life) request.nonce 0
+nonce_of life (Answered answer) = cond (same_life (record { machine = answer.machine; number = answer.epoch }) life) answer.nonce 0
+nonce_of life (Forged machine source payload) = 0
 
 sends_grow : (b : Bool) (n : ℕ) → n ≤ cond b (n + 1) n
 sends_grow true n = omega arith
 sends_grow false n = omega arith
 
-sent_nonce : (sends : ℕ → ℕ) (m machine : ℕ) (b : Bool) → eqb machine m ≡ b → cond b (sends machine + 1) 0 ≤ cond b (sends m + 1) (sends m)
-sent_nonce sends m machine true e = subst (λ (k : ℕ). sends machine + 1 ≤ sends k + 1) (eqb-true machine m e) (omega arith)
-sent_nonce sends m machine false e = omega arith
+sent_nonce : (past : List Event) (life : Life) (machine : ℕ) (b : Bool) → is_of past life machine ≡ b → cond b (sends_now past machine + 1) 0 ≤ cond b (sends_of past life + 1) (sends_of past life)
+sent_nonce past life machine true e = subst (λ (k : Life). sends_now past machine + 1 ≤ sends_of past k + 1) (same_life-true (life_at past machine) life e) (omega arith)
+sent_nonce past life machine false e = omega arith
 
-answered_nonce : (m bound k : ℕ) (asked : Option Packet) (span : Interval) (packet : Packet) → ((p : Packet) → asked ≡ Some p → nonce_of m p ≤ bound) → slice_get (answer_to asked span) k ≡ Some packet → nonce_of m packet ≤ bound
-answered_nonce m bound k None span packet h e = absurd cc
-answered_nonce m bound k (Some (Asked request)) span packet h e = subst (λ (p : Packet). nonce_of m p ≤ bound) (get_one _ packet k e) (h (Asked request) refl)
-answered_nonce m bound k (Some (Answered answer)) span packet h e = absurd cc
-answered_nonce m bound k (Some (Forged machine source payload)) span packet h e = absurd cc
+answered_nonce : (life : Life) (bound k : ℕ) (asked : Option Packet) (span : Interval) (packet : Packet) → ((p : Packet) → asked ≡ Some p → nonce_of life p ≤ bound) → slice_get (answer_to asked span) k ≡ Some packet → nonce_of life packet ≤ bound
+answered_nonce life bound k None span packet h e = absurd cc
+answered_nonce life bound k (Some (Asked request)) span packet h e = subst (λ (p : Packet). nonce_of life p ≤ bound) (get_one _ packet k e) (h (Asked request) refl)
+answered_nonce life bound k (Some (Answered answer)) span packet h e = absurd cc
+answered_nonce life bound k (Some (Forged machine source payload)) span packet h e = absurd cc
 
-new_nonce : (sends : ℕ → ℕ) (packets : List Packet) (m : ℕ) (action : Action) (k : ℕ) (packet : Packet) →
-    ((p : ℕ) (asked : Packet) → slice_get packets p ≡ Some asked → nonce_of m asked ≤ sends m) →
-    slice_get (put_by sends packets action) k ≡ Some packet → nonce_of m packet ≤ cond (is_send_of m action) (sends m + 1) (sends m)
-new_nonce sends packets m (Send machine source clock) k packet h e =
-    subst (λ (p : Packet). nonce_of m p ≤ cond (eqb machine m) (sends m + 1) (sends m)) (get_one _ packet k e) (sent_nonce sends m machine (eqb machine m) refl)
-new_nonce sends packets m (Answer p span) k packet h e = answered_nonce m (sends m) k (slice_get packets p) span packet (h p) e
-new_nonce sends packets m (Forge machine source payload) k packet h e = subst (λ (p : Packet). nonce_of m p ≤ sends m) (get_one _ packet k e) (omega arith)
-new_nonce sends packets m _ k packet h e = absurd cc
+new_nonce : (past : List Event) (life : Life) (action : Action) (k : ℕ) (packet : Packet) →
+    ((p : ℕ) (asked : Packet) → slice_get (packets_of past) p ≡ Some asked → nonce_of life asked ≤ sends_of past life) →
+    slice_get (put_by (life_of past) (sends_now past) (packets_of past) action) k ≡ Some packet → nonce_of life packet ≤ cond (is_send_of past life action) (sends_of past life + 1) (sends_of past life)
+new_nonce past life (Send machine source clock) k packet h e =
+    subst (λ (p : Packet). nonce_of life p ≤ cond (is_of past life machine) (sends_of past life + 1) (sends_of past life)) (get_one _ packet k e)
+    (sent_nonce past life machine (is_of past life machine) refl)
+new_nonce past life (Answer p span) k packet h e = answered_nonce life (sends_of past life) k (slice_get (packets_of past) p) span packet (h p) e
+new_nonce past life (Forge machine source payload) k packet h e = subst (λ (p : Packet). nonce_of life p ≤ sends_of past life) (get_one _ packet k e) (omega arith)
+new_nonce past life _ k packet h e = absurd cc
 
 -- a packet that an event put, by its place among those that the event put
 pub put_place : (past : List Event) (event : Event) (p : ℕ) (packet : Packet) → length (packets_of past) ≤ p → slice_get (packets_of (event ∷ past)) p ≡ Some packet →
-    slice_get (put_by (sends_of past) (packets_of past) event.action) (p - length (packets_of past)) ≡ Some packet
-put_place past event p packet h e = sym (get_back (packets_of past) (put_by (sends_of past) (packets_of past) event.action) p (p - length (packets_of past)) (omega arith)) ∙ e
+    slice_get (put_by (life_of past) (sends_now past) (packets_of past) event.action) (p - length (packets_of past)) ≡ Some packet
+put_place past event p packet h e = sym (get_back (packets_of past) (put_by (life_of past) (sends_now past) (packets_of past) event.action) p (p - length (packets_of past)) (omega arith)) ∙ e
 
 -- no packet has a nonce that its machine has not sent
-pub nonces_sent : (past : List Event) (m p : ℕ) (packet : Packet) → slice_get (packets_of past) p ≡ Some packet → nonce_of m packet ≤ sends_of past m
-nonces_sent [] m p packet e = absurd cc
-nonces_sent (event ∷ past) m p packet e =
+pub nonces_sent : (past : List Event) (life : Life) (p : ℕ) (packet : Packet) → slice_get (packets_of past) p ≡ Some packet → nonce_of life packet ≤ sends_of past life
+nonces_sent [] life p packet e = absurd cc
+nonces_sent (event ∷ past) life p packet e =
     elim (cases_lt p (length (packets_of past))) [
       | inl lt ↦
-          let old : nonce_of m packet ≤ sends_of past m = nonces_sent past m p packet (sym (get_front (packets_of past) (put_by (sends_of past) (packets_of past) event.action) p lt) ∙ e) in
-          let grow = sends_grow (is_send_of m event.action) (sends_of past m) in
+          let old : nonce_of life packet ≤ sends_of past life = nonces_sent past life p packet (sym (get_front (packets_of past) (put_by (life_of past) (sends_now past) (packets_of past) event.action) p lt) ∙ e) in
+          let grow = sends_grow (is_send_of past life event.action) (sends_of past life) in
           omega arith
-      | inr ge ↦ new_nonce (sends_of past) (packets_of past) m event.action (p - length (packets_of past)) packet (nonces_sent past m) (put_place past event p packet ge e)
+      | inr ge ↦ new_nonce past life event.action (p - length (packets_of past)) packet (nonces_sent past life) (put_place past event p packet ge e)
+    ]
+
+-- the numbers of lives fit eight bytes
+lives_fit : (configs : List Configuration) (past : List Event) → AreGood configs past → (m : ℕ) → life_of past m < 2 ^ 64
+lives_fit configs past good m = omega (arith, life_of-one past m)
+
+-- the epoch in a packet, 0 in one that was made up
+abbrev pub epoch_of : Packet → ℕ
+epoch_of (Asked request) = request.epoch
+epoch_of (Answered answer) = answer.epoch
+epoch_of (Forged machine source payload) = 0
+
+answered_epoch : (k : ℕ) (asked : Option Packet) (span : Interval) (packet : Packet) → ((p : Packet) → asked ≡ Some p → epoch_of p < 2 ^ 64) → slice_get (answer_to asked span) k ≡ Some packet → epoch_of packet < 2 ^ 64
+answered_epoch k None span packet h e = absurd cc
+answered_epoch k (Some (Asked request)) span packet h e = subst (λ (p : Packet). epoch_of p < 2 ^ 64) (get_one _ packet k e) (h (Asked request) refl)
+answered_epoch k (Some (Answered answer)) span packet h e = absurd cc
+answered_epoch k (Some (Forged machine source payload)) span packet h e = absurd cc
+
+new_epoch : (past : List Event) (action : Action) (k : ℕ) (packet : Packet) → ((m : ℕ) → life_of past m < 2 ^ 64) →
+    ((p : ℕ) (asked : Packet) → slice_get (packets_of past) p ≡ Some asked → epoch_of asked < 2 ^ 64) →
+    slice_get (put_by (life_of past) (sends_now past) (packets_of past) action) k ≡ Some packet → epoch_of packet < 2 ^ 64
+new_epoch past (Send machine source clock) k packet lives h e = subst (λ (p : Packet). epoch_of p < 2 ^ 64) (get_one _ packet k e) (lives machine)
+new_epoch past (Answer p span) k packet lives h e = answered_epoch k (slice_get (packets_of past) p) span packet (h p) e
+new_epoch past (Forge machine source payload) k packet lives h e = subst (λ (p : Packet). epoch_of p < 2 ^ 64) (get_one _ packet k e) (omega arith)
+new_epoch past _ k packet lives h e = absurd cc
+
+-- the epochs in packets fit eight bytes
+pub epochs_fit : (configs : List Configuration) (past : List Event) → AreGood configs past → (p : ℕ) (packet : Packet) → slice_get (packets_of past) p ≡ Some packet → epoch_of packet < 2 ^ 64
+epochs_fit configs [] good p packet e = absurd cc
+epochs_fit configs (event ∷ past) good p packet e =
+    elim (cases_lt p (length (packets_of past))) [
+      | inl lt ↦ epochs_fit configs past good.1 p packet (sym (get_front (packets_of past) (put_by (life_of past) (sends_now past) (packets_of past) event.action) p lt) ∙ e)
+      | inr ge ↦ new_epoch past event.action (p - length (packets_of past)) packet (lives_fit configs past good.1) (epochs_fit configs past good.1) (put_place past event p packet ge e)
     ]
 
 -- what a packet says where its event put no lie on its way at this true time
@@ -78,10 +114,10 @@ honest_answer at k (Some (Asked request)) span packet valid h e =
 honest_answer at k (Some (Answered answer)) span packet valid h e = absurd cc
 honest_answer at k (Some (Forged machine source payload)) span packet valid h e = absurd cc
 
-honest_put : (sends : ℕ → ℕ) (packets : List Packet) (at : ℕ) (action : Action) (k : ℕ) (packet : Packet) → IsAction action → slice_get (put_by sends packets action) k ≡ Some packet → is_lie at action ≡ false → IsHonest at packet
-honest_put sends packets at (Send machine source clock) k packet valid e h = subst (IsHonest at) (get_one _ packet k e) tt
-honest_put sends packets at (Answer p span) k packet valid e h = honest_answer at k (slice_get packets p) span packet valid h e
-honest_put sends packets at _ k packet valid e h = absurd cc
+honest_put : (lives sends : ℕ → ℕ) (packets : List Packet) (at : ℕ) (action : Action) (k : ℕ) (packet : Packet) → IsAction action → slice_get (put_by lives sends packets action) k ≡ Some packet → is_lie at action ≡ false → IsHonest at packet
+honest_put lives sends packets at (Send machine source clock) k packet valid e h = subst (IsHonest at) (get_one _ packet k e) tt
+honest_put lives sends packets at (Answer p span) k packet valid e h = honest_answer at k (slice_get packets p) span packet valid h e
+honest_put lives sends packets at _ k packet valid e h = absurd cc
 
 -- the event that put packet p, and what the packet says where that was no lie
 pub record HasOrigin (past : List Event) (p : ℕ) (packet : Packet) : Type 0 where
@@ -102,13 +138,13 @@ has_origin configs [] good valid p packet e = absurd cc
 has_origin configs (event ∷ past) good valid p packet e =
     elim (cases_lt p (length (packets_of past))) [
       | inl lt ↦
-          let old = has_origin configs past good.1 valid.1 p packet (sym (get_front (packets_of past) (put_by (sends_of past) (packets_of past) event.action) p lt) ∙ e) in
+          let old = has_origin configs past good.1 valid.1 p packet (sym (get_front (packets_of past) (put_by (life_of past) (sends_now past) (packets_of past) event.action) p lt) ∙ e) in
           let on : time_of past ≤ event.at = good.0.not_before in
           record { origin = old.origin; is = origin-old past event p lt ∙ old.is; by_now = omega (arith, old.by_now); honest = old.honest }
       | inr ge ↦ record {
         origin = event;
         is = origin-new past event p ge (slice_get_within (packets_of (event ∷ past)) p packet e);
         by_now = omega arith;
-        honest = honest_put (sends_of past) (packets_of past) event.at event.action (p - length (packets_of past)) packet valid.0 (put_place past event p packet ge e);
+        honest = honest_put (life_of past) (sends_now past) (packets_of past) event.at event.action (p - length (packets_of past)) packet valid.0 (put_place past event p packet ge e);
       }
     ]

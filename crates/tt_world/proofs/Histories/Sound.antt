@@ -6,7 +6,7 @@ use Rattle.tt_world.specs.declared.faults.WorldFault.{WorldFault}
 use Rattle.tt_world.specs.declared.events.Event.{Event}
 use Rattle.tt_daemon.specs.Config.{Configuration}
 use Rattle.tt_world.specs.Config.{config_at}
-use Rattle.tt_world.specs.Past.{packets_of, clock_reading, time_of, moment_at, moments_of}
+use Rattle.tt_world.specs.Past.{clock_reading, time_of, moment_at, moments_of}
 use Rattle.tt_world.specs.Bad.{first_bad, accepted}
 use Rattle.tt_world.specs.Assumptions.{FewLie, ClocksKeepDrift, MeetsAssumptions}
 use Rattle.tt_world.specs.Headline.{IsAction}
@@ -33,7 +33,7 @@ pub sound_before : (configs : List Configuration) (past : List Event) (event : E
 sound_before configs past event sound = record {
   good = sound.good.1;
   valid = sound.valid.1;
-  clocks = λ m there. drift_kept_before (config_at configs m).drift (moment_at m event.at (clock_reading (packets_of past) event.action)) (moments_of past m) (sound.clocks m there);
+  clocks = λ life there. drift_kept_before (config_at configs life.machine).drift (moment_at life event.at (clock_reading past event.action)) (moments_of past life) (sound.clocks life there);
   few = sound.few.1;
 }
 

@@ -6,6 +6,7 @@ use Rattle.tt_source.specs.Fault.{number_of}
 use Rattle.tt_source.specs.Table.{TableState, poll_of}
 use Rattle.tt_source.specs.declared.faults.SourceFault.{SourceFault}
 use Rattle.tt_source.specs.declared.faults.SourceFault.TheVariants.{NoSource, ClockBack, NoncesUsedUp, BadMessage, NotMine, OtherEpoch, NotOutstanding}
+use Rattle.tt_world.specs.Life.{life_at}
 use Rattle.tt_world.specs.declared.faults.WorldFault.TheVariants as bad
 use Rattle.tt_world.specs.declared.events.Event.{Event}
 use Rattle.tt_world.specs.declared.events.Action.{Action}
@@ -75,7 +76,7 @@ module _ (configs : List Configuration) (past : List Event) where
   -- a poll that is not bad reaches its table
   stepped-polled : (at m s clock : ℕ) → first_bad configs past (happens at (Send m s clock)) ≡ None
       → stepped (state_of configs past) (happens at (Send m s clock))
-      ≡ after_poll (state_of configs past) at m s clock (machine_of (config_at configs m) past m) (poll_of (machine_of (config_at configs m) past m).table s clock)
+      ≡ after_poll (state_of configs past) at m s clock (machine_of (config_at configs m) past (life_at past m)) (poll_of (machine_of (config_at configs m) past (life_at past m)).table s clock)
   stepped-polled at m s clock good =
       let world : WorldState = state_of configs past in
       let event : Event = happens at (Send m s clock) in
@@ -84,14 +85,14 @@ module _ (configs : List Configuration) (past : List Event) where
       let named = and_parts _ _ (not-false (has_source configs m s) is.named) in
       let there : m < length configs = ltb-true m (length configs) named.0 in
       ap (λ (b : Bool). cond b (refused world bad.TimeBack) (acted world at (Send m s clock))) time.0
-      ∙ send_on-polled world at m s clock (machine_of (config_at configs m) past m) _ (slice_get-made (λ k. machine_of (config_at configs k) past k) (length configs) m there)
+      ∙ send_on-polled world at m s clock (machine_of (config_at configs m) past (life_at past m)) _ (slice_get-made (λ k. machine_of (config_at configs k) past (life_at past k)) (length configs) m there)
       (ltb-true s (config_at configs m).sources named.1) is.clock_on refl
 
   -- what is refused has no need of room
   room_if_refused : (fault : WorldFault) (at : ℕ) (action : Action) → IsReason fault → stepped (state_of configs past) (happens at action) ≡ refused (state_of configs past) fault
       → first_bad configs past (happens at action) ≡ None → HasRoom (state_of configs past) action
   room_if_refused fault at (Send m s clock) reason did good =
-      absurd (not_bad-after_poll (state_of configs past) at m s clock (machine_of (config_at configs m) past m) _
+      absurd (not_bad-after_poll (state_of configs past) at m s clock (machine_of (config_at configs m) past (life_at past m)) _
       (subst IsBadReply (ap (λ (o : Outcome). o.reply) (sym did ∙ stepped-polled at m s clock good)) reason))
   room_if_refused fault at _ reason did good = tt
 
@@ -144,9 +145,9 @@ module _ (configs : List Configuration) (past : List Event) (lasts : Lasts confi
   takes_if_good action good wants = elim (takes_or_has_room action) [
     | inl takes ↦ takes
     | inr other ↦
-      let did = stepped-state_of configs past (happens at action) (λ _. other.0) lasts
-      ∙ ap (judged (state_of configs past) (state_of configs (happens at action ∷ past)) (reply_to configs past action)) good in
-      other.1 _ (subst (WantsMemory action) (ap (λ (o : Outcome). o.reply) did) wants)
+        let did = stepped-state_of configs past (happens at action) (λ _. other.0) lasts
+        ∙ ap (judged (state_of configs past) (state_of configs (happens at action ∷ past)) (reply_to configs past action)) good in
+        other.1 _ (subst (WantsMemory action) (ap (λ (o : Outcome). o.reply) did) wants)
   ]
 
 pub memory_is_taken : (configs : List Configuration) (past : List Event) (event : Event) → WantsMemory event.action (stepped (state_of configs (accepted configs past)) event).reply → TakesMemory (reply_of configs past event)

@@ -2,8 +2,9 @@
 use Rattle.std.proofs.Common.{◌≡◌, ℕ, zero, suc, ◌+◌, List, [], ◌∷◌, ap, sym, ◌∙◌, refl, map, replicate, None}
 use Rattle.std.specs.List.{range_with_len}
 use Rattle.tt_source.specs.Table.{TableState, SourceState, unknown, new_table}
+use Rattle.tt_span.specs.Interval.{whole}
+use Rattle.tt_world.specs.Life.{life_at}
 use Rattle.tt_world.specs.declared.publications.Publication.{Publication}
-use Rattle.tt_world.specs.Past.{first_life}
 use Rattle.tt_daemon.specs.Config.{Configuration}
 use Rattle.tt_stamp.specs.declared.commits.Entry.{Entry}
 use Rattle.tt_world.specs.declared.workers.Worker.{Worker}
@@ -17,18 +18,18 @@ map-const v a (suc n) = ap (λ xs. v ∷ xs) (map-const v (a + 1) n)
 
 -- a machine whose clock has shown nothing, and that has stamped nothing
 abbrev pub machine : Configuration → TableState → List Publication → List Entry → List Worker → MachineState
-machine config table publications book workers = record { config = config; table = table; clock = 0; publications = publications; row = None; book = book; workers = workers }
+machine config table publications book workers = record { config = config; table = table; life = 1; lease = whole; clock = 0; publications = publications; row = None; book = book; workers = workers }
 
 -- its table
 abbrev table_of : Configuration → ℕ → TableState
-table_of config m = (machine_of config [] m).table
+table_of config m = (machine_of config [] (life_at [] m)).table
 
 -- what is kept of a machine at first, by its parts
 pub fresh-machine : (config : Configuration) (m : ℕ) (table : TableState) (publications : List Publication) (book : List Entry) (workers : List Worker) →
-    table ≡ new_table m config.sources config.drift 0 first_life → publications ≡ [] → book ≡ [] → workers ≡ replicate config.workers new_worker →
-    machine config table publications book workers ≡ machine_of config [] m
+    table ≡ new_table m config.sources config.drift 0 1 → publications ≡ [] → book ≡ [] → workers ≡ replicate config.workers new_worker →
+    machine config table publications book workers ≡ machine_of config [] (life_at [] m)
 fresh-machine config m table publications book workers e f g h =
-    ap (λ (t : TableState). machine config t publications book workers) (e ∙ ap (λ (sources : List SourceState). record { machine = m; epoch = first_life; drift = config.drift; last = 0; clock = 0; sources = sources }) (sym (map-const unknown 0 config.sources)))
+    ap (λ (t : TableState). machine config t publications book workers) (e ∙ ap (λ (sources : List SourceState). record { machine = m; epoch = 1; drift = config.drift; last = 0; clock = 0; sources = sources }) (sym (map-const unknown 0 config.sources)))
     ∙ ap (λ (p : List Publication). machine config (table_of config m) p book workers) f
     ∙ ap (λ (b : List Entry). machine config (table_of config m) [] b workers) g
     ∙ ap (λ (w : List Worker). machine config (table_of config m) [] [] w) (h ∙ sym (map-const new_worker 0 config.workers))

@@ -53,7 +53,7 @@ publication_of (Err fault) = Err (number_of fault)
 -- the machine's turn, by its parts
 abbrev pub turn : MachineState → DaemonState → ℕ → List Publication → Reply → Turn
 turn machine daemon clock publications reply = record {
-  machine = record { config = daemon.config; table = daemon.table; clock = clock; publications = publications; row = machine.row; book = machine.book; workers = machine.workers };
+  machine = record { config = daemon.config; table = daemon.table; life = machine.life; lease = machine.lease; clock = clock; publications = publications; row = machine.row; book = machine.book; workers = machine.workers };
   reply = reply;
 }
 

@@ -38,7 +38,7 @@ greater_of s (Some t) h = omega arith
 -- a stamp that is given is the greatest
 pub greatest_of-given : (given : List ℕ) (latest floor : ℕ) (lease : Interval) (s : ℕ) → stamp_of given latest floor lease ≡ Ok s → greatest_of (s ∷ given) ≡ Some s
 greatest_of-given given latest floor lease s is =
-    let n : ℕ = least_from given latest floor lease in
+    let n = least_from given latest floor lease in
     let least : n ≡ s = if_given (nat_lt (latest + max_ahead) floor) (nat_lt max_time n) (nat_lt lease.hi n) n s is in
     let above : least_above given ≤ s = omega arith in
-    ap (λ (m : ℕ). Some m) (greater_of s (greatest_of given) (omega (arith, least_above-greatest given)))
+    ap (λ (n : ℕ). Some n) (greater_of s (greatest_of given) (omega (arith, least_above-greatest given)))

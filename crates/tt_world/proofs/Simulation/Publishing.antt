@@ -1,9 +1,11 @@
 -- A machine that fuses keeps what its past says.
-use Rattle.std.proofs.Common.{◌≡◌, ℕ, ◌-◌, cond, ltb, List, ◌∷◌, ◌++◌, length, is_some, Result, Ok, Err, refl, sym, ap, ◌∙◌, append-nil, eq-eqb, ne_eqb}
+use Rattle.std.proofs.Common.{◌≡◌, ℕ, ◌-◌, cond, ltb, List, ◌∷◌, ◌++◌, length, is_some, Result, Ok, Err, refl, sym, ap, ◌∙◌, append-nil}
 use Rattle.std.specs.List.{range_with_len}
 use Rattle.tt_span.specs.Interval.{Interval}
 use Rattle.tt_source.specs.Table.{SourceState, stated_at, known_of as known_of_table}
 use Rattle.tt_fuse.specs.Depth.{slow_fusion}
+use Rattle.tt_world.proofs.Simulation.Lives.{is_of-own, is_of-other}
+use Rattle.tt_world.specs.Life.{Life, life_at}
 use Rattle.tt_world.specs.declared.events.Event.{Event}
 use Rattle.tt_world.specs.declared.events.Action.TheVariants.{Fuse}
 use Rattle.tt_world.specs.declared.publications.Publication.{Publication}
@@ -22,40 +24,44 @@ fusion_by config clock known spans =
     cond (ltb known (config.sources - config.faulty)) (Err 701) (published clock (slow_fusion spans config.faulty))
 
 module _ (config : Configuration) (past : List Event) (at m clock : ℕ) where
-  known_of_table-machine_of : known_of_table (machine_of config past m).table ≡ known_of config past m
-  known_of_table-machine_of = count_by-map (λ (source : SourceState). is_some source.statement) (λ i. source_of past m i) (range_with_len 0 config.sources)
+  -- the life that the machine is in
+  abbrev life : Life
+  life = life_at past m
 
-  pub spans_on-machine_of : spans_on (machine_of config past m) clock ≡ spans_of config past m clock
-  spans_on-machine_of = map-map (λ (source : SourceState). stated_at config.drift source.statement clock) (λ i. source_of past m i) (range_with_len 0 config.sources)
+  known_of_table-machine_of : known_of_table (machine_of config past life).table ≡ known_of config past life
+  known_of_table-machine_of = count_by-map (λ (source : SourceState). is_some source.statement) (λ i. source_of past life i) (range_with_len 0 config.sources)
 
-  pub fusion_on-machine_of : fusion_on (machine_of config past m) clock ≡ fusion_of config past m clock
+  pub spans_on-machine_of : spans_on (machine_of config past life) clock ≡ spans_of config past life clock
+  spans_on-machine_of = map-map (λ (source : SourceState). stated_at config.drift source.statement clock) (λ i. source_of past life i) (range_with_len 0 config.sources)
+
+  pub fusion_on-machine_of : fusion_on (machine_of config past life) clock ≡ fusion_of config past life clock
   fusion_on-machine_of =
-      ap (λ (known : ℕ). fusion_by config clock known (spans_on (machine_of config past m) clock)) known_of_table-machine_of
-      ∙ ap (λ (spans : List Interval). fusion_by config clock (known_of config past m) spans) spans_on-machine_of
+      ap (λ (known : ℕ). fusion_by config clock known (spans_on (machine_of config past life) clock)) known_of_table-machine_of
+      ∙ ap (λ (spans : List Interval). fusion_by config clock (known_of config past life) spans) spans_on-machine_of
 
   -- the machine with this added to its publications
   abbrev with_publications : List Publication → MachineState
-  with_publications publications = record (machine_of config past m) { clock = clock; publications = publications }
+  with_publications publications = record (machine_of config past life) { clock = clock; publications = publications }
 
   publish_turn-by : (made : Result Publication ℕ)
-      → publish_turn (machine_of config past m) clock made
-      ≡ record { machine = with_publications (publications_of config past m ++ one_if_made made); reply = fusion_reply (length (publications_of config past m)) made }
+      → publish_turn (machine_of config past life) clock made
+      ≡ record { machine = with_publications (publications_of config past life ++ one_if_made made); reply = fusion_reply (length (publications_of config past life)) made }
   publish_turn-by (Ok publication) = refl
   publish_turn-by (Err number) =
-      ap (λ (ps : List Publication). record { machine = with_publications ps; reply = fusion_reply (length (publications_of config past m)) (Err number) })
-      (sym (append-nil (publications_of config past m)))
+      ap (λ (ps : List Publication). record { machine = with_publications ps; reply = fusion_reply (length (publications_of config past life)) (Err number) })
+      (sym (append-nil (publications_of config past life)))
 
-  fused_here : with_publications (publications_of config past m ++ one_if_made (fusion_of config past m clock)) ≡ machine_of config (happens at (Fuse m clock) ∷ past) m
-  fused_here = sym (machine_of-fuse config past at m clock m ∙ ap (machine_if_fused config past clock m) (eq-eqb m m refl))
+  fused_here : with_publications (publications_of config past life ++ one_if_made (fusion_of config past life clock)) ≡ machine_of config (happens at (Fuse m clock) ∷ past) life
+  fused_here = sym (machine_of-fuse config past at m clock life ∙ ap (machine_if_fused config past clock life) (is_of-own past m))
 
-  pub publish_turn-fusion_on : publish_turn (machine_of config past m) clock (fusion_on (machine_of config past m) clock)
-      ≡ record { machine = machine_of config (happens at (Fuse m clock) ∷ past) m; reply = fusion_reply (length (publications_of config past m)) (fusion_of config past m clock) }
+  pub publish_turn-fusion_on : publish_turn (machine_of config past life) clock (fusion_on (machine_of config past life) clock)
+      ≡ record { machine = machine_of config (happens at (Fuse m clock) ∷ past) life; reply = fusion_reply (length (publications_of config past life)) (fusion_of config past life clock) }
   publish_turn-fusion_on =
-      ap (publish_turn (machine_of config past m) clock) fusion_on-machine_of
-      ∙ publish_turn-by (fusion_of config past m clock)
-      ∙ ap (λ (machine : MachineState). record { machine = machine; reply = fusion_reply (length (publications_of config past m)) (fusion_of config past m clock) }) fused_here
+      ap (publish_turn (machine_of config past life) clock) fusion_on-machine_of
+      ∙ publish_turn-by (fusion_of config past life clock)
+      ∙ ap (λ (machine : MachineState). record { machine = machine; reply = fusion_reply (length (publications_of config past life)) (fusion_of config past life clock) }) fused_here
 
-  pub machine_of-fuse_other : (j : ℕ) → (j ≡ m → ⊥) → machine_of config past j ≡ machine_of config (happens at (Fuse m clock) ∷ past) j
+  pub machine_of-fuse_other : (j : ℕ) → (j ≡ m → ⊥) → machine_of config past (life_at past j) ≡ machine_of config (happens at (Fuse m clock) ∷ past) (life_at past j)
   machine_of-fuse_other j other =
-      sym (machine_of-fuse config past at m clock j ∙ ap (machine_if_fused config past clock j) (ne_eqb m j (λ same. other (sym same)))
-      ∙ ap (λ (ps : List Publication). record (machine_of config past j) { publications = ps }) (append-nil (publications_of config past j)))
+      sym (machine_of-fuse config past at m clock (life_at past j) ∙ ap (machine_if_fused config past clock (life_at past j)) (is_of-other past m j other)
+      ∙ ap (λ (ps : List Publication). record (machine_of config past (life_at past j)) { publications = ps }) (append-nil (publications_of config past (life_at past j))))

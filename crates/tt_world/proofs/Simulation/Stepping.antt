@@ -8,6 +8,7 @@ use Rattle.tt_span.specs.Time.{max_time}
 use Rattle.tt_span.specs.Interval.{Interval}
 use Rattle.tt_source.specs.Table.{poll_of}
 use Rattle.tt_stamp.specs.declared.commits.Id.{Id}
+use Rattle.tt_world.specs.Life.{life_of, life_at}
 use Rattle.tt_world.specs.declared.faults.WorldFault.{WorldFault}
 use Rattle.tt_world.specs.declared.faults.WorldFault.TheVariants as bad
 use Rattle.tt_world.specs.declared.events.Event.{Event}
@@ -24,7 +25,7 @@ use Rattle.tt_world.specs.declared.workers.Worker.{Worker}
 use Rattle.tt_daemon.specs.Config.{Configuration}
 use Rattle.tt_world.specs.Config.{config_at}
 use Rattle.tt_world.specs.Packet.{machine_of_packet, source_of_packet, is_asked, answer_to}
-use Rattle.tt_world.specs.Past.{sends_of, put_by, packets_of, clock_reading, clock_of}
+use Rattle.tt_world.specs.Past.{sends_now, sends_of, put_by, packets_of, clock_reading, clock_of}
 use Rattle.tt_world.specs.Publications.{Showing, publications_of, showing_of, shown_by, shown_of, seen_of, no_publication}
 use Rattle.tt_world.specs.Commits.{arrival_of, reading_of, reading_since, stamp_held, is_queued, task_with, task_of}
 use Rattle.tt_world.specs.Bad.{has_machine, names_unknown, is_request, can_be_delivered, lacks_packet, goes_back, is_unreadable, lacks_publication, is_arrived, is_stamped, lacks_its_thing}
@@ -68,11 +69,11 @@ in_time_for_table c clock polled rises fresh =
 module _ (configs : List Configuration) (past : List Event) where
   -- what is kept of machine m after the run
   abbrev machine_at : ℕ → MachineState
-  machine_at m = machine_of (config_at configs m) past m
+  machine_at m = machine_of (config_at configs m) past (life_at past m)
 
   -- what is kept of machine m after one more action
   abbrev machine_then : ℕ → Action → ℕ → MachineState
-  machine_then at action m = machine_of (config_at configs m) (happens at action ∷ past) m
+  machine_then at action m = machine_of (config_at configs m) (happens at action ∷ past) (life_at (happens at action ∷ past) m)
 
   -- a machine that is there is found, and no other
   at_machine : (m : ℕ) (f : Option MachineState → Outcome) (g : Bool → Outcome)
@@ -93,27 +94,27 @@ module _ (configs : List Configuration) (past : List Event) where
   -- after a machine's turn and what is shown of it the run has one more event
   with_shown-state_of : (at m : ℕ) (action : Action) (turn : Turn) → turn.machine ≡ machine_then at action m
       → ((j : ℕ) → (j ≡ m → ⊥) → machine_at j ≡ machine_then at action j)
-      → with_shown (after_turn (state_of configs past) at m turn (put_by (sends_of past) (packets_of past) action)) (shown_by configs past action)
+      → with_shown (after_turn (state_of configs past) at m turn (put_by (life_of past) (sends_now past) (packets_of past) action)) (shown_by configs past action)
       ≡ record { world = state_of configs (happens at action ∷ past); reply = turn.reply }
   with_shown-state_of at m action turn here others =
-      ap (λ (machines : List MachineState). made_of at (packets_of past ++ put_by (sends_of past) (packets_of past) action) machines (shown_of configs past ++ shown_by configs past action) turn.reply)
+      ap (λ (machines : List MachineState). made_of at (packets_of past ++ put_by (life_of past) (sends_now past) (packets_of past) action) machines (shown_of configs past ++ shown_by configs past action) turn.reply)
       (set-made machine_at (machine_then at action) (length configs) m turn.machine here others)
 
   -- after a machine's turn that shows nothing the run has one more event
   after_turn-state_of : (at m : ℕ) (action : Action) (turn : Turn) → turn.machine ≡ machine_then at action m
       → ((j : ℕ) → (j ≡ m → ⊥) → machine_at j ≡ machine_then at action j) → shown_by configs past action ≡ []
-      → after_turn (state_of configs past) at m turn (put_by (sends_of past) (packets_of past) action) ≡ record { world = state_of configs (happens at action ∷ past); reply = turn.reply }
+      → after_turn (state_of configs past) at m turn (put_by (life_of past) (sends_now past) (packets_of past) action) ≡ record { world = state_of configs (happens at action ∷ past); reply = turn.reply }
   after_turn-state_of at m action turn here others none =
-      ap (λ (shown : List Showing). made_of at (packets_of past ++ put_by (sends_of past) (packets_of past) action) (set (state_of configs past).machines m turn.machine) shown turn.reply)
+      ap (λ (shown : List Showing). made_of at (packets_of past ++ put_by (life_of past) (sends_now past) (packets_of past) action) (set (state_of configs past).machines m turn.machine) shown turn.reply)
       (same_shown action none)
       ∙ with_shown-state_of at m action turn here others
 
   -- after packets were put the run has one more event
   after_put-state_of : (at : ℕ) (action : Action) → ((j : ℕ) → machine_then at action j ≡ machine_at j) → shown_by configs past action ≡ []
-      → after_put (state_of configs past) at (put_by (sends_of past) (packets_of past) action)
+      → after_put (state_of configs past) at (put_by (life_of past) (sends_now past) (packets_of past) action)
       ≡ record { world = state_of configs (happens at action ∷ past); reply = replies.Put (length (packets_of past)) }
   after_put-state_of at action same none =
-      ap₂ (λ (machines : List MachineState) (shown : List Showing). made_of at (packets_of past ++ put_by (sends_of past) (packets_of past) action) machines shown (replies.Put (length (packets_of past))))
+      ap₂ (λ (machines : List MachineState) (shown : List Showing). made_of at (packets_of past ++ put_by (life_of past) (sends_now past) (packets_of past) action) machines shown (replies.Put (length (packets_of past))))
       (sym (map-same (machine_then at action) machine_at (length configs) same)) (same_shown action none)
 
   -- what an action makes, by the reason why it is bad
@@ -125,7 +126,7 @@ module _ (configs : List Configuration) (past : List Event) where
   bad_action action =
       cond (names_unknown configs action) (Some bad.UnknownNumber)
       (cond (lacks_packet (packets_of past) action) (Some bad.NoPacket)
-      (cond (goes_back (clock_of past) (clock_reading (packets_of past) action)) (Some bad.ClockBack)
+      (cond (goes_back (clock_of past) (clock_reading past action)) (Some bad.ClockBack)
       (cond (lacks_publication configs past action) (Some bad.NoPublication)
       (cond (lacks_its_thing configs past action) (Some bad.NothingThere) None))))
 
@@ -146,7 +147,7 @@ module _ (configs : List Configuration) (past : List Event) where
   acted-answer : (at k : ℕ) (span : Interval) → acted (state_of configs past) at (Answer k span) ≡ as_judged at (Answer k span) (bad_action (Answer k span))
   acted-answer at k span =
       answer_on-answer_to at span (slice_get (packets_of past) k) _
-      (after_put-state_of at (Answer k span) (λ j. machine_of-answer (config_at configs j) past at k span j) refl)
+      (after_put-state_of at (Answer k span) (λ j. machine_of-answer (config_at configs j) past at k span (life_at past j)) refl)
       ∙ test at (Answer k span) bad.NoPacket (not (is_request (slice_get (packets_of past) k))) _ None (λ found. refl)
 
   acted-forge : (at m s : ℕ) (payload : List ℕ) → acted (state_of configs past) at (Forge m s payload) ≡ as_judged at (Forge m s payload) (bad_action (Forge m s payload))
@@ -154,30 +155,30 @@ module _ (configs : List Configuration) (past : List Event) where
       at_machine m (λ o. forge_on (state_of configs past) at m s payload o)
       (λ b. as_judged at (Forge m s payload) (cond (not (b && ltb s (config_at configs m).sources)) (Some bad.UnknownNumber) None))
       (λ there. test at (Forge m s payload) bad.UnknownNumber (not (ltb s (config_at configs m).sources)) _ None
-      (λ named. after_put-state_of at (Forge m s payload) (λ j. machine_of-forge (config_at configs j) past at m s payload j) refl))
+      (λ named. after_put-state_of at (Forge m s payload) (λ j. machine_of-forge (config_at configs j) past at m s payload (life_at past j)) refl))
       refl
 
   -- ---- a machine polls
 
   module _ (lasts : Lasts configs past) where
-    after_poll-poll_of : length (packets_of past) < 2 ^ 64 - 1 → (at m s clock : ℕ) → s < (config_at configs m).sources → (ltb clock (clock_of past m) || ltb max_time clock) ≡ false
+    after_poll-poll_of : length (packets_of past) < 2 ^ 64 - 1 → (at m s clock : ℕ) → s < (config_at configs m).sources → (ltb clock (clock_of past (life_at past m)) || ltb max_time clock) ≡ false
         → after_poll (state_of configs past) at m s clock (machine_at m) (poll_of (machine_at m).table s clock)
         ≡ record { world = state_of configs (happens at (Send m s clock) ∷ past); reply = replies.Sent (length (packets_of past)) }
     after_poll-poll_of few at m s clock there fresh =
         let config = config_at configs m in
-        let count : length (machine_at m).table.sources ≡ config.sources = length-map-range_with_len (λ i. source_of past m i) 0 config.sources in
-        let unused : eqb (sends_of past m) (2 ^ 64 - 1) ≡ false = ne_eqb _ _ (λ same. omega (arith, sends_of-le-packets past m)) in
+        let count : length (machine_at m).table.sources ≡ config.sources = length-map-range_with_len (λ i. source_of past (life_at past m) i) 0 config.sources in
+        let unused : eqb (sends_of past (life_at past m)) (2 ^ 64 - 1) ≡ false = ne_eqb _ _ (λ same. omega (arith, sends_of-le-packets past (life_at past m))) in
         ap (after_poll (state_of configs past) at m s clock (machine_at m))
-        (poll_of-polled (machine_at m).table s clock (lt-ltb s _ (omega arith)) (in_time_for_table clock (clock_of past m) (polled_clock_of past m) (lasts.rises m) fresh) unused)
+        (poll_of-polled (machine_at m).table s clock (lt-ltb s _ (omega arith)) (in_time_for_table clock (clock_of past (life_at past m)) (polled_clock_of past (life_at past m)) (lasts.rises (life_at past m)) fresh) unused)
         ∙ after_turn-state_of at m (Send m s clock) _ (with_table-polled config past at m s clock there) (λ j other. machine_of-send_other (config_at configs j) past at m s clock j other) refl
 
     -- a poll passes every test
-    good_send : (m s clock : ℕ) → m < length configs → not (ltb s (config_at configs m).sources) ≡ false → (ltb clock (clock_of past m) || ltb max_time clock) ≡ false → bad_action (Send m s clock) ≡ None
+    good_send : (m s clock : ℕ) → m < length configs → not (ltb s (config_at configs m).sources) ≡ false → (ltb clock (clock_of past (life_at past m)) || ltb max_time clock) ≡ false → bad_action (Send m s clock) ≡ None
     good_send m s clock there named fresh = let t : ltb m (length configs) ≡ true = lt-ltb m (length configs) there in rw (t, named, fresh) refl
 
     acted-send : (at m s clock : ℕ) → (bad_action (Send m s clock) ≡ None → length (packets_of past) < 2 ^ 64 - 1) → acted (state_of configs past) at (Send m s clock) ≡ as_judged at (Send m s clock) (bad_action (Send m s clock))
     acted-send at m s clock few =
-        let back : Bool = ltb clock (clock_of past m) || ltb max_time clock in
+        let back : Bool = ltb clock (clock_of past (life_at past m)) || ltb max_time clock in
         at_machine m (λ o. send_on (state_of configs past) at m s clock o)
         (λ b. as_judged at (Send m s clock) (cond (not (b && ltb s (config_at configs m).sources)) (Some bad.UnknownNumber) (cond back (Some bad.ClockBack) None)))
         (λ there. test at (Send m s clock) bad.UnknownNumber (not (ltb s (config_at configs m).sources)) _ (cond back (Some bad.ClockBack) None)
@@ -190,23 +191,23 @@ module _ (configs : List Configuration) (past : List Event) where
     deliver_to-machine_at : (at k clock : ℕ) (p : Packet) → slice_get (packets_of past) k ≡ Some p
         → deliver_to (state_of configs past) at clock p (slice_get (state_of configs past).machines (machine_of_packet p))
         ≡ judged (state_of configs past) (state_of configs (happens at (Deliver k clock) ∷ past)) (reply_to_packet past clock (Some p))
-        (cond (ltb clock (clock_of past (machine_of_packet p)) || ltb max_time clock) (Some bad.ClockBack) None)
+        (cond (ltb clock (clock_of past (life_at past (machine_of_packet p))) || ltb max_time clock) (Some bad.ClockBack) None)
     deliver_to-machine_at at k clock p is =
         let m = machine_of_packet p in
         let named = and_parts _ _ (All-slice_get (HasItsSource configs) (packets_of past) k p lasts.known is) in
         let there : m < length configs = ltb-true m (length configs) named.0 in
         let asks : source_of_packet p < (config_at configs m).sources = ltb-true _ _ named.1 in
         ap (deliver_to (state_of configs past) at clock p) (slice_get-made machine_at (length configs) m there)
-        ∙ judged-cond (state_of configs past) _ (reply_to_packet past clock (Some p)) bad.ClockBack (ltb clock (clock_of past m) || ltb max_time clock) _ None
+        ∙ judged-cond (state_of configs past) _ (reply_to_packet past clock (Some p)) bad.ClockBack (ltb clock (clock_of past (life_at past m)) || ltb max_time clock) _ None
         (λ fresh.
         ap (λ (turn : Turn). after_turn (state_of configs past) at m turn [])
-        (take_turn-take_of (config_at configs m) past at k clock p is asks (in_time_for_table clock (clock_of past m) (polled_clock_of past m) (lasts.rises m) fresh))
+        (take_turn-take_of (config_at configs m) past at k clock p is asks (in_time_for_table clock (clock_of past (life_at past m)) (polled_clock_of past (life_at past m)) (lasts.rises (life_at past m)) fresh))
         ∙ after_turn-state_of at m (Deliver k clock) _ refl (λ j other. machine_of-deliver_other (config_at configs j) past at k clock p is j other) refl)
 
     deliver_on-packet : (at k clock : ℕ) (o : Option Packet) → slice_get (packets_of past) k ≡ o
         → deliver_on (state_of configs past) at clock o
         ≡ judged (state_of configs past) (state_of configs (happens at (Deliver k clock) ∷ past)) (reply_to_packet past clock o)
-        (cond (not (can_be_delivered o)) (Some bad.NoPacket) (cond (goes_back (clock_of past) (option_map (λ p. record { machine = machine_of_packet p; clock = clock }) o)) (Some bad.ClockBack) None))
+        (cond (not (can_be_delivered o)) (Some bad.NoPacket) (cond (goes_back (clock_of past) (option_map (λ p. record { life = life_at past (machine_of_packet p); clock = clock }) o)) (Some bad.ClockBack) None))
     deliver_on-packet at k clock None is = refl
     deliver_on-packet at k clock (Some p) is =
         ap (λ (b : Bool). cond b (refused (state_of configs past) bad.NoPacket) (deliver_to (state_of configs past) at clock p (slice_get (state_of configs past).machines (machine_of_packet p)))) (sym (not-not (is_asked p)))
@@ -219,7 +220,7 @@ module _ (configs : List Configuration) (past : List Event) where
 
   -- what a fusion shows, by the spans that it fuses and what it makes of them
   abbrev shows : ℕ → List Interval → Result Publication ℕ → List Showing
-  shows m spans made = showing_of m (length (publications_of (config_at configs m) past m) + 1) spans (config_at configs m).faulty made
+  shows m spans made = showing_of m (length (publications_of (config_at configs m) past (life_at past m)) + 1) spans (config_at configs m).faulty made
 
   with_shown-publish_turn : (at m clock : ℕ)
       → with_shown (after_turn (state_of configs past) at m (publish_turn (machine_at m) clock (fusion_on (machine_at m) clock)) [])
@@ -233,7 +234,7 @@ module _ (configs : List Configuration) (past : List Event) where
 
   acted-fuse : (at m clock : ℕ) → acted (state_of configs past) at (Fuse m clock) ≡ as_judged at (Fuse m clock) (bad_action (Fuse m clock))
   acted-fuse at m clock =
-      let back : Bool = ltb clock (clock_of past m) || ltb max_time clock in
+      let back : Bool = ltb clock (clock_of past (life_at past m)) || ltb max_time clock in
       at_machine m (λ o. fuse_on (state_of configs past) at m clock o)
       (λ b. as_judged at (Fuse m clock) (cond (not b) (Some bad.UnknownNumber) (cond back (Some bad.ClockBack) None)))
       (λ there. test at (Fuse m clock) bad.ClockBack back _ None (λ fresh. with_shown-publish_turn at m clock))
@@ -243,58 +244,58 @@ module _ (configs : List Configuration) (past : List Event) where
 
   -- a worker that is there is found, and no other
   at_worker : (at m w : ℕ) (action : Action) (f : Worker → Outcome) (o : Option WorldFault)
-      → (w < (config_at configs m).workers → f (worker_of (config_at configs m) past m w) ≡ as_judged at action o)
+      → (w < (config_at configs m).workers → f (worker_of (config_at configs m) past (life_at past m) w) ≡ as_judged at action o)
       → cond (not (ltb w (length (machine_at m).workers))) (refused (state_of configs past) bad.UnknownNumber) (f (get_or (machine_at m).workers w new_worker))
       ≡ as_judged at action (cond (not (ltb w (config_at configs m).workers)) (Some bad.UnknownNumber) o)
   at_worker at m w action f o found =
       let config = config_at configs m in
       ap (λ (n : ℕ). cond (not (ltb w n)) (refused (state_of configs past) bad.UnknownNumber) (f (get_or (machine_at m).workers w new_worker)))
-      (length-map-range_with_len (λ v. worker_of config past m v) 0 config.workers)
+      (length-map-range_with_len (λ v. worker_of config past (life_at past m) v) 0 config.workers)
       ∙ test at action bad.UnknownNumber (not (ltb w config.workers)) _ o
       (λ named.
       let there : w < config.workers = ltb-true w config.workers (not-false _ named) in
-      ap f (get_or-made (λ v. worker_of config past m v) config.workers w new_worker there) ∙ found there)
+      ap f (get_or-made (λ v. worker_of config past (life_at past m) v) config.workers w new_worker there) ∙ found there)
 
   -- ---- a worker reads
 
   read_from-publication : (at m w clock k : ℕ) → w < (config_at configs m).workers
-      → is_unreadable (length (publications_of (config_at configs m) past m)) (seen_of past m w) k ≡ false
-      → read_from (state_of configs past) at m w clock k (machine_at m) (slice_get (publications_of (config_at configs m) past m) (k - 1))
+      → is_unreadable (length (publications_of (config_at configs m) past (life_at past m))) (seen_of past (life_at past m) w) k ≡ false
+      → read_from (state_of configs past) at m w clock k (machine_at m) (slice_get (publications_of (config_at configs m) past (life_at past m)) (k - 1))
       ≡ record { world = state_of configs (happens at (Read m w clock k) ∷ past); reply = reply_to configs past (Read m w clock k) }
   read_from-publication at m w clock k there readable =
       let config = config_at configs m in
-      let publications = publications_of config past m in
-      let newer = or_parts (eqb k 0 || ltb (length publications) k) (ltb k (seen_of past m w)) readable in
+      let publications = publications_of config past (life_at past m) in
+      let newer = or_parts (eqb k 0 || ltb (length publications) k) (ltb k (seen_of past (life_at past m) w)) readable in
       let within = or_parts (eqb k 0) (ltb (length publications) k) newer.0 in
       let some : k ≡ 0 → ⊥ = eqb-false k 0 within.0 in
       let last : k ≤ length publications = ltb-false (length publications) k within.1 in
       ap (read_from (state_of configs past) at m w clock k (machine_at m)) (slice_get-get_or publications (k - 1) no_publication (omega arith))
       ∙ ap (λ (turn : Turn). after_turn (state_of configs past) at m turn [])
-      (read_turn-machine_of config past at m w clock k (ltb-false k (seen_of past m w) newer.1) there)
+      (read_turn-machine_of config past at m w clock k (ltb-false k (seen_of past (life_at past m) w) newer.1) there)
       ∙ after_turn-state_of at m (Read m w clock k) _ refl (λ j other. machine_of-read_other (config_at configs j) past at m w clock k j other) refl
 
   read_on-machine_at : (at m w clock k : ℕ)
       → read_on (state_of configs past) at m w clock k (Some (machine_at m))
       ≡ as_judged at (Read m w clock k) (cond (not (ltb w (config_at configs m).workers)) (Some bad.UnknownNumber)
-      (cond (ltb clock (clock_of past m) || ltb max_time clock) (Some bad.ClockBack)
-      (cond (is_unreadable (length (publications_of (config_at configs m) past m)) (seen_of past m w) k) (Some bad.NoPublication) None)))
+      (cond (ltb clock (clock_of past (life_at past m)) || ltb max_time clock) (Some bad.ClockBack)
+      (cond (is_unreadable (length (publications_of (config_at configs m) past (life_at past m))) (seen_of past (life_at past m) w) k) (Some bad.NoPublication) None)))
   read_on-machine_at at m w clock k =
       let world = state_of configs past in
-      let back : Bool = ltb clock (clock_of past m) || ltb max_time clock in
-      let publications = publications_of (config_at configs m) past m in
+      let back : Bool = ltb clock (clock_of past (life_at past m)) || ltb max_time clock in
+      let publications = publications_of (config_at configs m) past (life_at past m) in
       let unreadable : ℕ → Bool = λ s. is_unreadable (length publications) s k in
       let made : Outcome = read_from world at m w clock k (machine_at m) (slice_get publications (k - 1)) in
       at_worker at m w (Read m w clock k) (λ worker. cond back (refused world bad.ClockBack) (cond (unreadable worker.seen) (refused world bad.NoPublication) made)) _
       (λ there.
       test at (Read m w clock k) bad.ClockBack back _ _
-      (λ fresh. test at (Read m w clock k) bad.NoPublication (unreadable (seen_of past m w)) _ None (λ readable. read_from-publication at m w clock k there readable)))
+      (λ fresh. test at (Read m w clock k) bad.NoPublication (unreadable (seen_of past (life_at past m) w)) _ None (λ readable. read_from-publication at m w clock k there readable)))
 
   acted-read : (at m w clock k : ℕ) → acted (state_of configs past) at (Read m w clock k) ≡ as_judged at (Read m w clock k) (bad_action (Read m w clock k))
   acted-read at m w clock k =
       at_machine m (λ o. read_on (state_of configs past) at m w clock k o)
       (λ b. as_judged at (Read m w clock k) (cond (not (b && ltb w (config_at configs m).workers)) (Some bad.UnknownNumber)
-      (cond (ltb clock (clock_of past m) || ltb max_time clock) (Some bad.ClockBack)
-      (cond (is_unreadable (length (publications_of (config_at configs m) past m)) (seen_of past m w) k) (Some bad.NoPublication) None))))
+      (cond (ltb clock (clock_of past (life_at past m)) || ltb max_time clock) (Some bad.ClockBack)
+      (cond (is_unreadable (length (publications_of (config_at configs m) past (life_at past m))) (seen_of past (life_at past m) w) k) (Some bad.NoPublication) None))))
       (λ there. read_on-machine_at at m w clock k)
       refl
 
@@ -320,7 +321,7 @@ module _ (configs : List Configuration) (past : List Event) where
   bad_stamping task since = cond (not (is_arrived task) || not (is_some since)) (Some bad.NothingThere) None
 
   stamp_with-by : (at m w : ℕ) → w < (config_at configs m).workers → (queued : Bool) (asked : Option Arrival) (held : Option ℕ) (since : Option Interval)
-      → is_queued (config_at configs m) past m w ≡ queued → arrival_of past m w ≡ asked → reading_since (config_at configs m) past m w ≡ since
+      → is_queued (config_at configs m) past (life_at past m) w ≡ queued → arrival_of past (life_at past m) w ≡ asked → reading_since (config_at configs m) past (life_at past m) w ≡ since
       → stamp_with (state_of configs past) at m w (machine_at m) (cond queued None (task_with asked held)) since
       ≡ as_judged at (Stamp m w) (bad_stamping (cond queued None (task_with asked held)) since)
   stamp_with-by at m w there true asked held since q a r = refl
@@ -335,10 +336,10 @@ module _ (configs : List Configuration) (past : List Event) where
   acted-stamp at m w =
       let config = config_at configs m in
       at_machine m (λ o. stamp_on (state_of configs past) at m w o)
-      (λ b. as_judged at (Stamp m w) (cond (not (b && ltb w config.workers)) (Some bad.UnknownNumber) (bad_stamping (task_of config past m w) (reading_since config past m w))))
+      (λ b. as_judged at (Stamp m w) (cond (not (b && ltb w config.workers)) (Some bad.UnknownNumber) (bad_stamping (task_of config past (life_at past m) w) (reading_since config past (life_at past m) w))))
       (λ there.
       at_worker at m w (Stamp m w) (λ worker. stamp_with (state_of configs past) at m w (machine_at m) worker.task worker.since) _
-      (λ found. stamp_with-by at m w found (is_queued config past m w) (arrival_of past m w) (stamp_held config past m w) (reading_since config past m w) refl refl refl))
+      (λ found. stamp_with-by at m w found (is_queued config past (life_at past m) w) (arrival_of past (life_at past m) w) (stamp_held config past (life_at past m) w) (reading_since config past (life_at past m) w) refl refl refl))
       refl
 
   -- ---- a worker queues its task
@@ -348,7 +349,7 @@ module _ (configs : List Configuration) (past : List Event) where
   bad_queueing task = cond (not (is_stamped task)) (Some bad.NothingThere) None
 
   queue_with-by : (at m w : ℕ) → w < (config_at configs m).workers → (queued : Bool) (asked : Option Arrival) (held : Option ℕ)
-      → arrival_of past m w ≡ asked → stamp_held (config_at configs m) past m w ≡ held
+      → arrival_of past (life_at past m) w ≡ asked → stamp_held (config_at configs m) past (life_at past m) w ≡ held
       → queue_with (state_of configs past) at m w (machine_at m) (cond queued None (task_with asked held))
       ≡ as_judged at (Queue m w) (bad_queueing (cond queued None (task_with asked held)))
   queue_with-by at m w there true asked held a h = refl
@@ -362,15 +363,15 @@ module _ (configs : List Configuration) (past : List Event) where
   acted-queue at m w =
       let config = config_at configs m in
       at_machine m (λ o. queue_on (state_of configs past) at m w o)
-      (λ b. as_judged at (Queue m w) (cond (not (b && ltb w config.workers)) (Some bad.UnknownNumber) (bad_queueing (task_of config past m w))))
+      (λ b. as_judged at (Queue m w) (cond (not (b && ltb w config.workers)) (Some bad.UnknownNumber) (bad_queueing (task_of config past (life_at past m) w))))
       (λ there.
       at_worker at m w (Queue m w) (λ worker. queue_with (state_of configs past) at m w (machine_at m) worker.task) _
-      (λ found. queue_with-by at m w found (is_queued config past m w) (arrival_of past m w) (stamp_held config past m w) refl refl))
+      (λ found. queue_with-by at m w found (is_queued config past (life_at past m) w) (arrival_of past (life_at past m) w) (stamp_held config past (life_at past m) w) refl refl))
       refl
 
   -- ---- a worker releases
 
-  release_with-by : (at m w : ℕ) (reading : Option Interval) → reading_of (config_at configs m) past m w ≡ reading
+  release_with-by : (at m w : ℕ) (reading : Option Interval) → reading_of (config_at configs m) past (life_at past m) w ≡ reading
       → release_with (state_of configs past) at m (machine_at m) reading ≡ as_judged at (Release m w) (cond (not (is_some reading)) (Some bad.NothingThere) None)
   release_with-by at m w None is = refl
   release_with-by at m w (Some reading) is =
@@ -381,10 +382,10 @@ module _ (configs : List Configuration) (past : List Event) where
   acted-release at m w =
       let config = config_at configs m in
       at_machine m (λ o. release_on (state_of configs past) at m w o)
-      (λ b. as_judged at (Release m w) (cond (not (b && ltb w config.workers)) (Some bad.UnknownNumber) (cond (not (is_some (reading_of config past m w))) (Some bad.NothingThere) None)))
+      (λ b. as_judged at (Release m w) (cond (not (b && ltb w config.workers)) (Some bad.UnknownNumber) (cond (not (is_some (reading_of config past (life_at past m) w))) (Some bad.NothingThere) None)))
       (λ there.
       at_worker at m w (Release m w) (λ worker. release_with (state_of configs past) at m (machine_at m) worker.reading) _
-      (λ found. release_with-by at m w (reading_of config past m w) refl))
+      (λ found. release_with-by at m w (reading_of config past (life_at past m) w) refl))
       refl
 
   -- ---- any of them

@@ -1,5 +1,5 @@
 -- What a call on a machine that is there makes of a run.
-use Rattle.std.proofs.Common.{◌≡◌, ℕ, ◌+◌, ◌-◌, ◌<◌, ◌≤◌, Bool, true, false, cond, List, [], ◌∷◌, ◌++◌, length, get_or, slice_get, slice_set, Option, Some, None, ap, subst, sym, ◌∙◌, append-nil, refl}
+use Rattle.std.proofs.Common.{◌≡◌, ℕ, ◌+◌, ◌-◌, ◌<◌, ◌≤◌, Bool, true, false, cond, List, [], ◌∷◌, ◌++◌, length, get_or, slice_get, slice_set, Option, Some, None, ap, subst, sym, ◌∙◌, append-nil, refl, ap₂}
 use Rattle.std.proofs.lemmas.Option.{slice_get_read, slice_get_within, same_Some}
 use Rattle.std.proofs.lemmas.Bool.{lt-ltb, le-ltb}
 use Rattle.std.proofs.lemmas.List.{get_or_default, set-get_or}
@@ -8,14 +8,13 @@ use Rattle.tt_source.specs.declared.faults.SourceFault.{SourceFault}
 use Rattle.std.specs.Prelude.{nat_lt, IsOk, Result, Ok, Err}
 use Rattle.tt_source.specs.Fault.{number_of}
 use Rattle.tt_world.specs.declared.faults.WorldFault.TheVariants as bad
-use Rattle.tt_world.specs.Past.{first_life}
 use Rattle.tt_world.specs.declared.events.Reply.{Reply}
 use Rattle.tt_world.specs.declared.events.Reply.TheVariants.{Sent, Refused}
 use Rattle.tt_world.specs.declared.faults.WorldFault.{WorldFault}
 use Rattle.tt_world.specs.declared.packets.Packet.{Packet}
 use Rattle.tt_world.specs.declared.packets.Packet.TheVariants.{Asked}
 use Rattle.tt_world.specs.declared.publications.Publication.{Publication}
-use Rattle.tt_span.specs.Interval.{Interval, whole}
+use Rattle.tt_span.specs.Interval.{Interval}
 use Rattle.tt_stamp.specs.declared.commits.Id.{Id}
 use Rattle.tt_stamp.specs.declared.faults.BookFault.{BookFault}
 use Rattle.tt_stamp.specs.declared.faults.BookFault.TheVariants as book
@@ -127,16 +126,16 @@ after_turn-put world at m p machine reply packets packet same e =
     ∙ ap (λ (q : ℕ). outcome at packets (slice_set world.machines q machine) world.shown reply) (sym same)
 
 -- a poll was sent
-pub send_on-sent : (world : WorldState) (at m p i clock number nonce : ℕ) (machine next : MachineState) (packets : List Packet) → slice_get world.machines m ≡ Some machine → i < machine.config.sources →
-    is_back_on machine clock ≡ false → poll_of machine.table i clock ≡ Ok next.table → next ≡ with_table machine clock next.table → nonce ≡ next.table.last → number ≡ length world.packets →
-    packets ≡ world.packets ++ Asked (record { machine = m; source = i; nonce = nonce; epoch = first_life }) ∷ [] → p ≡ m →
+pub send_on-sent : (world : WorldState) (at m p i clock number nonce epoch : ℕ) (machine next : MachineState) (packets : List Packet) → slice_get world.machines m ≡ Some machine → i < machine.config.sources →
+    is_back_on machine clock ≡ false → poll_of machine.table i clock ≡ Ok next.table → next ≡ with_table machine clock next.table → nonce ≡ next.table.last → epoch ≡ next.table.epoch → number ≡ length world.packets →
+    packets ≡ world.packets ++ Asked (record { machine = m; source = i; nonce = nonce; epoch = epoch }) ∷ [] → p ≡ m →
     send_on world at m i clock (slice_get world.machines m) ≡ outcome at packets (slice_set world.machines p next) world.shown (Sent number)
-send_on-sent world at m p i clock number nonce machine next packets found source forward polled same_next same_nonce count put same =
+send_on-sent world at m p i clock number nonce epoch machine next packets found source forward polled same_next same_nonce same_epoch count put same =
     send_on-polled world at m i clock machine (Ok next.table) found source forward polled
-    ∙ ap (λ (x : MachineState). after_turn world at m (record { machine = x; reply = Sent (length world.packets) }) (Asked (record { machine = m; source = i; nonce = next.table.last; epoch = first_life }) ∷ [])) (sym same_next)
-    ∙ ap (λ (k : ℕ). after_turn world at m (record { machine = next; reply = Sent (length world.packets) }) (Asked (record { machine = m; source = i; nonce = k; epoch = first_life }) ∷ [])) (sym same_nonce)
-    ∙ ap (λ (k : ℕ). after_turn world at m (record { machine = next; reply = Sent k }) (Asked (record { machine = m; source = i; nonce = nonce; epoch = first_life }) ∷ [])) (sym count)
-    ∙ after_turn-put world at m p next (Sent number) packets (Asked (record { machine = m; source = i; nonce = nonce; epoch = first_life })) same put
+    ∙ ap (λ (x : MachineState). after_turn world at m (record { machine = x; reply = Sent (length world.packets) }) (Asked (record { machine = m; source = i; nonce = next.table.last; epoch = next.table.epoch }) ∷ [])) (sym same_next)
+    ∙ ap₂ (λ (k e : ℕ). after_turn world at m (record { machine = next; reply = Sent (length world.packets) }) (Asked (record { machine = m; source = i; nonce = k; epoch = e }) ∷ [])) (sym same_nonce) (sym same_epoch)
+    ∙ ap (λ (k : ℕ). after_turn world at m (record { machine = next; reply = Sent k }) (Asked (record { machine = m; source = i; nonce = nonce; epoch = epoch }) ∷ [])) (sym count)
+    ∙ after_turn-put world at m p next (Sent number) packets (Asked (record { machine = m; source = i; nonce = nonce; epoch = epoch })) same put
 
 -- a poll was refused
 pub send_on-refused : (world : WorldState) (at m p i clock number : ℕ) (machine next : MachineState) (fault : SourceFault) → slice_get world.machines m ≡ Some machine → i < machine.config.sources →
@@ -180,7 +179,7 @@ arrive_on-arrived world at m w p arrival machine next reply found inside turn sa
 -- a worker's task was stamped, or refused to be
 pub stamp_on-stamped : (world : WorldState) (at m w p : ℕ) (arrival : Arrival) (reading : Interval) (machine next : MachineState) (reply : Reply) → slice_get world.machines m ≡ Some machine → w < length machine.workers →
     (worker_at machine w).task ≡ Some (tasks.Arrived arrival) → (worker_at machine w).since ≡ Some reading →
-    record { machine = next; reply = reply } ≡ stamp_turn machine w arrival.id (stamp_of (given_in machine.row) reading.hi arrival.floor whole) → p ≡ m →
+    record { machine = next; reply = reply } ≡ stamp_turn machine w arrival.id (stamp_of (given_in machine.row) reading.hi arrival.floor machine.lease) → p ≡ m →
     stamp_on world at m w (slice_get world.machines m) ≡ outcome at world.packets (slice_set world.machines p next) world.shown reply
 stamp_on-stamped world at m w p arrival reading machine next reply found inside task since turn same =
     let t : nat_lt w (length machine.workers) ≡ true = lt-ltb w (length machine.workers) inside in

@@ -3,6 +3,7 @@ use Rattle.std.proofs.Common.{◌||◌, ◌≡◌, ℕ, ◌+◌, Bool, true, fal
 use Rattle.std.specs.Option.{option_or}
 use Rattle.tt_source.specs.Statement.{Statement}
 use Rattle.tt_source.specs.Table.{Sending}
+use Rattle.tt_world.specs.Life.{Life, is_of}
 use Rattle.tt_world.specs.declared.events.Event.{Event}
 use Rattle.tt_world.specs.declared.events.Action.{Action}
 use Rattle.tt_world.specs.declared.events.Action.TheVariants.{Send, Deliver}
@@ -18,10 +19,10 @@ waits_after_send : (b a : Bool) (x : Sending) (l : Option Sending)
 waits_after_send true a x l = refl
 waits_after_send false a x l = refl
 
-pub outstanding-send : (past : List Event) (at m s clock j i : ℕ)
-    → outstanding (happens at (Send m s clock) ∷ past) j i ≡ cond (eqb m j && eqb s i) (Some (record { nonce = sends_of past j + 1; clock = clock })) (outstanding past j i)
+pub outstanding-send : (past : List Event) (at m s clock : ℕ) (j : Life) (i : ℕ)
+    → outstanding (happens at (Send m s clock) ∷ past) j i ≡ cond (is_of past j m && eqb s i) (Some (record { nonce = sends_of past j + 1; clock = clock })) (outstanding past j i)
 outstanding-send past at m s clock j i =
-    waits_after_send (eqb m j && eqb s i) (is_answered past j i) (record { nonce = sends_of past j + 1; clock = clock }) (last_send past j i)
+    waits_after_send (is_of past j m && eqb s i) (is_answered past j i) (record { nonce = sends_of past j + 1; clock = clock }) (last_send past j i)
 
 ended : (b : Bool) (l : Option Sending) → cond (b || true) None l ≡ None
 ended true l = refl
@@ -40,8 +41,8 @@ waits_after_delivery : (f : Option Sending → Option Statement) (a : Bool) (l :
 waits_after_delivery f true l = ended (is_some (f l)) l ∙ sym (no_wait (is_some (f None)))
 waits_after_delivery f false l = same_wait (is_some (f l)) l
 
-pub outstanding-deliver : (past : List Event) (at k clock j i : ℕ)
+pub outstanding-deliver : (past : List Event) (at k clock : ℕ) (j : Life) (i : ℕ)
     → outstanding (happens at (Deliver k clock) ∷ past) j i
-    ≡ cond (is_some (stated_in j i (outstanding past j i) clock (slice_get (packets_of past) k))) None (outstanding past j i)
+    ≡ cond (is_some (stated_in past j i (outstanding past j i) clock (slice_get (packets_of past) k))) None (outstanding past j i)
 outstanding-deliver past at k clock j i =
-    waits_after_delivery (λ w. stated_in j i w clock (slice_get (packets_of past) k)) (is_answered past j i) (last_send past j i)
+    waits_after_delivery (λ w. stated_in past j i w clock (slice_get (packets_of past) k)) (is_answered past j i) (last_send past j i)

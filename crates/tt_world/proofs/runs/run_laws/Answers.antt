@@ -20,5 +20,5 @@ returns c = record {
   breaches = meets-no_breach;
   accepted = accepted-reply;
   taken = taken-makes;
-  legal_books = λ configs past m. legal_book (record { queue = c.book_laws.ensures.queue; release = c.book_laws.ensures.release }) (config_at configs m) (accepted configs past) m;
+  legal_books = λ configs past life. legal_book (record { queue = c.book_laws.ensures.queue; release = c.book_laws.ensures.release }) (config_at configs life.machine) (accepted configs past) life;
 }

@@ -1,7 +1,6 @@
 use Rattle.std.proofs.Common.{◌≡◌, true, false, [], ◌<◌, ◌≤◌, ◌∙◌, List, ◌∷◌, ◌++◌, ap, sym, refl, slice_get, slice_set, Some, length, arith}
 use Rattle.tt_poll.specs.Message.{PollRequest2}
 use Rattle.tt_world.specs.declared.faults.WorldFault.TheVariants as bad
-use Rattle.tt_world.specs.Past.{first_life}
 use Rattle.tt_world.specs.declared.events.Reply.TheVariants.{Refused}
 use Rattle.tt_world.specs.declared.packets.Packet.{Packet}
 use Rattle.tt_world.specs.declared.packets.Packet.TheVariants.{Asked}
@@ -59,12 +58,12 @@ returns-in-Ok-clause-does c =
     let forward : is_back_on x c.args.clock ≡ false = ap (λ (y : MachineState). is_back_on y c.args.clock) one ∙ sym c.is_back.ensures.value ∙ c.if-is_back.false in
     let request = rw c.unwrap-request.ensures at c.new.ensures.value in
     let pushed = rw c.unwrap.ensures at c.push.ensures.items in
-    let put : c.push.new.self.items ≡ w.packets ++ Asked (record { machine = m; source = c.args.source; nonce = c.in-Ok.nonce; epoch = first_life }) ∷ [] =
+    let put : c.push.new.self.items ≡ w.packets ++ Asked (record { machine = m; source = c.args.source; nonce = c.in-Ok.nonce; epoch = c.in-Ok.life }) ∷ [] =
     pushed ∙ ap (λ (ps : List Packet). ps ++ Asked c.unwrap-request.result ∷ []) c.in_ok-reserve.ensures.items ∙ ap (λ (r : PollRequest2). w.packets ++ Asked r ∷ []) request in
     let count : c.len-number.result ≡ length w.packets = omega (arith, c.len-number.ensures, c.in_ok-reserve.ensures.len) in
     ap (λ (v : WorldState). send_on v c.args.at m c.args.source c.args.clock (slice_get v.machines m)) (sym c.self.view_is)
-    ∙ send_on-sent w c.args.at m p c.args.source c.args.clock c.len-number.result c.in-Ok.nonce x c.poll.new.self c.push.new.self.items found source forward
-    c.in-Ok.ensures.polled.0 c.in-Ok.ensures.polled.1 c.in-Ok.ensures.polled.2 count put c.from-place.ensures
+    ∙ send_on-sent w c.args.at m p c.args.source c.args.clock c.len-number.result c.in-Ok.nonce c.in-Ok.life x c.poll.new.self c.push.new.self.items found source forward
+    c.in-Ok.ensures.polled.0 c.in-Ok.ensures.polled.1 c.in-Ok.ensures.polled.2 c.in-Ok.ensures.polled.4 count put c.from-place.ensures
 
 pub returns-in-Err-clause-does : goal.returns-in-Err-clause-does
 returns-in-Err-clause-does c =
