@@ -10,6 +10,7 @@ pub mod Kept
 pub mod Polling
 pub mod Taking
 pub mod Publishing
+pub mod Leasing
 pub mod Seeing
 pub mod Asking
 pub mod Greatest

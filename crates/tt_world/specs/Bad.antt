@@ -6,7 +6,7 @@ use Rattle.tt_world.specs.declared.faults.WorldFault.TheVariants as bad
 use Rattle.tt_world.specs.Life.{Life, life_at}
 use Rattle.tt_world.specs.declared.events.Event.{Event}
 use Rattle.tt_world.specs.declared.events.Action.{Action}
-use Rattle.tt_world.specs.declared.events.Action.TheVariants.{Send, Answer, Forge, Deliver, Fuse, Read, Arrive, Stamp, Queue, Release}
+use Rattle.tt_world.specs.declared.events.Action.TheVariants.{Send, Answer, Forge, Deliver, Fuse, Read, Arrive, Stamp, Queue, Lease, Release}
 use Rattle.tt_world.specs.declared.packets.Packet.{Packet}
 use Rattle.tt_daemon.specs.Config.{Configuration}
 use Rattle.tt_world.specs.Config.{config_at}
@@ -40,6 +40,7 @@ names_unknown configs (Read machine worker clock publication) = not (has_worker 
 names_unknown configs (Arrive machine worker id floor) = not (has_worker configs machine worker)
 names_unknown configs (Stamp machine worker) = not (has_worker configs machine worker)
 names_unknown configs (Queue machine worker) = not (has_worker configs machine worker)
+names_unknown configs (Lease machine lease) = not (has_machine configs machine)
 names_unknown configs (Release machine worker) = not (has_worker configs machine worker)
 
 -- a packet is there and is a request

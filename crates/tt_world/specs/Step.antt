@@ -16,7 +16,7 @@ use Rattle.tt_stamp.specs.History.{waiting_of, release_of, with_receipts, first_
 use Rattle.tt_world.specs.declared.faults.WorldFault.TheVariants as bad
 use Rattle.tt_world.specs.declared.events.Event.{Event}
 use Rattle.tt_world.specs.declared.events.Action.{Action}
-use Rattle.tt_world.specs.declared.events.Action.TheVariants.{Send, Answer, Forge, Deliver, Fuse, Read, Arrive, Stamp, Queue, Release}
+use Rattle.tt_world.specs.declared.events.Action.TheVariants.{Send, Answer, Forge, Deliver, Fuse, Read, Arrive, Stamp, Queue, Lease, Release}
 use Rattle.tt_world.specs.declared.events.Reply.{Reply}
 use Rattle.tt_world.specs.declared.events.Reply.TheVariants as replies
 use Rattle.tt_world.specs.declared.faults.WorldFault.{WorldFault}
@@ -210,6 +210,15 @@ arrive_on world at m w arrival (Some machine) =
     if not (nat_lt w (length machine.workers)) then refused world bad.UnknownNumber
     else after_turn world at m (arrive_turn machine w arrival) []
 
+-- the machine is granted a lease
+abbrev pub lease_turn : MachineState → Interval → Turn
+lease_turn machine lease = record { machine = record machine { lease = lease }; reply = replies.Leased }
+
+-- machine m, if it is there, is granted a lease
+abbrev pub lease_on : WorldState → ℕ → ℕ → Interval → Option MachineState → Outcome
+lease_on world at m lease None = refused world bad.UnknownNumber
+lease_on world at m lease (Some machine) = after_turn world at m (lease_turn machine lease) []
+
 -- stamps of which this is the greatest, if there is one
 abbrev pub given_in : Option ℕ → List ℕ
 given_in None = []
@@ -290,6 +299,7 @@ acted world at (Read m w clock k) = read_on world at m w clock k (slice_get worl
 acted world at (Arrive m w id floor) = arrive_on world at m w (record { id = id; floor = floor }) (slice_get world.machines m)
 acted world at (Stamp m w) = stamp_on world at m w (slice_get world.machines m)
 acted world at (Queue m w) = queue_on world at m w (slice_get world.machines m)
+acted world at (Lease m lease) = lease_on world at m lease (slice_get world.machines m)
 acted world at (Release m w) = release_on world at m w (slice_get world.machines m)
 
 -- what an event makes

@@ -126,6 +126,12 @@ pub enum Action {
         machine: u8,
         worker: u8,
     },
+    /// The machine is granted this lease, in place of the one that it had: the stamps that it gives lie within it. A
+    /// machine that was granted none has the whole of time.
+    Lease {
+        machine: u8,
+        lease: Span,
+    },
     /// The worker releases, with its last reading, the commits of its machine that have surely passed.
     Release {
         machine: u8,
@@ -197,6 +203,8 @@ pub enum Reply {
     Stamped(u64),
     /// The worker's task waits in the machine's book.
     Queued,
+    /// The machine has the lease.
+    Leased,
     /// These commits were released.
     Released(Receipts),
     /// The event was refused, for the reason of this number, of this crate or a lower one.

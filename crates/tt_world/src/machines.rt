@@ -11,7 +11,7 @@ ghost use Rattle.tt_world.specs.State.{MachineState, IsMachine, machine_of};
 ghost use Rattle.tt_world.specs.Headline.{CertificatesProve};
 ghost use Rattle.tt_world.specs.Publications.{showing_of};
 ghost use Rattle.tt_world.specs.Trace.{outline};
-ghost use Rattle.tt_world.specs.Step.{is_back_on, spans_on, with_table, take_turn, publish_turn, fusion_on, read_turn, readable_on, worker_at, arrive_turn, stamp_turn, given_in, queue_turn, release_turn};
+ghost use Rattle.tt_world.specs.Step.{is_back_on, spans_on, with_table, take_turn, publish_turn, fusion_on, read_turn, readable_on, worker_at, arrive_turn, lease_turn, stamp_turn, given_in, queue_turn, release_turn};
 ghost use Rattle.tt_stamp.specs.Stamp.{stamp_of};
 ghost use Rattle.tt_stamp.specs.History.{first_queue_fault};
 ghost use Rattle.tt_stamp.specs.declared.commits.Entry.{Entry};
@@ -251,6 +251,14 @@ impl Machine {
             ..self.workers[place]
         };
         Reply::Arrived
+    }
+
+    /// The machine is granted a lease.
+    pub fn grant(&mut self, lease: Span) -> Reply
+        ensures { record { machine = self.new; reply = result } ≡ lease_turn self.old lease }
+    {
+        self.lease = lease;
+        Reply::Leased
     }
 
     /// The worker stamps its task by a reading.

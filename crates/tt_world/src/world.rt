@@ -10,7 +10,7 @@ ghost use Rattle.tt_world.specs.Bad.{accepted};
 ghost use Rattle.tt_world.specs.Reply.{reply_of, TakesMemory};
 ghost use Rattle.tt_world.specs.State.{WorldState, StandsFor, knows};
 ghost use Rattle.tt_world.specs.Packet.{answer_to};
-ghost use Rattle.tt_world.specs.Step.{Does, HasRoom, IsWorker, send_on, answer_on, forge_on, deliver_on, fuse_on, read_on, arrive_on, stamp_on, queue_on, release_on, stepped};
+ghost use Rattle.tt_world.specs.Step.{Does, HasRoom, IsWorker, send_on, answer_on, forge_on, deliver_on, fuse_on, read_on, arrive_on, stamp_on, queue_on, release_on, lease_on, stepped};
 
 use crate::events::{Action, Event, Payload, Reply};
 use crate::faults::WorldFault;
@@ -164,6 +164,19 @@ impl World {
         Ok(reply)
     }
 
+    /// A machine is granted a lease.
+    fn lease(&mut self, at: u64, machine: u8, lease: Span) -> Result<Reply, WorldFault>
+        ensures { Does (Action.Lease machine lease) (lease_on self.old at machine lease (slice_get self.old.machines machine)) self.old result self.new }
+    {
+        let place = usize::from(machine);
+        if place >= self.machines.len() {
+            return Err(WorldFault::UnknownNumber);
+        }
+        let reply = self.machines[place].grant(lease);
+        self.time = at;
+        Ok(reply)
+    }
+
     /// A worker stamps its task.
     fn stamp(&mut self, at: u64, machine: u8, worker: u8) -> Result<Reply, WorldFault>
         ensures { Does (Action.Stamp machine worker) (stamp_on self.old at machine worker (slice_get self.old.machines machine)) self.old result self.new }
@@ -299,6 +312,7 @@ impl World {
             } => self.arrive(at, *machine, *worker, Arrival::new(*id, *floor)),
             Action::Stamp { machine, worker } => self.stamp(at, *machine, *worker),
             Action::Queue { machine, worker } => self.queue(at, *machine, *worker),
+            Action::Lease { machine, lease } => self.lease(at, *machine, *lease),
             Action::Release { machine, worker } => self.release(at, *machine, *worker),
         }
     }

@@ -10,9 +10,11 @@ use Rattle.tt_stamp.specs.declared.faults.StampFault.{StampFault}
 use Rattle.tt_stamp.specs.declared.faults.BookFault.{BookFault}
 use Rattle.tt_stamp.specs.Stamp.{greatest_of}
 use Rattle.tt_stamp.specs.History.{with_receipts}
+use Rattle.std.specs.Prelude.{unwrap_or}
+use Rattle.tt_world.specs.Lease.{lease_of}
 use Rattle.tt_world.specs.Life.{Life, life_at, is_of}
 use Rattle.tt_world.specs.declared.events.Event.{Event}
-use Rattle.tt_world.specs.declared.events.Action.TheVariants.{Send, Answer, Forge, Deliver, Fuse, Read, Arrive, Stamp, Queue, Release}
+use Rattle.tt_world.specs.declared.events.Action.TheVariants.{Send, Answer, Forge, Deliver, Fuse, Read, Arrive, Stamp, Queue, Lease, Release}
 use Rattle.tt_world.specs.declared.packets.Packet.{Packet}
 use Rattle.tt_world.specs.declared.publications.Publication.{Publication}
 use Rattle.tt_world.specs.declared.workers.Arrival.{Arrival}
@@ -139,6 +141,10 @@ module _ (config : Configuration) (past : List Event) where
   pub machine_of-arrive : (at m w : ℕ) (id : Id) (floor : ℕ) (j : Life)
       → machine_of config (happens at (Arrive m w id floor) ∷ past) j ≡ machine_if_asked (record { id = id; floor = floor }) w j (is_of past j m)
   machine_of-arrive at m w id floor j = same_publications (machine_if_asked (record { id = id; floor = floor }) w j (is_of past j m)) j
+
+  pub machine_of-lease : (at m : ℕ) (lease : Interval) (j : Life)
+      → machine_of config (happens at (Lease m lease) ∷ past) j ≡ record (machine_of config past j) { lease = unwrap_or (cond (eqb m j.machine) (Some lease) None) (lease_of past j.machine) }
+  machine_of-lease at m lease j = same_publications (record (machine_of config past j) { lease = unwrap_or (cond (eqb m j.machine) (Some lease) None) (lease_of past j.machine) }) j
 
   -- worker v of machine j after a stamping that gave this, where its own says whether it is the worker's
   abbrev pub worker_if_stamped : Life → ℕ → Bool → Option (Result ℕ StampFault) → Worker

@@ -13,7 +13,7 @@ use Rattle.tt_world.specs.declared.faults.WorldFault.{WorldFault}
 use Rattle.tt_world.specs.declared.faults.WorldFault.TheVariants as bad
 use Rattle.tt_world.specs.declared.events.Event.{Event}
 use Rattle.tt_world.specs.declared.events.Action.{Action}
-use Rattle.tt_world.specs.declared.events.Action.TheVariants.{Send, Answer, Forge, Deliver, Fuse, Read, Arrive, Stamp, Queue, Release}
+use Rattle.tt_world.specs.declared.events.Action.TheVariants.{Send, Answer, Forge, Deliver, Fuse, Read, Arrive, Stamp, Queue, Lease, Release}
 use Rattle.tt_world.specs.declared.events.Reply.{Reply}
 use Rattle.tt_world.specs.declared.events.Reply.TheVariants as replies
 use Rattle.tt_world.specs.declared.packets.Packet.{Packet}
@@ -31,7 +31,7 @@ use Rattle.tt_world.specs.Commits.{arrival_of, reading_of, reading_since, stamp_
 use Rattle.tt_world.specs.Bad.{has_machine, names_unknown, is_request, can_be_delivered, lacks_packet, goes_back, is_unreadable, lacks_publication, is_arrived, is_stamped, lacks_its_thing}
 use Rattle.tt_world.specs.Reply.{reply_to_packet, reply_to}
 use Rattle.tt_world.specs.State.{MachineState, WorldState, source_of, worker_of, machine_of, polled_clock_of, state_of}
-use Rattle.tt_world.specs.Step.{Outcome, Turn, HasRoom, refused, after_turn, after_poll, send_on, after_put, answer_on, forge_on, deliver_to, deliver_on, spans_on, fuse_on, publish_turn, fusion_on, with_shown, new_worker, read_from, read_on, arrive_turn, arrive_on, stamp_with, stamp_on, queue_with, queue_on, release_with, release_on, acted}
+use Rattle.tt_world.specs.Step.{Outcome, Turn, HasRoom, refused, after_turn, after_poll, send_on, after_put, answer_on, forge_on, deliver_to, deliver_on, spans_on, fuse_on, publish_turn, fusion_on, with_shown, new_worker, read_from, read_on, arrive_turn, lease_on, lease_turn, arrive_on, stamp_with, stamp_on, queue_with, queue_on, release_with, release_on, acted}
 use Rattle.tt_world.proofs.Simulation.Ranges.{get_or-made, slice_get-made, slice_get-made_past, set-made, map-same}
 use Rattle.tt_world.proofs.Simulation.Waiting.{happens}
 use Rattle.tt_world.proofs.Simulation.Kept.{machine_of-answer, machine_of-forge}
@@ -39,6 +39,7 @@ use Rattle.tt_world.proofs.Simulation.Polling.{poll_of-polled, with_table-polled
 use Rattle.tt_world.proofs.Simulation.Taking.{take_turn-take_of, machine_of-deliver_other}
 use Rattle.tt_world.proofs.Simulation.Publishing.{spans_on-machine_of, fusion_on-machine_of, publish_turn-fusion_on, machine_of-fuse_other}
 use Rattle.tt_world.proofs.Simulation.Seeing.{read_turn-machine_of, machine_of-read_other}
+use Rattle.tt_world.proofs.Simulation.Leasing.{lease_turn-machine_of, machine_of-lease_other}
 use Rattle.tt_world.proofs.Simulation.Asking.{arrive_turn-machine_of, machine_of-arrive_other}
 use Rattle.tt_world.proofs.Simulation.Stamping.{stamp_turn-machine_of, machine_of-stamp_other}
 use Rattle.tt_world.proofs.Simulation.Queueing.{queue_turn-machine_of, machine_of-queue_other, release_turn-machine_of, machine_of-release_other}
@@ -314,6 +315,17 @@ module _ (configs : List Configuration) (past : List Event) where
       ∙ after_turn-state_of at m (Arrive m w id floor) _ refl (λ j other. machine_of-arrive_other (config_at configs j) past at m w id floor j other) refl))
       refl
 
+  -- ---- a machine is granted a lease
+
+  acted-lease : (at m : ℕ) (lease : Interval) → acted (state_of configs past) at (Lease m lease) ≡ as_judged at (Lease m lease) (bad_action (Lease m lease))
+  acted-lease at m lease =
+      at_machine m (λ o. lease_on (state_of configs past) at m lease o)
+      (λ b. as_judged at (Lease m lease) (cond (not b) (Some bad.UnknownNumber) None))
+      (λ there.
+      ap (λ (turn : Turn). after_turn (state_of configs past) at m turn []) (lease_turn-machine_of (config_at configs m) past at m lease)
+      ∙ after_turn-state_of at m (Lease m lease) _ refl (λ j other. machine_of-lease_other (config_at configs j) past at m lease j other) refl)
+      refl
+
   -- ---- a worker stamps its task
 
   -- why a stamping is bad, by the worker's task and its reading
@@ -401,4 +413,5 @@ module _ (configs : List Configuration) (past : List Event) where
   acted-state_of lasts at (Arrive m w id floor) room = acted-arrive at m w id floor
   acted-state_of lasts at (Stamp m w) room = acted-stamp at m w
   acted-state_of lasts at (Queue m w) room = acted-queue at m w
+  acted-state_of lasts at (Lease m lease) room = acted-lease at m lease
   acted-state_of lasts at (Release m w) room = acted-release at m w

@@ -30,7 +30,7 @@ use Rattle.tt_world.specs.declared.events.Action.{Action}
 use Rattle.tt_world.specs.Reply.{TakesMemory}
 use Rattle.tt_world.specs.State.{MachineState, WorldState}
 use Rattle.tt_world.specs.Step.{Outcome, Turn, WantsMemory, Does, refused, is_back_on, send_on, after_poll, with_table, fuse_on, after_turn, publish_turn, fusion_on, spans_on, read_on, read_from, read_turn, readable_on, worker_at, deliver_on, take_turn}
-use Rattle.tt_world.specs.Step.{IsWorker, arrive_on, arrive_turn, stamp_on, stamp_with, stamp_turn, given_in, queue_on, queue_with, queue_turn, release_on, release_with, release_turn}
+use Rattle.tt_world.specs.Step.{IsWorker, arrive_on, arrive_turn, lease_on, lease_turn, stamp_on, stamp_with, stamp_turn, given_in, queue_on, queue_with, queue_turn, release_on, release_with, release_turn}
 
 -- what is kept after a turn, by its parts
 abbrev pub outcome : ℕ → List Packet → List MachineState → List Showing → Reply → Outcome
@@ -169,6 +169,12 @@ worker-kept world m w p machine other worker same found at also kept =
     ap (λ (x : MachineState). worker_at x w) (same_item world.machines p machine other (subst (λ (q : ℕ). q < length world.machines) (sym same) inside) at also) ∙ sym kept
 
 -- a worker was asked for a commit
+pub lease_on-leased : (world : WorldState) (at m p : ℕ) (lease : Interval) (machine next : MachineState) (reply : Reply) → slice_get world.machines m ≡ Some machine →
+    record { machine = next; reply = reply } ≡ lease_turn machine lease → p ≡ m →
+    lease_on world at m lease (slice_get world.machines m) ≡ outcome at world.packets (slice_set world.machines p next) world.shown reply
+lease_on-leased world at m p lease machine next reply found turn same =
+    rw found (ap (λ (x : Turn). after_turn world at m x []) (sym turn) ∙ after_turn-nothing world at m p next reply same)
+
 pub arrive_on-arrived : (world : WorldState) (at m w p : ℕ) (arrival : Arrival) (machine next : MachineState) (reply : Reply) → slice_get world.machines m ≡ Some machine → w < length machine.workers →
     record { machine = next; reply = reply } ≡ arrive_turn machine w arrival → p ≡ m →
     arrive_on world at m w arrival (slice_get world.machines m) ≡ outcome at world.packets (slice_set world.machines p next) world.shown reply
