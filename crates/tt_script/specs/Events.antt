@@ -5,7 +5,7 @@ use Rattle.hex.specs.Hex.{decode_of}
 use Rattle.hex.specs.declared.error.FromHexError.{FromHexError}
 use Rattle.tt_world.specs.declared.events.Event.{Event}
 use Rattle.tt_world.specs.declared.events.Action.{Action}
-use Rattle.tt_world.specs.declared.events.Action.TheVariants.{Send, Answer, Forge, Deliver, Fuse, Arrive, Read, Stamp, Queue, Release}
+use Rattle.tt_world.specs.declared.events.Action.TheVariants.{Send, Answer, Forge, Deliver, Fuse, Arrive, Read, Stamp, Queue, Release, Lease, Restart}
 use Rattle.tt_script.specs.declared.words.Word.{Word}
 use Rattle.tt_script.specs.declared.words.Word.TheVariants as word
 use Rattle.tt_script.specs.declared.faults.ScriptFault.{ScriptFault}
@@ -90,6 +90,22 @@ worker_in action t = do
   worker ← small_at (codes "worker") t
   Ok (action machine worker)
 
+-- the keys of `lease`
+abbrev pub lease_in : Members → Result Action ScriptFault
+lease_in t = do
+  machine ← small_at (codes "machine") t
+  lo ← time_at (codes "lo") t
+  hi ← time_at (codes "hi") t
+  lease ← span_if lo hi
+  Ok (Lease machine lease)
+
+-- the keys of `restart`
+abbrev pub restart_in : Members → Result Action ScriptFault
+restart_in t = do
+  machine ← small_at (codes "machine") t
+  clock ← time_at (codes "clock") t
+  Ok (Restart machine clock)
+
 -- what happens, by its word
 abbrev pub action_in : Word → Members → Result Action ScriptFault
 action_in word.Send t = send_in t
@@ -102,6 +118,8 @@ action_in word.Read t = read_in t
 action_in word.Stamp t = worker_in Stamp t
 action_in word.Queue t = worker_in Queue t
 action_in word.Release t = worker_in Release t
+action_in word.Lease t = lease_in t
+action_in word.Restart t = restart_in t
 
 -- one event, by its table
 abbrev pub event_in : Members → Result Event ScriptFault

@@ -2,7 +2,7 @@
 use Rattle.std.specs.Prelude.{codes, ℕ, nat_eq, if◌then◌else◌, List, Result, Ok, Err}
 use Rattle.std.specs.Cmp.Lexicographic.{pointwise}
 use Rattle.tt_script.specs.declared.words.Word.{Word}
-use Rattle.tt_script.specs.declared.words.Word.TheVariants.{Send, Answer, Forge, Deliver, Fuse, Arrive, Read, Stamp, Queue, Release}
+use Rattle.tt_script.specs.declared.words.Word.TheVariants.{Send, Answer, Forge, Deliver, Fuse, Arrive, Read, Stamp, Queue, Release, Lease, Restart}
 use Rattle.tt_script.specs.declared.faults.ScriptFault.{ScriptFault}
 use Rattle.tt_script.specs.declared.faults.ScriptFault.TheVariants.{UnknownStep}
 
@@ -19,4 +19,6 @@ word_of text =
     else if pointwise nat_eq text (codes "stamp") then Ok Stamp
     else if pointwise nat_eq text (codes "queue") then Ok Queue
     else if pointwise nat_eq text (codes "release") then Ok Release
+    else if pointwise nat_eq text (codes "lease") then Ok Lease
+    else if pointwise nat_eq text (codes "restart") then Ok Restart
     else Err UnknownStep

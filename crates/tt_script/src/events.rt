@@ -6,7 +6,7 @@ ghost use Rattle.hex.specs.Hex.{decode_of};
 ghost use Rattle.tt_span.specs.Time.{max_time};
 ghost use Rattle.tt_script.specs.Fault.{IsRefusal};
 ghost use Rattle.tt_script.specs.Lookup.{each, of_table};
-ghost use Rattle.tt_script.specs.Events.{span_if, payload_if, send_in, answer_in, forge_in, deliver_in, fuse_in, arrive_in, read_in, worker_in, action_in, event_in, event_items_in, events_of, events_in};
+ghost use Rattle.tt_script.specs.Events.{span_if, payload_if, send_in, answer_in, forge_in, deliver_in, fuse_in, arrive_in, read_in, worker_in, lease_in, restart_in, action_in, event_in, event_items_in, events_of, events_in};
 ghost use Rattle.tt_world.specs.declared.events.Action.TheVariants as happens;
 
 use crate::faults::ScriptFault;
@@ -98,6 +98,8 @@ fn action_in(word: Word, table: &Table) -> Result<Action, ScriptFault>
         Word::Stamp => stamp_in(table),
         Word::Queue => queue_in(table),
         Word::Release => release_in(table),
+        Word::Lease => lease_in(table),
+        Word::Restart => restart_in(table),
     }
 }
 
@@ -198,6 +200,25 @@ fn release_in(table: &Table) -> Result<Action, ScriptFault>
     Ok(Action::Release {
         machine: small_at(table, "machine")?,
         worker: small_at(table, "worker")?,
+    })
+}
+
+fn lease_in(table: &Table) -> Result<Action, ScriptFault>
+    ensures { result ≡ lease_in (table_view table.now) }
+{
+    let machine = small_at(table, "machine")?;
+    let lo = time_at(table, "lo")?;
+    let hi = time_at(table, "hi")?;
+    let lease = span_if(lo, hi)?;
+    Ok(Action::Lease { machine, lease })
+}
+
+fn restart_in(table: &Table) -> Result<Action, ScriptFault>
+    ensures { result ≡ restart_in (table_view table.now) }
+{
+    Ok(Action::Restart {
+        machine: small_at(table, "machine")?,
+        clock: time_at(table, "clock")?,
     })
 }
 

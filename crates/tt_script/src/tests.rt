@@ -6,9 +6,9 @@ use crate::{MAX_EVENTS, ScriptFault, read};
 use std::alloc::{AllocError, Global};
 use std::test::Fail;
 use texts::{
-    ANY_MAY_LIE, ANY_MAY_LIE_EVENTS, DRIFTS, DRIFTS_EVENTS, LIVE, ONE_FORGES, ONE_FORGES_EVENTS,
-    ONE_LIES, ONE_LIES_EVENTS, OUT_OF_ORDER, OUT_OF_ORDER_EVENTS, TWO_LIE, TWO_LIE_EVENTS,
-    WAITS_OUT, WAITS_OUT_EVENTS,
+    ANY_MAY_LIE, ANY_MAY_LIE_EVENTS, DRIFTS, DRIFTS_EVENTS, LEASED, LEASED_EVENTS, LIVE,
+    ONE_FORGES, ONE_FORGES_EVENTS, ONE_LIES, ONE_LIES_EVENTS, OUT_OF_ORDER, OUT_OF_ORDER_EVENTS,
+    RESTARTS, RESTARTS_EVENTS, TWO_LIE, TWO_LIE_EVENTS, WAITS_OUT, WAITS_OUT_EVENTS,
 };
 use tt_daemon::Config;
 use tt_master::Act;
@@ -80,6 +80,12 @@ fn line_of(alloc: Global, event: &Event) -> Result<String, AllocError> {
         Action::Stamp { machine, worker } => format!(in alloc; "stamp {at} {machine} {worker}"),
         Action::Queue { machine, worker } => format!(in alloc; "queue {at} {machine} {worker}"),
         Action::Release { machine, worker } => format!(in alloc; "release {at} {machine} {worker}"),
+        Action::Lease { machine, lease } => {
+            let lo = lease.lo();
+            let hi = lease.hi();
+            format!(in alloc; "lease {at} {machine} {lo} {hi}")
+        }
+        Action::Restart { machine, clock } => format!(in alloc; "restart {at} {machine} {clock}"),
     }
 }
 
@@ -113,6 +119,9 @@ fn reads_the_worked_examples(rt: HostRuntime) -> Result<(), Fail> {
     assert!(rt; is_script(alloc, DRIFTS, &one, &DRIFTS_EVENTS)?);
     assert!(rt; is_script(alloc, OUT_OF_ORDER, &two, &OUT_OF_ORDER_EVENTS)?);
     assert!(rt; is_script(alloc, ONE_FORGES, &three, &ONE_FORGES_EVENTS)?);
+    let still = [machine(1, 0, 0)?];
+    assert!(rt; is_script(alloc, RESTARTS, &still, &RESTARTS_EVENTS)?);
+    assert!(rt; is_script(alloc, LEASED, &still, &LEASED_EVENTS)?);
     Ok(())
 }
 
@@ -344,6 +353,12 @@ fn judges_the_keys_of_each_word_in_order(rt: HostRuntime) -> Result<(), Fail> {
     assert_eq!(rt; word_out_of_turn(alloc, "arrive", &arrive)?, None);
     let read = [AT, MACHINE_KEY, WORKER, CLOCK, PUBLICATION];
     assert_eq!(rt; word_out_of_turn(alloc, "read", &read)?, None);
+    let lease = [AT, MACHINE_KEY, LO, HI];
+    assert_eq!(rt; word_out_of_turn(alloc, "lease", &lease)?, None);
+    let backwards = [AT, MACHINE_KEY, LO, HI_BELOW];
+    assert_eq!(rt; word_out_of_turn(alloc, "lease", &backwards)?, None);
+    let restart = [AT, MACHINE_KEY, CLOCK];
+    assert_eq!(rt; word_out_of_turn(alloc, "restart", &restart)?, None);
     let worker = [AT, MACHINE_KEY, WORKER];
     for word in ["stamp", "queue", "release"] {
         assert_eq!(rt; word_out_of_turn(alloc, word, &worker)?, None, "{word}");

@@ -18,6 +18,8 @@ pub(crate) enum Word {
     Stamp,
     Queue,
     Release,
+    Lease,
+    Restart,
 }
 
 /// The word that a text is.
@@ -35,6 +37,8 @@ pub(crate) fn word_of(text: &str) -> Result<Word, ScriptFault>
         "stamp" => Ok(Word::Stamp),
         "queue" => Ok(Word::Queue),
         "release" => Ok(Word::Release),
+        "lease" => Ok(Word::Lease),
+        "restart" => Ok(Word::Restart),
         _ => Err(ScriptFault::UnknownStep),
     }
 }

@@ -343,6 +343,87 @@ pub(crate) const ONE_FORGES_EVENTS: [&str; 11] = [
     "read 50 0 0 0 1",
 ];
 
+/// A machine restarts: what it knew, its stamps and its book are gone, and answers to its earlier life are refused.
+pub(crate) const RESTARTS: &str = r#"event = [
+  { do = "send", at = 100, machine = 0, source = 0, clock = 0 },
+  { do = "answer", at = 100, packet = 0, lo = 100, hi = 100 },
+  { do = "deliver", at = 100, packet = 1, clock = 0 },
+  { do = "fuse", at = 100, machine = 0, clock = 0 },
+  { do = "arrive", at = 100, machine = 0, worker = 0, session = 0, number = 1, floor = 0 },
+  { do = "read", at = 100, machine = 0, worker = 0, clock = 0, publication = 1 },
+  { do = "stamp", at = 100, machine = 0, worker = 0 },
+  { do = "queue", at = 100, machine = 0, worker = 0 },
+  { do = "read", at = 101, machine = 0, worker = 0, clock = 1, publication = 1 },
+  { do = "release", at = 101, machine = 0, worker = 0 },
+  { do = "arrive", at = 101, machine = 0, worker = 0, session = 0, number = 2, floor = 500 },
+  { do = "read", at = 101, machine = 0, worker = 0, clock = 1, publication = 1 },
+  { do = "stamp", at = 101, machine = 0, worker = 0 },
+  { do = "restart", at = 200, machine = 0, clock = 0 },
+  { do = "read", at = 200, machine = 0, worker = 0, clock = 0, publication = 1 },
+  { do = "deliver", at = 200, packet = 1, clock = 0 },
+  { do = "send", at = 200, machine = 0, source = 0, clock = 0 },
+  { do = "deliver", at = 200, packet = 1, clock = 0 },
+  { do = "answer", at = 200, packet = 2, lo = 200, hi = 200 },
+  { do = "deliver", at = 200, packet = 3, clock = 0 },
+  { do = "fuse", at = 200, machine = 0, clock = 0 },
+  { do = "arrive", at = 200, machine = 0, worker = 0, session = 0, number = 1, floor = 0 },
+  { do = "read", at = 200, machine = 0, worker = 0, clock = 0, publication = 1 },
+  { do = "stamp", at = 200, machine = 0, worker = 0 },
+  { do = "queue", at = 200, machine = 0, worker = 0 },
+]
+
+[[machine]]
+sources = 1
+faulty = 0
+drift = 0
+workers = 1
+"#;
+
+/// Its events.
+pub(crate) const RESTARTS_EVENTS: [&str; 25] = [
+    "send 100 0 0 0",
+    "answer 100 0 100 100",
+    "deliver 100 1 0",
+    "fuse 100 0 0",
+    "arrive 100 0 0 0 1 0",
+    "read 100 0 0 0 1",
+    "stamp 100 0 0",
+    "queue 100 0 0",
+    "read 101 0 0 1 1",
+    "release 101 0 0",
+    "arrive 101 0 0 0 2 500",
+    "read 101 0 0 1 1",
+    "stamp 101 0 0",
+    "restart 200 0 0",
+    "read 200 0 0 0 1",
+    "deliver 200 1 0",
+    "send 200 0 0 0",
+    "deliver 200 1 0",
+    "answer 200 2 200 200",
+    "deliver 200 3 0",
+    "fuse 200 0 0",
+    "arrive 200 0 0 0 1 0",
+    "read 200 0 0 0 1",
+    "stamp 200 0 0",
+    "queue 200 0 0",
+];
+
+/// A machine is granted a lease, in which it stamps.
+pub(crate) const LEASED: &str = r#"event = [
+  { do = "lease", at = 150, machine = 0, lo = 300, hi = 310 },
+  { do = "stamp", at = 150, machine = 0, worker = 0 },
+]
+
+[[machine]]
+sources = 1
+faulty = 0
+drift = 0
+workers = 1
+"#;
+
+/// Its events.
+pub(crate) const LEASED_EVENTS: [&str; 2] = ["lease 150 0 300 310", "stamp 150 0 0"];
+
 /// A run in threads: two honest masters, one that is far ahead, and two sessions.
 pub(crate) const LIVE: &str = r#"[[machine]]
 sources = 3
