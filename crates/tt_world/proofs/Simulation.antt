@@ -11,6 +11,8 @@ pub mod Polling
 pub mod Taking
 pub mod Publishing
 pub mod Leasing
+pub mod Unborn
+pub mod Restarting
 pub mod Seeing
 pub mod Asking
 pub mod Greatest

@@ -1,12 +1,12 @@
 -- Which events are bad: these change nothing, and are not in the list of what has happened.
-use Rattle.std.specs.Prelude.{ℕ, ◌==◌, ◌&&◌, ◌||◌, not, nat_lt, Bool, true, false, if◌then◌else◌, List, [], ◌∷◌, length, slice_get, is_some, Option, Some, None}
+use Rattle.std.specs.Prelude.{ℕ, ◌-◌, ◌^◌, ◌==◌, ◌&&◌, ◌||◌, not, nat_lt, Bool, true, false, if◌then◌else◌, List, [], ◌∷◌, length, slice_get, is_some, Option, Some, None}
 use Rattle.tt_span.specs.Time.{max_time}
 use Rattle.tt_world.specs.declared.faults.WorldFault.{WorldFault}
 use Rattle.tt_world.specs.declared.faults.WorldFault.TheVariants as bad
-use Rattle.tt_world.specs.Life.{Life, life_at}
+use Rattle.tt_world.specs.Life.{Life, life_of, life_at}
 use Rattle.tt_world.specs.declared.events.Event.{Event}
 use Rattle.tt_world.specs.declared.events.Action.{Action}
-use Rattle.tt_world.specs.declared.events.Action.TheVariants.{Send, Answer, Forge, Deliver, Fuse, Read, Arrive, Stamp, Queue, Lease, Release}
+use Rattle.tt_world.specs.declared.events.Action.TheVariants.{Send, Answer, Forge, Deliver, Fuse, Read, Arrive, Stamp, Queue, Restart, Lease, Release}
 use Rattle.tt_world.specs.declared.packets.Packet.{Packet}
 use Rattle.tt_daemon.specs.Config.{Configuration}
 use Rattle.tt_world.specs.Config.{config_at}
@@ -40,6 +40,7 @@ names_unknown configs (Read machine worker clock publication) = not (has_worker 
 names_unknown configs (Arrive machine worker id floor) = not (has_worker configs machine worker)
 names_unknown configs (Stamp machine worker) = not (has_worker configs machine worker)
 names_unknown configs (Queue machine worker) = not (has_worker configs machine worker)
+names_unknown configs (Restart machine clock) = not (has_machine configs machine)
 names_unknown configs (Lease machine lease) = not (has_machine configs machine)
 names_unknown configs (Release machine worker) = not (has_worker configs machine worker)
 
@@ -95,6 +96,11 @@ lacks_its_thing configs past (Queue machine worker) = not (is_stamped (task_of (
 lacks_its_thing configs past (Release machine worker) = not (is_some (reading_of (config_at configs machine) past (life_at past machine) worker))
 lacks_its_thing configs past _ = false
 
+-- the event restarts a machine whose life has the greatest number
+abbrev pub uses_up_lives : List Event → Action → Bool
+uses_up_lives past (Restart machine clock) = life_of past machine == 2 ^ 64 - 1
+uses_up_lives past _ = false
+
 -- true time falls, or passes the greatest time
 abbrev pub breaks_time : List Event → Event → Bool
 breaks_time past event = nat_lt event.at (time_of past) || nat_lt max_time event.at
@@ -108,6 +114,7 @@ first_bad configs past event =
     else if goes_back (clock_of past) (clock_reading past event.action) then Some bad.ClockBack
     else if lacks_publication configs past event.action then Some bad.NoPublication
     else if lacks_its_thing configs past event.action then Some bad.NothingThere
+    else if uses_up_lives past event.action then Some bad.LivesUsedUp
     else None
 
 -- the events that were not bad, each judged after those before it; the newest first

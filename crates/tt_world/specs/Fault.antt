@@ -14,6 +14,7 @@ number_of bad.NoPublication = 1204
 number_of bad.NothingThere = 1205
 number_of bad.UnknownNumber = 1206
 number_of bad.Machines = 1207
+number_of bad.LivesUsedUp = 1208
 number_of bad.Memory = 1
 
 -- the reply to an event that is bad for this reason

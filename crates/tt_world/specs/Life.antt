@@ -2,6 +2,7 @@
 use Rattle.std.specs.Prelude.{ℕ, ◌+◌, ◌==◌, ◌&&◌, Bool, false, if◌then◌else◌, List, [], ◌∷◌}
 use Rattle.tt_world.specs.declared.events.Event.{Event}
 use Rattle.tt_world.specs.declared.events.Action.{Action}
+use Rattle.tt_world.specs.declared.events.Action.TheVariants.{Restart}
 
 -- a life of a machine; the first has number 1
 pub record Life : Type 0 where
@@ -10,6 +11,7 @@ pub record Life : Type 0 where
 
 -- whether an action restarts machine m
 abbrev pub restarts : ℕ → Action → Bool
+restarts m (Restart machine clock) = machine == m
 restarts m _ = false
 
 -- the number of the life that machine m is in
@@ -20,6 +22,10 @@ life_of (event ∷ past) m = if restarts m event.action then life_of past m + 1 
 -- the life that machine m is in
 abbrev pub life_at : List Event → ℕ → Life
 life_at past m = record { machine = m; number = life_of past m }
+
+-- the life that machine m begins when it restarts
+abbrev pub next_life : List Event → ℕ → Life
+next_life past m = record { machine = m; number = life_of past m + 1 }
 
 -- whether two lives are the same
 abbrev pub same_life : Life → Life → Bool

@@ -2,10 +2,10 @@
 use Rattle.std.specs.Prelude.{ℕ, ◌+◌, Bool, false, if◌then◌else◌, List, [], ◌∷◌, ◌++◌, slice_get, Option, Some, None}
 use Rattle.std.specs.Option.{option_map}
 use Rattle.tt_span.specs.Drift.{Moment}
-use Rattle.tt_world.specs.Life.{Life, life_of, life_at, same_life, is_of}
+use Rattle.tt_world.specs.Life.{Life, life_of, next_life, life_at, same_life, is_of}
 use Rattle.tt_world.specs.declared.events.Event.{Event}
 use Rattle.tt_world.specs.declared.events.Action.{Action}
-use Rattle.tt_world.specs.declared.events.Action.TheVariants.{Send, Answer, Forge, Deliver, Fuse, Read, Arrive, Stamp, Queue, Lease, Release}
+use Rattle.tt_world.specs.declared.events.Action.TheVariants.{Send, Answer, Forge, Deliver, Fuse, Read, Arrive, Stamp, Queue, Restart, Lease, Release}
 use Rattle.tt_world.specs.declared.packets.Packet.{Packet}
 use Rattle.tt_world.specs.declared.packets.Packet.TheVariants.{Asked, Forged}
 use Rattle.tt_world.specs.Packet.{machine_of_packet, answer_to}
@@ -57,6 +57,7 @@ clock_reading past (Read machine worker clock publication) = Some (record { life
 clock_reading past (Arrive machine worker id floor) = None
 clock_reading past (Stamp machine worker) = None
 clock_reading past (Queue machine worker) = None
+clock_reading past (Restart machine clock) = Some (record { life = next_life past machine; clock = clock })
 clock_reading past (Lease machine lease) = None
 clock_reading past (Release machine worker) = None
 

@@ -71,6 +71,7 @@ reply_to configs past (does.Read machine worker clock publication) =
 reply_to configs past (does.Arrive machine worker id floor) = replies.Arrived
 reply_to configs past (does.Stamp machine worker) = stamping_reply (stamping_of (config_at configs machine) past (life_at past machine) worker)
 reply_to configs past (does.Queue machine worker) = queueing_reply (queueing_of (config_at configs machine) past (life_at past machine) worker)
+reply_to configs past (does.Restart machine clock) = replies.Restarted (life_of past machine + 1)
 reply_to configs past (does.Lease machine lease) = replies.Leased
 reply_to configs past (does.Release machine worker) =
     replies.Released (released_with (book_of (config_at configs machine) past (life_at past machine)) (reading_of (config_at configs machine) past (life_at past machine) worker))

@@ -1,9 +1,9 @@
 -- What one event makes of what is kept, and the reply to it.
-use Rattle.std.specs.Prelude.{◌≡◌, ℕ, ◌+◌, ◌-◌, ◌^◌, ◌<◌, ◌||◌, not, nat_lt, Bool, if◌then◌else◌, List, [], ◌∷◌, ◌++◌, map, length, slice_get, slice_set, slice_index_or, Option, Some, None, Result, Ok, Err}
+use Rattle.std.specs.Prelude.{◌≡◌, ℕ, ◌+◌, ◌-◌, ◌^◌, ◌<◌, ◌||◌, not, nat_lt, ◌==◌, replicate, Bool, if◌then◌else◌, List, [], ◌∷◌, ◌++◌, map, length, slice_get, slice_set, slice_index_or, Option, Some, None, Result, Ok, Err}
 use Rattle.tt_span.specs.Time.{max_time}
 use Rattle.tt_span.specs.Interval.{Interval}
 use Rattle.tt_source.specs.Fault.{number_of}
-use Rattle.tt_source.specs.Table.{TableState, poll_of, take_of, stated_at, known_of as known_of_table}
+use Rattle.tt_source.specs.Table.{TableState, new_table, poll_of, take_of, stated_at, known_of as known_of_table}
 use Rattle.tt_source.specs.declared.faults.SourceFault.{SourceFault}
 use Rattle.tt_fuse.specs.Depth.{slow_fusion}
 use Rattle.tt_stamp.specs.declared.commits.Id.{Id}
@@ -13,10 +13,11 @@ use Rattle.tt_stamp.specs.declared.faults.BookFault.{BookFault}
 use Rattle.tt_stamp.specs.Fault.{number_of as stamp_number_of, book_number_of}
 use Rattle.tt_stamp.specs.Stamp.{stamp_of}
 use Rattle.tt_stamp.specs.History.{waiting_of, release_of, with_receipts, first_queue_fault}
+use Rattle.tt_daemon.specs.Config.{Configuration}
 use Rattle.tt_world.specs.declared.faults.WorldFault.TheVariants as bad
 use Rattle.tt_world.specs.declared.events.Event.{Event}
 use Rattle.tt_world.specs.declared.events.Action.{Action}
-use Rattle.tt_world.specs.declared.events.Action.TheVariants.{Send, Answer, Forge, Deliver, Fuse, Read, Arrive, Stamp, Queue, Lease, Release}
+use Rattle.tt_world.specs.declared.events.Action.TheVariants.{Send, Answer, Forge, Deliver, Fuse, Read, Arrive, Stamp, Queue, Restart, Lease, Release}
 use Rattle.tt_world.specs.declared.events.Reply.{Reply}
 use Rattle.tt_world.specs.declared.events.Reply.TheVariants as replies
 use Rattle.tt_world.specs.declared.faults.WorldFault.{WorldFault}
@@ -210,6 +211,36 @@ arrive_on world at m w arrival (Some machine) =
     if not (nat_lt w (length machine.workers)) then refused world bad.UnknownNumber
     else after_turn world at m (arrive_turn machine w arrival) []
 
+-- machine m as it begins a life, with a lease, when its clock shows this
+abbrev pub machine_in : Configuration → ℕ → ℕ → Interval → ℕ → MachineState
+machine_in config m life lease clock = record {
+  config = config;
+  table = new_table m config.sources config.drift 0 life;
+  life = life;
+  lease = lease;
+  clock = clock;
+  publications = [];
+  row = None;
+  book = [];
+  workers = replicate config.workers new_worker;
+}
+
+-- the machine's life has the greatest number
+abbrev pub is_last_life_on : MachineState → Bool
+is_last_life_on machine = machine.life == 2 ^ 64 - 1
+
+-- the machine restarts, as machine m
+abbrev pub restart_turn : ℕ → MachineState → ℕ → Turn
+restart_turn m machine clock = record { machine = machine_in machine.config m (machine.life + 1) machine.lease clock; reply = replies.Restarted (machine.life + 1) }
+
+-- machine m, if it is there, restarts; a clock reading past the greatest time is refused
+abbrev pub restart_on : WorldState → ℕ → ℕ → ℕ → Option MachineState → Outcome
+restart_on world at m clock None = refused world bad.UnknownNumber
+restart_on world at m clock (Some machine) =
+    if nat_lt max_time clock then refused world bad.ClockBack
+    else if is_last_life_on machine then refused world bad.LivesUsedUp
+    else after_turn world at m (restart_turn m machine clock) []
+
 -- the machine is granted a lease
 abbrev pub lease_turn : MachineState → Interval → Turn
 lease_turn machine lease = record { machine = record machine { lease = lease }; reply = replies.Leased }
@@ -299,6 +330,7 @@ acted world at (Read m w clock k) = read_on world at m w clock k (slice_get worl
 acted world at (Arrive m w id floor) = arrive_on world at m w (record { id = id; floor = floor }) (slice_get world.machines m)
 acted world at (Stamp m w) = stamp_on world at m w (slice_get world.machines m)
 acted world at (Queue m w) = queue_on world at m w (slice_get world.machines m)
+acted world at (Restart m clock) = restart_on world at m clock (slice_get world.machines m)
 acted world at (Lease m lease) = lease_on world at m lease (slice_get world.machines m)
 acted world at (Release m w) = release_on world at m w (slice_get world.machines m)
 

@@ -126,6 +126,13 @@ pub enum Action {
         machine: u8,
         worker: u8,
     },
+    /// The machine restarts, and is in a new life from then on: it knows nothing of its sources, has published and
+    /// stamped nothing, its book is empty, its workers have no task and no reading, its nonces begin at 1 again, and
+    /// its clock begins anew at this reading. Its lease stays, and so do the packets that are on their way.
+    Restart {
+        machine: u8,
+        clock: u64,
+    },
     /// The machine is granted this lease, in place of the one that it had: the stamps that it gives lie within it. A
     /// machine that was granted none has the whole of time.
     Lease {
@@ -203,6 +210,8 @@ pub enum Reply {
     Stamped(u64),
     /// The worker's task waits in the machine's book.
     Queued,
+    /// The machine is in the life of this number.
+    Restarted(u64),
     /// The machine has the lease.
     Leased,
     /// These commits were released.

@@ -23,6 +23,8 @@ pub enum WorldFault {
     NothingThere,
     #[error("there is no such machine, source or worker")]
     UnknownNumber,
+    #[error("the machine has used up the numbers of its lives")]
+    LivesUsedUp,
     #[error("there can't be a world of these machines")]
     Machines,
     #[error("out of memory")]
@@ -31,7 +33,7 @@ pub enum WorldFault {
 
 impl WorldFault {
     /// The fault's number: 1201 `TimeBack`, 1202 `ClockBack`, 1203 `NoPacket`, 1204 `NoPublication`,
-    /// 1205 `NothingThere`, 1206 `UnknownNumber`, 1207 `Machines`, 1 `Memory`.
+    /// 1205 `NothingThere`, 1206 `UnknownNumber`, 1207 `Machines`, 1208 `LivesUsedUp`, 1 `Memory`.
     pub fn number(&self) -> u16
         ensures { result ≡ number_of self.now }
     {
@@ -43,6 +45,7 @@ impl WorldFault {
             WorldFault::NothingThere => 1205,
             WorldFault::UnknownNumber => 1206,
             WorldFault::Machines => 1207,
+            WorldFault::LivesUsedUp => 1208,
             WorldFault::Memory => 1,
         }
     }

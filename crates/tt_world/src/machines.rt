@@ -1,6 +1,6 @@
 //! What is kept of one machine.
 
-ghost use Rattle.std.specs.Prelude.{◌≡◌, List, [], ℕ, ◌+◌, ◌++◌, ◌<◌, ◌≤◌, length, map, OnOk, OnErr, IfOk, IfErr, IsErrOf, IsOk, IsTrue, Some, None, Ok, Err};
+ghost use Rattle.std.specs.Prelude.{◌≡◌, List, [], ℕ, ◌+◌, ◌++◌, ◌<◌, ◌≤◌, length, map, OnOk, OnErr, IfOk, IfErr, IsErrOf, IsOk, IsTrue, false, Some, None, Ok, Err};
 ghost use Rattle.std.specs.Vec.{vec_len, vec_capacity};
 ghost use Rattle.tt_span.specs.Time.{max_time};
 ghost use Rattle.tt_source.specs.Table.{poll_of, take_of, is_known_of};
@@ -11,7 +11,7 @@ ghost use Rattle.tt_world.specs.State.{MachineState, IsMachine, machine_of};
 ghost use Rattle.tt_world.specs.Headline.{CertificatesProve};
 ghost use Rattle.tt_world.specs.Publications.{showing_of};
 ghost use Rattle.tt_world.specs.Trace.{outline};
-ghost use Rattle.tt_world.specs.Step.{is_back_on, spans_on, with_table, take_turn, publish_turn, fusion_on, read_turn, readable_on, worker_at, arrive_turn, lease_turn, stamp_turn, given_in, queue_turn, release_turn};
+ghost use Rattle.tt_world.specs.Step.{is_back_on, spans_on, with_table, take_turn, publish_turn, fusion_on, read_turn, readable_on, worker_at, arrive_turn, lease_turn, machine_in, is_last_life_on, restart_turn, stamp_turn, given_in, queue_turn, release_turn};
 ghost use Rattle.tt_stamp.specs.Stamp.{stamp_of};
 ghost use Rattle.tt_stamp.specs.History.{first_queue_fault};
 ghost use Rattle.tt_stamp.specs.declared.commits.Entry.{Entry};
@@ -65,13 +65,31 @@ impl Machine {
         ensures fresh { result ≡ machine_of config [] (life_at [] number) }
         ensures valid { IsConfiguration config }
     {
+        Machine::in_life(alloc, number, config, 1, Span::whole(), 0)
+    }
+
+    /// The machine of this number as it begins a life, with this lease, when its clock shows `clock`.
+    fn in_life(
+        alloc: Global,
+        number: u8,
+        config: Config,
+        life: u64,
+        lease: Span,
+        clock: u64,
+    ) -> Machine
+        requires machine_in { number < 8 }
+        requires some_life { 0 < life }
+        requires in_time { clock ≤ max_time }
+        ensures fresh { result ≡ machine_in config number life lease clock }
+        ensures valid { IsConfiguration config }
+    {
         let mut workers = ArrayVec::from([Worker::new(); MAX_WORKERS]);
         workers.truncate(config.workers());
         Machine {
-            daemon: Daemon::new(number, &config, 1),
-            life: 1,
-            lease: Span::whole(),
-            clock: 0,
+            daemon: Daemon::new(number, &config, life),
+            life,
+            lease,
+            clock,
             publications: Vec::new(alloc),
             row: Row::new(),
             book: Book::new(alloc),
@@ -251,6 +269,25 @@ impl Machine {
             ..self.workers[place]
         };
         Reply::Arrived
+    }
+
+    /// Whether the machine's life has the greatest number.
+    pub fn is_last_life(&self) -> bool
+        ensures value { result ≡ is_last_life_on self.now }
+    {
+        self.life == u64::MAX
+    }
+
+    /// The machine restarts, as the one of this number.
+    pub fn restart(&mut self, alloc: Global, number: u8, clock: u64) -> Reply
+        requires machine_in { number < 8 }
+        requires in_time { clock ≤ max_time }
+        requires not_last { is_last_life_on self.old ≡ false }
+        ensures { record { machine = self.new; reply = result } ≡ restart_turn number self.old clock }
+    {
+        let life = self.life + 1;
+        *self = Machine::in_life(alloc, number, self.config(), life, self.lease, clock);
+        Reply::Restarted(life)
     }
 
     /// The machine is granted a lease.

@@ -10,7 +10,7 @@ ghost use Rattle.tt_world.specs.Bad.{accepted};
 ghost use Rattle.tt_world.specs.Reply.{reply_of, TakesMemory};
 ghost use Rattle.tt_world.specs.State.{WorldState, StandsFor, knows};
 ghost use Rattle.tt_world.specs.Packet.{answer_to};
-ghost use Rattle.tt_world.specs.Step.{Does, HasRoom, IsWorker, send_on, answer_on, forge_on, deliver_on, fuse_on, read_on, arrive_on, stamp_on, queue_on, release_on, lease_on, stepped};
+ghost use Rattle.tt_world.specs.Step.{Does, HasRoom, IsWorker, send_on, answer_on, forge_on, deliver_on, fuse_on, read_on, arrive_on, stamp_on, queue_on, release_on, lease_on, restart_on, stepped};
 
 use crate::events::{Action, Event, Payload, Reply};
 use crate::faults::WorldFault;
@@ -164,6 +164,25 @@ impl World {
         Ok(reply)
     }
 
+    /// A machine restarts.
+    fn restart(&mut self, at: u64, machine: u8, clock: u64) -> Result<Reply, WorldFault>
+        ensures { Does (Action.Restart machine clock) (restart_on self.old at machine clock (slice_get self.old.machines machine)) self.old result self.new }
+    {
+        let place = usize::from(machine);
+        if place >= self.machines.len() {
+            return Err(WorldFault::UnknownNumber);
+        }
+        if clock > MAX_TIME {
+            return Err(WorldFault::ClockBack);
+        }
+        if self.machines[place].is_last_life() {
+            return Err(WorldFault::LivesUsedUp);
+        }
+        let reply = self.machines[place].restart(self.alloc, machine, clock);
+        self.time = at;
+        Ok(reply)
+    }
+
     /// A machine is granted a lease.
     fn lease(&mut self, at: u64, machine: u8, lease: Span) -> Result<Reply, WorldFault>
         ensures { Does (Action.Lease machine lease) (lease_on self.old at machine lease (slice_get self.old.machines machine)) self.old result self.new }
@@ -312,6 +331,7 @@ impl World {
             } => self.arrive(at, *machine, *worker, Arrival::new(*id, *floor)),
             Action::Stamp { machine, worker } => self.stamp(at, *machine, *worker),
             Action::Queue { machine, worker } => self.queue(at, *machine, *worker),
+            Action::Restart { machine, clock } => self.restart(at, *machine, *clock),
             Action::Lease { machine, lease } => self.lease(at, *machine, *lease),
             Action::Release { machine, worker } => self.release(at, *machine, *worker),
         }
@@ -343,7 +363,7 @@ impl World {
 
     /// What an event makes, and the reply to it. Every event is taken: one that is bad is replied to with its
     /// number, the first that applies of 1201 `TimeBack`, 1206 `UnknownNumber`, 1203 `NoPacket`, 1202 `ClockBack`,
-    /// 1204 `NoPublication` and 1205 `NothingThere`, and changes nothing. A reply with a number of a lower crate moves
+    /// 1204 `NoPublication`, 1205 `NothingThere` and 1208 `LivesUsedUp`, and changes nothing. A reply with a number of a lower crate moves
     /// the true time and, where the event reads it, the machine's clock alone. Refuses by 1 `Memory` where memory was
     /// refused, for events alone that are not bad; the world is then as before.
     pub fn step(&mut self, event: &Event) -> Result<Reply, WorldFault>

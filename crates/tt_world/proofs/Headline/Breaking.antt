@@ -11,7 +11,7 @@ use Rattle.tt_world.specs.Life.{Life, life_at, same_life}
 use Rattle.tt_world.specs.declared.breaches.Breach.{Breach}
 use Rattle.tt_world.specs.declared.events.Event.{Event}
 use Rattle.tt_world.specs.declared.events.Action.{Action}
-use Rattle.tt_world.specs.declared.events.Action.TheVariants.{Send, Deliver, Fuse, Read}
+use Rattle.tt_world.specs.declared.events.Action.TheVariants.{Send, Deliver, Fuse, Read, Restart}
 use Rattle.tt_world.specs.declared.faults.WorldFault.{WorldFault}
 use Rattle.tt_world.specs.declared.packets.Packet.{Packet}
 use Rattle.tt_daemon.specs.Config.{Configuration}
@@ -109,6 +109,7 @@ module _ (configs : List Configuration) (past : List Event) (lasts : Lasts confi
       subst (λ (k : ℕ). k < length configs) (same_reading _ r h) (ltb-true m _ parts.0)
   known_clock (Deliver k clock) named r h = known_delivered clock _ k refl r h
   known_clock (Fuse m clock) named r h = subst (λ (k : ℕ). k < length configs) (same_reading _ r h) (ltb-true m _ (not-false (has_machine configs m) named))
+  known_clock (Restart m clock) named r h = subst (λ (k : ℕ). k < length configs) (same_reading _ r h) (ltb-true m _ (not-false (has_machine configs m) named))
   known_clock (Read m w clock k) named r h =
       let parts = and_parts _ _ (not-false (has_worker configs m w) named) in
       subst (λ (k : ℕ). k < length configs) (same_reading _ r h) (ltb-true m _ parts.0)

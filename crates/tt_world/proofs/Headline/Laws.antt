@@ -18,7 +18,7 @@ use Rattle.tt_world.specs.Life.{Life, life_of, life_at, is_of}
 use Rattle.tt_world.specs.declared.faults.WorldFault.{WorldFault}
 use Rattle.tt_world.specs.declared.events.Event.{Event}
 use Rattle.tt_world.specs.declared.events.Action.{Action}
-use Rattle.tt_world.specs.declared.events.Action.TheVariants.{Send, Answer, Forge, Deliver, Fuse, Read, Arrive, Stamp, Queue, Lease, Release}
+use Rattle.tt_world.specs.declared.events.Action.TheVariants.{Send, Answer, Forge, Deliver, Fuse, Read, Arrive, Stamp, Queue, Restart, Lease, Release}
 use Rattle.tt_world.specs.declared.events.Reply.TheVariants.{Taken}
 use Rattle.tt_world.specs.declared.packets.Packet.{Packet}
 use Rattle.tt_world.specs.declared.publications.Publication.{Publication}
@@ -157,6 +157,7 @@ taken_states configs past (Read m w clock k) h = absurd cc
 taken_states configs past (Arrive m w id floor) h = absurd cc
 taken_states configs past (Stamp m w) h = absurd (not_taken_stamped _ h)
 taken_states configs past (Queue m w) h = absurd (not_taken_queued _ h)
+taken_states configs past (Restart m clock) h = absurd cc
 taken_states configs past (Lease m lease) h = absurd cc
 taken_states configs past (Release m w) h = absurd cc
 

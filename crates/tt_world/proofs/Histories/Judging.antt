@@ -9,7 +9,7 @@ use Rattle.tt_world.specs.declared.faults.WorldFault.TheVariants as bad
 use Rattle.tt_world.specs.declared.events.Event.{Event}
 use Rattle.tt_daemon.specs.Config.{Configuration}
 use Rattle.tt_world.specs.Past.{time_of, packets_of, clock_reading, clock_of}
-use Rattle.tt_world.specs.Bad.{names_unknown, lacks_packet, goes_back, lacks_publication, lacks_its_thing, breaks_time, first_bad, accepted}
+use Rattle.tt_world.specs.Bad.{names_unknown, lacks_packet, goes_back, lacks_publication, lacks_its_thing, uses_up_lives, breaks_time, first_bad, accepted}
 
 -- what is known of an event that is not bad after what has happened
 pub record IsGood (configs : List Configuration) (past : List Event) (event : Event) : Type 0 where
@@ -20,6 +20,7 @@ pub record IsGood (configs : List Configuration) (past : List Event) (event : Ev
   pub clock_on : goes_back (clock_of past) (clock_reading past event.action) ≡ false
   pub publication_there : lacks_publication configs past event.action ≡ false
   pub thing_there : lacks_its_thing configs past event.action ≡ false
+  pub life_left : uses_up_lives past event.action ≡ false
 
 -- a reason that does not apply, and the reasons after it
 pub passed : (b : Bool) (fault : WorldFault) (rest : Option WorldFault) → cond b (Some fault) rest ≡ None → (b ≡ false) × (rest ≡ None)
@@ -34,6 +35,7 @@ good_of configs past event h =
     let clock = passed (goes_back (clock_of past) (clock_reading past event.action)) bad.ClockBack _ packet.1 in
     let publication = passed (lacks_publication configs past event.action) bad.NoPublication _ clock.1 in
     let thing = passed (lacks_its_thing configs past event.action) bad.NothingThere _ publication.1 in
+    let life = passed (uses_up_lives past event.action) bad.LivesUsedUp _ thing.1 in
     let times = or_parts _ _ time.0 in
     record {
       not_before = ltb-false event.at (time_of past) times.0;
@@ -43,6 +45,7 @@ good_of configs past event h =
       clock_on = clock.0;
       publication_there = publication.0;
       thing_there = thing.0;
+      life_left = life.0;
     }
 
 -- each of the events was not bad after those before it

@@ -11,12 +11,12 @@ use Rattle.tt_span.specs.Interval.{Interval}
 use Rattle.tt_poll.specs.Reading.{read_of2}
 use Rattle.tt_source.specs.Table.{statement_of_message}
 use Rattle.tt_world.proofs.Simulation.Lives.{same_life-true}
-use Rattle.tt_world.specs.Life.{life_of, Life, life_at, same_life, is_of}
+use Rattle.tt_world.specs.Life.{next_life, life_of, Life, life_at, same_life, is_of}
 use Rattle.tt_world.specs.declared.faults.WorldFault.{WorldFault}
 use Rattle.tt_world.specs.declared.faults.WorldFault.TheVariants as bad
 use Rattle.tt_world.specs.declared.events.Event.{Event}
 use Rattle.tt_world.specs.declared.events.Action.{Action}
-use Rattle.tt_world.specs.declared.events.Action.TheVariants.{Send, Answer, Forge, Deliver, Fuse, Read}
+use Rattle.tt_world.specs.declared.events.Action.TheVariants.{Send, Answer, Forge, Deliver, Fuse, Read, Restart}
 use Rattle.tt_world.specs.declared.packets.Packet.{Packet}
 use Rattle.tt_world.specs.declared.packets.Packet.TheVariants.{Asked, Answered, Forged}
 use Rattle.tt_daemon.specs.Config.{Configuration}
@@ -76,6 +76,8 @@ polled_more past life at (Fuse machine clock) fresh h =
     below_reading (λ b. false) (is_of past life machine) clock (polled_clock_of past life) (clock_of past life) refl (not_below (clock_of past) (life_at past machine) clock life fresh) h
 polled_more past life at (Read machine worker clock publication) fresh h =
     below_reading (λ b. false) (is_of past life machine) clock (polled_clock_of past life) (clock_of past life) refl (not_below (clock_of past) (life_at past machine) clock life fresh) h
+polled_more past life at (Restart machine clock) fresh h =
+    below_reading (λ b. false) (same_life (next_life past machine) life) clock (polled_clock_of past life) (clock_of past life) refl (not_below (clock_of past) (next_life past machine) clock life fresh) h
 polled_more past life at _ fresh h = h
 
 -- ---- packets go to machines that are there, from sources that they ask
@@ -112,20 +114,21 @@ module _ (configs : List Configuration) where
     pub known : All (HasItsSource configs) (packets_of past)
 
   -- the first test that an event fails
-  abbrev first_failed : Bool → Bool → Bool → Bool → Bool → Bool → Option WorldFault
-  first_failed t u v w x y = cond t (Some bad.TimeBack) (cond u (Some bad.UnknownNumber) (cond v (Some bad.NoPacket) (cond w (Some bad.ClockBack) (cond x (Some bad.NoPublication) (cond y (Some bad.NothingThere) None)))))
+  abbrev first_failed : Bool → Bool → Bool → Bool → Bool → Bool → Bool → Option WorldFault
+  first_failed t u v w x y z =
+      cond t (Some bad.TimeBack) (cond u (Some bad.UnknownNumber) (cond v (Some bad.NoPacket) (cond w (Some bad.ClockBack) (cond x (Some bad.NoPublication) (cond y (Some bad.NothingThere) (cond z (Some bad.LivesUsedUp) None))))))
 
   -- an event that passes every test passes these two
-  tests_passed : (t u v w x y : Bool) → first_failed t u v w x y ≡ None → (u ≡ false) × (w ≡ false)
-  tests_passed true u v w x y h = absurd cc
-  tests_passed false true v w x y h = absurd cc
-  tests_passed false false true w x y h = absurd cc
-  tests_passed false false false true x y h = absurd cc
-  tests_passed false false false false x y h = (refl, refl)
+  tests_passed : (t u v w x y z : Bool) → first_failed t u v w x y z ≡ None → (u ≡ false) × (w ≡ false)
+  tests_passed true u v w x y z h = absurd cc
+  tests_passed false true v w x y z h = absurd cc
+  tests_passed false false true w x y z h = absurd cc
+  tests_passed false false false true x y z h = absurd cc
+  tests_passed false false false false x y z h = (refl, refl)
 
   lasts_more : (past : List Event) (event : Event) → first_bad configs past event ≡ None → Lasts past → Lasts (event ∷ past)
   lasts_more past event good before =
-      let passed = tests_passed _ _ _ _ _ _ good in
+      let passed = tests_passed _ _ _ _ _ _ _ good in
       record {
         rises = λ life. polled_more past life event.at event.action passed.1 (before.rises life);
         known = All-append (HasItsSource configs) (packets_of past) (put_by (life_of past) (sends_now past) (packets_of past) event.action) before.known

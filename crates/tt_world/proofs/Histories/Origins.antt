@@ -1,15 +1,17 @@
 -- The packets that were put: their nonces, and the events that put them.
-use Rattle.std.proofs.Common.{◌≡◌, ℕ, ◌+◌, ◌-◌, ◌<◌, ◌≤◌, Bool, true, false, not, cond, leb, ◌&&◌, List, [], ◌∷◌, length, Option, Some, None, inl, inr, refl, subst, sym, ◌∙◌, arith, ◌^◌}
+use Rattle.std.proofs.Common.{◌≡◌, ℕ, ◌+◌, ◌-◌, ◌<◌, ◌≤◌, Bool, true, false, not, cond, leb, ◌&&◌, List, [], ◌∷◌, length, Option, Some, None, inl, inr, refl, subst, sym, ◌∙◌, arith, ◌^◌, eqb, ap}
 use Rattle.std.specs.Prelude.{slice_get}
 use Rattle.std.specs.List.{AllByRecursion}
 use Rattle.std.proofs.lemmas.Bool.{and_parts, not-false, leb-true, cases_lt, lt-ltb, le-ltb}
 use Rattle.std.proofs.lemmas.Option.{slice_get_within}
 use Rattle.tt_span.specs.Interval.{Interval, Holds, IsInterval}
-use Rattle.tt_world.proofs.Simulation.Lives.{life_of-one, same_life-true}
-use Rattle.tt_world.specs.Life.{life_of, Life, life_at, same_life, is_of}
+use Rattle.tt_world.proofs.Simulation.Lives.{same_life-true}
+use Rattle.std.proofs.lemmas.Bool.{eqb-true, eqb-false}
+use Rattle.tt_world.specs.Bad.{uses_up_lives}
+use Rattle.tt_world.specs.Life.{restarts, life_of, Life, life_at, same_life, is_of}
 use Rattle.tt_world.specs.declared.events.Event.{Event}
 use Rattle.tt_world.specs.declared.events.Action.{Action}
-use Rattle.tt_world.specs.declared.events.Action.TheVariants.{Send, Answer, Forge}
+use Rattle.tt_world.specs.declared.events.Action.TheVariants.{Send, Answer, Forge, Restart}
 use Rattle.tt_world.specs.declared.packets.Packet.{Packet}
 use Rattle.tt_world.specs.declared.packets.Packet.TheVariants.{Asked, Answered, Forged}
 use Rattle.tt_daemon.specs.Config.{Configuration}
@@ -67,9 +69,22 @@ nonces_sent (event ∷ past) life p packet e =
       | inr ge ↦ new_nonce past life event.action (p - length (packets_of past)) packet (nonces_sent past life) (put_place past event p packet ge e)
     ]
 
+next_fits : (past : List Event) (machine m n : ℕ) (b : Bool) → eqb machine m ≡ b → eqb (life_of past machine) (2 ^ 64 - 1) ≡ false → life_of past m ≡ n → n < 2 ^ 64 → cond b (n + 1) n < 2 ^ 64
+next_fits past machine m n true e left is fits =
+    let same : machine ≡ m = eqb-true machine m e in
+    let other : life_of past machine ≡ 2 ^ 64 - 1 → ⊥ = eqb-false _ _ left in
+    let here : life_of past machine ≡ n = ap (life_of past) same ∙ is in
+    omega arith
+next_fits past machine m n false e left is fits = fits
+
+lives_fit_after : (past : List Event) (action : Action) (m : ℕ) → uses_up_lives past action ≡ false → life_of past m < 2 ^ 64 → cond (restarts m action) (life_of past m + 1) (life_of past m) < 2 ^ 64
+lives_fit_after past (Restart machine clock) m left fits = next_fits past machine m (life_of past m) (eqb machine m) refl left refl fits
+lives_fit_after past _ m left fits = fits
+
 -- the numbers of lives fit eight bytes
 lives_fit : (configs : List Configuration) (past : List Event) → AreGood configs past → (m : ℕ) → life_of past m < 2 ^ 64
-lives_fit configs past good m = omega (arith, life_of-one past m)
+lives_fit configs [] good m = omega arith
+lives_fit configs (event ∷ past) good m = lives_fit_after past event.action m good.0.life_left (lives_fit configs past good.1 m)
 
 -- the epoch in a packet, 0 in one that was made up
 abbrev pub epoch_of : Packet → ℕ

@@ -1,11 +1,12 @@
 -- The last reading of a worker: it is not ahead of the true time, and one since the last commit that was asked for does not end before that.
-use Rattle.std.proofs.Common.{◌≡◌, ℕ, ◌≤◌, Bool, true, false, cond, eqb, ◌&&◌, List, [], ◌∷◌, ◌++◌, Option, Some, None, refl, sym, subst, ◌∙◌, ◌<◌, arith}
+use Rattle.std.proofs.Common.{◌≡◌, ℕ, ◌≤◌, Bool, true, false, cond, eqb, ◌&&◌, List, [], ◌∷◌, ◌++◌, Option, Some, None, refl, sym, subst, ◌∙◌, arith}
 use Rattle.std.specs.Prelude.{is_some}
 use Rattle.std.specs.Option.{option_or}
 use Rattle.std.proofs.lemmas.Bool.{and_parts, and_from, eqb-true, eq-eqb}
 use Rattle.std.proofs.lemmas.Option.{same_Some}
 use Rattle.tt_span.specs.Interval.{Interval, Holds}
-use Rattle.tt_world.proofs.Simulation.Lives.{same_life-true, is_of-unborn, not_mine-unborn, life_of-on}
+use Rattle.tt_world.proofs.Simulation.Unborn.{reading_since-unborn}
+use Rattle.tt_world.proofs.Simulation.Lives.{same_life-true, not_mine-unborn, life_of-on}
 use Rattle.tt_world.specs.Life.{Life, life_of, life_at, is_of}
 use Rattle.tt_world.specs.declared.events.Event.{Event}
 use Rattle.tt_world.specs.declared.events.Action.{Action}
@@ -102,19 +103,6 @@ arrival_on configs (event ∷ later) past m w good =
 -- an event that asks for a commit
 pub arrival-here : (past : List Event) (at m w : ℕ) (id : Id) (floor : ℕ) → arrival_time_of (record { at = at; action = Arrive m w id floor } ∷ past) m w ≡ at
 arrival-here past at m w id floor = rw (and_from (eqb m m) (eqb w w) (eq-eqb m m refl) (eq-eqb w w refl)) refl
-
--- a worker of a life not yet begun has read nothing
-reading_since-unborn : (config : Configuration) (past : List Event) (life : Life) (w : ℕ) → life_of past life.machine < life.number → reading_since config past life w ≡ None
-reading_since-unborn config [] life w unborn = refl
-reading_since-unborn config (event ∷ past) life w unborn =
-    let before : life_of past life.machine < life.number = omega (arith, life_of-on past event life.machine) in
-    nothing_new event.action before (reading_since-unborn config past life w before)
-  where
-    nothing_new : (action : Action) → life_of past life.machine < life.number → reading_since config past life w ≡ None
-        → cond (is_some (arrived_by past life w action)) None (option_or (read_by config past life w action) (reading_since config past life w)) ≡ None
-    nothing_new (Read machine worker clock k) before old = let other : is_of past life machine ≡ false = is_of-unborn past life machine before in rw other old
-    nothing_new (Arrive machine worker id floor) before old = let other : is_of past life machine ≡ false = is_of-unborn past life machine before in rw other old
-    nothing_new _ before old = old
 
 -- where a worker was asked for a commit, though not in this life, this life has not begun
 not_asked_here : (past : List Event) (life : Life) (w : ℕ) (action : Action) → asked_by life.machine w action ≡ true → is_some (arrived_by past life w action) ≡ false → is_of past life life.machine ≡ false

@@ -105,18 +105,19 @@ simulation-refused configs past event fault reason did = simulation configs past
 -- ---- where memory is taken
 
 -- the reasons why an event can be bad
-reason_of : (t u v w x y : Bool) (fault : WorldFault)
-    → cond t (Some bad.TimeBack) (cond u (Some bad.UnknownNumber) (cond v (Some bad.NoPacket) (cond w (Some bad.ClockBack) (cond x (Some bad.NoPublication) (cond y (Some bad.NothingThere) None))))) ≡ Some fault → IsReason fault
-reason_of true u v w x y fault h = let e : bad.TimeBack ≡ fault = cc in subst IsReason e (omega arith, omega arith)
-reason_of false true v w x y fault h = let e : bad.UnknownNumber ≡ fault = cc in subst IsReason e (omega arith, omega arith)
-reason_of false false true w x y fault h = let e : bad.NoPacket ≡ fault = cc in subst IsReason e (omega arith, omega arith)
-reason_of false false false true x y fault h = let e : bad.ClockBack ≡ fault = cc in subst IsReason e (omega arith, omega arith)
-reason_of false false false false true y fault h = let e : bad.NoPublication ≡ fault = cc in subst IsReason e (omega arith, omega arith)
-reason_of false false false false false true fault h = let e : bad.NothingThere ≡ fault = cc in subst IsReason e (omega arith, omega arith)
-reason_of false false false false false false fault h = absurd cc
+reason_of : (t u v w x y z : Bool) (fault : WorldFault)
+    → cond t (Some bad.TimeBack) (cond u (Some bad.UnknownNumber) (cond v (Some bad.NoPacket) (cond w (Some bad.ClockBack) (cond x (Some bad.NoPublication) (cond y (Some bad.NothingThere) (cond z (Some bad.LivesUsedUp) None)))))) ≡ Some fault → IsReason fault
+reason_of true u v w x y z fault h = let e : bad.TimeBack ≡ fault = cc in subst IsReason e (omega arith, omega arith)
+reason_of false true v w x y z fault h = let e : bad.UnknownNumber ≡ fault = cc in subst IsReason e (omega arith, omega arith)
+reason_of false false true w x y z fault h = let e : bad.NoPacket ≡ fault = cc in subst IsReason e (omega arith, omega arith)
+reason_of false false false true x y z fault h = let e : bad.ClockBack ≡ fault = cc in subst IsReason e (omega arith, omega arith)
+reason_of false false false false true y z fault h = let e : bad.NoPublication ≡ fault = cc in subst IsReason e (omega arith, omega arith)
+reason_of false false false false false true z fault h = let e : bad.NothingThere ≡ fault = cc in subst IsReason e (omega arith, omega arith)
+reason_of false false false false false false true fault h = let e : bad.LivesUsedUp ≡ fault = cc in subst IsReason e (omega arith, omega arith)
+reason_of false false false false false false false fault h = absurd cc
 
 pub reason_at : (configs : List Configuration) (past : List Event) (event : Event) (fault : WorldFault) → first_bad configs past event ≡ Some fault → IsReason fault
-reason_at configs past event fault is = reason_of _ _ _ _ _ _ fault is
+reason_at configs past event fault is = reason_of _ _ _ _ _ _ _ fault is
 
 -- a bad event's reply is not one for which memory is wanted
 bad_wants_none : (action : Action) (fault : WorldFault) → IsReason fault → WantsMemory action (bad_reply fault) → ⊥

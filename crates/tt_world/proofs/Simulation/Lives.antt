@@ -1,5 +1,5 @@
 -- The life that a machine is in.
-use Rattle.std.proofs.Common.{◌≡◌, refl, subst, arith, cond, ◌&&◌, ◌+◌, ◌<◌, ◌≤◌, ℕ, Bool, true, false, eqb, ap₂, eq-eqb, ne_eqb, List, [], ◌∷◌, sym}
+use Rattle.std.proofs.Common.{◌≡◌, refl, subst, arith, cond, ◌&&◌, ◌+◌, ◌<◌, ◌≤◌, ℕ, Bool, true, false, eqb, ap₂, eq-eqb, ne_eqb, List, ◌∷◌, sym}
 use Rattle.std.proofs.lemmas.Bool.{and_parts, eqb-true, eqb-false}
 use Rattle.tt_world.specs.declared.events.Event.{Event}
 use Rattle.tt_world.specs.Life.{Life, same_life, restarts, life_of, life_at, is_of}
@@ -26,11 +26,6 @@ same_life-own life =
     let machine : eqb life.machine life.machine ≡ true = eq-eqb _ _ refl in
     let number : eqb life.number life.number ≡ true = eq-eqb _ _ refl in
     rw (machine, number) refl
-
--- no machine has restarted
-pub life_of-one : (past : List Event) (m : ℕ) → life_of past m ≡ 1
-life_of-one [] m = refl
-life_of-one (event ∷ past) m = life_of-one past m
 
 -- the number of a machine's life does not fall
 life_if : (b : Bool) (n : ℕ) → n ≤ cond b (n + 1) n

@@ -8,12 +8,12 @@ use Rattle.tt_span.specs.Time.{max_time}
 use Rattle.tt_span.specs.Interval.{Interval}
 use Rattle.tt_source.specs.Table.{poll_of}
 use Rattle.tt_stamp.specs.declared.commits.Id.{Id}
-use Rattle.tt_world.specs.Life.{life_of, life_at}
+use Rattle.tt_world.specs.Life.{life_of, life_at, next_life}
 use Rattle.tt_world.specs.declared.faults.WorldFault.{WorldFault}
 use Rattle.tt_world.specs.declared.faults.WorldFault.TheVariants as bad
 use Rattle.tt_world.specs.declared.events.Event.{Event}
 use Rattle.tt_world.specs.declared.events.Action.{Action}
-use Rattle.tt_world.specs.declared.events.Action.TheVariants.{Send, Answer, Forge, Deliver, Fuse, Read, Arrive, Stamp, Queue, Lease, Release}
+use Rattle.tt_world.specs.declared.events.Action.TheVariants.{Send, Answer, Forge, Deliver, Fuse, Read, Arrive, Stamp, Queue, Restart, Lease, Release}
 use Rattle.tt_world.specs.declared.events.Reply.{Reply}
 use Rattle.tt_world.specs.declared.events.Reply.TheVariants as replies
 use Rattle.tt_world.specs.declared.packets.Packet.{Packet}
@@ -28,10 +28,10 @@ use Rattle.tt_world.specs.Packet.{machine_of_packet, source_of_packet, is_asked,
 use Rattle.tt_world.specs.Past.{sends_now, sends_of, put_by, packets_of, clock_reading, clock_of}
 use Rattle.tt_world.specs.Publications.{Showing, publications_of, showing_of, shown_by, shown_of, seen_of, no_publication}
 use Rattle.tt_world.specs.Commits.{arrival_of, reading_of, reading_since, stamp_held, is_queued, task_with, task_of}
-use Rattle.tt_world.specs.Bad.{has_machine, names_unknown, is_request, can_be_delivered, lacks_packet, goes_back, is_unreadable, lacks_publication, is_arrived, is_stamped, lacks_its_thing}
+use Rattle.tt_world.specs.Bad.{has_machine, names_unknown, is_request, can_be_delivered, lacks_packet, goes_back, is_unreadable, lacks_publication, is_arrived, is_stamped, lacks_its_thing, uses_up_lives}
 use Rattle.tt_world.specs.Reply.{reply_to_packet, reply_to}
 use Rattle.tt_world.specs.State.{MachineState, WorldState, source_of, worker_of, machine_of, polled_clock_of, state_of}
-use Rattle.tt_world.specs.Step.{Outcome, Turn, HasRoom, refused, after_turn, after_poll, send_on, after_put, answer_on, forge_on, deliver_to, deliver_on, spans_on, fuse_on, publish_turn, fusion_on, with_shown, new_worker, read_from, read_on, arrive_turn, lease_on, lease_turn, arrive_on, stamp_with, stamp_on, queue_with, queue_on, release_with, release_on, acted}
+use Rattle.tt_world.specs.Step.{Outcome, Turn, HasRoom, refused, after_turn, after_poll, send_on, after_put, answer_on, forge_on, deliver_to, deliver_on, spans_on, fuse_on, publish_turn, fusion_on, with_shown, new_worker, read_from, read_on, arrive_turn, lease_on, restart_on, restart_turn, arrive_on, stamp_with, stamp_on, queue_with, queue_on, release_with, release_on, acted}
 use Rattle.tt_world.proofs.Simulation.Ranges.{get_or-made, slice_get-made, slice_get-made_past, set-made, map-same}
 use Rattle.tt_world.proofs.Simulation.Waiting.{happens}
 use Rattle.tt_world.proofs.Simulation.Kept.{machine_of-answer, machine_of-forge}
@@ -40,6 +40,8 @@ use Rattle.tt_world.proofs.Simulation.Taking.{take_turn-take_of, machine_of-deli
 use Rattle.tt_world.proofs.Simulation.Publishing.{spans_on-machine_of, fusion_on-machine_of, publish_turn-fusion_on, machine_of-fuse_other}
 use Rattle.tt_world.proofs.Simulation.Seeing.{read_turn-machine_of, machine_of-read_other}
 use Rattle.tt_world.proofs.Simulation.Leasing.{lease_turn-machine_of, machine_of-lease_other}
+use Rattle.tt_world.proofs.Simulation.Unborn.{clock_of-unborn}
+use Rattle.tt_world.proofs.Simulation.Restarting.{restart_turn-machine_of, machine_of-restart_other}
 use Rattle.tt_world.proofs.Simulation.Asking.{arrive_turn-machine_of, machine_of-arrive_other}
 use Rattle.tt_world.proofs.Simulation.Stamping.{stamp_turn-machine_of, machine_of-stamp_other}
 use Rattle.tt_world.proofs.Simulation.Queueing.{queue_turn-machine_of, machine_of-queue_other, release_turn-machine_of, machine_of-release_other}
@@ -129,7 +131,8 @@ module _ (configs : List Configuration) (past : List Event) where
       (cond (lacks_packet (packets_of past) action) (Some bad.NoPacket)
       (cond (goes_back (clock_of past) (clock_reading past action)) (Some bad.ClockBack)
       (cond (lacks_publication configs past action) (Some bad.NoPublication)
-      (cond (lacks_its_thing configs past action) (Some bad.NothingThere) None))))
+      (cond (lacks_its_thing configs past action) (Some bad.NothingThere)
+      (cond (uses_up_lives past action) (Some bad.LivesUsedUp) None)))))
 
   -- one test more of an action
   test : (at : ℕ) (action : Action) (fault : WorldFault) (t : Bool) (made : Outcome) (o : Option WorldFault)
@@ -315,6 +318,30 @@ module _ (configs : List Configuration) (past : List Event) where
       ∙ after_turn-state_of at m (Arrive m w id floor) _ refl (λ j other. machine_of-arrive_other (config_at configs j) past at m w id floor j other) refl))
       refl
 
+  -- ---- a machine restarts
+
+  -- no clock reading lies before the first of a life
+  back_of_next : (m clock : ℕ) → (ltb clock (clock_of past (next_life past m)) || ltb max_time clock) ≡ ltb max_time clock
+  back_of_next m clock =
+      let first : ltb clock (clock_of past (next_life past m)) ≡ false = ap (ltb clock) (clock_of-unborn past (next_life past m) (omega arith)) ∙ le-ltb clock 0 (omega arith) in
+      rw first refl
+
+  acted-restart : (at m clock : ℕ) → acted (state_of configs past) at (Restart m clock) ≡ as_judged at (Restart m clock) (bad_action (Restart m clock))
+  acted-restart at m clock =
+      let back : Bool = ltb clock (clock_of past (next_life past m)) || ltb max_time clock in
+      let last : Bool = eqb (life_of past m) (2 ^ 64 - 1) in
+      at_machine m (λ o. restart_on (state_of configs past) at m clock o)
+      (λ b. as_judged at (Restart m clock) (cond (not b) (Some bad.UnknownNumber) (cond back (Some bad.ClockBack) (cond last (Some bad.LivesUsedUp) None))))
+      (λ there.
+      ap (λ (b : Bool). cond b (refused (state_of configs past) bad.ClockBack) (cond last (refused (state_of configs past) bad.LivesUsedUp) (after_turn (state_of configs past) at m (restart_turn m (machine_at m) clock) [])))
+      (sym (back_of_next m clock))
+      ∙ test at (Restart m clock) bad.ClockBack back _ (cond last (Some bad.LivesUsedUp) None)
+      (λ fresh. test at (Restart m clock) bad.LivesUsedUp last _ None
+      (λ more.
+      ap (λ (turn : Turn). after_turn (state_of configs past) at m turn []) (restart_turn-machine_of (config_at configs m) past at m clock)
+      ∙ after_turn-state_of at m (Restart m clock) _ refl (λ j other. machine_of-restart_other (config_at configs j) past at m clock j other) refl)))
+      refl
+
   -- ---- a machine is granted a lease
 
   acted-lease : (at m : ℕ) (lease : Interval) → acted (state_of configs past) at (Lease m lease) ≡ as_judged at (Lease m lease) (bad_action (Lease m lease))
@@ -413,5 +440,6 @@ module _ (configs : List Configuration) (past : List Event) where
   acted-state_of lasts at (Arrive m w id floor) room = acted-arrive at m w id floor
   acted-state_of lasts at (Stamp m w) room = acted-stamp at m w
   acted-state_of lasts at (Queue m w) room = acted-queue at m w
+  acted-state_of lasts at (Restart m clock) room = acted-restart at m clock
   acted-state_of lasts at (Lease m lease) room = acted-lease at m lease
   acted-state_of lasts at (Release m w) room = acted-release at m w

@@ -7,6 +7,7 @@ use Rattle.tt_source.specs.Table.{TableState, poll_of, take_of}
 use Rattle.tt_source.specs.declared.faults.SourceFault.{SourceFault}
 use Rattle.std.specs.Prelude.{nat_lt, IsOk, Result, Ok, Err}
 use Rattle.tt_source.specs.Fault.{number_of}
+use Rattle.tt_span.specs.Time.{max_time}
 use Rattle.tt_world.specs.declared.faults.WorldFault.TheVariants as bad
 use Rattle.tt_world.specs.declared.events.Reply.{Reply}
 use Rattle.tt_world.specs.declared.events.Reply.TheVariants.{Sent, Refused}
@@ -30,7 +31,7 @@ use Rattle.tt_world.specs.declared.events.Action.{Action}
 use Rattle.tt_world.specs.Reply.{TakesMemory}
 use Rattle.tt_world.specs.State.{MachineState, WorldState}
 use Rattle.tt_world.specs.Step.{Outcome, Turn, WantsMemory, Does, refused, is_back_on, send_on, after_poll, with_table, fuse_on, after_turn, publish_turn, fusion_on, spans_on, read_on, read_from, read_turn, readable_on, worker_at, deliver_on, take_turn}
-use Rattle.tt_world.specs.Step.{IsWorker, arrive_on, arrive_turn, lease_on, lease_turn, stamp_on, stamp_with, stamp_turn, given_in, queue_on, queue_with, queue_turn, release_on, release_with, release_turn}
+use Rattle.tt_world.specs.Step.{IsWorker, arrive_on, arrive_turn, lease_on, lease_turn, restart_on, restart_turn, is_last_life_on, stamp_on, stamp_with, stamp_turn, given_in, queue_on, queue_with, queue_turn, release_on, release_with, release_turn}
 
 -- what is kept after a turn, by its parts
 abbrev pub outcome : ℕ → List Packet → List MachineState → List Showing → Reply → Outcome
@@ -169,6 +170,20 @@ worker-kept world m w p machine other worker same found at also kept =
     ap (λ (x : MachineState). worker_at x w) (same_item world.machines p machine other (subst (λ (q : ℕ). q < length world.machines) (sym same) inside) at also) ∙ sym kept
 
 -- a worker was asked for a commit
+pub restart_on-back : (world : WorldState) (at m clock : ℕ) (machine : MachineState) → slice_get world.machines m ≡ Some machine → nat_lt max_time clock ≡ true →
+    restart_on world at m clock (slice_get world.machines m) ≡ refused world bad.ClockBack
+restart_on-back world at m clock machine found back = rw (found, back) refl
+
+pub restart_on-last : (world : WorldState) (at m clock : ℕ) (machine : MachineState) → slice_get world.machines m ≡ Some machine → nat_lt max_time clock ≡ false → is_last_life_on machine ≡ true →
+    restart_on world at m clock (slice_get world.machines m) ≡ refused world bad.LivesUsedUp
+restart_on-last world at m clock machine found in_time last = rw (found, in_time, last) refl
+
+pub restart_on-restarted : (world : WorldState) (at m p clock : ℕ) (machine next : MachineState) (reply : Reply) → slice_get world.machines m ≡ Some machine → nat_lt max_time clock ≡ false → is_last_life_on machine ≡ false →
+    record { machine = next; reply = reply } ≡ restart_turn m machine clock → p ≡ m →
+    restart_on world at m clock (slice_get world.machines m) ≡ outcome at world.packets (slice_set world.machines p next) world.shown reply
+restart_on-restarted world at m p clock machine next reply found in_time more turn same =
+    rw (found, in_time, more) (ap (λ (x : Turn). after_turn world at m x []) (sym turn) ∙ after_turn-nothing world at m p next reply same)
+
 pub lease_on-leased : (world : WorldState) (at m p : ℕ) (lease : Interval) (machine next : MachineState) (reply : Reply) → slice_get world.machines m ≡ Some machine →
     record { machine = next; reply = reply } ≡ lease_turn machine lease → p ≡ m →
     lease_on world at m lease (slice_get world.machines m) ≡ outcome at world.packets (slice_set world.machines p next) world.shown reply
