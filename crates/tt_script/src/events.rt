@@ -207,9 +207,9 @@ fn lease_in(table: &Table) -> Result<Action, ScriptFault>
     ensures { result ≡ lease_in (table_view table.now) }
 {
     let machine = small_at(table, "machine")?;
-    let lo = time_at(table, "lo")?;
-    let hi = time_at(table, "hi")?;
-    let lease = span_if(lo, hi)?;
+    let first = time_at(table, "lo")?;
+    let last = time_at(table, "hi")?;
+    let lease = span_if(first, last)?;
     Ok(Action::Lease { machine, lease })
 }
 
