@@ -1,6 +1,6 @@
 -- What a whole run promises: events, the oldest first, and the replies to them.
 use Rattle.std.specs.Prelude.{◌≡◌, ℕ, ◌+◌, ◌-◌, ◌<◌, ◌≤◌, List, ◌∷◌, ◌++◌, length, reverse, take, slice_get, All, Contains, Some, None}
-use Rattle.tt_span.specs.Interval.{Interval, IsInterval, Holds}
+use Rattle.tt_span.specs.Interval.{Interval, IsInterval, Holds, Meets}
 use Rattle.tt_fuse.specs.Fusion.{IsFusion}
 use Rattle.tt_cert.specs.Valid.{IsCertificate}
 use Rattle.tt_cert.specs.Canonical.{IsCanonical}
@@ -97,6 +97,18 @@ pub record IsStamping (events : List Event) (replies : List Reply) (m w s k : �
   pub at : ℕ
   pub stamps : slice_get events k ≡ Some (record { at = at; action = does.Stamp m w })
   pub gives : slice_get replies k ≡ Some (Stamped s)
+
+-- every stamp lies in the lease that its machine had at that event, whatever the run
+abbrev pub StampsInLeases : List Configuration → List Event → List Reply → Type 0
+StampsInLeases configs events replies =
+    (m w s k : ℕ) → IsStamping events replies m w s k → Holds (lease_of (accepted configs (reverse (take k events))) m) s
+
+-- two stamps under leases that do not meet differ, on whatever machines and in whatever lives
+abbrev pub LeasesKeepStampsApart : List Configuration → List Event → List Reply → Type 0
+LeasesKeepStampsApart configs events replies =
+    (m w s k n v t l : ℕ) → IsStamping events replies m w s k → IsStamping events replies n v t l →
+    ¬ Meets (lease_of (accepted configs (reverse (take k events))) m) (lease_of (accepted configs (reverse (take l events))) n) →
+    ¬ (s ≡ t)
 
 -- a commit that is released before another arrives has the smaller stamp, on whatever machines, if the run keeps the assumptions up to that stamp: event i releases, event j asks a worker for a commit, and event k stamps for that worker, the task of event j or a later one
 abbrev pub ExternallyConsistent : List Configuration → List Event → List Reply → Type 0

@@ -53,27 +53,28 @@ abbrev pub publications_of : Configuration → List Event → Life → List Publ
 publications_of config [] life = []
 publications_of config (event ∷ past) life = publications_of config past life ++ published_at config past life (fuses_at past life event.action)
 
--- a publication with all that was fused: whose it is, its number there, the clock reading, the fused span, and the spans of which so many may be false
+-- a publication with all that was fused: the machine and the life that made it, its number among those of this life, the clock reading, the fused span, and the spans of which so many may be false
 pub record Showing : Type 0 where
   pub machine : ℕ
+  pub life : ℕ
   pub number : ℕ
   pub clock : ℕ
   pub span : Interval
   pub spans : List Interval
   pub faulty : ℕ
 
--- what a fusion of these spans shows of machine m, if there is one
-abbrev pub showing_of : ℕ → ℕ → List Interval → ℕ → Result Publication ℕ → List Showing
-showing_of m number spans faulty (Ok publication) =
-    record { machine = m; number = number; clock = publication.clock; span = publication.span; spans = spans; faulty = faulty } ∷ []
-showing_of m number spans faulty (Err refusal) = []
+-- what a fusion of these spans shows of a life, if there is one
+abbrev pub showing_of : Life → ℕ → List Interval → ℕ → Result Publication ℕ → List Showing
+showing_of life number spans faulty (Ok publication) =
+    record { machine = life.machine; life = life.number; number = number; clock = publication.clock; span = publication.span; spans = spans; faulty = faulty } ∷ []
+showing_of life number spans faulty (Err refusal) = []
 
 -- what an event shows
 abbrev pub shown_by : List Configuration → List Event → Action → List Showing
 shown_by configs past (Fuse machine clock) =
     let config = config_at configs machine in
     let life = life_at past machine in
-    showing_of machine (length (publications_of config past life) + 1) (spans_of config past life clock) config.faulty (fusion_of config past life clock)
+    showing_of life (length (publications_of config past life) + 1) (spans_of config past life clock) config.faulty (fusion_of config past life clock)
 shown_by configs past _ = []
 
 -- the publications of all machines, in the order of their events

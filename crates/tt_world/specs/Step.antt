@@ -147,7 +147,7 @@ fuse_on world at m clock None = refused world bad.UnknownNumber
 fuse_on world at m clock (Some machine) =
     if is_back_on machine clock then refused world bad.ClockBack
     else with_shown (after_turn world at m (publish_turn machine clock (fusion_on machine clock)) [])
-    (showing_of m (length machine.publications + 1) (spans_on machine clock) machine.config.faulty (fusion_on machine clock))
+    (showing_of (record { machine = m; number = machine.life }) (length machine.publications + 1) (spans_on machine clock) machine.config.faulty (fusion_on machine clock))
 
 -- no worker has done anything
 abbrev pub new_worker : Worker

@@ -18,6 +18,7 @@ pub record RunTrace : Type 0 where
 abbrev pub outline : Shown → Showing
 outline s = record {
   machine = s.machine;
+  life = s.life;
   number = s.number;
   clock = s.fused.clock;
   span = s.fused.span;

@@ -175,7 +175,7 @@ impl Machine {
         requires in_time { clock ≤ max_time }
         ensures fused { IfOk result (λ reply. record { machine = self.new; reply = reply } ≡ publish_turn self.old clock (fusion_on self.old clock)) }
         ensures shown { OnOk result (map outline shown.new.items ≡ map outline shown.old.items
-            ++ showing_of machine (length self.old.publications + 1) (spans_on self.old clock) self.old.config.faulty (fusion_on self.old clock)) }
+            ++ showing_of (record { machine = machine; number = self.old.life }) (length self.old.publications + 1) (spans_on self.old clock) self.old.config.faulty (fusion_on self.old clock)) }
         ensures certified { CertificatesProve shown.old.items → CertificatesProve shown.new.items }
         ensures memory { IfErr result (λ e. e ≡ WorldFault.Memory) }
         // Memory is taken only where the fusion is not refused.
@@ -192,6 +192,7 @@ impl Machine {
                 self.publications.push_reserved(Publication { clock, span });
                 shown.push_reserved(Shown {
                     machine,
+                    life: self.life,
                     number,
                     fused,
                 });

@@ -1,7 +1,7 @@
 //! Whole runs.
 
 ghost use Rattle.std.specs.Prelude.{◌≡◌, ℕ, ◌<◌, ◌⊎◌, ◌↔◌, List, [], length, map, reverse, IfOk, IfErr, IsErrOf, None};
-ghost use Rattle.tt_world.specs.Headline.{AreConfigurations, AreEvents, ReadingsHold, FusionsAreShortest, NoFusionRefused, StampsAreLeast, ExternallyConsistent, CertificatesProve};
+ghost use Rattle.tt_world.specs.Headline.{AreConfigurations, AreEvents, ReadingsHold, FusionsAreShortest, NoFusionRefused, StampsAreLeast, StampsInLeases, LeasesKeepStampsApart, ExternallyConsistent, CertificatesProve};
 ghost use Rattle.tt_world.specs.Reply.{replies_from, reply_of, IsBadReply, MakesStatement};
 ghost use Rattle.tt_world.specs.Assumptions.{MeetsAssumptions, NoBreach};
 ghost use Rattle.tt_world.specs.Bad.{first_bad, accepted};
@@ -74,6 +74,11 @@ pub fn run(alloc: Global, configs: &[Config], events: &[Event]) -> Result<Trace,
 
     // Every stamp is the least that its rules allow. Nothing is assumed.
     ensures stamps_are_least { IfOk result (λ trace. StampsAreLeast configs.now events.now trace.replies) }
+
+    // Every stamp lies in the lease that its machine had at that event, so two stamps under leases that do not meet
+    // differ. Nothing is assumed.
+    ensures stamps_in_leases { IfOk result (λ trace. StampsInLeases configs.now events.now trace.replies) }
+    ensures leases_keep_apart { IfOk result (λ trace. LeasesKeepStampsApart configs.now events.now trace.replies) }
 
     // Under the assumptions a commit that is released before another arrives, on whatever machines, has the smaller
     // stamp (Spanner's external consistency: OSDI 2012, section 4.1.2).

@@ -1,7 +1,9 @@
 -- What is promised of the commits of a whole run.
 use Rattle.std.proofs.Common.{◌≡◌, ℕ, suc, ◌+◌, ◌<◌, ◌≤◌, List, [], ◌∷◌, ◌++◌, take, reverse, Some, ap, subst, sym, ◌∙◌, arith}
 use Rattle.std.proofs.lemmas.List.{append-nil}
+use Rattle.tt_span.specs.Interval.{Holds}
 use Rattle.tt_world.specs.Life.{life_at}
+use Rattle.tt_world.specs.Lease.{lease_of}
 use Rattle.tt_world.specs.declared.events.Event.{Event}
 use Rattle.tt_world.specs.declared.events.Action.TheVariants as does
 use Rattle.tt_world.specs.declared.events.Reply.{Reply}
@@ -11,7 +13,7 @@ use Rattle.tt_world.specs.Past.{time_of}
 use Rattle.tt_world.specs.Bad.{accepted}
 use Rattle.tt_world.specs.Reply.{reply_of, replies_from}
 use Rattle.tt_world.specs.Assumptions.{MeetsAssumptions}
-use Rattle.tt_world.specs.Headline.{AreConfigurations, IsAction, AreEvents, StampsAreLeast, IsArrival, ExternallyConsistent}
+use Rattle.tt_world.specs.Headline.{AreConfigurations, IsAction, AreEvents, StampsAreLeast, StampsInLeases, LeasesKeepStampsApart, IsArrival, ExternallyConsistent}
 use Rattle.tt_world.proofs.Histories.Places.{all_by_recursion}
 use Rattle.tt_world.proofs.Histories.Judging.{good_of, accepted-good}
 use Rattle.tt_world.proofs.Histories.Fusing.{FusionLaws}
@@ -29,6 +31,19 @@ stamps-least laws configs events configurations before at m w after s e replied 
   where
     same_reply : (a b : Reply) → Some a ≡ Some b → a ≡ b
     same_reply a b h = cc
+
+-- every stamp of a run lies in the lease that its machine had
+pub stamps-in-leases : StampLaws → (configs : List Configuration) (events : List Event) → StampsInLeases configs events (replies_from configs [] events)
+stamps-in-leases laws configs events m w s k stamping =
+    let event : Event = record { at = stamping.at; action = does.Stamp m w } in
+    let least = stamp_least laws configs (before_place [] events k) stamping.at m w s (replied_at configs [] events k event (Stamped s) stamping.stamps stamping.gives) in
+    let here : before_place [] events k ≡ reverse (take k events) = before_place-reverse [] events k ∙ append-nil (reverse (take k events)) in
+    subst (λ (past : List Event). Holds (lease_of (accepted configs past) m) s) here (least.least.may_give.from_lease, least.in_lease)
+
+pub leases-keep-apart : StampLaws → (configs : List Configuration) (events : List Event) → LeasesKeepStampsApart configs events (replies_from configs [] events)
+leases-keep-apart laws configs events m w s k n v t l first second apart same =
+    let other : List Event = accepted configs (reverse (take l events)) in
+    apart (s, stamps-in-leases laws configs events m w s k first, subst (λ (x : ℕ). Holds (lease_of other n) x) (sym same) (stamps-in-leases laws configs events n v t l second))
 
 -- the events before a place that were not bad keep the assumptions, where those before a later place do
 sound_before_place : (configs : List Configuration) (events : List Event) (i n : ℕ) → i ≤ n → AreEvents events → MeetsAssumptions configs (reverse (take n events)) → IsSound configs (accepted configs (before_place [] events i))

@@ -108,10 +108,10 @@ turn-refused machine daemon clock number publications fused same kept = rw (fuse
 -- what is shown once the machine has published
 pub shown-published : (machine : MachineState) (m clock number : ℕ) (fusion : Fusion) (span : Interval) (before after : List Shown) →
     fusion_on machine clock ≡ Ok (record { clock = clock; span = span }) → fusion.clock ≡ clock → fusion.span ≡ span → fusion.spans ≡ spans_on machine clock → fusion.faulty ≡ machine.config.faulty →
-    number ≡ length machine.publications + 1 → after ≡ before ++ record { machine = m; number = number; fused = fusion } ∷ [] →
+    number ≡ length machine.publications + 1 → after ≡ before ++ record { machine = m; life = machine.life; number = number; fused = fusion } ∷ [] →
     map outline after ≡ map outline before ++ shows m clock machine
 shown-published machine m clock number fusion span before after fused clock_is span_is spans_are faulty_is numbered pushed =
-    let first = ap (λ (xs : List Shown). map outline xs) pushed ∙ map-append outline before (record { machine = m; number = number; fused = fusion } ∷ []) in
+    let first = ap (λ (xs : List Shown). map outline xs) pushed ∙ map-append outline before (record { machine = m; life = machine.life; number = number; fused = fusion } ∷ []) in
     rw fused (first ∙ rw (clock_is, span_is, spans_are, faulty_is, numbered) refl)
 
 -- what is shown once the machine has refused to
@@ -124,8 +124,8 @@ abbrev IsCertified : Shown → Type 0
 IsCertified s = IsCanonical s.fused.spans s.fused.faulty s.fused.span s.fused.certificate × IsCertificate s.fused.spans s.fused.faulty s.fused.span s.fused.certificate
 
 -- what is shown has its certificates, one more among them
-pub certified-more : (before after : List Shown) (m number : ℕ) (fusion : Fusion) → after ≡ before ++ record { machine = m; number = number; fused = fusion } ∷ [] → IsPublication fusion → CertificatesProve before → CertificatesProve after
-certified-more before after m number fusion pushed valid all =
-    let s : Shown = record { machine = m; number = number; fused = fusion } in
+pub certified-more : (before after : List Shown) (m life number : ℕ) (fusion : Fusion) → after ≡ before ++ record { machine = m; life = life; number = number; fused = fusion } ∷ [] → IsPublication fusion → CertificatesProve before → CertificatesProve after
+certified-more before after m life number fusion pushed valid all =
+    let s : Shown = record { machine = m; life = life; number = number; fused = fusion } in
     subst CertificatesProve (sym pushed)
     (All-append IsCertified before (s ∷ []) all (All-cons IsCertified s [] (valid.canonical, valid.valid) (λ k d h. absurd (omega (arith, h)))))

@@ -224,7 +224,7 @@ module _ (configs : List Configuration) (past : List Event) where
 
   -- what a fusion shows, by the spans that it fuses and what it makes of them
   abbrev shows : ℕ → List Interval → Result Publication ℕ → List Showing
-  shows m spans made = showing_of m (length (publications_of (config_at configs m) past (life_at past m)) + 1) spans (config_at configs m).faulty made
+  shows m spans made = showing_of (life_at past m) (length (publications_of (config_at configs m) past (life_at past m)) + 1) spans (config_at configs m).faulty made
 
   with_shown-publish_turn : (at m clock : ℕ)
       → with_shown (after_turn (state_of configs past) at m (publish_turn (machine_at m) clock (fusion_on (machine_at m) clock)) [])

@@ -56,7 +56,7 @@ send_on-polled world at m i clock machine r e h b p = let t : nat_lt i machine.c
 
 -- what a machine shows when it fuses
 abbrev pub shows : ℕ → ℕ → MachineState → List Showing
-shows m clock machine = showing_of m (length machine.publications + 1) (spans_on machine clock) machine.config.faulty (fusion_on machine clock)
+shows m clock machine = showing_of (record { machine = m; number = machine.life }) (length machine.publications + 1) (spans_on machine clock) machine.config.faulty (fusion_on machine clock)
 
 fuse_on-made : (world : WorldState) (at m clock : ℕ) (machine : MachineState) (turn : Turn) → slice_get world.machines m ≡ Some machine → is_back_on machine clock ≡ false →
     turn ≡ publish_turn machine clock (fusion_on machine clock) →
@@ -168,15 +168,6 @@ pub worker-kept : (world : WorldState) (m w p : ℕ) (machine other : MachineSta
 worker-kept world m w p machine other worker same found at also kept =
     let inside : m < length world.machines = slice_get_within world.machines m machine found in
     ap (λ (x : MachineState). worker_at x w) (same_item world.machines p machine other (subst (λ (q : ℕ). q < length world.machines) (sym same) inside) at also) ∙ sym kept
-
--- a worker was asked for a commit
-pub restart_on-back : (world : WorldState) (at m clock : ℕ) (machine : MachineState) → slice_get world.machines m ≡ Some machine → nat_lt max_time clock ≡ true →
-    restart_on world at m clock (slice_get world.machines m) ≡ refused world bad.ClockBack
-restart_on-back world at m clock machine found back = rw (found, back) refl
-
-pub restart_on-last : (world : WorldState) (at m clock : ℕ) (machine : MachineState) → slice_get world.machines m ≡ Some machine → nat_lt max_time clock ≡ false → is_last_life_on machine ≡ true →
-    restart_on world at m clock (slice_get world.machines m) ≡ refused world bad.LivesUsedUp
-restart_on-last world at m clock machine found in_time last = rw (found, in_time, last) refl
 
 pub restart_on-restarted : (world : WorldState) (at m p clock : ℕ) (machine next : MachineState) (reply : Reply) → slice_get world.machines m ≡ Some machine → nat_lt max_time clock ≡ false → is_last_life_on machine ≡ false →
     record { machine = next; reply = reply } ≡ restart_turn m machine clock → p ≡ m →

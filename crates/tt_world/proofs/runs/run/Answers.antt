@@ -2,7 +2,7 @@ use Rattle.std.proofs.Common.{◌≡◌, [], List, ap, ◌∙◌, sym, subst, re
 use Rattle.std.proofs.lemmas.List.{take_all}
 use Rattle.tt_world.specs.declared.events.Event.{Event}
 use Rattle.tt_world.specs.declared.events.Reply.{Reply}
-use Rattle.tt_world.specs.Headline.{AreEvents, ReadingsHold, FusionsAreShortest, NoFusionRefused, StampsAreLeast, ExternallyConsistent}
+use Rattle.tt_world.specs.Headline.{AreEvents, ReadingsHold, FusionsAreShortest, NoFusionRefused, StampsAreLeast, StampsInLeases, LeasesKeepStampsApart, ExternallyConsistent}
 use Rattle.tt_world.specs.Reply.{replies_from}
 use Rattle.tt_world.specs.Bad.{accepted}
 use Rattle.tt_world.specs.Publications.{shown_of}
@@ -10,7 +10,7 @@ use Rattle.tt_world.specs.State.{WorldState}
 use Rattle.tt_world.proofs.Histories.Fusing.{FusionLaws}
 use Rattle.tt_world.proofs.Headline.OnRun.{told-all}
 use Rattle.tt_world.proofs.Headline.Running.{readings-hold, fusions-shortest, no-fusion-refused}
-use Rattle.tt_world.proofs.Headline.Committed.{stamps-least, externally-consistent}
+use Rattle.tt_world.proofs.Headline.Committed.{stamps-least, stamps-in-leases, leases-keep-apart, externally-consistent}
 use Rattle.tt_world.proofs.runs.run.Goals as goal
 use Rattle.tt_world.proofs.runs.run.Goals.{After-into_shown}
 
@@ -60,3 +60,13 @@ returns-clause-shown c =
     c.into_shown.ensures.value
     ∙ ap (λ (w : WorldState). w.shown) c.loop-event.invariant.stands
     ∙ ap (λ (es : List Event). shown_of c.args.configs.now (accepted c.args.configs.now (reverse es))) all
+
+pub returns-clause-stamps_in_leases : goal.returns-clause-stamps_in_leases
+returns-clause-stamps_in_leases c =
+    subst (λ (rs : List Reply). StampsInLeases c.args.configs.now c.args.events.now rs) (sym (told c))
+    (stamps-in-leases c.stamp_laws.ensures.answer c.args.configs.now c.args.events.now)
+
+pub returns-clause-leases_keep_apart : goal.returns-clause-leases_keep_apart
+returns-clause-leases_keep_apart c =
+    subst (λ (rs : List Reply). LeasesKeepStampsApart c.args.configs.now c.args.events.now rs) (sym (told c))
+    (leases-keep-apart c.stamp_laws.ensures.answer c.args.configs.now c.args.events.now)

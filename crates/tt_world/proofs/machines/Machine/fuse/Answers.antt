@@ -53,17 +53,17 @@ returns-in_ok-reserve-in-Ok-2-clause-shown c =
     } in
     let made = fusion-made m clock c.fuse.result c.in-Ok.fused c.span-span.result (fusion-answered m clock c.fuse.result answers) c.in-Ok.is c.in-Ok.ensures.fused.0 c.span-span.ensures.value in
     let count : c.len.result ≡ length m.publications = omega (arith, c.len.ensures, c.reserve.ensures.len) in
-    let pushed : c.push_reserved-in-Ok.new.self.items ≡ c.args.shown.now.items ++ record { machine = c.args.machine; number = c.len.result + 1; fused = c.in-Ok.fused } ∷ [] =
-    c.push_reserved-in-Ok.ensures.items ∙ ap (λ (xs : List Shown). xs ++ record { machine = c.args.machine; number = c.len.result + 1; fused = c.in-Ok.fused } ∷ []) c.reserve-in-Ok.ensures.items in
+    let pushed : c.push_reserved-in-Ok.new.self.items ≡ c.args.shown.now.items ++ record { machine = c.args.machine; life = c.self.inside.life; number = c.len.result + 1; fused = c.in-Ok.fused } ∷ [] =
+    c.push_reserved-in-Ok.ensures.items ∙ ap (λ (xs : List Shown). xs ++ record { machine = c.args.machine; life = c.self.inside.life; number = c.len.result + 1; fused = c.in-Ok.fused } ∷ []) c.reserve-in-Ok.ensures.items in
     shown-published m c.args.machine clock (c.len.result + 1) c.in-Ok.fused c.span-span.result c.args.shown.now.items c.push_reserved-in-Ok.new.self.items made
     c.in-Ok.ensures.fused.0 (sym c.span-span.ensures.value) c.in-Ok.ensures.fused.1 c.in-Ok.ensures.fused.2 (ap (λ (k : ℕ). k + 1) count) pushed
     ∙ ap (λ (v : MachineState). map outline c.args.shown.now.items ++ shows c.args.machine clock v) c.self.view_is
 
 pub returns-in_ok-reserve-in-Ok-2-clause-certified : goal.returns-in_ok-reserve-in-Ok-2-clause-certified
 returns-in_ok-reserve-in-Ok-2-clause-certified c =
-    let pushed : c.push_reserved-in-Ok.new.self.items ≡ c.args.shown.now.items ++ record { machine = c.args.machine; number = c.len.result + 1; fused = c.in-Ok.fused } ∷ [] =
-    c.push_reserved-in-Ok.ensures.items ∙ ap (λ (xs : List Shown). xs ++ record { machine = c.args.machine; number = c.len.result + 1; fused = c.in-Ok.fused } ∷ []) c.reserve-in-Ok.ensures.items in
-    certified-more c.args.shown.now.items c.push_reserved-in-Ok.new.self.items c.args.machine (c.len.result + 1) c.in-Ok.fused pushed c.in-Ok.ensures.publication
+    let pushed : c.push_reserved-in-Ok.new.self.items ≡ c.args.shown.now.items ++ record { machine = c.args.machine; life = c.self.inside.life; number = c.len.result + 1; fused = c.in-Ok.fused } ∷ [] =
+    c.push_reserved-in-Ok.ensures.items ∙ ap (λ (xs : List Shown). xs ++ record { machine = c.args.machine; life = c.self.inside.life; number = c.len.result + 1; fused = c.in-Ok.fused } ∷ []) c.reserve-in-Ok.ensures.items in
+    certified-more c.args.shown.now.items c.push_reserved-in-Ok.new.self.items c.args.machine c.self.inside.life (c.len.result + 1) c.in-Ok.fused pushed c.in-Ok.ensures.publication
 
 pub returns-in-Err-clause-fused : goal.returns-in-Err-clause-fused
 returns-in-Err-clause-fused c =
