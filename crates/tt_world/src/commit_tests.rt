@@ -10,7 +10,7 @@ use tt_daemon::Config;
 use tt_span::{Drift, MAX_TIME};
 use tt_stamp::{Id, Receipt};
 
-fn arrive(at: u64, machine: u8, worker: u8, number: u64, floor: u64) -> Event {
+pub(crate) fn arrive(at: u64, machine: u8, worker: u8, number: u64, floor: u64) -> Event {
     let action = Action::Arrive {
         machine,
         worker,
@@ -20,27 +20,32 @@ fn arrive(at: u64, machine: u8, worker: u8, number: u64, floor: u64) -> Event {
     Event { at, action }
 }
 
-fn stamp(at: u64, machine: u8, worker: u8) -> Event {
+pub(crate) fn stamp(at: u64, machine: u8, worker: u8) -> Event {
     let action = Action::Stamp { machine, worker };
     Event { at, action }
 }
 
-fn queue(at: u64, machine: u8, worker: u8) -> Event {
+pub(crate) fn queue(at: u64, machine: u8, worker: u8) -> Event {
     let action = Action::Queue { machine, worker };
     Event { at, action }
 }
 
-fn release(at: u64, machine: u8, worker: u8) -> Event {
+pub(crate) fn release(at: u64, machine: u8, worker: u8) -> Event {
     let action = Action::Release { machine, worker };
     Event { at, action }
 }
 
-fn nothing_released(alloc: Global) -> Reply {
+pub(crate) fn nothing_released(alloc: Global) -> Reply {
     Reply::Released(Receipts::of(Vec::new(alloc)))
 }
 
 /// One commit was released, of session 0.
-fn released(alloc: Global, number: u64, stamp: u64, earliest: u64) -> Result<Reply, Fail> {
+pub(crate) fn released(
+    alloc: Global,
+    number: u64,
+    stamp: u64,
+    earliest: u64,
+) -> Result<Reply, Fail> {
     let mut receipts = Vec::new(alloc);
     receipts.push(Receipt {
         id: Id { session: 0, number },
@@ -76,7 +81,7 @@ fn two_commits() -> [Event; 19] {
     ]
 }
 
-fn exact_machines() -> Result<[Config; 2], Fail> {
+pub(crate) fn exact_machines() -> Result<[Config; 2], Fail> {
     let config = Config::new(1, 0, Drift::new(0).ok_or("a drift")?, 1)?;
     Ok([config; 2])
 }

@@ -56,4 +56,6 @@ pub use world::{MAX_MACHINES, World};
 #[cfg(test)]
 mod commit_tests;
 #[cfg(test)]
+mod life_tests;
+#[cfg(test)]
 mod tests;

@@ -701,6 +701,7 @@ fn numbers_its_faults(rt: HostRuntime) {
     assert_eq!(rt; WorldFault::NothingThere.number(), 1205);
     assert_eq!(rt; WorldFault::UnknownNumber.number(), 1206);
     assert_eq!(rt; WorldFault::Machines.number(), 1207);
+    assert_eq!(rt; WorldFault::LivesUsedUp.number(), 1208);
     assert_eq!(rt; WorldFault::Memory.number(), 1);
 }
 

@@ -22,7 +22,7 @@ use Rattle.tt_world.proofs.Simulation.Lives.{same_life-true}
 use Rattle.tt_world.specs.Life.{life_of, Life, life_at, is_of}
 use Rattle.tt_world.specs.declared.events.Event.{Event}
 use Rattle.tt_world.specs.declared.events.Action.{Action}
-use Rattle.tt_world.specs.declared.events.Action.TheVariants.{Answer, Deliver}
+use Rattle.tt_world.specs.declared.events.Action.TheVariants.{Deliver}
 use Rattle.tt_world.specs.declared.packets.Packet.{Packet}
 use Rattle.tt_world.specs.declared.packets.Packet.TheVariants.{Asked, Answered, Forged}
 use Rattle.tt_daemon.specs.Config.{Configuration}

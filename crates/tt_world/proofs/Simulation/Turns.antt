@@ -1,5 +1,5 @@
 -- What a call on a machine that is there makes of a run.
-use Rattle.std.proofs.Common.{◌≡◌, ℕ, ◌+◌, ◌-◌, ◌<◌, ◌≤◌, Bool, true, false, cond, List, [], ◌∷◌, ◌++◌, length, get_or, slice_get, slice_set, Option, Some, None, ap, subst, sym, ◌∙◌, append-nil, refl, ap₂}
+use Rattle.std.proofs.Common.{◌≡◌, ℕ, ◌+◌, ◌<◌, ◌≤◌, Bool, true, false, cond, List, [], ◌∷◌, ◌++◌, length, get_or, slice_get, slice_set, Option, Some, None, ap, subst, sym, ◌∙◌, append-nil, refl, ap₂}
 use Rattle.std.proofs.lemmas.Option.{slice_get_read, slice_get_within, same_Some}
 use Rattle.std.proofs.lemmas.Bool.{lt-ltb, le-ltb}
 use Rattle.std.proofs.lemmas.List.{get_or_default, set-get_or}
@@ -18,7 +18,6 @@ use Rattle.tt_world.specs.declared.publications.Publication.{Publication}
 use Rattle.tt_span.specs.Interval.{Interval}
 use Rattle.tt_stamp.specs.declared.commits.Id.{Id}
 use Rattle.tt_stamp.specs.declared.faults.BookFault.{BookFault}
-use Rattle.tt_stamp.specs.declared.faults.BookFault.TheVariants as book
 use Rattle.tt_stamp.specs.Stamp.{stamp_of}
 use Rattle.tt_stamp.specs.History.{first_queue_fault}
 use Rattle.tt_world.specs.declared.workers.Arrival.{Arrival}
