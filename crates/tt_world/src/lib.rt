@@ -3,7 +3,8 @@
 //! A run is a list of events. Each [`Event`] has its true time, which the code of the machines is never told, and an
 //! [`Action`]: a machine polls a source, a source answers or makes bytes up, a packet reaches its machine, a
 //! machine fuses what it knows and publishes it, a worker reads the time from a publication, is asked for a commit,
-//! stamps it, queues it, and releases the commits of its machine that have surely passed. Packets may be lost,
+//! stamps it, queues it, and releases the commits of its machine that have surely passed; a machine is granted a lease,
+//! or restarts and is in a new life. Packets may be lost,
 //! repeated, late and forged; sources may lie; clocks may run wrong. Every list of events is taken: a bad event is
 //! replied to with its number, and changes nothing.
 //!
@@ -15,8 +16,8 @@
 //!   clock keeps its drift bound (Spanner's `TT.now()`, OSDI 2012, section 3).
 //! - Every published span is the shortest that is right whichever sources lie (Marzullo and Owicki, 1983).
 //! - While the same is assumed, no fusion is refused at which enough sources are known.
-//! - Every stamp is the least that is no less than the reading's latest and the floor, and above all stamps of the
-//!   machine (the start rule, OSDI 2012, section 4.1.2).
+//! - Every stamp is the least that is no less than the reading's latest, the floor and the start of the machine's
+//!   lease, and above all stamps of the machine's life; it lies in the lease (the start rule, OSDI 2012, section 4.1.2).
 //! - While the same is assumed, a commit that is released before another arrives, on whatever machine, has the smaller
 //!   stamp (commit wait and external consistency, OSDI 2012, sections 4.1.2 and 4.2.1).
 //! - The book of each machine is a legal history: a commit waits there when it was queued and no later receipt
