@@ -4,9 +4,8 @@
 //! [`Action`]: a machine polls a source, a source answers or makes bytes up, a packet reaches its machine, a
 //! machine fuses what it knows and publishes it, a worker reads the time from a publication, is asked for a commit,
 //! stamps it, queues it, and releases the commits of its machine that have surely passed; a machine is granted a lease,
-//! or restarts and is in a new life. Packets may be lost,
-//! repeated, late and forged; sources may lie; clocks may run wrong. Every list of events is taken: a bad event is
-//! replied to with its number, and changes nothing.
+//! or restarts and is in a new life. Packets may be lost, repeated, late and forged; sources may lie; clocks may run
+//! wrong. Every list of events is taken: a bad event is replied to with its number, and changes nothing.
 //!
 //! [`run`] gives the replies to a list of events on 1 to 8 machines, each set up by a [`Config`](tt_daemon::Config) of
 //! its own; a [`World`] takes the events one by one. What they promise, for every list of events:

@@ -32,8 +32,8 @@ use tt_source::SourceFault;
 use tt_span::{MAX_TIME, Span};
 use tt_stamp::{Book, BookFault, Entry, Id, Receipt, Row, book_laws};
 
-/// One machine: its daemon, the number of its life, its lease, what its clock showed last, what it has published, the greatest stamp that it has given,
-/// the book of its commits, and its workers.
+/// One machine in the life that it is in: its daemon, the number of the life, its lease, what its clock showed last, what
+/// it has published, the greatest stamp that it has given, the book of its commits, and its workers.
 #[derive(Drop)]
 pub struct Machine {
     daemon: Daemon,
