@@ -13,7 +13,7 @@ use Rattle.tt_cert.specs.Valid.{meets, meeting}
 use Rattle.tt_cert.specs.Canonical.{IsCut, IsPiece, ArePieces}
 use Rattle.tt_cert.specs.Sweep.{AreEnds, IsEndCut, IsEndPiece, AreEndPieces}
 use Rattle.tt_fuse.specs.Ends.{EndLists, AreInOrder, AreEndsOf}
-use Rattle.tt_fuse.proofs.Ends.{depth-ends_of, highs_of-in_time}
+use Rattle.tt_fuse.proofs.EndLists.{depth-ends_of, highs_of-in_time}
 use Rattle.tt_cert.proofs.Counting.{count_by-le-count_by}
 use Rattle.tt_fuse.proofs.Possible.{holds-from_Holds}
 use Rattle.tt_cert.proofs.Proving.{depth-le-meeting}

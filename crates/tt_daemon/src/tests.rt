@@ -70,6 +70,19 @@ fn a_refused_fusion_leaves_the_last_one(rt: HostRuntime) -> Result<(), Fail> {
 }
 
 #[test]
+fn a_later_statement_stands_in_place_of_the_earlier(rt: HostRuntime) -> Result<(), Fail> {
+    let drift = Drift::new(200).ok_or("a drift")?;
+    let mut daemon = Daemon::new(0, &Config::new(2, 0, drift, 1)?, 1);
+    state(&mut daemon, 0, 0, 1000, 1000)?;
+    state(&mut daemon, 1, 5000, 6000, 6000)?;
+    assert_eq!(rt; ends(&daemon.fuse(5000)?), (6000, 6000));
+    assert_eq!(rt; ends(&daemon.fuse(10001)?), (10999, 11003));
+    state(&mut daemon, 0, 10001, 11000, 11000)?;
+    assert_eq!(rt; ends(&daemon.fuse(10001)?), (11000, 11000));
+    Ok(())
+}
+
+#[test]
 fn a_restarted_daemon_takes_no_answer_to_its_earlier_life(rt: HostRuntime) -> Result<(), Fail> {
     let exact = Drift::new(0).ok_or("a drift")?;
     let mut daemon = Daemon::new(0, &Config::new(1, 0, exact, 1)?, 2);

@@ -1,8 +1,13 @@
 pub mod Counting
 pub mod Possible
-pub mod Ends
+pub mod EndLists
 pub mod Overlap
 pub mod Slowly
 pub mod Sorting
 pub mod Answering
 pub mod NextSource
+pub mod Keyed
+pub mod Placing
+pub mod Tallies
+pub mod Kept
+pub mod Walking

@@ -4,3 +4,5 @@ pub mod Depth
 pub mod Pairs
 pub mod Suspect
 pub mod Ends
+pub mod Stated
+pub mod Scaled

@@ -7,11 +7,18 @@
 //! [`suspects`] names the sources whose span does not meet the answer. [`SortedEnds`] has the ends of the spans in
 //! their order, which the fusion and its certificate share.
 //!
+//! [`Ends`] is for a machine that fuses again and again what its sources stated, as the statements age. It keeps the
+//! ends by scaled keys, whose order ageing does not change, so that it need not sort: a new statement changes one
+//! key of either kind, and a fusion goes over the keys once.
+//!
 //! This is the interval function of Marzullo and Owicki, *Maintaining the time in a distributed system* (1983),
 //! as Spanner uses it (Corbett et al., OSDI 2012, section 3).
 //!
 //! - `counts`: how many sources can be fused.
 //! - `fusion`: `fuse`, why there may be no fusion, and what a fusion is in other words.
+//! - `keys`: the scaled keys of a statement, and the ends that they have at a clock reading.
+//! - `ordered`: keys in ascending order.
+//! - `scaled`: `Ends`, fusion over scaled keys.
 //! - `sorted`: the ends of spans in their order.
 //! - `suspecting`: `suspects`, and what is known of them.
 //!
@@ -20,13 +27,19 @@
 
 mod counts;
 mod fusion;
+mod keys;
+mod ordered;
+mod scaled;
 mod sorted;
 mod suspecting;
 
 pub use counts::{CountFault, MAX_SOURCES, check_counts};
 pub use fusion::{FuseFault, fuse, fusion_laws};
+pub use scaled::Ends;
 pub use sorted::SortedEnds;
 pub use suspecting::{suspect_laws, suspects};
 
+#[cfg(test)]
+mod scaled_tests;
 #[cfg(test)]
 mod tests;

@@ -5,7 +5,7 @@ use mathlib.Core.List.{IsPrefix}
 use Rattle.logbook.specs.Pages.{Book}
 use Rattle.tt_span.specs.Interval.{Interval}
 use Rattle.tt_daemon.specs.Publication.{Publication}
-use Rattle.tt_publish.specs.Reading.{CanBeReadAt, reading_at}
+use Rattle.tt_publish.specs.Reading.{fused_span_of, CanBeReadAt, reading_at}
 
 -- publications that are known: the first ones of one source, oldest first
 pub record Known : Type 0 where
@@ -33,8 +33,8 @@ IsLonger xs ys longer = (IsPrefix xs ys × (longer ≡ ys)) ⊎ (IsPrefix ys xs 
 -- the reading of the last publication that is known, at something that the clock gave
 abbrev pub ReadsLast : WatchState → (ℕ → Type 0) → Interval → Type 0
 ReadsLast watch gave reading =
-    (last : Publication) × (c : ℕ) × (last_of watch.items ≡ Some last) × gave c × CanBeReadAt last c × (reading ≡ reading_at watch.drift last c)
+    (last : Publication) × (c : ℕ) × (last_of watch.items ≡ Some last) × gave c × CanBeReadAt (fused_span_of last) c × (reading ≡ reading_at watch.drift (fused_span_of last) c)
 
 -- the last publication that is known can't be read at something that the clock gave
 abbrev pub MissesLast : WatchState → (ℕ → Type 0) → Type 0
-MissesLast watch gave = (last : Publication) × (c : ℕ) × (last_of watch.items ≡ Some last) × gave c × (¬ CanBeReadAt last c)
+MissesLast watch gave = (last : Publication) × (c : ℕ) × (last_of watch.items ≡ Some last) × gave c × (¬ CanBeReadAt (fused_span_of last) c)

@@ -11,7 +11,7 @@
 //!
 //! - `faults`: what is answered where a call refuses.
 //! - `clocks`: the trait `Clock`. `memory`: a clock in memory.
-//! - `readings`: `Reading`, and how a fusion is read at a clock reading (`ReadAt`).
+//! - `readings`: `Reading`, and how a fusion is read at a clock reading (`FusedSpan`, `ReadAt`).
 //! - `fronts`: what is known of the publications, in the history that all threads share.
 //! - `shows`: how one front is shown to many watches.
 //! - `teller`: `open`, `Teller` and `Told`. `watch`: `Watch`.
@@ -31,7 +31,7 @@ mod watch;
 pub use clocks::Clock;
 pub use faults::{ClockFault, PublishFault, ReadFault};
 pub use memory::MemoryClock;
-pub use readings::{ReadAt, Reading};
+pub use readings::{FusedSpan, ReadAt, Reading};
 pub use teller::{MAX_WATCHES, Teller, Told, open};
 pub use watch::Watch;
 

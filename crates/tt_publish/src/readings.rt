@@ -2,8 +2,8 @@
 
 ghost use Rattle.std.specs.Prelude.{◌≡◌, ◌↔◌, IsTrue, IsOk, IfOk, IsErrOf};
 ghost use Rattle.tt_span.specs.Interval.{IsInterval};
-ghost use Rattle.tt_daemon.specs.Publication.{Publication};
-ghost use Rattle.tt_publish.specs.Reading.{HasPassed, IsToCome, CanBeReadAt, reading_at};
+ghost use Rattle.tt_publish.specs.declared.readings.FusedSpan.{FusedSpan};
+ghost use Rattle.tt_publish.specs.Reading.{HasPassed, IsToCome, CanBeReadAt, reading_at, fused_span_of};
 
 use crate::faults::ReadFault;
 use std::marker::Model;
@@ -65,28 +65,49 @@ impl Reading {
     }
 }
 
-/// What can be read at a clock reading: a fusion.
-pub trait ReadAt {
-    /// What was published.
-    ghost publication: { Self → Publication };
+/// What is read of a fusion: the fused span, and what the clock showed when it was fused, in nanoseconds.
+#[derive(Clone, Copy, Debug, PartialEq, Eq)]
+pub struct FusedSpan {
+    pub clock: u64,
+    pub span: Span,
+}
 
+impl FusedSpan {
     /// The reading when the clock shows `clock`, in nanoseconds, on a machine whose clock has this drift: the
     /// fused span, aged by what the clock has gone on since. Refuses with 802 `ClockBack` where `clock` is below
-    /// the publication's, or above [`MAX_TIME`].
+    /// that of the fusion, or above [`MAX_TIME`].
+    pub fn read_at(&self, drift: Drift, clock: u64) -> Result<Reading, ReadFault>
+        ensures answered { IsOk result ↔ CanBeReadAt self.now clock }
+        ensures value { IfOk result (λ reading. reading ≡ reading_at drift self.now clock) }
+        ensures clock_back { IsErrOf result ReadFault.ClockBack ↔ (¬ CanBeReadAt self.now clock) }
+    {
+        if clock < self.clock || clock > MAX_TIME {
+            return Err(ReadFault::ClockBack);
+        }
+        Ok(Reading::of(drift.age(&self.span, clock - self.clock)))
+    }
+}
+
+/// What can be read at a clock reading: a fusion with its certificate.
+pub trait ReadAt {
+    /// What is read of it.
+    ghost fused_span: { Self → FusedSpan };
+
+    /// The reading when the clock shows `clock`, as [`FusedSpan::read_at`] gives it.
     fn read_at(&self, drift: Drift, clock: u64) -> Result<Reading, ReadFault>
-        ensures answered { IsOk result ↔ CanBeReadAt (publication self.now) clock }
-        ensures value { IfOk result (λ reading. reading ≡ reading_at drift (publication self.now) clock) }
-        ensures clock_back { IsErrOf result ReadFault.ClockBack ↔ (¬ CanBeReadAt (publication self.now) clock) };
+        ensures answered { IsOk result ↔ CanBeReadAt (fused_span self.now) clock }
+        ensures value { IfOk result (λ reading. reading ≡ reading_at drift (fused_span self.now) clock) }
+        ensures clock_back { IsErrOf result ReadFault.ClockBack ↔ (¬ CanBeReadAt (fused_span self.now) clock) };
 }
 
 impl ReadAt for Fused {
-    ghost publication = { λ fused. fused };
+    ghost fused_span = { λ fused. fused_span_of fused };
 
     fn read_at(&self, drift: Drift, clock: u64) -> Result<Reading, ReadFault> {
-        let made = self.clock();
-        if clock < made || clock > MAX_TIME {
-            return Err(ReadFault::ClockBack);
-        }
-        Ok(Reading::of(drift.age(&self.span(), clock - made)))
+        let read = FusedSpan {
+            clock: self.clock(),
+            span: self.span(),
+        };
+        read.read_at(drift, clock)
     }
 }

@@ -1,14 +1,15 @@
 -- What a machine knows of all its sources, and what each call makes of it.
 use Rattle.std.specs.Prelude.{ℕ, ◌≡◌, ◌<◌, ◌≤◌, ◌+◌, ◌-◌, ◌^◌, Bool, nat_lt, ◌==◌, ◌&&◌, ◌||◌, not, if◌then◌else◌, List, length, replicate, count_by, All, slice_index_or, slice_set, Option, Some, None, is_some, IfSome, Result, Ok, Err}
 use Rattle.tt_span.specs.Time.{max_time}
-use Rattle.tt_span.specs.Interval.{Interval, IsInterval, whole}
+use Rattle.tt_span.specs.Interval.{Interval, IsInterval}
 use Rattle.tt_poll.specs.Message.{PollAnswer2, IsEpoch, max_machine, max_source}
 use Rattle.tt_poll.specs.Spelling.{spelling_of2}
 use Rattle.tt_poll.specs.Reading.{read_of2}
 use Rattle.tt_poll.specs.declared.messages.Message2.{Message2}
 use Rattle.tt_poll.specs.declared.messages.Message2.TheVariants.{Request, Answer}
 use Rattle.tt_poll.specs.declared.faults.PollFault.{PollFault}
-use Rattle.tt_source.specs.Statement.{Statement, statement_at}
+use Rattle.tt_source.specs.Statement.{Statement}
+pub use Rattle.tt_span.specs.Statement.{stated_at}
 use Rattle.tt_source.specs.declared.faults.SourceFault.{SourceFault}
 use Rattle.tt_source.specs.declared.faults.SourceFault.TheVariants.{NoSource, ClockBack, NoncesUsedUp, BadMessage, NotMine, OtherEpoch, NotOutstanding}
 
@@ -119,11 +120,6 @@ take_of table i clock bytes =
     if not (has_source table i) then Err NoSource
     else if is_back table clock then Err ClockBack
     else after_statement table i clock (statement_of_message table.machine table.epoch i (source_at table i).waiting clock (read_of2 bytes))
-
--- the span of a source at a clock reading: a source without a statement stands as the whole
-abbrev pub stated_at : ℕ → Option Statement → ℕ → Interval
-stated_at drift None clock = whole
-stated_at drift (Some statement) clock = statement_at drift statement clock
 
 -- how many sources have made a statement
 abbrev pub known_of : TableState → ℕ

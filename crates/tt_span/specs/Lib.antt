@@ -2,3 +2,4 @@ pub mod Fault
 pub mod Time
 pub mod Interval
 pub mod Drift
+pub mod Statement

@@ -5,7 +5,7 @@ use Rattle.std.specs.List.{range_with_len}
 use Rattle.std.proofs.lemmas.Bool.{eqb-true, or_cases, false≢true}
 use Rattle.atomic_table.specs.Seated.{TableId}
 use Rattle.tt_span.specs.Interval.{Interval}
-use Rattle.tt_stamp.specs.Stamping.{is_in, entries_of, IsLegalRun, Continues, SeatState, IsSameSeat, Looks, Gives, Unites}
+use Rattle.tt_stamp.specs.Stamping.{is_in, entries_of, IsLegalRun, Continues, SeatState, IsSameSeat, SeatLooks, Gives, Unites}
 use Rattle.tt_stamp.specs.Sequencing.{view_of, Follows, HasLooked, HasGiven, met, state_of}
 use Rattle.tt_stamp.specs.declared.stampings.Stamping.{Stamping}
 use Rattle.tt_stamp.specs.declared.stampings.Known.{Known}
@@ -48,14 +48,14 @@ same_trans a b c f g = record {
   mine = g.mine;
 }
 
-pub Looks-trans : (a b c : SeatState) → Looks a b → Looks b c → Looks a c
-Looks-trans a b c f g = record {
+pub SeatLooks-trans : (a b c : SeatState) → SeatLooks a b → SeatLooks b c → SeatLooks a c
+SeatLooks-trans a b c f g = record {
   same = same_trans a b c f.same g.same;
   after = Continues-trans a.seen b.seen c.seen f.after g.after;
   own = g.own ∙ f.own;
 }
 
-pub Gives-after_look : (a b c : SeatState) (latest floor : ℕ) (lease : Interval) (stamp : ℕ) → Looks a b → Gives b c latest floor lease stamp → Gives a c latest floor lease stamp
+pub Gives-after_look : (a b c : SeatState) (latest floor : ℕ) (lease : Interval) (stamp : ℕ) → SeatLooks a b → Gives b c latest floor lease stamp → Gives a c latest floor lease stamp
 Gives-after_look a b c latest floor lease stamp f g =
     let entry : Stamping = record { number = g.number; latest = latest; floor = floor; lease = lease; stamp = stamp } in
     record {

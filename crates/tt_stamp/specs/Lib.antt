@@ -5,3 +5,4 @@ pub mod History
 pub mod Book
 pub mod Stamping
 pub mod Sequencing
+pub mod Steps

@@ -64,7 +64,7 @@ pub record IsSameSeat (old new : SeatState) : Type 0 where
   pub mine : entries_of new.numbers new.seen ≡ new.own
 
 -- the seat has looked: it may have seen more, and gave no stamp
-pub record Looks (old new : SeatState) : Type 0 where
+pub record SeatLooks (old new : SeatState) : Type 0 where
   pub same : IsSameSeat old new
   pub after : Continues old.seen new.seen
   pub own : new.own ≡ old.own

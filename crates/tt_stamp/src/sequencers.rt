@@ -5,7 +5,7 @@ ghost use Rattle.std.specs.List.{range_with_len};
 ghost use Rattle.tt_span.specs.Time.{max_time};
 ghost use Rattle.tt_span.specs.Interval.{Holds};
 ghost use Rattle.tt_stamp.specs.Stamp.{IsTooFar, HasNoStamp, IsPastLease, least_above};
-ghost use Rattle.tt_stamp.specs.Stamping.{IsLegalRun, Looks, Gives, Unites, new_seat, stamps_of, last_of, is_in, entries_of, max_seats};
+ghost use Rattle.tt_stamp.specs.Stamping.{IsLegalRun, SeatLooks, Gives, Unites, new_seat, stamps_of, last_of, is_in, entries_of, max_seats};
 ghost use Rattle.tt_stamp.specs.Sequencing.{met};
 ghost use Rattle.tt_stamp.specs.declared.stampings.Stamping.{Stamping};
 
@@ -122,9 +122,9 @@ impl Sequencer {
         ensures too_far { IsErrOf result StampFault.FloorTooFar ↔ IsTooFar reading.now.hi floor }
         ensures too_far_keeps { IsTooFar reading.now.hi floor → seat.new ≡ seat.old }
         ensures used_up { IsErrOf result StampFault.UsedUp →
-            Looks seat.old seat.new × HasNoStamp (stamps_of seat.new.seen) reading.now.hi floor lease.now }
+            SeatLooks seat.old seat.new × HasNoStamp (stamps_of seat.new.seen) reading.now.hi floor lease.now }
         ensures lease_over { IsErrOf result StampFault.LeaseOver →
-            Looks seat.old seat.new × IsPastLease (stamps_of seat.new.seen) reading.now.hi floor lease.now }
+            SeatLooks seat.old seat.new × IsPastLease (stamps_of seat.new.seen) reading.now.hi floor lease.now }
         ensures faults { IfErr result (λ e. (e ≡ StampFault.FloorTooFar) ⊎ (e ≡ StampFault.UsedUp) ⊎ (e ≡ StampFault.LeaseOver)) }
         ensures legal { IsLegalRun seat.new.seats seat.new.seen }
         ensures mine { entries_of seat.new.numbers seat.new.seen ≡ seat.new.own }
@@ -160,7 +160,7 @@ impl Sequencer {
     /// The last stamp that the seat sees when it looks, if there is one.
     pub fn last(&self, seat: &mut Seat) -> Option<u64>
         requires { seat.old.table ≡ self.now }
-        ensures looks { Looks seat.old seat.new }
+        ensures looks { SeatLooks seat.old seat.new }
         ensures value { result ≡ last_of seat.new.seen }
         ensures legal { IsLegalRun seat.new.seats seat.new.seen }
         ensures mine { entries_of seat.new.numbers seat.new.seen ≡ seat.new.own }
@@ -197,7 +197,7 @@ impl Sequencer {
     // Looks at the word, which is the least number above all stamps given.
     fn look(&self, seat: &mut Seat) -> u64
         requires { seat.old.table ≡ self.now }
-        ensures looks { Looks seat.old seat.new }
+        ensures looks { SeatLooks seat.old seat.new }
         ensures word { result ≡ least_above (stamps_of seat.new.seen) }
     {
         self.table.shared.load::<Look>(&mut seat.token, 0)
@@ -211,7 +211,7 @@ impl Sequencer {
         requires in_time { stamp ≤ max_time }
         requires in_lease { stamp ≤ ask.lease.hi }
         ensures given { OnOk result (Gives seat.old seat.new ask.latest ask.floor ask.lease stamp) }
-        ensures missed { IfErr result (λ found. Looks seat.old seat.new × (found ≡ least_above (stamps_of seat.new.seen))) }
+        ensures missed { IfErr result (λ found. SeatLooks seat.old seat.new × (found ≡ least_above (stamps_of seat.new.seen))) }
     {
         let shared = &self.table.shared;
         let found = shared.compare_exchange_with::<Try>(&mut seat.token, 0, word, stamp + 1, &ask);

@@ -1,13 +1,15 @@
 //! The two steps of a commit that begin with a reading of their own: its stamp, and the release of those that wait.
 
-ghost use Rattle.std.specs.Prelude.{◌≡◌, ◌≤◌, ◌↔◌, [], Some, None, IfOk, OnErr, IsErrOf, length};
+ghost use Rattle.std.specs.Prelude.{◌≡◌, ◌≤◌, ◌↔◌, [], Some, None, Result, IfOk, IsErrOf};
 ghost use mathlib.Core.List.{IsPrefix};
 ghost use Rattle.tt_stream.specs.Counts.{HasFailed};
 ghost use Rattle.tt_span.specs.Interval.{Interval, Holds};
 ghost use Rattle.tt_publish.specs.Known.{ReadsLast, MissesLast};
 ghost use Rattle.tt_stamp.specs.Stamp.{IsTooFar, HasNoStamp, IsPastLease};
-ghost use Rattle.tt_stamp.specs.Stamping.{IsLegalRun, Looks, Gives, stamps_of, entries_of};
-ghost use Rattle.tt_stamp.specs.History.{waiting_of, release_of, with_receipts};
+ghost use Rattle.tt_stamp.specs.Stamping.{IsLegalRun, SeatLooks, Gives, stamps_of, entries_of};
+ghost use Rattle.tt_publish.specs.Looks.{Looks};
+ghost use Rattle.tt_publish.specs.declared.faults.ReadFault.{ReadFault};
+ghost use Rattle.tt_stamp.specs.Steps.{Releases};
 
 use crate::books::Book;
 use crate::faults::{BeginFault, StampFault};
@@ -40,11 +42,11 @@ pub fn begin_step<R: Wait, C: Clock>(
         × IsTooFar reading.hi floor × (seat.new ≡ seat.old) }
     ensures used_up { IsErrOf result (BeginFault.Stamp StampFault.UsedUp) → (reading : Interval)
         × ReadsLast watch.new (λ c. C.gives clock.old (Some c) clock.new) reading
-        × (¬ IsTooFar reading.hi floor) × Looks seat.old seat.new
+        × (¬ IsTooFar reading.hi floor) × SeatLooks seat.old seat.new
         × HasNoStamp (stamps_of seat.new.seen) reading.hi floor lease.now }
     ensures lease_over { IsErrOf result (BeginFault.Stamp StampFault.LeaseOver) → (reading : Interval)
         × ReadsLast watch.new (λ c. C.gives clock.old (Some c) clock.new) reading
-        × (¬ IsTooFar reading.hi floor) × Looks seat.old seat.new
+        × (¬ IsTooFar reading.hi floor) × SeatLooks seat.old seat.new
         × IsPastLease (stamps_of seat.new.seen) reading.hi floor lease.now }
     ensures no_seats { ¬ IsErrOf result (BeginFault.Stamp StampFault.Seats) }
     ensures no_memory { ¬ IsErrOf result (BeginFault.Stamp StampFault.Memory) }
@@ -79,20 +81,9 @@ pub fn release_step<C: Clock>(
     watch: &mut Watch,
     clock: &mut C,
 ) -> Result<usize, ReadFault>
-    ensures released { IfOk result (λ count. (reading : Interval)
-        × ReadsLast watch.new (λ c. C.gives clock.old (Some c) clock.new) reading
-        × (book.new ≡ with_receipts (release_of (waiting_of book.old) reading.lo) book.old)
-        × (count ≡ length (release_of (waiting_of book.old) reading.lo))) }
-    ensures unread_keeps { OnErr result (book.new ≡ book.old) }
-    ensures nothing { IsErrOf result ReadFault.Nothing ↔ (watch.new.items ≡ []) }
-    ensures unread { IsErrOf result ReadFault.Nothing → clock.new ≡ clock.old }
-    ensures clock_failed { IsErrOf result ReadFault.ClockFailed →
-        C.gives clock.old None clock.new × HasFailed (C.failed clock.old) (C.failed clock.new) }
-    ensures clock_back { IsErrOf result ReadFault.ClockBack →
-        MissesLast watch.new (λ c. C.gives clock.old (Some c) clock.new) }
-    ensures sound { ¬ IsErrOf result ReadFault.ClockFailed → C.failed clock.new ≡ C.failed clock.old }
-    ensures same { (watch.new.source ≡ watch.old.source) × (watch.new.drift ≡ watch.old.drift) }
-    ensures seen { IsPrefix watch.old.items watch.new.items }
+    ensures { (looked : Result Interval ReadFault)
+        × Looks C.gives C.failed watch.old clock.old looked watch.new clock.new
+        × Releases looked book.old result book.new }
 {
     let reading = watch.now(clock)?;
     Ok(book.release(&reading))

@@ -15,7 +15,6 @@ pub mod Unborn
 pub mod Restarting
 pub mod Seeing
 pub mod Asking
-pub mod Greatest
 pub mod Stamping
 pub mod Queueing
 pub mod Stepping

@@ -77,15 +77,13 @@ lacks_publication configs past _ = false
 
 -- a task is there and has no stamp yet
 abbrev pub is_arrived : Option Task → Bool
-is_arrived None = false
 is_arrived (Some (Arrived arrival)) = true
-is_arrived (Some (Stamped id stamp)) = false
+is_arrived _ = false
 
 -- a task is there and has its stamp
 abbrev pub is_stamped : Option Task → Bool
-is_stamped None = false
-is_stamped (Some (Arrived arrival)) = false
 is_stamped (Some (Stamped id stamp)) = true
+is_stamped _ = false
 
 -- the event wants a task or a reading of its worker that is not there: to stamp, a task without a stamp and a reading since the worker was asked for it; to queue, a task with a stamp; to release, any reading
 abbrev pub lacks_its_thing : List Configuration → List Event → Action → Bool

@@ -1,5 +1,5 @@
 -- What the workers of each machine were asked to commit, and what became of it, searched back. Each list has the newest event first, and only events that were not bad.
-use Rattle.std.specs.Prelude.{ℕ, ◌==◌, ◌&&◌, ◌||◌, not, Bool, false, if◌then◌else◌, List, [], ◌∷◌, is_some, Option, Some, None, Result, Ok, Err}
+use Rattle.std.specs.Prelude.{ℕ, ◌==◌, ◌&&◌, ◌||◌, not, Bool, false, if◌then◌else◌, List, [], ◌∷◌, is_some, Option, Some, None, Result, Ok}
 use Rattle.std.specs.Option.{option_or}
 use Rattle.tt_span.specs.Interval.{Interval}
 use Rattle.tt_stamp.specs.declared.commits.Receipt.{Receipt}
@@ -50,15 +50,13 @@ reading_since config (event ∷ past) life w =
 
 -- the stamp of a commit by a reading within this lease after these stamps were given, or its refusal, if there is a commit and a reading
 abbrev pub stamping_after : List ℕ → Interval → Option Arrival → Option Interval → Option (Result ℕ StampFault)
-stamping_after given lease None reading = None
-stamping_after given lease (Some arrival) None = None
 stamping_after given lease (Some arrival) (Some reading) = Some (stamp_of given reading.hi arrival.floor lease)
+stamping_after given lease asked reading = None
 
 -- the stamp that was given, if one was
 abbrev pub stamp_given : Option (Result ℕ StampFault) → Option ℕ
-stamp_given None = None
-stamp_given (Some (Err fault)) = None
 stamp_given (Some (Ok stamp)) = Some stamp
+stamp_given _ = None
 
 -- the worker of this life whose commit an event stamps, if it does
 abbrev pub stamping_worker : List Event → Life → Action → Option ℕ
@@ -100,10 +98,9 @@ stamp_held config (event ∷ past) life w =
 
 -- the book's history once a commit with a stamp was queued, if there is one and nothing refuses it
 abbrev pub with_queued : List Entry → Option Arrival → Option ℕ → List Entry
-with_queued book None stamp = book
-with_queued book (Some arrival) None = book
 with_queued book (Some arrival) (Some stamp) =
     if is_some (first_queue_fault book arrival.id stamp) then book else Queued arrival.id stamp ∷ book
+with_queued book asked stamp = book
 
 -- the receipts of a release with a reading, least stamp first, if there is a reading
 abbrev pub released_with : List Entry → Option Interval → List Receipt
@@ -125,9 +122,8 @@ book_of config (event ∷ past) life = book_after config past life (book_of conf
 
 -- why a commit with a stamp is not queued after this history, if there is such a commit
 abbrev pub queue_fault : List Entry → Option Arrival → Option ℕ → Option BookFault
-queue_fault book None stamp = None
-queue_fault book (Some arrival) None = None
 queue_fault book (Some arrival) (Some stamp) = first_queue_fault book arrival.id stamp
+queue_fault book asked stamp = None
 
 -- why the last commit of worker w of this life is not queued, if something refuses it
 abbrev pub queueing_of : Configuration → List Event → Life → ℕ → Option BookFault

@@ -1,5 +1,5 @@
 -- The packets on their way between machines and sources.
-use Rattle.std.specs.Prelude.{ℕ, Bool, true, false, List, [], ◌∷◌, Option, Some, None}
+use Rattle.std.specs.Prelude.{ℕ, Bool, true, false, List, [], ◌∷◌, Option, Some}
 use Rattle.tt_span.specs.Interval.{Interval}
 use Rattle.tt_poll.specs.declared.messages.Message2.TheVariants.{Request, Answer}
 use Rattle.tt_poll.specs.Spelling.{spelling_of2}
@@ -27,13 +27,10 @@ bytes_of (Forged machine source payload) = payload
 -- whether a packet is a request
 abbrev pub is_asked : Packet → Bool
 is_asked (Asked request) = true
-is_asked (Answered answer) = false
-is_asked (Forged machine source payload) = false
+is_asked _ = false
 
 -- the answer of this span to a packet, if that is there and is a request
 abbrev pub answer_to : Option Packet → Interval → List Packet
-answer_to None span = []
 answer_to (Some (Asked request)) span =
     Answered (record { machine = request.machine; source = request.source; nonce = request.nonce; epoch = request.epoch; span = span }) ∷ []
-answer_to (Some (Answered answer)) span = []
-answer_to (Some (Forged machine source payload)) span = []
+answer_to _ span = []

@@ -2,14 +2,14 @@
 use Rattle.std.specs.Prelude.{ℕ, ◌+◌, ◌-◌, ◌==◌, ◌&&◌, nat_lt, max, if◌then◌else◌, List, [], ◌∷◌, ◌++◌, map, length, count_by, slice_index_or, is_some, Option, Some, None, Result, Ok, Err}
 use Rattle.std.specs.List.{range_with_len}
 use Rattle.tt_span.specs.Interval.{Interval, whole}
-use Rattle.tt_span.specs.Drift.{aged}
+pub use Rattle.tt_publish.specs.Reading.{reading_at}
 use Rattle.tt_source.specs.Table.{stated_at}
 use Rattle.tt_fuse.specs.Depth.{slow_fusion}
 use Rattle.tt_world.specs.Life.{Life, life_at, is_of}
 use Rattle.tt_world.specs.declared.events.Event.{Event}
 use Rattle.tt_world.specs.declared.events.Action.{Action}
 use Rattle.tt_world.specs.declared.events.Action.TheVariants.{Fuse, Read}
-use Rattle.tt_world.specs.declared.publications.Publication.{Publication}
+use Rattle.tt_publish.specs.declared.readings.FusedSpan.{FusedSpan}
 use Rattle.tt_daemon.specs.Config.{Configuration}
 use Rattle.tt_world.specs.Config.{config_at}
 use Rattle.tt_world.specs.Sources.{statement_of}
@@ -23,18 +23,18 @@ abbrev pub known_of : Configuration → List Event → Life → ℕ
 known_of config past life = count_by (λ i. is_some (statement_of past life i)) (range_with_len 0 config.sources)
 
 -- a publication of the fusion, or refusal 504 where no time is possible
-abbrev pub published : ℕ → Option Interval → Result Publication ℕ
+abbrev pub published : ℕ → Option Interval → Result FusedSpan ℕ
 published clock None = Err 504
 published clock (Some span) = Ok (record { clock = clock; span = span })
 
 -- what this life publishes when it fuses at a clock reading, or its refusal: 701 where too few sources are known, 504 where no time is possible
-abbrev pub fusion_of : Configuration → List Event → Life → ℕ → Result Publication ℕ
+abbrev pub fusion_of : Configuration → List Event → Life → ℕ → Result FusedSpan ℕ
 fusion_of config past life clock =
     if nat_lt (known_of config past life) (config.sources - config.faulty) then Err 701
     else published clock (slow_fusion (spans_of config past life clock) config.faulty)
 
 -- the one publication that was made, or none
-abbrev pub one_if_made : Result Publication ℕ → List Publication
+abbrev pub one_if_made : Result FusedSpan ℕ → List FusedSpan
 one_if_made (Ok publication) = publication ∷ []
 one_if_made (Err number) = []
 
@@ -44,12 +44,12 @@ fuses_at past life (Fuse machine clock) = if is_of past life machine then Some c
 fuses_at past life _ = None
 
 -- what a fusion at this clock reading publishes, if there is one
-abbrev pub published_at : Configuration → List Event → Life → Option ℕ → List Publication
+abbrev pub published_at : Configuration → List Event → Life → Option ℕ → List FusedSpan
 published_at config past life None = []
 published_at config past life (Some clock) = one_if_made (fusion_of config past life clock)
 
 -- the publications of this life, the oldest first: the first of them has number 1
-abbrev pub publications_of : Configuration → List Event → Life → List Publication
+abbrev pub publications_of : Configuration → List Event → Life → List FusedSpan
 publications_of config [] life = []
 publications_of config (event ∷ past) life = publications_of config past life ++ published_at config past life (fuses_at past life event.action)
 
@@ -64,7 +64,7 @@ pub record Showing : Type 0 where
   pub faulty : ℕ
 
 -- what a fusion of these spans shows of a life, if there is one
-abbrev pub showing_of : Life → ℕ → List Interval → ℕ → Result Publication ℕ → List Showing
+abbrev pub showing_of : Life → ℕ → List Interval → ℕ → Result FusedSpan ℕ → List Showing
 showing_of life number spans faulty (Ok publication) =
     record { machine = life.machine; life = life.number; number = number; clock = publication.clock; span = publication.span; spans = spans; faulty = faulty } ∷ []
 showing_of life number spans faulty (Err refusal) = []
@@ -93,13 +93,9 @@ seen_of [] life w = 0
 seen_of (event ∷ past) life w = seen_by past life w event.action (seen_of past life w)
 
 -- no machine has made this publication
-abbrev pub no_publication : Publication
+abbrev pub no_publication : FusedSpan
 no_publication = record { clock = 0; span = whole }
 
 -- publication k, the first of which has number 1
-abbrev pub publication_at : List Publication → ℕ → Publication
+abbrev pub publication_at : List FusedSpan → ℕ → FusedSpan
 publication_at publications k = slice_index_or publications (k - 1) no_publication
-
--- a reading from a publication: its span, aged by the clock since
-abbrev pub reading_at : ℕ → Publication → ℕ → Interval
-reading_at drift publication clock = aged drift publication.span (clock - publication.clock)

@@ -13,10 +13,9 @@ use Rattle.tt_world.specs.declared.events.Event.{Event}
 use Rattle.tt_world.specs.declared.events.Action.{Action}
 use Rattle.tt_world.specs.declared.events.Action.TheVariants as does
 use Rattle.tt_world.specs.declared.events.Reply.{Reply}
-use Rattle.tt_world.specs.declared.events.Reply.TheVariants.{Sent, Put, Taken, Published, Refused}
-use Rattle.tt_world.specs.declared.events.Reply.TheVariants as replies
+use Rattle.tt_world.specs.declared.events.Reply.TheVariants.{Sent, Put, Taken, Published, Read, Arrived, Stamped, Queued, Restarted, Leased, Released, Refused}
 use Rattle.tt_world.specs.declared.packets.Packet.{Packet}
-use Rattle.tt_world.specs.declared.publications.Publication.{Publication}
+use Rattle.tt_publish.specs.declared.readings.FusedSpan.{FusedSpan}
 use Rattle.tt_daemon.specs.Config.{Configuration}
 use Rattle.tt_world.specs.Config.{config_at}
 use Rattle.tt_world.specs.Packet.{machine_of_packet, source_of_packet, bytes_of}
@@ -43,19 +42,19 @@ reply_to_packet past clock (Some packet) =
     delivery_reply (statement_of_message m (life_of past m) i (outstanding past (life_at past m) i) clock (read_of2 (bytes_of packet)))
 
 -- the reply to a fusion, after so many publications
-abbrev pub fusion_reply : ℕ → Result Publication ℕ → Reply
+abbrev pub fusion_reply : ℕ → Result FusedSpan ℕ → Reply
 fusion_reply count (Ok publication) = Published (count + 1) publication.span
 fusion_reply count (Err number) = Refused number
 
 -- the reply to a stamping, if there is a commit and a reading
 abbrev pub stamping_reply : Option (Result ℕ StampFault) → Reply
 stamping_reply None = bad_reply bad.NothingThere
-stamping_reply (Some (Ok stamp)) = replies.Stamped stamp
+stamping_reply (Some (Ok stamp)) = Stamped stamp
 stamping_reply (Some (Err fault)) = Refused (stamp_number_of fault)
 
 -- the reply to a queueing, by what refuses it
 abbrev pub queueing_reply : Option BookFault → Reply
-queueing_reply None = replies.Queued
+queueing_reply None = Queued
 queueing_reply (Some fault) = Refused (book_number_of fault)
 
 -- the reply to an event that is not bad
@@ -67,14 +66,14 @@ reply_to configs past (does.Deliver packet clock) = reply_to_packet past clock (
 reply_to configs past (does.Fuse machine clock) =
     fusion_reply (length (publications_of (config_at configs machine) past (life_at past machine))) (fusion_of (config_at configs machine) past (life_at past machine) clock)
 reply_to configs past (does.Read machine worker clock publication) =
-    replies.Read (reading_at (config_at configs machine).drift (publication_at (publications_of (config_at configs machine) past (life_at past machine)) publication) clock)
-reply_to configs past (does.Arrive machine worker id floor) = replies.Arrived
+    Read (reading_at (config_at configs machine).drift (publication_at (publications_of (config_at configs machine) past (life_at past machine)) publication) clock)
+reply_to configs past (does.Arrive machine worker id floor) = Arrived
 reply_to configs past (does.Stamp machine worker) = stamping_reply (stamping_of (config_at configs machine) past (life_at past machine) worker)
 reply_to configs past (does.Queue machine worker) = queueing_reply (queueing_of (config_at configs machine) past (life_at past machine) worker)
-reply_to configs past (does.Restart machine clock) = replies.Restarted (life_of past machine + 1)
-reply_to configs past (does.Lease machine lease) = replies.Leased
+reply_to configs past (does.Restart machine clock) = Restarted (life_of past machine + 1)
+reply_to configs past (does.Lease machine lease) = Leased
 reply_to configs past (does.Release machine worker) =
-    replies.Released (released_with (book_of (config_at configs machine) past (life_at past machine)) (reading_of (config_at configs machine) past (life_at past machine) worker))
+    Released (released_with (book_of (config_at configs machine) past (life_at past machine)) (reading_of (config_at configs machine) past (life_at past machine) worker))
 
 -- the reply has the number of a reason why an event is bad
 abbrev pub IsBadReply : Reply → Type 0
@@ -86,8 +85,8 @@ abbrev pub TakesMemory : Reply → Type 0
 TakesMemory (Sent number) = Unit {0}
 TakesMemory (Put number) = Unit {0}
 TakesMemory (Published number span) = Unit {0}
-TakesMemory replies.Queued = Unit {0}
-TakesMemory (replies.Released receipts) = Unit {0}
+TakesMemory Queued = Unit {0}
+TakesMemory (Released receipts) = Unit {0}
 TakesMemory _ = ⊥
 
 -- the reply to an event of which it is known whether it is bad

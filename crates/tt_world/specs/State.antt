@@ -1,8 +1,8 @@
 -- What the model of a run keeps, and which runs it stands for.
-use Rattle.std.specs.Prelude.{◌≡◌, ◌<◌, ◌≤◌, ℕ, ◌&&◌, Bool, false, if◌then◌else◌, List, [], ◌∷◌, map, length, slice_get, is_some, Option, Some, None}
+use Rattle.std.specs.Prelude.{◌≡◌, ◌<◌, ◌≤◌, ℕ, ◌&&◌, Bool, false, if◌then◌else◌, List, [], ◌∷◌, map, length, slice_get, is_some, Option, Some, None, All}
 use Rattle.std.specs.List.{range_with_len}
 use Rattle.tt_span.specs.Time.{max_time}
-use Rattle.tt_source.specs.Table.{TableState, SourceState, Sending}
+use Rattle.tt_source.specs.Table.{SourceState, Sending}
 use Rattle.tt_stamp.specs.declared.commits.Entry.{Entry}
 use Rattle.tt_stamp.specs.Stamp.{greatest_of}
 use Rattle.tt_span.specs.Interval.{Interval}
@@ -12,9 +12,10 @@ use Rattle.tt_world.specs.declared.events.Event.{Event}
 use Rattle.tt_world.specs.declared.events.Action.{Action}
 use Rattle.tt_world.specs.declared.events.Action.TheVariants.{Send, Deliver}
 use Rattle.tt_world.specs.declared.packets.Packet.{Packet}
-use Rattle.tt_world.specs.declared.publications.Publication.{Publication}
+use Rattle.tt_publish.specs.declared.readings.FusedSpan.{FusedSpan}
 use Rattle.tt_world.specs.declared.workers.Worker.{Worker}
 use Rattle.tt_daemon.specs.Config.{Configuration}
+use Rattle.tt_daemon.specs.Daemon.{DaemonState, IsDaemon}
 use Rattle.tt_world.specs.Config.{config_at}
 use Rattle.tt_world.specs.Packet.{source_of_packet}
 use Rattle.tt_world.specs.Past.{time_of, sends_of, packets_of, clock_of}
@@ -25,24 +26,23 @@ use Rattle.tt_world.specs.Bad.{has_source, accepted}
 
 -- what is kept of one machine
 pub record MachineState : Type 0 where
-  pub config : Configuration
-  pub table : TableState
+  pub daemon : DaemonState
   pub life : ℕ
   pub lease : Interval
   pub clock : ℕ
-  pub publications : List Publication
+  pub publications : List FusedSpan
   pub row : Option ℕ
   pub book : List Entry
   pub workers : List Worker
 
 -- what always holds of what is kept of one machine
 pub record IsMachine (machine : MachineState) : Type 0 where
-  pub each_source : length machine.table.sources ≡ machine.config.sources
-  pub same_drift : machine.table.drift ≡ machine.config.drift
-  pub same_life : machine.table.epoch ≡ machine.life
+  pub daemon : IsDaemon machine.daemon
+  pub same_life : machine.daemon.table.epoch ≡ machine.life
   pub some_life : 0 < machine.life
-  pub table_behind : machine.table.clock ≤ machine.clock
+  pub table_behind : machine.daemon.table.clock ≤ machine.clock
   pub in_time : machine.clock ≤ max_time
+  pub published_before : All (λ p. p.clock ≤ machine.clock) machine.publications
 
 -- what is kept of a run
 pub record WorldState : Type 0 where
@@ -87,14 +87,16 @@ worker_of config past life w = record {
 -- what is kept of this life
 abbrev pub machine_of : Configuration → List Event → Life → MachineState
 machine_of config past life = record {
-  config = config;
-  table = record {
-    machine = life.machine;
-    epoch = life.number;
-    drift = config.drift;
-    last = sends_of past life;
-    clock = polled_clock_of past life;
-    sources = map (λ i. source_of past life i) (range_with_len 0 config.sources);
+  daemon = record {
+    config = config;
+    table = record {
+      machine = life.machine;
+      epoch = life.number;
+      drift = config.drift;
+      last = sends_of past life;
+      clock = polled_clock_of past life;
+      sources = map (λ i. source_of past life i) (range_with_len 0 config.sources);
+    };
   };
   life = life.number;
   lease = lease_of past life.machine;

@@ -1,9 +1,9 @@
 -- What one event makes of what is kept, and the reply to it.
-use Rattle.std.specs.Prelude.{◌≡◌, ℕ, ◌+◌, ◌-◌, ◌^◌, ◌<◌, ◌||◌, not, nat_lt, ◌==◌, replicate, Bool, if◌then◌else◌, List, [], ◌∷◌, ◌++◌, map, length, slice_get, slice_set, slice_index_or, Option, Some, None, Result, Ok, Err}
+use Rattle.std.specs.Prelude.{◌≡◌, ℕ, ◌+◌, ◌-◌, ◌^◌, ◌||◌, ◌<◌, not, nat_lt, ◌==◌, replicate, Bool, if◌then◌else◌, List, [], ◌∷◌, ◌++◌, length, slice_get, slice_set, slice_index_or, Option, Some, None, Result, Ok, Err}
 use Rattle.tt_span.specs.Time.{max_time}
 use Rattle.tt_span.specs.Interval.{Interval}
 use Rattle.tt_source.specs.Fault.{number_of}
-use Rattle.tt_source.specs.Table.{TableState, new_table, poll_of, take_of, stated_at, known_of as known_of_table}
+use Rattle.tt_source.specs.Table.{TableState, poll_of, take_of, known_of as known_of_table}
 use Rattle.tt_source.specs.declared.faults.SourceFault.{SourceFault}
 use Rattle.tt_fuse.specs.Depth.{slow_fusion}
 use Rattle.tt_stamp.specs.declared.commits.Id.{Id}
@@ -14,6 +14,7 @@ use Rattle.tt_stamp.specs.Fault.{number_of as stamp_number_of, book_number_of}
 use Rattle.tt_stamp.specs.Stamp.{stamp_of}
 use Rattle.tt_stamp.specs.History.{waiting_of, release_of, with_receipts, first_queue_fault}
 use Rattle.tt_daemon.specs.Config.{Configuration}
+use Rattle.tt_daemon.specs.Daemon.{new_daemon, spans_of}
 use Rattle.tt_world.specs.declared.faults.WorldFault.TheVariants as bad
 use Rattle.tt_world.specs.declared.events.Event.{Event}
 use Rattle.tt_world.specs.declared.events.Action.{Action}
@@ -23,131 +24,128 @@ use Rattle.tt_world.specs.declared.events.Reply.TheVariants as replies
 use Rattle.tt_world.specs.declared.faults.WorldFault.{WorldFault}
 use Rattle.tt_world.specs.declared.packets.Packet.{Packet}
 use Rattle.tt_world.specs.declared.packets.Packet.TheVariants.{Asked, Forged}
-use Rattle.tt_world.specs.declared.publications.Publication.{Publication}
+use Rattle.tt_publish.specs.declared.readings.FusedSpan.{FusedSpan}
+use Rattle.tt_world.specs.declared.deeds.Deed.{Deed}
+use Rattle.tt_world.specs.declared.deeds.Deed.TheVariants as deeds
+use Rattle.tt_world.specs.declared.deeds.Work.{Work}
+use Rattle.tt_world.specs.declared.deeds.Work.TheVariants as works
 use Rattle.tt_world.specs.declared.workers.Arrival.{Arrival}
 use Rattle.tt_world.specs.declared.workers.Task.{Task}
 use Rattle.tt_world.specs.declared.workers.Task.TheVariants as tasks
 use Rattle.tt_world.specs.declared.workers.Worker.{Worker}
 use Rattle.tt_world.specs.Packet.{machine_of_packet, source_of_packet, bytes_of, is_asked, answer_to}
 use Rattle.tt_world.specs.Fault.{bad_reply}
-use Rattle.tt_world.specs.Reply.{IsBadReply, TakesMemory}
+use Rattle.tt_world.specs.Reply.{TakesMemory}
 use Rattle.tt_world.specs.Publications.{Showing, showing_of, published, reading_at}
 use Rattle.tt_world.specs.Bad.{is_unreadable}
 use Rattle.tt_world.specs.State.{MachineState, WorldState}
 
--- what is kept after an event, and the reply to it
-pub record Outcome : Type 0 where
-  pub world : WorldState
+-- what is kept after an event, of the run or of one machine, and the reply to it
+pub record Turn (S : Type 0) : Type 0 where
+  pub state : S
   pub reply : Reply
 
--- what is kept of one machine after an event, and the reply to it
-pub record Turn : Type 0 where
-  pub machine : MachineState
-  pub reply : Reply
-
--- the event is bad for this reason, and nothing changes
-abbrev pub refused : WorldState → WorldFault → Outcome
-refused world fault = record { world = world; reply = bad_reply fault }
+-- what an event makes, or the reason why it is bad: then nothing changes
+abbrev pub Judged : Type 0 → Type 0
+Judged S = Result (Turn S) WorldFault
 
 -- a reading that is refused: the machine's clock went back, or passed the greatest time
 abbrev pub is_back_on : MachineState → ℕ → Bool
 is_back_on machine clock = nat_lt clock machine.clock || nat_lt max_time clock
 
 -- machine m has had its turn at a true time, and these packets were put on their way
-abbrev pub after_turn : WorldState → ℕ → ℕ → Turn → List Packet → Outcome
+abbrev pub after_turn : WorldState → ℕ → ℕ → Turn MachineState → List Packet → Turn WorldState
 after_turn world at m turn put = record {
-  world = record world { time = at; packets = world.packets ++ put; machines = slice_set world.machines m turn.machine };
+  state = record world { time = at; packets = world.packets ++ put; machines = slice_set world.machines m turn.state };
   reply = turn.reply;
 }
 
+-- the machine had its turn, or it gave the reason why the event is bad
+abbrev pub turned : WorldState → ℕ → ℕ → Judged MachineState → Judged WorldState
+turned world at m (Ok turn) = Ok (after_turn world at m turn [])
+turned world at m (Err fault) = Err fault
+
 -- the table takes the place of the one that is kept, and the clock shows this
 abbrev pub with_table : MachineState → ℕ → TableState → MachineState
-with_table machine clock table = record machine { table = table; clock = clock }
+with_table machine clock table = record machine { daemon = record machine.daemon { table = table }; clock = clock }
 
 -- the machine polls source i, or its table refuses to
-abbrev pub after_poll : WorldState → ℕ → ℕ → ℕ → ℕ → MachineState → Result TableState SourceFault → Outcome
+abbrev pub after_poll : WorldState → ℕ → ℕ → ℕ → ℕ → MachineState → Result TableState SourceFault → Turn WorldState
 after_poll world at m i clock machine (Ok table) =
-    after_turn world at m (record { machine = with_table machine clock table; reply = replies.Sent (length world.packets) })
+    after_turn world at m (record { state = with_table machine clock table; reply = replies.Sent (length world.packets) })
     (Asked (record { machine = m; source = i; nonce = table.last; epoch = table.epoch }) ∷ [])
 after_poll world at m i clock machine (Err fault) =
-    after_turn world at m (record { machine = record machine { clock = clock }; reply = replies.Refused (number_of fault) }) []
+    after_turn world at m (record { state = record machine { clock = clock }; reply = replies.Refused (number_of fault) }) []
 
 -- machine m, if it is there, polls source i, if it asks that; a clock that went back is refused
-abbrev pub send_on : WorldState → ℕ → ℕ → ℕ → ℕ → Option MachineState → Outcome
-send_on world at m i clock None = refused world bad.UnknownNumber
+abbrev pub send_on : WorldState → ℕ → ℕ → ℕ → ℕ → Option MachineState → Judged WorldState
+send_on world at m i clock None = Err bad.UnknownNumber
 send_on world at m i clock (Some machine) =
-    if not (nat_lt i machine.config.sources) then refused world bad.UnknownNumber
-    else if is_back_on machine clock then refused world bad.ClockBack
-    else after_poll world at m i clock machine (poll_of machine.table i clock)
+    if not (nat_lt i machine.daemon.config.sources) then Err bad.UnknownNumber
+    else if is_back_on machine clock then Err bad.ClockBack
+    else Ok (after_poll world at m i clock machine (poll_of machine.daemon.table i clock))
 
 -- packets were put on their way at a true time
-abbrev pub after_put : WorldState → ℕ → List Packet → Outcome
+abbrev pub after_put : WorldState → ℕ → List Packet → Turn WorldState
 after_put world at put =
-    record { world = record world { time = at; packets = world.packets ++ put }; reply = replies.Put (length world.packets) }
+    record { state = record world { time = at; packets = world.packets ++ put }; reply = replies.Put (length world.packets) }
 
 -- an answer is put on its way, if there is one
-abbrev pub answer_on : WorldState → ℕ → List Packet → Outcome
-answer_on world at [] = refused world bad.NoPacket
-answer_on world at (packet ∷ packets) = after_put world at (packet ∷ packets)
+abbrev pub answer_on : WorldState → ℕ → List Packet → Judged WorldState
+answer_on world at [] = Err bad.NoPacket
+answer_on world at (packet ∷ packets) = Ok (after_put world at (packet ∷ packets))
 
 -- bytes that source i made up are put on their way to machine m, if it is there and asks that source
-abbrev pub forge_on : WorldState → ℕ → ℕ → ℕ → List ℕ → Option MachineState → Outcome
-forge_on world at m i payload None = refused world bad.UnknownNumber
+abbrev pub forge_on : WorldState → ℕ → ℕ → ℕ → List ℕ → Option MachineState → Judged WorldState
+forge_on world at m i payload None = Err bad.UnknownNumber
 forge_on world at m i payload (Some machine) =
-    if not (nat_lt i machine.config.sources) then refused world bad.UnknownNumber
-    else after_put world at (Forged m i payload ∷ [])
+    if not (nat_lt i machine.daemon.config.sources) then Err bad.UnknownNumber
+    else Ok (after_put world at (Forged m i payload ∷ []))
 
 -- the machine takes what a packet says, or its table refuses to
-abbrev pub take_turn : MachineState → ℕ → Result TableState SourceFault → Turn
-take_turn machine clock (Ok table) = record { machine = with_table machine clock table; reply = replies.Taken }
-take_turn machine clock (Err fault) = record { machine = record machine { clock = clock }; reply = replies.Refused (number_of fault) }
+abbrev pub take_turn : MachineState → ℕ → Result TableState SourceFault → Turn MachineState
+take_turn machine clock (Ok table) = record { state = with_table machine clock table; reply = replies.Taken }
+take_turn machine clock (Err fault) = record { state = record machine { clock = clock }; reply = replies.Refused (number_of fault) }
 
 -- a packet reaches its machine, if that is there; a clock that went back is refused
-abbrev pub deliver_to : WorldState → ℕ → ℕ → Packet → Option MachineState → Outcome
-deliver_to world at clock packet None = refused world bad.NoPacket
+abbrev pub deliver_to : WorldState → ℕ → ℕ → Packet → Option MachineState → Judged WorldState
+deliver_to world at clock packet None = Err bad.NoPacket
 deliver_to world at clock packet (Some machine) =
-    if is_back_on machine clock then refused world bad.ClockBack
-    else after_turn world at (machine_of_packet packet) (take_turn machine clock (take_of machine.table (source_of_packet packet) clock (bytes_of packet))) []
+    if is_back_on machine clock then Err bad.ClockBack
+    else Ok (after_turn world at (machine_of_packet packet) (take_turn machine clock (take_of machine.daemon.table (source_of_packet packet) clock (bytes_of packet))) [])
 
 -- a packet reaches its machine, if it was put and is no request
-abbrev pub deliver_on : WorldState → ℕ → ℕ → Option Packet → Outcome
-deliver_on world at clock None = refused world bad.NoPacket
+abbrev pub deliver_on : WorldState → ℕ → ℕ → Option Packet → Judged WorldState
+deliver_on world at clock None = Err bad.NoPacket
 deliver_on world at clock (Some packet) =
-    if is_asked packet then refused world bad.NoPacket
+    if is_asked packet then Err bad.NoPacket
     else deliver_to world at clock packet (slice_get world.machines (machine_of_packet packet))
 
--- the spans of the sources of a machine at a clock reading
-abbrev pub spans_on : MachineState → ℕ → List Interval
-spans_on machine clock = map (λ source. stated_at machine.config.drift source.statement clock) machine.table.sources
-
 -- what the machine publishes when it fuses at a clock reading, or its refusal
-abbrev pub fusion_on : MachineState → ℕ → Result Publication ℕ
+abbrev pub fusion_on : MachineState → ℕ → Result FusedSpan ℕ
 fusion_on machine clock =
-    if nat_lt (known_of_table machine.table) (machine.config.sources - machine.config.faulty) then Err 701
-    else published clock (slow_fusion (spans_on machine clock) machine.config.faulty)
+    if nat_lt (known_of_table machine.daemon.table) (machine.daemon.config.sources - machine.daemon.config.faulty) then Err 701
+    else published clock (slow_fusion (spans_of machine.daemon clock) machine.daemon.config.faulty)
 
 -- the machine publishes, or refuses to
-abbrev pub publish_turn : MachineState → ℕ → Result Publication ℕ → Turn
+abbrev pub publish_turn : MachineState → ℕ → Result FusedSpan ℕ → Turn MachineState
 publish_turn machine clock (Ok publication) = record {
-  machine = record machine { clock = clock; publications = machine.publications ++ publication ∷ [] };
+  state = record machine { clock = clock; publications = machine.publications ++ publication ∷ [] };
   reply = replies.Published (length machine.publications + 1) publication.span;
 }
-publish_turn machine clock (Err number) = record { machine = record machine { clock = clock }; reply = replies.Refused number }
+publish_turn machine clock (Err number) = record { state = record machine { clock = clock }; reply = replies.Refused number }
 
 -- publications are shown besides
-abbrev pub with_shown : Outcome → List Showing → Outcome
-with_shown outcome showings = record {
-  world = record outcome.world { shown = outcome.world.shown ++ showings };
-  reply = outcome.reply;
-}
+abbrev pub with_shown : Turn WorldState → List Showing → Turn WorldState
+with_shown turn showings = record turn { state = record turn.state { shown = turn.state.shown ++ showings } }
 
 -- machine m, if it is there, fuses and publishes, and that is shown; a clock that went back is refused
-abbrev pub fuse_on : WorldState → ℕ → ℕ → ℕ → Option MachineState → Outcome
-fuse_on world at m clock None = refused world bad.UnknownNumber
+abbrev pub fuse_on : WorldState → ℕ → ℕ → ℕ → Option MachineState → Judged WorldState
+fuse_on world at m clock None = Err bad.UnknownNumber
 fuse_on world at m clock (Some machine) =
-    if is_back_on machine clock then refused world bad.ClockBack
-    else with_shown (after_turn world at m (publish_turn machine clock (fusion_on machine clock)) [])
-    (showing_of (record { machine = m; number = machine.life }) (length machine.publications + 1) (spans_on machine clock) machine.config.faulty (fusion_on machine clock))
+    if is_back_on machine clock then Err bad.ClockBack
+    else Ok (with_shown (after_turn world at m (publish_turn machine clock (fusion_on machine clock)) [])
+    (showing_of (record { machine = m; number = machine.life }) (length machine.publications + 1) (spans_of machine.daemon clock) machine.daemon.config.faulty (fusion_on machine clock)))
 
 -- no worker has done anything
 abbrev pub new_worker : Worker
@@ -162,60 +160,36 @@ abbrev pub with_worker : MachineState → ℕ → Worker → MachineState
 with_worker machine w worker = record machine { workers = slice_set machine.workers w worker }
 
 -- publication k, if worker w can read from it
-abbrev pub readable_on : MachineState → ℕ → ℕ → Option Publication
+abbrev pub readable_on : MachineState → ℕ → ℕ → Option FusedSpan
 readable_on machine w k =
     if is_unreadable (length machine.publications) (worker_at machine w).seen k then None
     else slice_get machine.publications (k - 1)
 
 -- the worker reads from a publication
-abbrev pub read_turn : MachineState → ℕ → ℕ → ℕ → Publication → Turn
-read_turn machine w clock k publication = record {
-  machine = record (with_worker machine w (record (worker_at machine w) {
-    seen = k;
-    reading = Some (reading_at machine.config.drift publication clock);
-    since = Some (reading_at machine.config.drift publication clock);
-  })) { clock = clock };
-  reply = replies.Read (reading_at machine.config.drift publication clock);
-}
+abbrev pub read_turn : MachineState → ℕ → ℕ → ℕ → FusedSpan → Turn MachineState
+read_turn machine w clock k publication =
+    let reading = reading_at machine.daemon.config.drift publication clock in
+    record {
+      state = record (with_worker machine w (record (worker_at machine w) { seen = k; reading = Some reading; since = Some reading })) { clock = clock };
+      reply = replies.Read reading;
+    }
 
--- worker w of machine m reads from publication k, if that is there
-abbrev pub read_from : WorldState → ℕ → ℕ → ℕ → ℕ → ℕ → MachineState → Option Publication → Outcome
-read_from world at m w clock k machine None = refused world bad.NoPublication
-read_from world at m w clock k machine (Some publication) =
-    after_turn world at m (read_turn machine w clock k publication) []
-
--- worker w of machine m, if it is there, reads from publication k, if it can; a clock that went back is refused
-abbrev pub read_on : WorldState → ℕ → ℕ → ℕ → ℕ → ℕ → Option MachineState → Outcome
-read_on world at m w clock k None = refused world bad.UnknownNumber
-read_on world at m w clock k (Some machine) =
-    if not (nat_lt w (length machine.workers)) then refused world bad.UnknownNumber
-    else if is_back_on machine clock then refused world bad.ClockBack
-    else if is_unreadable (length machine.publications) (worker_at machine w).seen k then refused world bad.NoPublication
-    else read_from world at m w clock k machine (slice_get machine.publications (k - 1))
-
--- machine m is there, and has worker w
-abbrev pub IsWorker : WorldState → ℕ → ℕ → Type 0
-IsWorker world m w = (machine : MachineState) × (slice_get world.machines m ≡ Some machine) × (w < length machine.workers)
+-- the worker reads from publication k, if that is there
+abbrev pub read_from : MachineState → ℕ → ℕ → ℕ → Option FusedSpan → Judged MachineState
+read_from machine w clock k None = Err bad.NoPublication
+read_from machine w clock k (Some publication) = Ok (read_turn machine w clock k publication)
 
 -- the worker is asked for a commit; an older task is given up
-abbrev pub arrive_turn : MachineState → ℕ → Arrival → Turn
+abbrev pub arrive_turn : MachineState → ℕ → Arrival → Turn MachineState
 arrive_turn machine w arrival = record {
-  machine = with_worker machine w (record (worker_at machine w) { task = Some (tasks.Arrived arrival); since = None });
+  state = with_worker machine w (record (worker_at machine w) { task = Some (tasks.Arrived arrival); since = None });
   reply = replies.Arrived;
 }
-
--- worker w of machine m, if it is there, is asked for a commit
-abbrev pub arrive_on : WorldState → ℕ → ℕ → ℕ → Arrival → Option MachineState → Outcome
-arrive_on world at m w arrival None = refused world bad.UnknownNumber
-arrive_on world at m w arrival (Some machine) =
-    if not (nat_lt w (length machine.workers)) then refused world bad.UnknownNumber
-    else after_turn world at m (arrive_turn machine w arrival) []
 
 -- machine m as it begins a life, with a lease, when its clock shows this
 abbrev pub machine_in : Configuration → ℕ → ℕ → Interval → ℕ → MachineState
 machine_in config m life lease clock = record {
-  config = config;
-  table = new_table m config.sources config.drift 0 life;
+  daemon = new_daemon m config life;
   life = life;
   lease = lease;
   clock = clock;
@@ -225,30 +199,13 @@ machine_in config m life lease clock = record {
   workers = replicate config.workers new_worker;
 }
 
--- the machine's life has the greatest number
-abbrev pub is_last_life_on : MachineState → Bool
-is_last_life_on machine = machine.life == 2 ^ 64 - 1
-
 -- the machine restarts, as machine m
-abbrev pub restart_turn : ℕ → MachineState → ℕ → Turn
-restart_turn m machine clock = record { machine = machine_in machine.config m (machine.life + 1) machine.lease clock; reply = replies.Restarted (machine.life + 1) }
-
--- machine m, if it is there, restarts; a clock reading past the greatest time is refused
-abbrev pub restart_on : WorldState → ℕ → ℕ → ℕ → Option MachineState → Outcome
-restart_on world at m clock None = refused world bad.UnknownNumber
-restart_on world at m clock (Some machine) =
-    if nat_lt max_time clock then refused world bad.ClockBack
-    else if is_last_life_on machine then refused world bad.LivesUsedUp
-    else after_turn world at m (restart_turn m machine clock) []
+abbrev pub restart_turn : ℕ → MachineState → ℕ → Turn MachineState
+restart_turn m machine clock = record { state = machine_in machine.daemon.config m (machine.life + 1) machine.lease clock; reply = replies.Restarted (machine.life + 1) }
 
 -- the machine is granted a lease
-abbrev pub lease_turn : MachineState → Interval → Turn
-lease_turn machine lease = record { machine = record machine { lease = lease }; reply = replies.Leased }
-
--- machine m, if it is there, is granted a lease
-abbrev pub lease_on : WorldState → ℕ → ℕ → Interval → Option MachineState → Outcome
-lease_on world at m lease None = refused world bad.UnknownNumber
-lease_on world at m lease (Some machine) = after_turn world at m (lease_turn machine lease) []
+abbrev pub lease_turn : MachineState → Interval → Turn MachineState
+lease_turn machine lease = record { state = record machine { lease = lease }; reply = replies.Leased }
 
 -- stamps of which this is the greatest, if there is one
 abbrev pub given_in : Option ℕ → List ℕ
@@ -256,88 +213,85 @@ given_in None = []
 given_in (Some greatest) = greatest ∷ []
 
 -- the worker stamps its task, or is refused to
-abbrev pub stamp_turn : MachineState → ℕ → Id → Result ℕ StampFault → Turn
+abbrev pub stamp_turn : MachineState → ℕ → Id → Result ℕ StampFault → Turn MachineState
 stamp_turn machine w id (Ok stamp) = record {
-  machine = record (with_worker machine w (record (worker_at machine w) { task = Some (tasks.Stamped id stamp) })) { row = Some stamp };
+  state = record (with_worker machine w (record (worker_at machine w) { task = Some (tasks.Stamped id stamp) })) { row = Some stamp };
   reply = replies.Stamped stamp;
 }
-stamp_turn machine w id (Err fault) = record { machine = machine; reply = replies.Refused (stamp_number_of fault) }
+stamp_turn machine w id (Err fault) = record { state = machine; reply = replies.Refused (stamp_number_of fault) }
 
--- worker w of machine m stamps its task by a reading, if it has a task without a stamp, and such a reading
-abbrev pub stamp_with : WorldState → ℕ → ℕ → ℕ → MachineState → Option Task → Option Interval → Outcome
-stamp_with world at m w machine None reading = refused world bad.NothingThere
-stamp_with world at m w machine (Some (tasks.Stamped id stamp)) reading = refused world bad.NothingThere
-stamp_with world at m w machine (Some (tasks.Arrived arrival)) None = refused world bad.NothingThere
-stamp_with world at m w machine (Some (tasks.Arrived arrival)) (Some reading) =
-    after_turn world at m (stamp_turn machine w arrival.id (stamp_of (given_in machine.row) reading.hi arrival.floor machine.lease)) []
-
--- worker w of machine m, if it is there, stamps its task by its last reading since the arrival
-abbrev pub stamp_on : WorldState → ℕ → ℕ → ℕ → Option MachineState → Outcome
-stamp_on world at m w None = refused world bad.UnknownNumber
-stamp_on world at m w (Some machine) =
-    if not (nat_lt w (length machine.workers)) then refused world bad.UnknownNumber
-    else stamp_with world at m w machine (worker_at machine w).task (worker_at machine w).since
+-- the worker stamps its task by a reading, if it has a task without a stamp, and such a reading
+abbrev pub stamp_with : MachineState → ℕ → Option Task → Option Interval → Judged MachineState
+stamp_with machine w (Some (tasks.Arrived arrival)) (Some reading) =
+    Ok (stamp_turn machine w arrival.id (stamp_of (given_in machine.row) reading.hi arrival.floor machine.lease))
+stamp_with machine w task reading = Err bad.NothingThere
 
 -- the worker queues its task, or is refused to
-abbrev pub queue_turn : MachineState → ℕ → Id → ℕ → Option BookFault → Turn
+abbrev pub queue_turn : MachineState → ℕ → Id → ℕ → Option BookFault → Turn MachineState
 queue_turn machine w id stamp None = record {
-  machine = record (with_worker machine w (record (worker_at machine w) { task = None })) { book = entries.Queued id stamp ∷ machine.book };
+  state = record (with_worker machine w (record (worker_at machine w) { task = None })) { book = entries.Queued id stamp ∷ machine.book };
   reply = replies.Queued;
 }
-queue_turn machine w id stamp (Some fault) = record { machine = machine; reply = replies.Refused (book_number_of fault) }
+queue_turn machine w id stamp (Some fault) = record { state = machine; reply = replies.Refused (book_number_of fault) }
 
--- worker w of machine m queues its task, if that has a stamp
-abbrev pub queue_with : WorldState → ℕ → ℕ → ℕ → MachineState → Option Task → Outcome
-queue_with world at m w machine None = refused world bad.NothingThere
-queue_with world at m w machine (Some (tasks.Arrived arrival)) = refused world bad.NothingThere
-queue_with world at m w machine (Some (tasks.Stamped id stamp)) =
-    after_turn world at m (queue_turn machine w id stamp (first_queue_fault machine.book id stamp)) []
-
--- worker w of machine m, if it is there, queues its task
-abbrev pub queue_on : WorldState → ℕ → ℕ → ℕ → Option MachineState → Outcome
-queue_on world at m w None = refused world bad.UnknownNumber
-queue_on world at m w (Some machine) =
-    if not (nat_lt w (length machine.workers)) then refused world bad.UnknownNumber
-    else queue_with world at m w machine (worker_at machine w).task
+-- the worker queues its task, if that has a stamp
+abbrev pub queue_with : MachineState → ℕ → Option Task → Judged MachineState
+queue_with machine w (Some (tasks.Stamped id stamp)) = Ok (queue_turn machine w id stamp (first_queue_fault machine.book id stamp))
+queue_with machine w task = Err bad.NothingThere
 
 -- the worker releases with a reading
-abbrev pub release_turn : MachineState → Interval → Turn
+abbrev pub release_turn : MachineState → Interval → Turn MachineState
 release_turn machine reading = record {
-  machine = record machine { book = with_receipts (release_of (waiting_of machine.book) reading.lo) machine.book };
+  state = record machine { book = with_receipts (release_of (waiting_of machine.book) reading.lo) machine.book };
   reply = replies.Released (release_of (waiting_of machine.book) reading.lo);
 }
 
--- machine m releases with a reading, if there is one
-abbrev pub release_with : WorldState → ℕ → ℕ → MachineState → Option Interval → Outcome
-release_with world at m machine None = refused world bad.NothingThere
-release_with world at m machine (Some reading) = after_turn world at m (release_turn machine reading) []
+-- the machine releases with a reading, if there is one
+abbrev pub release_with : MachineState → Option Interval → Judged MachineState
+release_with machine None = Err bad.NothingThere
+release_with machine (Some reading) = Ok (release_turn machine reading)
 
--- worker w of machine m, if it is there, releases with its last reading
-abbrev pub release_on : WorldState → ℕ → ℕ → ℕ → Option MachineState → Outcome
-release_on world at m w None = refused world bad.UnknownNumber
-release_on world at m w (Some machine) =
-    if not (nat_lt w (length machine.workers)) then refused world bad.UnknownNumber
-    else release_with world at m machine (worker_at machine w).reading
+-- what worker w of a machine makes of its work, or why that is bad
+abbrev pub work_on : MachineState → ℕ → Work → Judged MachineState
+work_on machine w (works.Read clock k) = if is_back_on machine clock then Err bad.ClockBack else read_from machine w clock k (readable_on machine w k)
+work_on machine w (works.Arrive arrival) = Ok (arrive_turn machine w arrival)
+work_on machine w works.Stamp = stamp_with machine w (worker_at machine w).task (worker_at machine w).since
+work_on machine w works.Queue = queue_with machine w (worker_at machine w).task
+work_on machine w works.Release = release_with machine (worker_at machine w).reading
+
+-- what a machine makes of a deed, as machine m, or why that is bad
+abbrev pub deed_on : ℕ → MachineState → Deed → Judged MachineState
+deed_on m machine (deeds.Restart clock) =
+    if nat_lt max_time clock then Err bad.ClockBack
+    else if machine.life == 2 ^ 64 - 1 then Err bad.LivesUsedUp
+    else Ok (restart_turn m machine clock)
+deed_on m machine (deeds.Lease lease) = Ok (lease_turn machine lease)
+deed_on m machine (deeds.Work w work) = if nat_lt w (length machine.workers) then work_on machine w work else Err bad.UnknownNumber
+
+-- machine m, if it is there, does a deed
+abbrev pub on_machine : WorldState → ℕ → ℕ → Deed → Option MachineState → Judged WorldState
+on_machine world at m deed None = Err bad.UnknownNumber
+on_machine world at m deed (Some machine) = turned world at m (deed_on m machine deed)
 
 -- what an action makes at a true time
-abbrev pub acted : WorldState → ℕ → Action → Outcome
+abbrev pub acted : WorldState → ℕ → Action → Judged WorldState
 acted world at (Send m i clock) = send_on world at m i clock (slice_get world.machines m)
 acted world at (Answer packet span) = answer_on world at (answer_to (slice_get world.packets packet) span)
 acted world at (Forge m i payload) = forge_on world at m i payload (slice_get world.machines m)
 acted world at (Deliver packet clock) = deliver_on world at clock (slice_get world.packets packet)
 acted world at (Fuse m clock) = fuse_on world at m clock (slice_get world.machines m)
-acted world at (Read m w clock k) = read_on world at m w clock k (slice_get world.machines m)
-acted world at (Arrive m w id floor) = arrive_on world at m w (record { id = id; floor = floor }) (slice_get world.machines m)
-acted world at (Stamp m w) = stamp_on world at m w (slice_get world.machines m)
-acted world at (Queue m w) = queue_on world at m w (slice_get world.machines m)
-acted world at (Restart m clock) = restart_on world at m clock (slice_get world.machines m)
-acted world at (Lease m lease) = lease_on world at m lease (slice_get world.machines m)
-acted world at (Release m w) = release_on world at m w (slice_get world.machines m)
+acted world at (Read m w clock k) = on_machine world at m (deeds.Work w (works.Read clock k)) (slice_get world.machines m)
+acted world at (Arrive m w id floor) = on_machine world at m (deeds.Work w (works.Arrive (record { id = id; floor = floor }))) (slice_get world.machines m)
+acted world at (Stamp m w) = on_machine world at m (deeds.Work w works.Stamp) (slice_get world.machines m)
+acted world at (Queue m w) = on_machine world at m (deeds.Work w works.Queue) (slice_get world.machines m)
+acted world at (Restart m clock) = on_machine world at m (deeds.Restart clock) (slice_get world.machines m)
+acted world at (Lease m lease) = on_machine world at m (deeds.Lease lease) (slice_get world.machines m)
+acted world at (Release m w) = on_machine world at m (deeds.Work w works.Release) (slice_get world.machines m)
 
 -- what an event makes
-abbrev pub stepped : WorldState → Event → Outcome
+abbrev pub stepped : WorldState → Event → Judged WorldState
 stepped world event =
-    if nat_lt event.at world.time || nat_lt max_time event.at then refused world bad.TimeBack
+    if nat_lt event.at world.time || nat_lt max_time event.at then Err bad.TimeBack
     else acted world event.at event.action
 
 -- where the action polls, fewer packets were put than a nonce can count
@@ -345,22 +299,23 @@ abbrev pub HasRoom : WorldState → Action → Type 0
 HasRoom world (Send m i clock) = length world.packets < 2 ^ 64 - 1
 HasRoom world _ = Unit {0}
 
--- where memory was refused for an action with this reply: it is one for which the action takes memory, or that of a poll whose machine has used up its nonces, which no run of this length has
+-- where memory may be refused for an action that makes this reply: where the action takes memory for it, and at each poll, of which no run of this length has used up the nonces
 abbrev pub WantsMemory : Action → Reply → Type 0
-WantsMemory (Send m i clock) reply = ¬ IsBadReply reply
+WantsMemory (Send m i clock) reply = Unit {0}
 WantsMemory _ reply = TakesMemory reply
-
--- the action is bad for this reason, or memory was refused for it
-abbrev pub IsRefusal : Action → WorldFault → WorldState → Outcome → Type 0
-IsRefusal action bad.Memory world outcome = WantsMemory action outcome.reply
-IsRefusal action fault world outcome = outcome ≡ refused world fault
 
 -- the answer to an event that is bad for a reason; an allocation that failed is no reply
 abbrev pub refusal_reply : WorldFault → Result Reply WorldFault
 refusal_reply bad.Memory = Err bad.Memory
 refusal_reply fault = Ok (bad_reply fault)
 
--- a call for an action that answered this, and left this, did what the outcome says, or changed nothing and gave the reason
-abbrev pub Does : Action → Outcome → WorldState → Result Reply WorldFault → WorldState → Type 0
-Does action outcome old (Ok reply) new = outcome ≡ record { world = new; reply = reply }
-Does action outcome old (Err fault) new = (new ≡ old) × IsRefusal action fault old outcome
+-- the event is bad for this reason, or memory was refused where it is wanted
+abbrev pub IsRefusal : {S : Type 0} → (Reply → Type 0) → WorldFault → Judged S → Type 0
+IsRefusal wants bad.Memory (Ok turn) = wants turn.reply
+IsRefusal wants bad.Memory (Err fault) = ⊥
+IsRefusal wants fault judged = judged ≡ Err fault
+
+-- a call that answered this, and left this, did what was judged, or changed nothing and gave the reason
+abbrev pub Does : {S : Type 0} → (Reply → Type 0) → Judged S → S → Result Reply WorldFault → S → Type 0
+Does wants judged old (Ok reply) new = judged ≡ Ok (record { state = new; reply = reply })
+Does wants judged old (Err fault) new = (new ≡ old) × IsRefusal wants fault judged

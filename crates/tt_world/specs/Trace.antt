@@ -1,5 +1,5 @@
 -- What a run answers.
-use Rattle.std.specs.Prelude.{◌≡◌, List, [], map, reverse}
+use Rattle.std.specs.Prelude.{◌≡◌, ◌≤◌, List, [], length, map, reverse}
 use Rattle.tt_world.specs.declared.events.Reply.{Reply}
 use Rattle.tt_world.specs.declared.publications.Shown.{Shown}
 use Rattle.tt_daemon.specs.Config.{Configuration}
@@ -26,8 +26,9 @@ outline s = record {
   faulty = s.fused.faulty;
 }
 
--- the trace is that of a run of these events, the oldest first, on these machines: machines and events are such as can be, each reply is the one that is defined, and each publication is shown with its certificate
+-- the trace is that of a run of these events, the oldest first, on these machines: there are eight machines at most, machines and events are such as can be, each reply is the one that is defined, and each publication is shown with its certificate
 pub record IsTraceOf (configs : List Configuration) (events : List Event) (trace : RunTrace) : Type 0 where
+  pub few : length configs ≤ 8
   pub configurations : AreConfigurations configs
   pub can_be : AreEvents events
   pub replies : trace.replies ≡ replies_from configs [] events

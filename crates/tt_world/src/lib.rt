@@ -28,8 +28,8 @@
 //! - `events`: what happens, and what is replied.
 //! - `breaches`: what breaks the assumptions of a run.
 //! - `packets`: what is on its way between machines and sources.
-//! - `publications`: what a machine has published, and what is shown of it.
-//! - `workers`: what is kept of one worker.
+//! - `publications`: what is shown of what a machine has published.
+//! - `workers`: what is kept of one worker. `deeds`: what a machine is asked to do by itself.
 //! - `machines`: what is kept of one machine.
 //! - `world`: a whole run, event by event.
 //! - `runs`: whole runs.
@@ -37,6 +37,7 @@
 #![tactic(auto)]
 
 mod breaches;
+mod deeds;
 mod events;
 mod faults;
 mod machines;

@@ -1,6 +1,6 @@
 //! What is kept of one machine.
 
-ghost use Rattle.std.specs.Prelude.{◌≡◌, List, [], ℕ, ◌+◌, ◌++◌, ◌<◌, ◌≤◌, length, map, OnOk, OnErr, IfOk, IfErr, IsErrOf, IsOk, IsTrue, false, Some, None, Ok, Err};
+ghost use Rattle.std.specs.Prelude.{◌≡◌, List, [], ℕ, ◌+◌, ◌++◌, ◌<◌, ◌≤◌, length, map, OnOk, OnErr, IfOk, IfErr, IsOk, IfSome, MatchResult, Ok, Err};
 ghost use Rattle.std.specs.Vec.{vec_len, vec_capacity};
 ghost use Rattle.tt_span.specs.Time.{max_time};
 ghost use Rattle.tt_source.specs.Table.{poll_of, take_of, is_known_of};
@@ -11,26 +11,30 @@ ghost use Rattle.tt_world.specs.State.{MachineState, IsMachine, machine_of};
 ghost use Rattle.tt_world.specs.Headline.{CertificatesProve};
 ghost use Rattle.tt_world.specs.Publications.{showing_of};
 ghost use Rattle.tt_world.specs.Trace.{outline};
-ghost use Rattle.tt_world.specs.Step.{is_back_on, spans_on, with_table, take_turn, publish_turn, fusion_on, read_turn, readable_on, worker_at, arrive_turn, lease_turn, machine_in, is_last_life_on, restart_turn, stamp_turn, given_in, queue_turn, release_turn};
-ghost use Rattle.tt_stamp.specs.Stamp.{stamp_of};
-ghost use Rattle.tt_stamp.specs.History.{first_queue_fault};
+ghost use Rattle.tt_daemon.specs.Daemon.{spans_of};
+ghost use Rattle.tt_daemon.specs.Fault.{number_of};
+ghost use Rattle.tt_daemon.specs.Publication.{IsPublication};
+ghost use Rattle.tt_publish.specs.Reading.{fused_span_of};
+ghost use Rattle.tt_world.specs.Reply.{TakesMemory};
+ghost use Rattle.tt_world.specs.Step.{is_back_on, with_table, take_turn, publish_turn, fusion_on, readable_on, machine_in, arrive_turn, work_on, deed_on, Does};
 ghost use Rattle.tt_stamp.specs.declared.commits.Entry.{Entry};
 ghost use Rattle.tt_stamp.specs.declared.commits.Receipt.{Receipt};
 
+use crate::deeds::{Deed, Work};
 use crate::events::{Receipts, Reply};
 use crate::faults::WorldFault;
 use crate::packets::Packet;
-use crate::publications::{Publication, Shown};
+use crate::publications::Shown;
 use crate::workers::{Arrival, Task, Worker};
 use arrayvec::ArrayVec;
 use std::alloc::Global;
 use std::marker::Model;
-use tt_daemon::{Config, Daemon, MAX_WORKERS};
+use tt_daemon::{Config, Daemon, DaemonFault, Fused, MAX_WORKERS};
 use tt_poll::{encode_answer2, encode_request2};
-use tt_publish::Reading;
+use tt_publish::FusedSpan;
 use tt_source::SourceFault;
 use tt_span::{MAX_TIME, Span};
-use tt_stamp::{Book, BookFault, Entry, Id, Receipt, Row, book_laws};
+use tt_stamp::{Book, BookFault, Entry, Receipt, Row, book_laws};
 
 /// One machine in the life that it is in: its daemon, the number of the life, its lease, what its clock showed last, what
 /// it has published, the greatest stamp that it has given, the book of its commits, and its workers.
@@ -40,7 +44,7 @@ pub struct Machine {
     life: u64,
     lease: Span,
     clock: u64,
-    publications: Vec<Publication>,
+    publications: Vec<FusedSpan>,
     row: Row,
     book: Book,
     workers: ArrayVec<Worker, MAX_WORKERS>,
@@ -53,9 +57,9 @@ impl Model for Machine {
 
     ghost Value = { MachineState };
 
-    ghost view = { λ m. record { config = m.daemon.config; table = m.daemon.table; life = m.life; lease = m.lease; clock = m.clock; publications = m.publications.items; row = m.row; book = m.book; workers = m.workers.items } };
+    ghost view = { λ m. record { daemon = m.daemon; life = m.life; lease = m.lease; clock = m.clock; publications = m.publications.items; row = m.row; book = m.book; workers = m.workers.items } };
 
-    ghost invariant = { λ m. IsMachine (record { config = m.daemon.config; table = m.daemon.table; life = m.life; lease = m.lease; clock = m.clock; publications = m.publications.items; row = m.row; book = m.book; workers = m.workers.items }) };
+    ghost invariant = { λ m. IsMachine (record { daemon = m.daemon; life = m.life; lease = m.lease; clock = m.clock; publications = m.publications.items; row = m.row; book = m.book; workers = m.workers.items }) };
 }
 
 impl Machine {
@@ -99,7 +103,7 @@ impl Machine {
 
     /// What the machine is set up with.
     pub fn config(&self) -> Config
-        ensures value { result ≡ self.now.config }
+        ensures value { result ≡ self.now.daemon.config }
         ensures valid { IsMachine self.now }
     {
         *self.daemon.config()
@@ -115,7 +119,7 @@ impl Machine {
 
     /// Whether the source has made a statement; false where it is not there.
     pub fn is_known(&self, source: u8) -> bool
-        ensures { result ≡ is_known_of self.now.table source }
+        ensures { result ≡ is_known_of self.now.daemon.table source }
     {
         self.daemon.is_known(source)
     }
@@ -124,9 +128,9 @@ impl Machine {
     pub fn poll(&mut self, source: u8, clock: u64) -> Result<(u64, u64), SourceFault>
         requires forward { self.old.clock ≤ clock }
         requires in_time { clock ≤ max_time }
-        ensures polled { IfOk result (λ made. (poll_of self.old.table source clock ≡ Ok self.new.table)
-            × (self.new ≡ with_table self.old clock self.new.table) × (made.0 ≡ self.new.table.last) × (0 < made.0) × (made.1 ≡ self.new.table.epoch) × (0 < made.1)) }
-        ensures refused { IfErr result (λ e. (poll_of self.old.table source clock ≡ Err e) × (self.new ≡ record self.old { clock = clock })) }
+        ensures polled { IfOk result (λ made. (poll_of self.old.daemon.table source clock ≡ Ok self.new.daemon.table)
+            × (self.new ≡ with_table self.old clock self.new.daemon.table) × (made.0 ≡ self.new.daemon.table.last) × (0 < made.0) × (made.1 ≡ self.new.daemon.table.epoch) × (0 < made.1)) }
+        ensures refused { IfErr result (λ e. (poll_of self.old.daemon.table source clock ≡ Err e) × (self.new ≡ record self.old { clock = clock })) }
     {
         self.clock = clock;
         self.daemon.poll(source, clock)?;
@@ -137,7 +141,7 @@ impl Machine {
     pub fn take(&mut self, source: u8, clock: u64, bytes: &[u8]) -> Reply
         requires forward { self.old.clock ≤ clock }
         requires in_time { clock ≤ max_time }
-        ensures { record { machine = self.new; reply = result } ≡ take_turn self.old clock (take_of self.old.table source clock bytes.now) }
+        ensures { record { state = self.new; reply = result } ≡ take_turn self.old clock (take_of self.old.daemon.table source clock bytes.now) }
     {
         self.clock = clock;
         match self.daemon.take(source, clock, bytes) {
@@ -150,7 +154,7 @@ impl Machine {
     pub fn take_packet(&mut self, clock: u64, packet: &Packet) -> Reply
         requires forward { self.old.clock ≤ clock }
         requires in_time { clock ≤ max_time }
-        ensures { record { machine = self.new; reply = result } ≡ take_turn self.old clock (take_of self.old.table (source_of_packet packet.now) clock (bytes_of packet.now)) }
+        ensures { record { state = self.new; reply = result } ≡ take_turn self.old clock (take_of self.old.daemon.table (source_of_packet packet.now) clock (bytes_of packet.now)) }
     {
         match packet {
             Packet::Asked(request) => self.take(request.source(), clock, &encode_request2(request)),
@@ -163,6 +167,18 @@ impl Machine {
         }
     }
 
+    /// Fuses what is known of all sources.
+    fn fusion(&mut self, clock: u64) -> Result<Fused, DaemonFault>
+        requires forward { self.old.clock ≤ clock }
+        requires in_time { clock ≤ max_time }
+        ensures value { MatchResult result (λ p. fusion_on self.old clock ≡ Ok (fused_span_of p)) (λ e. fusion_on self.old clock ≡ Err (number_of e)) }
+        ensures made { IfOk result (λ p. (p.clock ≡ clock) × (p.spans ≡ spans_of self.old.daemon clock) × (p.faulty ≡ self.old.daemon.config.faulty)) }
+        ensures publication { IfOk result (λ p. IsPublication p) }
+        ensures unchanged { self.new ≡ self.old }
+    {
+        self.daemon.fuse(clock)
+    }
+
     /// Fuses what is known of all sources, and publishes it: the fusion is shown after the others, as one of the
     /// machine of this number. Memory is wanted only where the fusion was made; want of it changes nothing.
     pub fn fuse(
@@ -173,23 +189,23 @@ impl Machine {
     ) -> Result<Reply, WorldFault>
         requires forward { self.old.clock ≤ clock }
         requires in_time { clock ≤ max_time }
-        ensures fused { IfOk result (λ reply. record { machine = self.new; reply = reply } ≡ publish_turn self.old clock (fusion_on self.old clock)) }
+        ensures fused { IfOk result (λ reply. record { state = self.new; reply = reply } ≡ publish_turn self.old clock (fusion_on self.old clock)) }
         ensures shown { OnOk result (map outline shown.new.items ≡ map outline shown.old.items
-            ++ showing_of (record { machine = machine; number = self.old.life }) (length self.old.publications + 1) (spans_on self.old clock) self.old.config.faulty (fusion_on self.old clock)) }
+            ++ showing_of (record { machine = machine; number = self.old.life }) (length self.old.publications + 1) (spans_of self.old.daemon clock) self.old.daemon.config.faulty (fusion_on self.old clock)) }
         ensures certified { CertificatesProve shown.old.items → CertificatesProve shown.new.items }
         ensures memory { IfErr result (λ e. e ≡ WorldFault.Memory) }
         // Memory is taken only where the fusion is not refused.
         ensures memory_only { OnErr result (IsOk (fusion_on self.old clock)) }
         ensures unchanged { OnErr result ((self.new ≡ self.old) × (shown.new.items ≡ shown.old.items)) }
     {
-        match self.daemon.fuse(clock) {
+        match self.fusion(clock) {
             Ok(fused) => {
                 self.publications.reserve(1)?;
                 shown.reserve(1)?;
                 self.clock = clock;
                 let number = self.publications.len() as u64 + 1;
                 let span = fused.span();
-                self.publications.push_reserved(Publication { clock, span });
+                self.publications.push_reserved(FusedSpan { clock, span });
                 shown.push_reserved(Shown {
                     machine,
                     life: self.life,
@@ -205,19 +221,88 @@ impl Machine {
         }
     }
 
-    /// How many workers the machine has.
-    pub fn workers(&self) -> usize
-        ensures value { result ≡ length self.now.workers }
-        ensures valid { IsMachine self.now }
+    /// Does a deed, as the machine of this number, or answers why it is bad: 1202 `ClockBack`, 1204 `NoPublication`,
+    /// 1205 `NothingThere`, 1206 `UnknownNumber` where there is no such worker, or 1208 `LivesUsedUp`. A bad deed
+    /// changes nothing, and nor does want of memory.
+    pub fn act(&mut self, alloc: Global, number: u8, deed: Deed) -> Result<Reply, WorldFault>
+        requires { number < 8 }
+        ensures { Does TakesMemory (deed_on number self.old deed) self.old result self.new }
     {
-        self.workers.len()
+        match deed {
+            Deed::Restart(clock) => self.restart(alloc, number, clock),
+            Deed::Lease(lease) => {
+                self.lease = lease;
+                Ok(Reply::Leased)
+            }
+            Deed::Work(worker, work) => {
+                if usize::from(worker) >= self.workers.len() {
+                    return Err(WorldFault::UnknownNumber);
+                }
+                self.work(alloc, worker, work)
+            }
+        }
+    }
+
+    /// Restarts, as the machine of this number.
+    fn restart(&mut self, alloc: Global, number: u8, clock: u64) -> Result<Reply, WorldFault>
+        requires { number < 8 }
+        ensures { Does TakesMemory (deed_on number self.old (Deed.Restart clock)) self.old result self.new }
+    {
+        if clock > MAX_TIME {
+            return Err(WorldFault::ClockBack);
+        }
+        if self.life == u64::MAX {
+            return Err(WorldFault::LivesUsedUp);
+        }
+        let life = self.life + 1;
+        *self = Machine::in_life(alloc, number, self.config(), life, self.lease, clock);
+        Ok(Reply::Restarted(life))
+    }
+
+    /// Lets a worker do its work.
+    fn work(&mut self, alloc: Global, worker: u8, work: Work) -> Result<Reply, WorldFault>
+        requires { worker < length self.old.workers }
+        ensures { Does TakesMemory (work_on self.old worker work) self.old result self.new }
+    {
+        match work {
+            Work::Read { clock, publication } => self.read(worker, clock, publication),
+            Work::Arrive(arrival) => Ok(self.arrive(worker, arrival)),
+            Work::Stamp => self.stamp(worker),
+            Work::Queue => self.queue(worker),
+            Work::Release => self.release(alloc, worker),
+        }
+    }
+
+    /// The worker reads from the publication of this number.
+    fn read(&mut self, worker: u8, clock: u64, number: u64) -> Result<Reply, WorldFault>
+        requires { worker < length self.old.workers }
+        ensures { Does TakesMemory (work_on self.old worker (Work.Read clock number)) self.old result self.new }
+    {
+        if self.is_back(clock) {
+            return Err(WorldFault::ClockBack);
+        }
+        let Some(publication) = self.readable(worker, number) else {
+            return Err(WorldFault::NoPublication);
+        };
+        let drift = self.daemon.config().drift();
+        let reading = publication.read_at(drift, clock).unwrap();
+        self.clock = clock;
+        let place = usize::from(worker);
+        self.workers[place] = Worker {
+            seen: number,
+            reading: Some(reading),
+            since: Some(reading),
+            ..self.workers[place]
+        };
+        Ok(Reply::Read(reading))
     }
 
     /// The publication of this number, or None where it is not there, or older than one that the worker has read
     /// from.
-    pub fn readable(&self, worker: u8, publication: u64) -> Option<Publication>
+    fn readable(&self, worker: u8, publication: u64) -> Option<FusedSpan>
         requires { worker < length self.now.workers }
-        ensures { result ≡ readable_on self.now worker publication }
+        ensures value { result ≡ readable_on self.now worker publication }
+        ensures made_before { IfSome result (λ p. p.clock ≤ self.now.clock) }
     {
         let count = self.publications.len() as u64;
         if publication == 0
@@ -229,39 +314,10 @@ impl Machine {
         self.publications.get((publication - 1) as usize).copied()
     }
 
-    /// The worker reads from a publication, which has this number.
-    pub fn read(&mut self, worker: u8, clock: u64, number: u64, publication: &Publication) -> Reply
-        requires forward { self.old.clock ≤ clock }
-        requires in_time { clock ≤ max_time }
-        requires there { worker < length self.old.workers }
-        ensures { record { machine = self.new; reply = result } ≡ read_turn self.old worker clock number publication.now }
-    {
-        let since = clock.saturating_sub(publication.clock);
-        let span = self.daemon.config().drift().age(&publication.span, since);
-        self.clock = clock;
-        let reading = Reading::of(span);
-        let place = usize::from(worker);
-        self.workers[place] = Worker {
-            seen: number,
-            reading: Some(reading),
-            since: Some(reading),
-            ..self.workers[place]
-        };
-        Reply::Read(reading)
-    }
-
-    /// What is kept of a worker.
-    pub fn worker(&self, worker: u8) -> Worker
-        requires { worker < length self.now.workers }
-        ensures { result ≡ worker_at self.now worker }
-    {
-        self.workers[usize::from(worker)]
-    }
-
     /// The worker is asked for a commit.
-    pub fn arrive(&mut self, worker: u8, arrival: Arrival) -> Reply
+    fn arrive(&mut self, worker: u8, arrival: Arrival) -> Reply
         requires { worker < length self.old.workers }
-        ensures { record { machine = self.new; reply = result } ≡ arrive_turn self.old worker arrival }
+        ensures { record { state = self.new; reply = result } ≡ arrive_turn self.old worker arrival }
     {
         let place = usize::from(worker);
         self.workers[place] = Worker {
@@ -272,62 +328,41 @@ impl Machine {
         Reply::Arrived
     }
 
-    /// Whether the machine's life has the greatest number.
-    pub fn is_last_life(&self) -> bool
-        ensures value { result ≡ is_last_life_on self.now }
-    {
-        self.life == u64::MAX
-    }
-
-    /// The machine restarts, as the one of this number.
-    pub fn restart(&mut self, alloc: Global, number: u8, clock: u64) -> Reply
-        requires machine_in { number < 8 }
-        requires in_time { clock ≤ max_time }
-        requires not_last { is_last_life_on self.old ≡ false }
-        ensures { record { machine = self.new; reply = result } ≡ restart_turn number self.old clock }
-    {
-        let life = self.life + 1;
-        *self = Machine::in_life(alloc, number, self.config(), life, self.lease, clock);
-        Reply::Restarted(life)
-    }
-
-    /// The machine is granted a lease.
-    pub fn grant(&mut self, lease: Span) -> Reply
-        ensures { record { machine = self.new; reply = result } ≡ lease_turn self.old lease }
-    {
-        self.lease = lease;
-        Reply::Leased
-    }
-
-    /// The worker stamps its task by a reading.
-    pub fn stamp(&mut self, worker: u8, arrival: &Arrival, reading: &Reading) -> Reply
+    /// The worker stamps its task by its last reading since it was asked for it.
+    fn stamp(&mut self, worker: u8) -> Result<Reply, WorldFault>
         requires { worker < length self.old.workers }
-        ensures { record { machine = self.new; reply = result }
-            ≡ stamp_turn self.old worker arrival.now.id (stamp_of (given_in self.old.row) reading.now.hi arrival.now.floor self.old.lease) }
+        ensures { Does TakesMemory (work_on self.old worker Work.Stamp) self.old result self.new }
     {
-        match self.row.stamp(reading, arrival.floor, &self.lease) {
+        let place = usize::from(worker);
+        let kept = self.workers[place];
+        let Some(Task::Arrived(arrival)) = kept.task else {
+            return Err(WorldFault::NothingThere);
+        };
+        let Some(reading) = kept.since else {
+            return Err(WorldFault::NothingThere);
+        };
+        match self.row.stamp(&reading, arrival.floor, &self.lease) {
             Ok(stamp) => {
                 let id = arrival.id;
-                self.workers[usize::from(worker)].task = Some(Task::Stamped { id, stamp });
-                Reply::Stamped(stamp)
+                self.workers[place].task = Some(Task::Stamped { id, stamp });
+                Ok(Reply::Stamped(stamp))
             }
-            Err(fault) => Reply::Refused(fault.number()),
+            Err(fault) => Ok(Reply::Refused(fault.number())),
         }
     }
 
-    /// The worker queues its task, which has a stamp. Want of memory changes nothing.
-    pub fn queue(&mut self, worker: u8, id: Id, stamp: u64) -> Result<Reply, WorldFault>
+    /// The worker queues its stamped task.
+    fn queue(&mut self, worker: u8) -> Result<Reply, WorldFault>
         requires { worker < length self.old.workers }
-        ensures queued { IfOk result (λ reply. record { machine = self.new; reply = reply }
-            ≡ queue_turn self.old worker id stamp (first_queue_fault self.old.book id stamp)) }
-        ensures memory { IfErr result (λ e. e ≡ WorldFault.Memory) }
-        // Memory is taken only where nothing else refuses the commit.
-        ensures memory_only { OnErr result (first_queue_fault self.old.book id stamp ≡ None) }
-        ensures unchanged { OnErr result (self.new ≡ self.old) }
+        ensures { Does TakesMemory (work_on self.old worker Work.Queue) self.old result self.new }
     {
+        let place = usize::from(worker);
+        let Some(Task::Stamped { id, stamp }) = self.workers[place].task else {
+            return Err(WorldFault::NothingThere);
+        };
         match self.book.queue(id, stamp) {
             Ok(()) => {
-                self.workers[usize::from(worker)].task = None;
+                self.workers[place].task = None;
                 Ok(Reply::Queued)
             }
             Err(BookFault::Memory) => Err(WorldFault::Memory),
@@ -335,14 +370,16 @@ impl Machine {
         }
     }
 
-    /// Releases with a reading. Want of memory changes nothing.
-    pub fn release(&mut self, alloc: Global, reading: &Reading) -> Result<Reply, WorldFault>
-        ensures released { IfOk result (λ reply. record { machine = self.new; reply = reply } ≡ release_turn self.old reading.now) }
-        ensures memory { IfErr result (λ e. e ≡ WorldFault.Memory) }
-        ensures unchanged { OnErr result (self.new ≡ self.old) }
+    /// The worker releases with its last reading.
+    fn release(&mut self, alloc: Global, worker: u8) -> Result<Reply, WorldFault>
+        requires { worker < length self.old.workers }
+        ensures { Does TakesMemory (work_on self.old worker Work.Release) self.old result self.new }
     {
-        let mut receipts = Vec::with_capacity(alloc, self.book.releasable(reading))?;
-        let count = self.book.release(reading);
+        let Some(reading) = self.workers[usize::from(worker)].reading else {
+            return Err(WorldFault::NothingThere);
+        };
+        let mut receipts = Vec::with_capacity(alloc, self.book.releasable(&reading))?;
+        let count = self.book.release(&reading);
         book_laws();
         let history = self.book.history();
         copy_receipts(&history[history.len() - count..], &mut receipts);

@@ -1,14 +1,6 @@
-//! What a machine has published.
+//! What is shown of a publication.
 
 use tt_daemon::Fused;
-use tt_span::Span;
-
-/// A fused span, and the clock reading at which it was fused, in nanoseconds.
-#[derive(Clone, Copy, Debug, PartialEq, Eq)]
-pub struct Publication {
-    pub clock: u64,
-    pub span: Span,
-}
 
 /// A publication with all that was fused: which machine made it, in which of its lives, its number among those of this
 /// life, counted from 1, and the fusion with its certificate.

@@ -21,8 +21,6 @@ use crate::world::World;
 use std::alloc::Global;
 use std::marker::Model;
 use tt_daemon::Config;
-use tt_fuse::fusion_laws;
-use tt_stamp::{book_laws, stamp_laws};
 
 /// What a run answers: the reply to each event, and what was published, both in the order of the events.
 #[derive(Drop)]
@@ -102,8 +100,6 @@ pub fn run(alloc: Global, configs: &[Config], events: &[Event]) -> Result<Trace,
         event.recall();
         replies.push(world.step(event)?)?;
     }
-    fusion_laws();
-    stamp_laws();
     Ok(Trace {
         replies,
         shown: world.into_shown(),
@@ -134,8 +130,4 @@ pub fn run_laws()
     // next one. So a commit waits there when it was queued and no later receipt names it.
     ensures legal_books { (configs : List Configuration) (past : List Event) (life : Life) →
         IsLegalHistory (book_of (config_at configs life.machine) (accepted configs past) life) }
-{
-    fusion_laws();
-    stamp_laws();
-    book_laws();
-}
+{}

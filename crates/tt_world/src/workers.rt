@@ -13,15 +13,6 @@ pub struct Arrival {
     pub floor: u64,
 }
 
-impl Arrival {
-    /// The commit with this id, whose stamp is to be the floor at least, in nanoseconds.
-    pub fn new(id: Id, floor: u64) -> Arrival
-        ensures { result ≡ record { id = id; floor = floor } }
-    {
-        Arrival { id, floor }
-    }
-}
-
 /// A worker's task: a commit that has no stamp yet, or one that has.
 #[derive(Clone, Copy, Debug, PartialEq, Eq)]
 pub enum Task {

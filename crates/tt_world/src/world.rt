@@ -10,14 +10,15 @@ ghost use Rattle.tt_world.specs.Bad.{accepted};
 ghost use Rattle.tt_world.specs.Reply.{reply_of, TakesMemory};
 ghost use Rattle.tt_world.specs.State.{WorldState, StandsFor, knows};
 ghost use Rattle.tt_world.specs.Packet.{answer_to};
-ghost use Rattle.tt_world.specs.Step.{Does, HasRoom, IsWorker, send_on, answer_on, forge_on, deliver_on, fuse_on, read_on, arrive_on, stamp_on, queue_on, release_on, lease_on, restart_on, stepped};
+ghost use Rattle.tt_world.specs.Step.{Does, WantsMemory, HasRoom, send_on, answer_on, forge_on, deliver_on, fuse_on, on_machine, stepped};
 
+use crate::deeds::{Deed, Work};
 use crate::events::{Action, Event, Payload, Reply};
 use crate::faults::WorldFault;
 use crate::machines::Machine;
 use crate::packets::Packet;
 use crate::publications::Shown;
-use crate::workers::{Arrival, Task};
+use crate::workers::Arrival;
 use std::alloc::Global;
 use std::marker::Model;
 use tt_daemon::Config;
@@ -55,7 +56,7 @@ impl Model for World {
 impl World {
     /// A machine polls a source.
     fn send(&mut self, at: u64, machine: u8, source: u8, clock: u64) -> Result<Reply, WorldFault>
-        ensures does { Does (Action.Send machine source clock) (send_on self.old at machine source clock (slice_get self.old.machines machine)) self.old result self.new }
+        ensures does { Does (λ _. Unit {0}) (send_on self.old at machine source clock (slice_get self.old.machines machine)) self.old result self.new }
         ensures room { OnOk result (length self.old.packets < 2 ^ 64 - 1) }
     {
         let place = usize::from(machine);
@@ -89,7 +90,7 @@ impl World {
         source: u8,
         payload: &Payload,
     ) -> Result<Reply, WorldFault>
-        ensures { Does (Action.Forge machine source payload.now) (forge_on self.old at machine source payload.now (slice_get self.old.machines machine)) self.old result self.new }
+        ensures { Does TakesMemory (forge_on self.old at machine source payload.now (slice_get self.old.machines machine)) self.old result self.new }
     {
         let place = usize::from(machine);
         if place >= self.machines.len() {
@@ -111,7 +112,7 @@ impl World {
 
     /// A machine fuses what it knows, and publishes it.
     fn fuse(&mut self, at: u64, machine: u8, clock: u64) -> Result<Reply, WorldFault>
-        ensures { Does (Action.Fuse machine clock) (fuse_on self.old at machine clock (slice_get self.old.machines machine)) self.old result self.new }
+        ensures { Does TakesMemory (fuse_on self.old at machine clock (slice_get self.old.machines machine)) self.old result self.new }
     {
         let place = usize::from(machine);
         if place >= self.machines.len() {
@@ -125,135 +126,22 @@ impl World {
         Ok(reply)
     }
 
-    /// A worker reads from a publication.
-    fn read(
-        &mut self,
-        at: u64,
-        machine: u8,
-        worker: u8,
-        clock: u64,
-        number: u64,
-    ) -> Result<Reply, WorldFault>
-        ensures { Does (Action.Read machine worker clock number) (read_on self.old at machine worker clock number (slice_get self.old.machines machine)) self.old result self.new }
-    {
-        let place = self.place_of(machine, worker)?;
-        if self.machines[place].is_back(clock) {
-            return Err(WorldFault::ClockBack);
-        }
-        let Some(publication) = self.machines[place].readable(worker, number) else {
-            return Err(WorldFault::NoPublication);
-        };
-        let reply = self.machines[place].read(worker, clock, number, &publication);
-        self.time = at;
-        Ok(reply)
-    }
-
-    /// A worker is asked for a commit.
-    fn arrive(
-        &mut self,
-        at: u64,
-        machine: u8,
-        worker: u8,
-        arrival: Arrival,
-    ) -> Result<Reply, WorldFault>
-        ensures { Does (Action.Arrive machine worker arrival.id arrival.floor) (arrive_on self.old at machine worker arrival (slice_get self.old.machines machine)) self.old result self.new }
-    {
-        let place = self.place_of(machine, worker)?;
-        let reply = self.machines[place].arrive(worker, arrival);
-        self.time = at;
-        Ok(reply)
-    }
-
-    /// A machine restarts.
-    fn restart(&mut self, at: u64, machine: u8, clock: u64) -> Result<Reply, WorldFault>
-        ensures { Does (Action.Restart machine clock) (restart_on self.old at machine clock (slice_get self.old.machines machine)) self.old result self.new }
+    /// A machine does what it is asked.
+    fn on_machine(&mut self, at: u64, machine: u8, deed: Deed) -> Result<Reply, WorldFault>
+        ensures { Does TakesMemory (on_machine self.old at machine deed (slice_get self.old.machines machine)) self.old result self.new }
     {
         let place = usize::from(machine);
         if place >= self.machines.len() {
             return Err(WorldFault::UnknownNumber);
         }
-        if clock > MAX_TIME {
-            return Err(WorldFault::ClockBack);
-        }
-        if self.machines[place].is_last_life() {
-            return Err(WorldFault::LivesUsedUp);
-        }
-        let reply = self.machines[place].restart(self.alloc, machine, clock);
+        let reply = self.machines[place].act(self.alloc, machine, deed)?;
         self.time = at;
         Ok(reply)
-    }
-
-    /// A machine is granted a lease.
-    fn lease(&mut self, at: u64, machine: u8, lease: Span) -> Result<Reply, WorldFault>
-        ensures { Does (Action.Lease machine lease) (lease_on self.old at machine lease (slice_get self.old.machines machine)) self.old result self.new }
-    {
-        let place = usize::from(machine);
-        if place >= self.machines.len() {
-            return Err(WorldFault::UnknownNumber);
-        }
-        let reply = self.machines[place].grant(lease);
-        self.time = at;
-        Ok(reply)
-    }
-
-    /// A worker stamps its task.
-    fn stamp(&mut self, at: u64, machine: u8, worker: u8) -> Result<Reply, WorldFault>
-        ensures { Does (Action.Stamp machine worker) (stamp_on self.old at machine worker (slice_get self.old.machines machine)) self.old result self.new }
-    {
-        let place = self.place_of(machine, worker)?;
-        let kept = self.machines[place].worker(worker);
-        let Some(Task::Arrived(arrival)) = kept.task else {
-            return Err(WorldFault::NothingThere);
-        };
-        let Some(reading) = kept.since else {
-            return Err(WorldFault::NothingThere);
-        };
-        let reply = self.machines[place].stamp(worker, &arrival, &reading);
-        self.time = at;
-        Ok(reply)
-    }
-
-    /// A worker queues its stamped task.
-    fn queue(&mut self, at: u64, machine: u8, worker: u8) -> Result<Reply, WorldFault>
-        ensures { Does (Action.Queue machine worker) (queue_on self.old at machine worker (slice_get self.old.machines machine)) self.old result self.new }
-    {
-        let place = self.place_of(machine, worker)?;
-        let Some(Task::Stamped { id, stamp }) = self.machines[place].worker(worker).task else {
-            return Err(WorldFault::NothingThere);
-        };
-        let reply = self.machines[place].queue(worker, id, stamp)?;
-        self.time = at;
-        Ok(reply)
-    }
-
-    /// A worker releases with its last reading.
-    fn release(&mut self, at: u64, machine: u8, worker: u8) -> Result<Reply, WorldFault>
-        ensures { Does (Action.Release machine worker) (release_on self.old at machine worker (slice_get self.old.machines machine)) self.old result self.new }
-    {
-        let place = self.place_of(machine, worker)?;
-        let Some(reading) = self.machines[place].worker(worker).reading else {
-            return Err(WorldFault::NothingThere);
-        };
-        let reply = self.machines[place].release(self.alloc, &reading)?;
-        self.time = at;
-        Ok(reply)
-    }
-
-    /// The place of a machine that has this worker.
-    fn place_of(&self, machine: u8, worker: u8) -> Result<usize, WorldFault>
-        ensures there { IfOk result (λ place. (place ≡ machine) × IsWorker self.now machine worker) }
-        ensures not_there { IfErr result (λ e. (e ≡ WorldFault.UnknownNumber) × (IsWorker self.now machine worker → ⊥)) }
-    {
-        let place = usize::from(machine);
-        if place >= self.machines.len() || usize::from(worker) >= self.machines[place].workers() {
-            return Err(WorldFault::UnknownNumber);
-        }
-        Ok(place)
     }
 
     /// The source that a request asks answers it.
     fn answer(&mut self, at: u64, packet: u64, span: Span) -> Result<Reply, WorldFault>
-        ensures { Does (Action.Answer packet span) (answer_on self.old at (answer_to (slice_get self.old.packets packet) span)) self.old result self.new }
+        ensures { Does TakesMemory (answer_on self.old at (answer_to (slice_get self.old.packets packet) span)) self.old result self.new }
     {
         let Some(Packet::Asked(request)) = self.packets.get(packet as usize) else {
             return Err(WorldFault::NoPacket);
@@ -274,7 +162,7 @@ impl World {
 
     /// A packet that is no request reaches its machine.
     fn deliver(&mut self, at: u64, packet: u64, clock: u64) -> Result<Reply, WorldFault>
-        ensures { Does (Action.Deliver packet clock) (deliver_on self.old at clock (slice_get self.old.packets packet)) self.old result self.new }
+        ensures { Does TakesMemory (deliver_on self.old at clock (slice_get self.old.packets packet)) self.old result self.new }
     {
         let Some(found) = self.packets.get(packet as usize) else {
             return Err(WorldFault::NoPacket);
@@ -296,7 +184,7 @@ impl World {
 
     /// What an event makes, or why it is bad.
     fn act(&mut self, event: &Event) -> Result<Reply, WorldFault>
-        ensures does { Does event.now.action (stepped self.old event.now) self.old result self.new }
+        ensures does { Does (WantsMemory event.now.action) (stepped self.old event.now) self.old result self.new }
         ensures room { OnOk result (HasRoom self.old event.now.action) }
     {
         let at = event.at;
@@ -322,18 +210,40 @@ impl World {
                 worker,
                 clock,
                 publication,
-            } => self.read(at, *machine, *worker, *clock, *publication),
+            } => {
+                let work = Work::Read {
+                    clock: *clock,
+                    publication: *publication,
+                };
+                self.on_machine(at, *machine, Deed::Work(*worker, work))
+            }
             Action::Arrive {
                 machine,
                 worker,
                 id,
                 floor,
-            } => self.arrive(at, *machine, *worker, Arrival::new(*id, *floor)),
-            Action::Stamp { machine, worker } => self.stamp(at, *machine, *worker),
-            Action::Queue { machine, worker } => self.queue(at, *machine, *worker),
-            Action::Restart { machine, clock } => self.restart(at, *machine, *clock),
-            Action::Lease { machine, lease } => self.lease(at, *machine, *lease),
-            Action::Release { machine, worker } => self.release(at, *machine, *worker),
+            } => {
+                let arrival = Arrival {
+                    id: *id,
+                    floor: *floor,
+                };
+                self.on_machine(at, *machine, Deed::Work(*worker, Work::Arrive(arrival)))
+            }
+            Action::Stamp { machine, worker } => {
+                self.on_machine(at, *machine, Deed::Work(*worker, Work::Stamp))
+            }
+            Action::Queue { machine, worker } => {
+                self.on_machine(at, *machine, Deed::Work(*worker, Work::Queue))
+            }
+            Action::Restart { machine, clock } => {
+                self.on_machine(at, *machine, Deed::Restart(*clock))
+            }
+            Action::Lease { machine, lease } => {
+                self.on_machine(at, *machine, Deed::Lease(*lease))
+            }
+            Action::Release { machine, worker } => {
+                self.on_machine(at, *machine, Deed::Work(*worker, Work::Release))
+            }
         }
     }
 

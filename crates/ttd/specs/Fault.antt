@@ -4,10 +4,13 @@ use Rattle.tt_poll.specs.Fault.{number_of as poll_number}
 use Rattle.tt_source.specs.Fault.{number_of as source_number}
 use Rattle.tt_fuse.specs.Fault.{number_of as fusion_number}
 use Rattle.tt_cert.specs.Fault.{number_of as certificate_number}
+use Rattle.tt_script.specs.Fault.{number_of as script_number}
+use Rattle.tt_twin.specs.TwinFault.{number_of as twin_number}
+use Rattle.tt_world.specs.Fault.{number_of as world_number}
 use Rattle.ttd.specs.declared.ending.Status.{Status}
-use Rattle.ttd.specs.declared.ending.Status.TheVariants.{Fine, Memory as NoMemory, Bad, Device}
+use Rattle.ttd.specs.declared.ending.Status.TheVariants.{Fine, Memory as NoMemory, Bad, Broken, Device}
 use Rattle.ttd.specs.declared.faults.Fault.{Fault}
-use Rattle.ttd.specs.declared.faults.Fault.TheVariants.{BadWords, BadHex, BadInput, ReadFailed, Poll, Source, Fusion, Certificate, Memory}
+use Rattle.ttd.specs.declared.faults.Fault.TheVariants.{BadWords, BadHex, BadInput, ReadFailed, Poll, Source, Fusion, Certificate, Script, Twin, World, Memory}
 
 -- The number of each refusal.
 abbrev pub number_of : Fault → ℕ
@@ -19,6 +22,9 @@ number_of (Poll fault) = poll_number fault
 number_of (Source fault) = source_number fault
 number_of (Fusion fault) = fusion_number fault
 number_of (Certificate fault) = certificate_number fault
+number_of (Script fault) = script_number fault
+number_of (Twin fault) = twin_number fault
+number_of (World fault) = world_number fault
 number_of Memory = 1
 
 -- How the program ends after each refusal: as at a device fault where reading failed, as out of memory, and else as at what was rejected.
@@ -32,4 +38,5 @@ abbrev pub code_of : Status → ℕ
 code_of Fine = 0
 code_of NoMemory = 1
 code_of Bad = 2
+code_of Broken = 3
 code_of Device = 4

@@ -6,4 +6,6 @@ pub mod Age
 pub mod SpansText
 pub mod Fuse
 pub mod Check
+pub mod Running
+pub mod Twinning
 pub mod Command

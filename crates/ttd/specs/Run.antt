@@ -63,9 +63,9 @@ pub record IsRead (bytes : List ℕ) (old new : Input) : Type 0 where
 
 -- The input was read, and the answer is the one for a reply to its bytes; or reading failed, and that is the answer; or memory ran out,
 -- and that is the answer.
-abbrev pub Answers : (List ℕ → Result (List ℕ) Fault → Type 0) → Input → Input → Output → Output → Status → Type 0
+abbrev pub Answers : (List ℕ → Result Answer Fault → Type 0) → Input → Input → Output → Output → Status → Type 0
 Answers IsReplyOf old_in new_in old_out new_out status =
-    ((bytes : List ℕ) × (reply : Result (List ℕ) Fault) × IsRead bytes old_in new_in × IsReplyOf bytes reply
+    ((bytes : List ℕ) × (reply : Result Answer Fault) × IsRead bytes old_in new_in × IsReplyOf bytes reply
     × Gives (answer_of reply) old_out new_out status)
     ⊎ ((HasFailed old_in.failed new_in.failed × Gives (answer_of (Err ReadFailed)) old_out new_out status)
     ⊎ Gives memory_answer old_out new_out status)

@@ -1,15 +1,15 @@
 //! The words that the program was started with.
 
-ghost use Rattle.std.specs.Prelude.{◌≡◌, ◌⊎◌, IfOk, map, string_bytes};
+ghost use Rattle.std.specs.Prelude.{◌≡◌, ◌≢◌, ◌⊎◌, IfOk, map, string_bytes};
 ghost use Rattle.clap.specs.Walk.{texts};
 ghost use Rattle.tt_stream.specs.Counts.{HasFailed};
 ghost use Rattle.tt_stream.specs.Known.{ReadsOn};
 ghost use Rattle.ttd.specs.Run.{IsWritten, memory_answer, output_at};
 
-use crate::ending::Status;
+use crate::ending::{Ended, Status};
 use crate::faults::Fault;
 use crate::output::give;
-use crate::program::main_with;
+use crate::program::answer_with;
 use std::alloc::{AllocError, Global};
 use std::env;
 use std::io::{self, ErrorKind};
@@ -37,23 +37,23 @@ pub(crate) fn main_from<R: ByteReader, W: ByteWriter>(
     rt: &(impl Env + AllocGlobal),
     input: &mut R,
     output: &mut W,
-) -> Status
-    ensures device { result ≡ Status.Device → HasFailed (R.failed input.old) (R.failed input.new)
+) -> Ended
+    ensures device { result.status ≡ Status.Device → HasFailed (R.failed input.old) (R.failed input.new)
         ⊎ HasFailed (W.failed output.old) (W.failed output.new) }
-    ensures sound { (result ≡ Status.Fine) ⊎ (result ≡ Status.Bad) → (R.failed input.new ≡ R.failed input.old)
+    ensures sound { (result.status ≢ Status.Device) → (result.status ≢ Status.Memory) → (R.failed input.new ≡ R.failed input.old)
         × (W.failed output.new ≡ W.failed output.old) }
-    ensures memory { result ≡ Status.Memory → IsWritten memory_answer (output_at (W.taken output.old) (W.failed output.old) (W.flushed output.old))
-        (output_at (W.taken output.new) (W.failed output.new) (W.flushed output.new)) result }
+    ensures memory { result.status ≡ Status.Memory → IsWritten memory_answer (output_at (W.taken output.old) (W.failed output.old) (W.flushed output.old))
+        (output_at (W.taken output.new) (W.failed output.new) (W.flushed output.new)) result.status }
     ensures rest { ReadsOn (R.left input.old) (R.left input.new) }
 {
     match words_given(rt) {
         Ok(words) => match as_texts(rt.alloc(), words.as_slice()) {
-            Ok(texts) => main_with(rt.alloc(), texts.as_slice(), input, output),
+            Ok(texts) => answer_with(rt.alloc(), texts.as_slice(), input, output),
             Err(AllocError) => give(rt.alloc(), output, Err(Fault::Memory)),
         },
         Err(error) if error.kind() == ErrorKind::OutOfMemory => {
             give(rt.alloc(), output, Err(Fault::Memory))
         }
-        Err(_) => main_with(rt.alloc(), &[], input, output),
+        Err(_) => answer_with(rt.alloc(), &[], input, output),
     }
 }

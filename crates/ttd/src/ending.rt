@@ -2,8 +2,11 @@
 
 ghost use Rattle.std.specs.Prelude.{◌≡◌};
 ghost use Rattle.std.specs.Process.{exit_status};
+ghost use Rattle.std.specs.Result.{result_map_both};
+ghost use Rattle.ttd.specs.declared.ending.Reply.TheVariants.{Fine};
 ghost use Rattle.ttd.specs.Fault.{code_of};
 
+use crate::faults::Fault;
 use std::process::ExitCode;
 
 /// How the program ends.
@@ -15,6 +18,8 @@ pub enum Status {
     Memory,
     /// The arguments or the input were rejected, and the refusal was written: 2.
     Bad,
+    /// A report was written, of a run that does not keep the assumptions: 3.
+    Broken,
     /// A device failed, in reading (1604, which was written) or in writing (1605, which can't be): 4.
     Device,
 }
@@ -28,9 +33,35 @@ impl Status {
             Status::Fine => 0,
             Status::Memory => 1,
             Status::Bad => 2,
+            Status::Broken => 3,
             Status::Device => 4,
         }
     }
+}
+
+/// What a command answers: a text to be written, and how the program ends after it.
+#[derive(Debug, Drop)]
+pub(crate) enum Reply {
+    /// The answer, after which the program ends as [`Status::Fine`].
+    Fine(String),
+    /// The report of a run that does not keep the assumptions, after which the program ends as [`Status::Broken`].
+    Broken(String),
+}
+
+/// How a run of the program ended.
+#[derive(Clone, Copy, Debug, PartialEq, Eq)]
+pub(crate) struct Ended {
+    /// The status with which the program ends.
+    pub(crate) status: Status,
+    /// What was refused, where a refusal was to be written.
+    pub(crate) refusal: Option<Fault>,
+}
+
+/// The reply that is a text alone, after which the program ends as fine.
+pub(crate) fn fine(text: Result<String, Fault>) -> Result<Reply, Fault>
+    ensures { result ≡ result_map_both Fine (λ fault. fault) text }
+{
+    Ok(Reply::Fine(text?))
 }
 
 impl From<Status> for ExitCode {

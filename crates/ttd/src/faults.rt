@@ -9,7 +9,10 @@ use thiserror::Error;
 use tt_cert::CertFault;
 use tt_fuse::FuseFault;
 use tt_poll::PollFault;
+use tt_script::ScriptFault;
 use tt_source::SourceFault;
+use tt_twin::TwinFault;
+use tt_world::WorldFault;
 
 /// Why the program prints a refusal in place of an answer.
 #[derive(Clone, Copy, Debug, PartialEq, Eq, Error)]
@@ -38,6 +41,15 @@ pub enum Fault {
     /// The certificate does not prove its claim, or the text is not that of a certificate.
     #[error("not a valid certificate: {0}")]
     Certificate(CertFault),
+    /// The text is not that of a script.
+    #[error("not a valid script: {0}")]
+    Script(ScriptFault),
+    /// The reading has no twin.
+    #[error("no twin: {0}")]
+    Twin(TwinFault),
+    /// The machines can't be run. No script gives such machines.
+    #[error("no run: {0}")]
+    World(WorldFault),
     /// Out of memory: an allocation failed.
     #[error("out of memory")]
     Memory,
@@ -61,7 +73,7 @@ impl From<CertFault> for Fault {
 
 impl Fault {
     /// The number of the refusal: 1601 `BadWords`, 1602 `BadHex`, 1603 `BadInput`, 1604 `ReadFailed`, the numbers of
-    /// the fault within for `Poll`, `Source`, `Fusion` and `Certificate`, and 1 for `Memory`.
+    /// the fault within for `Poll`, `Source`, `Fusion`, `Certificate`, `Script`, `Twin` and `World`, and 1 for `Memory`.
     pub fn number(&self) -> u16
         ensures { result ≡ number_of self.now }
     {
@@ -74,6 +86,9 @@ impl Fault {
             Fault::Source(fault) => fault.number(),
             Fault::Fusion(fault) => fault.number(),
             Fault::Certificate(fault) => fault.number(),
+            Fault::Script(fault) => fault.number(),
+            Fault::Twin(fault) => fault.number(),
+            Fault::World(fault) => fault.number(),
             Fault::Memory => 1,
         }
     }

@@ -1,15 +1,16 @@
 //! What is written, and how the program ends.
 
-ghost use Rattle.std.specs.Prelude.{◌≡◌, ℕ, Err, true, take, OnOk, OnErr, string_bytes};
+ghost use Rattle.std.specs.Prelude.{◌≡◌, ℕ, Err, None, true, take, IfSome, IsOk, IsSome, OnOk, OnErr};
 ghost use Rattle.std.specs.Result.{result_map_both};
 ghost use Rattle.std.specs.Io.KnownBytes.{Appends};
 ghost use Rattle.tt_stream.specs.Counts.{HasFailed};
-ghost use Rattle.ttd.specs.Answer.{answer_of};
+ghost use Rattle.ttd.specs.Answer.{answer_in, answer_of};
 ghost use Rattle.ttd.specs.Run.{Gives, GivesUnlessMemory, IsWritten, memory_answer, output_at};
 
-use crate::ending::Status;
+use crate::ending::{Ended, Reply, Status};
 use crate::faults::Fault;
 use std::alloc::Global;
+use std::io::Write;
 use tt_stream::{ByteWriter, DeviceFault, write_all};
 
 /// Writes all bytes, and passes them on.
@@ -36,30 +37,56 @@ fn end_with<W: ByteWriter>(output: &mut W, text: &str, status: Status) -> Status
 }
 
 /// Writes the one line of a refusal. That of out of memory takes no memory.
-fn refuse<W: ByteWriter>(alloc: Global, output: &mut W, fault: Fault) -> Status
-    ensures { GivesUnlessMemory (answer_of (Err fault)) (output_at (W.taken output.old) (W.failed output.old) (W.flushed output.old))
-        (output_at (W.taken output.new) (W.failed output.new) (W.flushed output.new)) result }
+fn refuse<W: ByteWriter>(alloc: Global, output: &mut W, fault: Fault) -> Ended
+    ensures gives { GivesUnlessMemory (answer_of (Err fault)) (output_at (W.taken output.old) (W.failed output.old) (W.flushed output.old))
+        (output_at (W.taken output.new) (W.failed output.new) (W.flushed output.new)) result.status }
+    ensures refused { IfSome result.refusal (λ told. Gives (answer_of (Err told)) (output_at (W.taken output.old) (W.failed output.old) (W.flushed output.old))
+        (output_at (W.taken output.new) (W.failed output.new) (W.flushed output.new)) result.status) }
+    ensures some { IsSome result.refusal }
 {
     let number = fault.number();
     match format!(in alloc; "refused {number}\n") {
-        Ok(line) => end_with(output, line.as_str(), fault.status()),
-        Err(_) => end_with(output, "refused 1\n", Status::Memory),
+        Ok(line) => Ended {
+            status: end_with(output, line.as_str(), fault.status()),
+            refusal: Some(fault),
+        },
+        Err(_) => Ended {
+            status: end_with(output, "refused 1\n", Status::Memory),
+            refusal: Some(Fault::Memory),
+        },
     }
 }
 
-/// Writes a reply: its text as it is, or the one line of a refusal.
+/// Says a refusal in a sentence: its number, and what it means. Where that can't be written, nothing more is done.
+pub(crate) fn explain<W: Write>(alloc: Global, errors: &mut W, refusal: &Fault) {
+    if let Ok(line) = format!(in alloc; "ttd: refused {}: {refusal}\n", refusal.number()) {
+        let _ = errors.write_all(line.as_bytes());
+    }
+}
+
+/// Writes a reply: its text as it is, after which the program ends as the reply says, or the one line of a refusal.
 pub(crate) fn give<W: ByteWriter>(
     alloc: Global,
     output: &mut W,
-    reply: Result<String, Fault>,
-) -> Status
-    ensures gives { GivesUnlessMemory (answer_of (result_map_both string_bytes (λ fault. fault) reply)) (output_at (W.taken output.old) (W.failed output.old) (W.flushed output.old))
-        (output_at (W.taken output.new) (W.failed output.new) (W.flushed output.new)) result }
-    ensures memory { result ≡ Status.Memory → IsWritten memory_answer (output_at (W.taken output.old) (W.failed output.old) (W.flushed output.old))
-        (output_at (W.taken output.new) (W.failed output.new) (W.flushed output.new)) result }
+    reply: Result<Reply, Fault>,
+) -> Ended
+    ensures gives { GivesUnlessMemory (answer_of (result_map_both answer_in (λ fault. fault) reply)) (output_at (W.taken output.old) (W.failed output.old) (W.flushed output.old))
+        (output_at (W.taken output.new) (W.failed output.new) (W.flushed output.new)) result.status }
+    ensures memory { result.status ≡ Status.Memory → IsWritten memory_answer (output_at (W.taken output.old) (W.failed output.old) (W.flushed output.old))
+        (output_at (W.taken output.new) (W.failed output.new) (W.flushed output.new)) result.status }
+    ensures refused { IfSome result.refusal (λ told. Gives (answer_of (Err told)) (output_at (W.taken output.old) (W.failed output.old) (W.flushed output.old))
+        (output_at (W.taken output.new) (W.failed output.new) (W.flushed output.new)) result.status) }
+    ensures none { result.refusal ≡ None → IsOk reply }
 {
     match reply {
-        Ok(text) => end_with(output, text.as_str(), Status::Fine),
+        Ok(Reply::Fine(text)) => Ended {
+            status: end_with(output, text.as_str(), Status::Fine),
+            refusal: None,
+        },
+        Ok(Reply::Broken(text)) => Ended {
+            status: end_with(output, text.as_str(), Status::Broken),
+            refusal: None,
+        },
         Err(fault) => refuse(alloc, output, fault),
     }
 }

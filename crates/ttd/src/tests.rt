@@ -3,11 +3,16 @@
 use crate::ending::Status;
 use crate::faults::Fault;
 use crate::input::{MOST_INPUT, MOST_READS};
-use crate::output::give;
+use crate::output::{explain, give};
 use crate::program::main_with;
 use std::alloc::{AllocError, Global};
 use std::test::Fail;
+use tt_audit::audit;
+use tt_script::read;
+use tt_source::SourceFault;
 use tt_stream::{MemoryReader, MemoryWriter};
+use tt_twin::{Side, twin};
+use tt_world::run;
 
 const AGE: [&str; 7] = [
     "age",
@@ -204,14 +209,13 @@ fn a_writer_fails(rt: HostRuntime) {
 fn out_of_memory_is_a_refusal(rt: HostRuntime) {
     let alloc = rt.alloc();
     let mut writer = MemoryWriter::new(alloc, 5, None);
-    assert_eq!(rt;
-        give(alloc, &mut writer, Err(Fault::Memory)),
-        Status::Memory
-    );
+    let ended = give(alloc, &mut writer, Err(Fault::Memory));
+    assert_eq!(rt; ended.status, Status::Memory);
+    assert_eq!(rt; ended.refusal, Some(Fault::Memory));
     assert_eq!(rt; writer.taken(), b"refused 1\n".as_slice());
     let mut writer = MemoryWriter::new(alloc, 5, Some(2));
     assert_eq!(rt;
-        give(alloc, &mut writer, Err(Fault::Memory)),
+        give(alloc, &mut writer, Err(Fault::Memory)).status,
         Status::Device
     );
     assert_eq!(rt; writer.taken(), b"refus".as_slice());
@@ -222,7 +226,17 @@ fn numbers_the_endings(rt: HostRuntime) {
     assert_eq!(rt; Status::Fine.code(), 0);
     assert_eq!(rt; Status::Memory.code(), 1);
     assert_eq!(rt; Status::Bad.code(), 2);
+    assert_eq!(rt; Status::Broken.code(), 3);
     assert_eq!(rt; Status::Device.code(), 4);
+}
+
+#[test]
+fn says_refusals_in_a_sentence(rt: HostRuntime) {
+    let alloc = rt.alloc();
+    let mut errors = Vec::new(alloc);
+    explain(alloc, &mut errors, &Fault::Source(SourceFault::ClockBack));
+    assert!(rt; errors.as_slice().starts_with(b"ttd: refused 402: "));
+    assert!(rt; errors.as_slice().ends_with(b"\n"));
 }
 
 // How many sources may be wrong, and the spans of three of them.
@@ -442,5 +456,187 @@ fn judges_spans_text_first(rt: HostRuntime) -> Result<(), Fail> {
     let mut input = lines_of(alloc, &["faulty 0"])?;
     add(&mut input, &CERTIFICATE)?;
     assert!(rt; refuses(alloc, &["check"], input.as_bytes(), "refused 501\n"));
+    Ok(())
+}
+
+// One machine with one source, of which none may be wrong.
+const ONE_MACHINE: [&str; 5] = [
+    "[[machine]]",
+    "sources = 1",
+    "faulty = 0",
+    "drift = 200",
+    "workers = 1",
+];
+
+// Whether `run` answers a script of this machine and these lines so.
+fn runs(alloc: Global, lines: &[&str], status: Status, text: &[&str]) -> Result<bool, AllocError> {
+    let mut input = lines_of(alloc, &ONE_MACHINE)?;
+    add(&mut input, lines)?;
+    let want = lines_of(alloc, text)?;
+    Ok(writes(alloc, &["run"], input.as_bytes(), status, want.as_str()))
+}
+
+#[test]
+fn reports_on_a_run(rt: HostRuntime) -> Result<(), Fail> {
+    let nothing = [
+        "events 0",
+        "refused 0",
+        "fusions 0",
+        "readings 0",
+        "wrong 0",
+        "released 0",
+        "violations 0",
+        "premise kept",
+    ];
+    assert!(rt; runs(rt.alloc(), &[], Status::Fine, &nothing)?);
+    Ok(())
+}
+
+// In 5000 nanoseconds of the clock the true time may go on by at most 5001.
+#[test]
+fn a_broken_assumption_is_a_status_of_its_own(rt: HostRuntime) -> Result<(), Fail> {
+    let polls = [
+        "[[event]]",
+        "do = \"send\"",
+        "at = 100",
+        "machine = 0",
+        "source = 0",
+        "clock = 0",
+        "[[event]]",
+        "do = \"send\"",
+        "at = 5102",
+        "machine = 0",
+        "source = 0",
+        "clock = 5000",
+    ];
+    let broken = [
+        "events 2",
+        "refused 0",
+        "fusions 0",
+        "readings 0",
+        "wrong 0",
+        "released 0",
+        "violations 0",
+        "premise broken 1 0 drift",
+    ];
+    assert!(rt; runs(rt.alloc(), &polls, Status::Broken, &broken)?);
+    Ok(())
+}
+
+#[test]
+fn run_refuses_what_is_no_script(rt: HostRuntime) -> Result<(), Fail> {
+    let alloc = rt.alloc();
+    assert!(rt; refuses(alloc, &["run"], b"machine = \xff", "refused 1603\n"));
+    assert!(rt; refuses(alloc, &["run"], b"machine", "refused 1301\n"));
+    assert!(rt; refuses(alloc, &["run"], b"", "refused 1302\n"));
+    assert!(rt; runs(alloc, &["[event]"], Status::Bad, &["refused 1303"])?);
+    let unknown = ["[[event]]", "do = \"sleep\""];
+    assert!(rt; runs(alloc, &unknown, Status::Bad, &["refused 1304"])?);
+    Ok(())
+}
+
+// One machine with three sources, of which one may be wrong. They are read 1 and 5000 nanoseconds after the fusion.
+const THREE_SOURCES: [&str; 15] = [
+    "machine = [{sources = 3, faulty = 1, drift = 200, workers = 1}]",
+    "event = [",
+    "{do = \"send\", at = 8, machine = 0, source = 0, clock = 1000},",
+    "{do = \"send\", at = 8, machine = 0, source = 1, clock = 1000},",
+    "{do = \"send\", at = 8, machine = 0, source = 2, clock = 1000},",
+    "{do = \"answer\", at = 8, packet = 0, lo = 0, hi = 10},",
+    "{do = \"answer\", at = 8, packet = 1, lo = 5, hi = 15},",
+    "{do = \"answer\", at = 8, packet = 2, lo = 12, hi = 20},",
+    "{do = \"deliver\", at = 8, packet = 3, clock = 1000},",
+    "{do = \"deliver\", at = 8, packet = 4, clock = 1000},",
+    "{do = \"deliver\", at = 8, packet = 5, clock = 1000},",
+    "{do = \"fuse\", at = 8, machine = 0, clock = 1000},",
+    "{do = \"read\", at = 9, machine = 0, worker = 0, clock = 1001, publication = 1},",
+    "{do = \"read\", at = 5008, machine = 0, worker = 0, clock = 6000, publication = 1},",
+    "]",
+];
+
+// Whether `twin` of this event on this side answers the script so.
+fn twins(
+    alloc: Global,
+    event: &str,
+    side: &str,
+    status: Status,
+    text: &[&str],
+) -> Result<bool, AllocError> {
+    let input = lines_of(alloc, &THREE_SOURCES)?;
+    let want = lines_of(alloc, text)?;
+    let words = ["twin", "--event", event, "--side", side];
+    Ok(writes(alloc, &words, input.as_bytes(), status, want.as_str()))
+}
+
+#[test]
+fn gives_the_twins_of_a_reading(rt: HostRuntime) -> Result<(), Fail> {
+    let alloc = rt.alloc();
+    let low = [
+        "send 5 0 0 1000",
+        "send 5 0 1 1000",
+        "send 5 0 2 1000",
+        "answer 5 0 0 10",
+        "answer 5 1 5 15",
+        "answer 5 2 12 20",
+        "deliver 5 3 1000",
+        "deliver 5 4 1000",
+        "deliver 5 5 1000",
+        "fuse 5 0 1000",
+        "read 5 0 0 1001 1",
+        "read 5004 0 0 6000 1",
+        "reading 5004 5016 truth 5004",
+    ];
+    assert!(rt; twins(alloc, "11", "low", Status::Fine, &low)?);
+    let high = [
+        "send 15 0 0 1000",
+        "send 15 0 1 1000",
+        "send 15 0 2 1000",
+        "answer 15 0 0 10",
+        "answer 15 1 5 15",
+        "answer 15 2 12 20",
+        "deliver 15 3 1000",
+        "deliver 15 4 1000",
+        "deliver 15 5 1000",
+        "fuse 15 0 1000",
+        "read 17 0 0 1001 1",
+        "read 5016 0 0 6000 1",
+        "reading 5004 5016 truth 5016",
+    ];
+    assert!(rt; twins(alloc, "11", "high", Status::Fine, &high)?);
+    Ok(())
+}
+
+#[test]
+fn twin_refuses_what_is_no_reading(rt: HostRuntime) -> Result<(), Fail> {
+    let alloc = rt.alloc();
+    assert!(rt; twins(alloc, "9", "low", Status::Bad, &["refused 1401"])?);
+    assert!(rt; twins(alloc, "12", "high", Status::Bad, &["refused 1401"])?);
+    // Words are judged before the input.
+    assert!(rt; twins(alloc, "9", "middle", Status::Bad, &["refused 1601"])?);
+    assert!(rt; refuses(alloc, &["twin", "--event", "9"], b"", "refused 1601\n"));
+    Ok(())
+}
+
+// The runs of both twins keep the assumptions, and no reading of theirs is wrong.
+#[test]
+fn twins_are_legal_runs(rt: HostRuntime) -> Result<(), Fail> {
+    let alloc = rt.alloc();
+    let text = lines_of(alloc, &THREE_SOURCES)?;
+    let Ok(script) = read(alloc, text.as_str()) else {
+        return Err("no script".into());
+    };
+    for side in [Side::Low, Side::High] {
+        let Ok(made) = twin(alloc, script.configs(), script.to_events(), 11, side) else {
+            return Err("no twin".into());
+        };
+        let Ok(trace) = run(alloc, script.configs(), made.as_slice()) else {
+            return Err("no run".into());
+        };
+        let Ok(report) = audit(alloc, script.configs(), made.as_slice(), &trace) else {
+            return Err("no report".into());
+        };
+        assert!(rt; report.broken.is_none());
+        assert_eq!(rt; (report.refused, report.readings, report.wrong), (0, 2, 0));
+    }
     Ok(())
 }

@@ -1,5 +1,5 @@
 -- What a parse of the words gives, in the words of the command line's own definitions.
-use Rattle.std.proofs.Common.{◌≡◌, ◌∙◌, Bool, true, not, refl, sym, ap, subst, inl, inr, List, [], ◌∷◌, Result, Ok, IsOk}
+use Rattle.std.proofs.Common.{◌≡◌, ◌∙◌, ◌⊎◌, Bool, true, not, refl, sym, ap, subst, inl, inr, List, [], ◌∷◌, Result, Ok, Err, IsOk}
 use Rattle.std.specs.List.{list_all}
 use Rattle.std.proofs.lemmas.Bool.{false≢true}
 use Rattle.clap.proofs.OnLiterals.{clap_on_literals}
@@ -11,7 +11,7 @@ use Rattle.clap.specs.Kinds.{HasKind, IsAmong, Kinds}
 use Rattle.clap.specs.Values.{kind_of}
 use Rattle.clap.specs.declared.error.Error.{Error}
 use Rattle.clap.specs.declared.error.kind.ErrorKind.{ErrorKind}
-use Rattle.clap.specs.declared.error.kind.ErrorKind.TheVariants.{DisplayHelp, OutOfMemory}
+use Rattle.clap.specs.declared.error.kind.ErrorKind.TheVariants.{DisplayHelp, DisplayVersion, OutOfMemory}
 use Rattle.clap.specs.declared.parser.matches.ArgMatches.{ArgMatches}
 use Rattle.ttd_words.specs.CommandLine.{faults_of, named_by, ttd_app}
 use Rattle.ttd_words.specs.Reading.{AreForHelp, AreMistaken, AreTaken, HasDriftInRange, all_and_some, asked_by, asked_of, command_named, is_help, to_run}
@@ -19,7 +19,9 @@ use Rattle.ttd_words.specs.declared.words.Asked.{Asked}
 use Rattle.ttd_words.specs.declared.words.Asked.TheVariants.{Run}
 use Rattle.ttd_words.specs.declared.words.Command.{Command}
 use Rattle.ttd_words.specs.declared.words.WordsFault.{WordsFault}
-use Rattle.ttd_words.proofs.TakenWords.{taken_asks}
+use Rattle.ttd_words.specs.declared.words.WordsFault.TheVariants.{BadWords}
+use Rattle.ttd_words.specs.declared.words.WordsFault.{WordsFault}
+pub use Rattle.ttd_words.proofs.TakenWords.{AsksFor, taken_judged}
 
 ttd_is_simple : is_simple ttd_app ≡ true
 unfolding ttd_app clap_on_literals
@@ -41,13 +43,31 @@ parsed_fails a words is P h = subst (λ (x : App). P (fault_of x words)) is (h (
 
 -- words that clap takes ask to run the command that they name
 pub asked_taken : (words : List Text) → AreTaken words → asked_of words ≡ to_run (command_named (named_by words))
-asked_taken words e = ap (λ (k : Kinds). asked_by k (named_by words)) e
+asked_taken words e = ap (λ (k : Kinds). asked_by k (named_by words)) e.0
 
-pub taken_is_ok : (words : List Text) → AreTaken words → IsOk (command_named (named_by words))
-taken_is_ok words e = subst IsOk (sym (taken_asks words e).is) refl
+-- where the words are taken, bad words are not the answer
+pub taken_asks : (words : List Text) → AreTaken words → AsksFor (command_named (named_by words))
+taken_asks words e = elim (taken_judged words e.0).answer [
+  | inl asks ↦ asks
+  | inr bad ↦ absurd (false≢true (subst IsOk bad e.1))
+]
 
 pub asked_to_run : (words : List Text) → AreTaken words → (command : Command) × (asked_of words ≡ Ok (Run command))
 asked_to_run words e = let asks = taken_asks words e in (asks.command, asked_taken words e ∙ ap to_run asks.is)
+
+-- words at which clap finds nothing wrong are taken or a mistake
+pub words_judged : (words : List Text) → faults_of words ≡ [] → AreTaken words ⊎ AreMistaken words
+words_judged words e = elim (taken_judged words e).answer [
+  | inl asks ↦ inl (e, subst IsOk (sym asks.is) refl)
+  | inr bad ↦ inr (inr (e, bad))
+]
+
+-- the only refusal of such words is that they are bad
+pub refused_is_bad : (words : List Text) (fault : WordsFault) → faults_of words ≡ [] → command_named (named_by words) ≡ Err fault → fault ≡ BadWords
+refused_is_bad words fault e is = elim (taken_judged words e).answer [
+  | inl asks ↦ cc
+  | inr bad ↦ cc
+]
 
 pub asked_is_ok : (words : List Text) → AreTaken words → IsOk (asked_of words)
 asked_is_ok words e = subst IsOk (sym (asked_to_run words e).1) refl
@@ -67,10 +87,11 @@ run_is a b r p q = cc
 -- ---- kinds of error
 
 pub not_mistaken : (words : List Text) → AreTaken words → AreMistaken words → ⊥
-not_mistaken words taken e = false≢true (sym (ap (all_and_some (λ k. not (is_help k))) taken) ∙ e)
+not_mistaken words taken (inl e) = false≢true (sym (ap (all_and_some (λ k. not (is_help k))) taken.0) ∙ e)
+not_mistaken words taken (inr e) = false≢true (subst IsOk e.1 taken.1)
 
-pub not_for_help : (words : List Text) → AreTaken words → AreForHelp words → ⊥
-not_for_help words taken e = false≢true (sym (ap (all_and_some is_help) taken) ∙ e)
+pub not_for_help : (words : List Text) → faults_of words ≡ [] → AreForHelp words → ⊥
+not_for_help words none e = false≢true (sym (ap (all_and_some is_help) none) ∙ e)
 
 -- a kind other than out of memory comes only where clap finds something wrong
 pub not_taken : (kinds : Kinds) (e : Error) → HasKind kinds e → (kind_of e ≡ OutOfMemory → ⊥) → kinds ≡ [] → ⊥
@@ -99,21 +120,27 @@ passes_among test kinds e all h memory = elim h [
   | inr among ↦ each_among test kinds (kind_of e) (all_of_some test kinds all) among
 ]
 
-pub is_help-true : (k : ErrorKind) → is_help k ≡ true → k ≡ DisplayHelp
-is_help-true DisplayHelp e = refl
+pub is_help-true : (k : ErrorKind) → is_help k ≡ true → (k ≡ DisplayHelp) ⊎ (k ≡ DisplayVersion)
+is_help-true DisplayHelp e = inl refl
+is_help-true DisplayVersion e = inr refl
 is_help-true _ e = absurd (false≢true e)
 
-pub help_no_memory : (e : Error) → kind_of e ≡ DisplayHelp → kind_of e ≡ OutOfMemory → ⊥
-help_no_memory e help memory =
-    let bad : DisplayHelp ≡ OutOfMemory = sym help ∙ memory in
-    cc
+pub shown : (e : Error) (kind : ErrorKind) → kind ≡ kind_of e → (kind ≡ DisplayHelp) ⊎ (kind ≡ DisplayVersion) → is_help (kind_of e) ≡ true
+shown e kind is (inl help) = ap is_help (sym is ∙ help)
+shown e kind is (inr version) = ap is_help (sym is ∙ version)
+
+pub help_no_memory : (e : Error) → is_help (kind_of e) ≡ true → kind_of e ≡ OutOfMemory → ⊥
+help_no_memory e help memory = false≢true (sym (ap is_help memory) ∙ help)
 
 -- help is no answer to a mistake
-pub help_not_mistaken : (words : List Text) (e : Error) → AreMistaken words → HasKind (faults_of words) e → kind_of e ≡ DisplayHelp → ⊥
-help_not_mistaken words e mistaken h help =
+pub help_not_mistaken : (words : List Text) (e : Error) → AreMistaken words → HasKind (faults_of words) e → is_help (kind_of e) ≡ true → ⊥
+help_not_mistaken words e (inr named) h help = not_taken (faults_of words) e h (help_no_memory e help) named.0
+help_not_mistaken words e (inl mistaken) h help =
     let other = passes_among (λ k. not (is_help k)) (faults_of words) e mistaken h (help_no_memory e help) in
-    false≢true (sym (ap (λ k. not (is_help k)) help) ∙ other)
+    false≢true (sym (ap not help) ∙ other)
 
 -- only help answers a call for help
-pub other_not_help : (words : List Text) (e : Error) → AreForHelp words → HasKind (faults_of words) e → (kind_of e ≡ OutOfMemory → ⊥) → (kind_of e ≡ DisplayHelp → ⊥) → ⊥
-other_not_help words e asks h memory other = other (is_help-true (kind_of e) (passes_among is_help (faults_of words) e asks h memory))
+pub other_not_help : (words : List Text) (e : Error) → AreForHelp words → HasKind (faults_of words) e → (kind_of e ≡ OutOfMemory → ⊥)
+    → (kind_of e ≡ DisplayHelp → ⊥) → (kind_of e ≡ DisplayVersion → ⊥) → ⊥
+other_not_help words e asks h memory not_help not_version =
+    elim (is_help-true (kind_of e) (passes_among is_help (faults_of words) e asks h memory)) [ inl help ↦ not_help help | inr version ↦ not_version version ]

@@ -1,16 +1,19 @@
 -- Words that clap takes ask for a command.
-use Rattle.std.proofs.Common.{◌≡◌, ◌||◌, ◌&&◌, ℕ, Bool, true, false, refl, sym, ap, subst, inl, inr, List, [], ◌∷◌, ◌++◌, Option, None, Result, Ok, codes, not}
+use Rattle.std.proofs.Common.{◌≡◌, ◌∙◌, ◌⊎◌, ◌||◌, ◌&&◌, ℕ, Bool, true, false, refl, sym, ap, subst, inl, inr, List, [], ◌∷◌, ◌++◌, Option, None, Some, Result, Ok, Err, IsOk, codes, not, option_and_then}
 use Rattle.std.specs.Str.{bytes_eq}
+use Rattle.std.proofs.lemmas.Bool.{false≢true}
 use Rattle.std.proofs.lemmas.Slice.Eq.{bytes_eq-Decides}
-use Rattle.clap.specs.Walk.{Row, Rule, Text, answers_to, arg_by_index, has_row, nothing_held, rows_after}
+use Rattle.clap.specs.Walk.{Row, Rule, Text, answers_to, arg_by_index, first_of, has_row, nothing_held, rows_after}
 use Rattle.clap.specs.Simple.{Shape, built, filled_from, help_rule, label_of}
 use Rattle.clap.specs.Takes.{is_given}
 use Rattle.clap.specs.Faults.{level_fault}
-use Rattle.ttd_words.specs.CommandLine.{age_app, faults_of, max_drift, max_number, named_by, ttd_app}
-use Rattle.ttd_words.specs.Reading.{HasDriftInRange, age_by, command_named, command_of}
+use Rattle.ttd_words.specs.CommandLine.{age_app, faults_of, max_drift, max_number, named_by, ttd_app, twin_app}
+use Rattle.ttd_words.specs.Reading.{HasDriftInRange, HasNumbers, age_by, age_of, command_named, command_of, number_at, side_of, twin_by}
+use Rattle.ttd_words.specs.declared.words.Side.{Side}
 use Rattle.ttd_words.specs.declared.words.Command.{Command}
-use Rattle.ttd_words.specs.declared.words.Command.TheVariants.{Age, Fuse, Check}
+use Rattle.ttd_words.specs.declared.words.Command.TheVariants.{Age, Fuse, Check, Run as RunScript, Twin}
 use Rattle.ttd_words.specs.declared.words.WordsFault.{WordsFault}
+use Rattle.ttd_words.specs.declared.words.WordsFault.TheVariants.{BadWords}
 use Rattle.ttd_words.proofs.RowLemmas.{Each, HasDefault, IsPlainRule, find_has}
 use Rattle.ttd_words.proofs.WalkKeeps.{IsPlainShape}
 use Rattle.ttd_words.proofs.LevelKeeps.{level_defaults, level_given, level_parts, level_sound, words_named}
@@ -21,6 +24,11 @@ pub record AsksFor (r : Result Command WordsFault) : Type 0 where
   pub command : Command
   pub is : r ≡ Ok command
   pub in_range : HasDriftInRange command
+
+-- the answer is a command, or bad words, and the numbers that the command needs were found
+pub record IsJudged (named : Option (Text × List Row)) : Type 0 where
+  pub answer : AsksFor (command_named named) ⊎ (command_named named ≡ Err BadWords)
+  pub numbers : HasNumbers named
 
 -- what clap makes of the options of `age`
 abbrev age_rules : List Rule
@@ -43,9 +51,16 @@ age_asks drift sent got clock d s g c = record {
   in_range = d.bound;
 }
 
+-- texts that the test tells apart differ
+differ : (a b : Text) → bytes_eq a b ≡ false → a ≡ b → ⊥
+differ a b apart same = false≢true (sym apart ∙ (bytes_eq-Decides a b).1 same)
+
+age_is_not_twin : codes "age" ≡ codes "twin" → ⊥
+age_is_not_twin = differ (codes "age") (codes "twin") refl
+
 abbrev Asks : Shape → Type 0
 Asks s = (named : Text) (words : List Text) → answers_to named (label_of s) ≡ true → bytes_eq named (codes "help") ≡ false
-    → level_fault s [] nothing_held words false [] ≡ [] → AsksFor (command_of s.name (rows_after s.rules [] words))
+    → level_fault s [] nothing_held words false [] ≡ [] → IsJudged (Some (s.name, rows_after s.rules [] words))
 
 age_taken : (s : Shape) → s.name ≡ codes "age" → s.rules ≡ age_rules → s.subcommand_negates_reqs ≡ false → Asks s
 age_taken s name is negates named words answers not_help e =
@@ -61,17 +76,64 @@ age_taken s name is negates named words answers not_help e =
     let sent = number_there s.rules rows (codes "sent") _ max_number (by_id (codes "sent")) refl sound (row_given (codes "sent") rows given.1.0) in
     let got = number_there s.rules rows (codes "got") _ max_number (by_id (codes "got")) refl sound (row_given (codes "got") rows given.1.1.0) in
     let clock = number_there s.rules rows (codes "clock") _ max_number (by_id (codes "clock")) refl sound (row_given (codes "clock") rows given.1.1.1.0) in
-    rw name (age_asks _ _ _ _ drift sent got clock)
+    let asks : AsksFor (age_of rows) = age_asks _ _ _ _ drift sent got clock in
+    record {
+      answer = inl (rw name asks);
+      numbers = (
+        (λ is_age. subst IsOk (sym asks.is) refl),
+        (λ is_twin. absurd (age_is_not_twin (sym name ∙ is_twin))),
+      );
+    }
 
-plain_taken : (s : Shape) (command : Command) → HasDriftInRange command → ((rows : List Row) → command_of s.name rows ≡ Ok command) → Asks s
-plain_taken s command in_range is named words answers not_help e = record { command = command; is = is (rows_after s.rules [] words); in_range = in_range }
+-- what clap makes of the options of `twin`
+abbrev twin_rules : List Rule
+twin_rules = filled_from 1 (twin_app.top.rules ++ help_rule ∷ [])
+
+twin_rules_plain : Each (IsPlainRule twin_rules) twin_rules
+twin_rules_plain = ((refl, inl (record { action = refl; range = refl })), ((refl, inl (record { action = refl; range = refl })), ((refl, inr refl), tt)))
+
+twin_plain : (s : Shape) → s.rules ≡ twin_rules → IsPlainShape s
+twin_plain s is = record {
+  rules = subst (λ (c : List Rule). Each (IsPlainRule c) c) (sym is) twin_rules_plain;
+  no_positional = λ i. subst (λ (c : List Rule). arg_by_index c i ≡ None) (sym is) refl;
+}
+
+twin_asks : (event : Option ℕ) (side : Option Side) → IsUpTo max_number event → AsksFor (twin_by event side) ⊎ (twin_by event side ≡ Err BadWords)
+twin_asks event (Some side) e = inl (record { command = Twin e.number side; is = rw e.is refl; in_range = tt })
+twin_asks event None e = inr (rw e.is refl)
+
+twin_taken : (s : Shape) → s.name ≡ codes "twin" → s.rules ≡ twin_rules → s.subcommand_negates_reqs ≡ false → Asks s
+twin_taken s name is negates named words answers not_help e =
+    let rows = rows_after s.rules [] words in
+    let p = level_parts s [] words false [] e in
+    let sound = level_sound s [] words false [] (twin_plain s is) p in
+    let given : Each (λ a. (a.required && not (is_given a.id rows)) ≡ false) twin_rules =
+    subst (λ (c : List Rule). Each (λ a. (a.required && not (is_given a.id rows)) ≡ false) c) is (level_given s [] words [] negates p) in
+    let event = number_there s.rules rows (codes "event") _ max_number (ap (λ (c : List Rule). Rattle.clap.specs.Walk.arg_by_id c (codes "event")) is) refl sound (row_given (codes "event") rows given.0) in
+    record {
+      answer = rw name (twin_asks (number_at (codes "event") rows) (option_and_then side_of (first_of (codes "side") rows)) event);
+      numbers = (
+        (λ is_age. absurd (age_is_not_twin (sym is_age ∙ name))),
+        (λ is_twin. rw event.is refl),
+      );
+    }
+
+plain_taken : (s : Shape) (command : Command) → HasDriftInRange command → ((rows : List Row) → command_of s.name rows ≡ Ok command)
+    → bytes_eq s.name (codes "age") ≡ false → bytes_eq s.name (codes "twin") ≡ false → Asks s
+plain_taken s command in_range is not_age not_twin named words answers not_help e = record {
+  answer = inl (record { command = command; is = is (rows_after s.rules [] words); in_range = in_range });
+  numbers = (
+    (λ is_age. absurd (differ s.name (codes "age") not_age is_age)),
+    (λ is_twin. absurd (differ s.name (codes "twin") not_twin is_twin)),
+  );
+}
 
 help_taken : (s : Shape) → s.name ≡ codes "help" → s.aliases ≡ [] → Asks s
 help_taken s name aliases named words answers not_help e =
     let same : (bytes_eq (codes "help") named || false) ≡ true = rw (name, aliases) at answers in
     go (bytes_eq (codes "help") named) refl same
   where
-    go : (b : Bool) → bytes_eq (codes "help") named ≡ b → (b || false) ≡ true → AsksFor (command_of s.name (rows_after s.rules [] words))
+    go : (b : Bool) → bytes_eq (codes "help") named ≡ b → (b || false) ≡ true → IsJudged (Some (s.name, rows_after s.rules [] words))
     go true t e =
         let help : codes "help" ≡ named = (bytes_eq-Decides (codes "help") named).0 t in
         let bad : true ≡ false = rw (← help) at not_help in
@@ -80,13 +142,21 @@ help_taken s name aliases named words answers not_help e =
 
 all_taken : Each Asks (built ttd_app).subs
 unfolding ttd_app
-all_taken =
-    (age_taken _ refl refl refl, (plain_taken _ Fuse tt (λ rows. refl), (plain_taken _ Check tt (λ rows. refl), (help_taken _ refl refl, tt))))
+all_taken = (
+  age_taken _ refl refl refl,
+  (
+    plain_taken _ Fuse tt (λ rows. refl) refl refl,
+    (
+      plain_taken _ Check tt (λ rows. refl) refl refl,
+      (plain_taken _ RunScript tt (λ rows. refl) refl refl, (twin_taken _ refl refl refl, (help_taken _ refl refl, tt))),
+    ),
+  ),
+)
 
--- words at which clap finds nothing wrong ask for a command
-pub taken_asks : (words : List Text) → faults_of words ≡ [] → AsksFor (command_named (named_by words))
+-- words at which clap finds nothing wrong ask for a command, or name a side that is none
+pub taken_judged : (words : List Text) → faults_of words ≡ [] → IsJudged (named_by words)
 unfolding ttd_app faults_of named_by
-taken_asks words e =
+taken_judged words e =
     let named = words_named (built ttd_app) words refl refl e in
     let found = find_has Asks (λ s. answers_to named.named (label_of s)) (built ttd_app).subs named.shape all_taken named.is_there in
-    subst (λ (o : Option (Text × List Row)). AsksFor (command_named o)) (sym named.rows) (found.0 named.named named.words found.1 named.not_help named.passes)
+    subst IsJudged (sym named.rows) (found.0 named.named named.words found.1 named.not_help named.passes)

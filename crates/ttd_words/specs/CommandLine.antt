@@ -35,14 +35,22 @@ abbrev pub age_app : App
 age_app = with_rule (with_rule (with_rule (with_rule (new_app (codes "age")) drift_rule)
     (given_rule (codes "sent"))) (given_rule (codes "got"))) (given_rule (codes "clock"))
 
+-- The option `--side SIDE` with any text, which has to be given.
+abbrev pub side_rule : Rule
+side_rule = record (new_rule (codes "side")) { long = Some (codes "side"); value_names = 1; required = true }
+
+-- The command `twin` with its two options.
+abbrev pub twin_app : App
+twin_app = with_rule (with_rule (new_app (codes "twin")) (given_rule (codes "event"))) side_rule
+
 -- The program with no command yet: its words begin with no name of the program, and one command has to be named.
 abbrev pub bare_app : App
-bare_app = on_top (λ s. record s { no_binary_name = true; subcommand_required = true }) (new_app (codes "ttd"))
+bare_app = on_top (λ s. record s { has_version = true; no_binary_name = true; subcommand_required = true }) (new_app (codes "ttd"))
 
 -- The program with all its commands.
 unfoldable pub ttd_app : App
-ttd_app = with_subcommand (with_subcommand (with_subcommand bare_app age_app.top)
-    (new_app (codes "fuse")).top) (new_app (codes "check")).top
+ttd_app = with_subcommand (with_subcommand (with_subcommand (with_subcommand (with_subcommand bare_app age_app.top)
+    (new_app (codes "fuse")).top) (new_app (codes "check")).top) (new_app (codes "run")).top) twin_app.top
 
 -- What clap finds wrong with the words: nothing where it takes them, and else the kinds of error that it may answer.
 unfoldable pub faults_of : List Text → Kinds

@@ -15,4 +15,4 @@
 mod commands;
 pub mod words;
 
-pub use words::{Asked, Command, WordsFault, help_text, read_words, word_laws};
+pub use words::{Asked, Command, Side, WordsFault, help_text, read_words, word_laws};

@@ -1,10 +1,10 @@
 //! What the arguments ask for.
 
-ghost use Rattle.std.specs.Prelude.{◌≡◌, ℕ, List, [], ◌∷◌, codes, Some, Ok, Err, IfErr, IfOk, IsOk, IsSome};
+ghost use Rattle.std.specs.Prelude.{◌≡◌, ◌⊎◌, ℕ, List, [], ◌∷◌, codes, Some, Ok, Err, IfErr, IfOk, IsOk, IsSome};
 ghost use Rattle.clap.specs.Walk.{texts};
 ghost use Rattle.clap.specs.Words.{FailsBy, found_of, rows_of, subcommand_rows_of};
 ghost use Rattle.ttd_words.specs.CommandLine.{faults_of, named_by};
-ghost use Rattle.ttd_words.specs.Reading.{asked_of, age_of, command_named, number_at, AreForHelp, AreMistaken, AreTaken, HasDriftInRange, IsUnlessMemory};
+ghost use Rattle.ttd_words.specs.Reading.{asked_of, age_of, command_named, number_at, side_of, twin_of, HasNumbers, AreForHelp, AreMistaken, AreTaken, HasDriftInRange, IsUnlessMemory};
 ghost use Rattle.ttd_words.specs.Fault.{number_of};
 
 use crate::commands::ttd_command;
@@ -30,6 +30,24 @@ pub enum Command {
     Fuse,
     /// `check`: checks a certificate for the spans that are read.
     Check,
+    /// `run`: runs the script that is read, and reports on the run.
+    Run,
+    /// `twin`: gives the twin of a reading in the run of the script that is read.
+    Twin {
+        /// The place of the reading's event among the events, counted from 0.
+        event: u64,
+        /// The end of the reading at which the true time lies in the twin.
+        side: Side,
+    },
+}
+
+/// An end of a reading.
+#[derive(Clone, Copy, Debug, PartialEq, Eq)]
+pub enum Side {
+    /// `low`: the earliest time that it allows.
+    Low,
+    /// `high`: the latest time that it allows.
+    High,
 }
 
 /// What the arguments ask for.
@@ -37,7 +55,7 @@ pub enum Command {
 pub enum Asked {
     /// To run a command.
     Run(Command),
-    /// The help, of the program or of one command: [`help_text`] gives it.
+    /// The help, of the program or of one command, or the program's version: [`help_text`] gives it.
     Help,
 }
 
@@ -85,16 +103,44 @@ fn age_asked(matches: &ArgMatches<'_>) -> Command
     }
 }
 
-/// The command that clap found.
-fn command_asked(matches: &ArgMatches<'_>) -> Command
-    requires { IsOk (command_named (subcommand_rows_of matches.now)) }
-    ensures { command_named (subcommand_rows_of matches.now) ≡ Ok result }
+/// The side that a text names.
+fn side_named(text: &str) -> Option<Side>
+    ensures { result ≡ side_of text.now }
+{
+    match text {
+        "low" => Some(Side::Low),
+        "high" => Some(Side::High),
+        _ => None,
+    }
+}
+
+/// The command `twin` with these options. Refuses with [`WordsFault::BadWords`] a side that is neither `low` nor `high`.
+fn twin_asked(matches: &ArgMatches<'_>) -> Result<Command, WordsFault>
+    requires { IsSome (number_at (codes "event") (rows_of (found_of matches.now))) }
+    ensures { result ≡ twin_of (rows_of (found_of matches.now)) }
+{
+    let event = number_given(matches, "event");
+    let Some(text) = matches.get_str("side") else {
+        return Err(WordsFault::BadWords);
+    };
+    match side_named(text) {
+        Some(side) => Ok(Command::Twin { event, side }),
+        None => Err(WordsFault::BadWords),
+    }
+}
+
+/// The command that clap found, if its options are such as can be.
+fn command_asked(matches: &ArgMatches<'_>) -> Result<Command, WordsFault>
+    requires { HasNumbers (subcommand_rows_of matches.now) }
+    ensures { result ≡ command_named (subcommand_rows_of matches.now) }
 {
     match matches.subcommand() {
-        Some(("age", options)) => age_asked(options),
-        Some(("fuse", _)) => Command::Fuse,
-        Some(("check", _)) => Command::Check,
-        _ => unreachable!(),
+        Some(("age", options)) => Ok(age_asked(options)),
+        Some(("fuse", _)) => Ok(Command::Fuse),
+        Some(("check", _)) => Ok(Command::Check),
+        Some(("run", _)) => Ok(Command::Run),
+        Some(("twin", options)) => twin_asked(options),
+        _ => Err(WordsFault::BadWords),
     }
 }
 
@@ -110,7 +156,7 @@ fn parsed<'a>(alloc: Global, words: &'a [&'a str]) -> Result<ArgMatches<'a>, Err
 ///
 /// A number is read as `u64` reads it: decimal digits after one `+` or none; leading zeros are allowed. Rejects with
 /// [`WordsFault::BadWords`] (1601) arguments that the command line does not take: none at all, a word that it does not know, an option
-/// that is missing or comes twice, a value that is not a number of 64 bits, or a drift above 100000; and with [`WordsFault::Memory`] (1)
+/// that is missing or comes twice, a value that is not a number of 64 bits, a drift above 100000, or a side other than `low` and `high`; and with [`WordsFault::Memory`] (1)
 /// where an allocation failed. After `help`, a word that names no command is rejected or answered with the help of the program.
 pub fn read_words(alloc: Global, words: &[&str]) -> Result<Asked, WordsFault>
     ensures taken { AreTaken (texts words.now) → IsOk (asked_of (texts words.now))
@@ -121,16 +167,16 @@ pub fn read_words(alloc: Global, words: &[&str]) -> Result<Asked, WordsFault>
     ensures commands { (command : Command) → result ≡ Ok (Asked.Run command) → AreTaken (texts words.now) × HasDriftInRange command }
 {
     match parsed(alloc, words) {
-        Ok(matches) => Ok(Asked::Run(command_asked(&matches))),
+        Ok(matches) => Ok(Asked::Run(command_asked(&matches)?)),
         Err(error) => match error.kind() {
-            ErrorKind::DisplayHelp => Ok(Asked::Help),
+            ErrorKind::DisplayHelp | ErrorKind::DisplayVersion => Ok(Asked::Help),
             ErrorKind::OutOfMemory => Err(WordsFault::Memory),
             _ => Err(WordsFault::BadWords),
         },
     }
 }
 
-/// The text of the help that the arguments ask for, where [`read_words`] answers [`Asked::Help`] to them. Its wording is clap's own.
+/// The text of the help, or of the version, that the arguments ask for, where [`read_words`] answers [`Asked::Help`] to them. Its wording is clap's own.
 ///
 /// Rejects with [`WordsFault::BadWords`] (1601) arguments that do not ask for help, and with [`WordsFault::Memory`] (1) where an allocation
 /// failed.
@@ -142,19 +188,23 @@ pub fn help_text(alloc: Global, words: &[&str]) -> Result<String, WordsFault>
     match parsed(alloc, words) {
         Ok(_) => Err(WordsFault::BadWords),
         Err(error) => match error.kind() {
-            ErrorKind::DisplayHelp => format!(in alloc; "{error}").map_err(|_| WordsFault::Memory),
+            ErrorKind::DisplayHelp | ErrorKind::DisplayVersion => {
+                format!(in alloc; "{error}").map_err(|_| WordsFault::Memory)
+            }
             ErrorKind::OutOfMemory => Err(WordsFault::Memory),
             _ => Err(WordsFault::BadWords),
         },
     }
 }
 
-/// Arguments that clap takes always ask for a command; none at all are a mistake; and `--help`, alone or after a command, asks for help.
+/// Arguments that are taken always ask for a command; those at which clap finds nothing wrong are taken or a mistake; none at all are a mistake; `--help`, alone or after a command, asks for help, and so
+/// does `--version`.
 /// The arguments of one `age`, with the default drift, ask for it with its three numbers.
 pub fn word_laws()
     ensures total { (words : List (List ℕ)) → AreTaken words → (command : Command) × (asked_of words ≡ Ok (Asked.Run command)) }
+    ensures judged { (words : List (List ℕ)) → faults_of words ≡ [] → AreTaken words ⊎ AreMistaken words }
     ensures nothing { AreMistaken [] }
-    ensures help { AreForHelp (codes "--help" ∷ []) × AreForHelp (codes "age" ∷ codes "--help" ∷ []) }
+    ensures help { AreForHelp (codes "--help" ∷ []) × AreForHelp (codes "age" ∷ codes "--help" ∷ []) × AreForHelp (codes "--version" ∷ []) }
     ensures age { asked_of (codes "age" ∷ codes "--sent" ∷ codes "500" ∷ codes "--got" ∷ codes "900" ∷ codes "--clock"
         ∷ codes "30000000900" ∷ []) ≡ Ok (Asked.Run (Command.Age 200 500 900 30000000900)) }
 {}

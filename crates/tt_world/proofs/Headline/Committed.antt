@@ -16,34 +16,33 @@ use Rattle.tt_world.specs.Assumptions.{MeetsAssumptions}
 use Rattle.tt_world.specs.Headline.{AreConfigurations, IsAction, AreEvents, StampsAreLeast, StampsInLeases, LeasesKeepStampsApart, IsArrival, ExternallyConsistent}
 use Rattle.tt_world.proofs.Histories.Places.{all_by_recursion}
 use Rattle.tt_world.proofs.Histories.Judging.{good_of, accepted-good}
-use Rattle.tt_world.proofs.Histories.Fusing.{FusionLaws}
 use Rattle.tt_world.proofs.Headline.Running.{reply_at}
 use Rattle.tt_world.proofs.Histories.Sound.{IsSound, sound_accepted, sound_if_after, time_if_after}
 use Rattle.tt_world.proofs.Histories.Sight.{reading_not_ahead, arrival_time_of, arrival_on, arrival-here, reading_since_holds}
 use Rattle.tt_world.proofs.Histories.Placing.{before_place, before_place-reverse, before_place-next, accepted_before, all_before_place, placed, replied_at}
-use Rattle.tt_world.proofs.Headline.Committing.{StampLaws, arrival_not_bad, stamp_least, releasing}
+use Rattle.tt_world.proofs.Headline.Committing.{arrival_not_bad, stamp_least, releasing}
 
 -- every stamp of a run is the least that its rules allow, whatever the run
-pub stamps-least : StampLaws → (configs : List Configuration) (events : List Event) → AreConfigurations configs → StampsAreLeast configs events (replies_from configs [] events)
-stamps-least laws configs events configurations before at m w after s e replied =
+pub stamps-least : (configs : List Configuration) (events : List Event) → AreConfigurations configs → StampsAreLeast configs events (replies_from configs [] events)
+stamps-least configs events configurations before at m w after s e replied =
     let event : Event = record { at = at; action = does.Stamp m w } in
-    stamp_least laws configs (reverse before) at m w s (same_reply (reply_of configs (reverse before) event) (Stamped s) (sym (reply_at configs events before event after e) ∙ replied))
+    stamp_least configs (reverse before) at m w s (same_reply (reply_of configs (reverse before) event) (Stamped s) (sym (reply_at configs events before event after e) ∙ replied))
   where
     same_reply : (a b : Reply) → Some a ≡ Some b → a ≡ b
     same_reply a b h = cc
 
 -- every stamp of a run lies in the lease that its machine had
-pub stamps-in-leases : StampLaws → (configs : List Configuration) (events : List Event) → StampsInLeases configs events (replies_from configs [] events)
-stamps-in-leases laws configs events m w s k stamping =
+pub stamps-in-leases : (configs : List Configuration) (events : List Event) → StampsInLeases configs events (replies_from configs [] events)
+stamps-in-leases configs events m w s k stamping =
     let event : Event = record { at = stamping.at; action = does.Stamp m w } in
-    let least = stamp_least laws configs (before_place [] events k) stamping.at m w s (replied_at configs [] events k event (Stamped s) stamping.stamps stamping.gives) in
+    let least = stamp_least configs (before_place [] events k) stamping.at m w s (replied_at configs [] events k event (Stamped s) stamping.stamps stamping.gives) in
     let here : before_place [] events k ≡ reverse (take k events) = before_place-reverse [] events k ∙ append-nil (reverse (take k events)) in
     subst (λ (past : List Event). Holds (lease_of (accepted configs past) m) s) here (least.least.may_give.from_lease, least.in_lease)
 
-pub leases-keep-apart : StampLaws → (configs : List Configuration) (events : List Event) → LeasesKeepStampsApart configs events (replies_from configs [] events)
-leases-keep-apart laws configs events m w s k n v t l first second apart same =
+pub leases-keep-apart : (configs : List Configuration) (events : List Event) → LeasesKeepStampsApart configs events (replies_from configs [] events)
+leases-keep-apart configs events m w s k n v t l first second apart same =
     let other : List Event = accepted configs (reverse (take l events)) in
-    apart (s, stamps-in-leases laws configs events m w s k first, subst (λ (x : ℕ). Holds (lease_of other n) x) (sym same) (stamps-in-leases laws configs events n v t l second))
+    apart (s, stamps-in-leases configs events m w s k first, subst (λ (x : ℕ). Holds (lease_of other n) x) (sym same) (stamps-in-leases configs events n v t l second))
 
 -- the events before a place that were not bad keep the assumptions, where those before a later place do
 sound_before_place : (configs : List Configuration) (events : List Event) (i n : ℕ) → i ≤ n → AreEvents events → MeetsAssumptions configs (reverse (take n events)) → IsSound configs (accepted configs (before_place [] events i))
@@ -80,8 +79,8 @@ in_order : (stamp lo i j at arrival hi s : ℕ) → stamp < lo → lo ≤ i → 
 in_order stamp lo i j at arrival hi s a b c d e f g = omega arith
 
 -- a commit that is released before another arrives has the smaller stamp, if the run keeps the assumptions up to that stamp
-pub externally-consistent : FusionLaws → StampLaws → (configs : List Configuration) (events : List Event) → AreConfigurations configs → AreEvents events → ExternallyConsistent configs events (replies_from configs [] events)
-externally-consistent fusions stamps configs events configurations valid i j k m w s receipts receipt ij jk released contained arrival stamping meets =
+pub externally-consistent : (configs : List Configuration) (events : List Event) → AreConfigurations configs → AreEvents events → ExternallyConsistent configs events (replies_from configs [] events)
+externally-consistent configs events configurations valid i j k m w s receipts receipt ij jk released contained arrival stamping meets =
     let at_i : List Event = accepted configs (before_place [] events i) in
     let at_j : List Event = accepted configs (before_place [] events j) in
     let at_k : List Event = accepted configs (before_place [] events k) in
@@ -92,12 +91,12 @@ externally-consistent fusions stamps configs events configurations valid i j k m
     let release = releasing configs (before_place [] events i) place.event receipts receipt place.replied contained in
     let arrived = has_arrived configs events m w j k arrival jk sound_k in
     let event : Event = record { at = stamping.at; action = does.Stamp m w } in
-    let least = stamp_least stamps configs (before_place [] events k) stamping.at m w s (replied_at configs [] events k event (Stamped s) stamping.stamps stamping.gives) in
+    let least = stamp_least configs (before_place [] events k) stamping.at m w s (replied_at configs [] events k event (Stamped s) stamping.stamps stamping.gives) in
     in_order receipt.stamp release.reading.lo (time_of at_i) (time_of at_j) arrival.at (arrival_time_of at_k m w) least.reading.hi s
     release.below
-    (reading_not_ahead fusions configs configurations at_i (life_at at_i release.machine) release.worker release.reading sound_i release.last)
+    (reading_not_ahead configs configurations at_i (life_at at_i release.machine) release.worker release.reading sound_i release.last)
     (time_if_after configs at_j at_i (accepted_before configs events i j (omega arith)) sound_j.good)
     arrived.later
     arrived.kept
-    (reading_since_holds fusions configs configurations at_k (life_at at_k m) w least.reading sound_k (omega arith) least.read_since)
+    (reading_since_holds configs configurations at_k (life_at at_k m) w least.reading sound_k (omega arith) least.read_since)
     least.least.may_give.from_latest

@@ -1,9 +1,7 @@
 -- What the replies to commits say: a stamp is the least by the last reading since the commit was asked for, and what is released is below the last reading.
 use Rattle.std.proofs.Common.{◌≡◌, ℕ, ◌<◌, Bool, true, false, cond, ltb, List, [], ◌∷◌, length, map, filter, Option, Some, None, Result, Ok, Err, refl, ap, subst, sym, arith}
 use Rattle.std.specs.Prelude.{slice_get, Contains}
-use Rattle.std.specs.List.{AllByRecursion}
-use Rattle.std.proofs.lemmas.Bool.{ltb-true}
-use Rattle.std.proofs.lemmas.List.Elements.{All-from_recursion, All-contains}
+use Rattle.std.proofs.lemmas.List.Elements.{All-contains}
 use Rattle.tt_span.specs.Interval.{Interval}
 use Rattle.tt_poll.specs.Reading.{read_of2}
 use Rattle.tt_source.specs.Statement.{Statement}
@@ -16,6 +14,7 @@ use Rattle.tt_stamp.specs.declared.faults.StampFault.{StampFault}
 use Rattle.tt_stamp.specs.declared.faults.BookFault.{BookFault}
 use Rattle.tt_stamp.specs.Stamp.{IsAnswer, stamp_of}
 use Rattle.tt_stamp.specs.History.{waiting_of, release_of}
+use Rattle.tt_stamp.proofs.Laws.{IsAnswer-stamp_of, IsRelease-release_of}
 use Rattle.tt_world.specs.Lease.{lease_of}
 use Rattle.tt_world.specs.Life.{life_of, life_at}
 use Rattle.tt_world.specs.declared.faults.WorldFault.{WorldFault}
@@ -25,7 +24,7 @@ use Rattle.tt_world.specs.declared.events.Action.TheVariants as does
 use Rattle.tt_world.specs.declared.events.Reply.{Reply}
 use Rattle.tt_world.specs.declared.events.Reply.TheVariants.{Arrived, Stamped, Released}
 use Rattle.tt_world.specs.declared.packets.Packet.{Packet}
-use Rattle.tt_world.specs.declared.publications.Publication.{Publication}
+use Rattle.tt_publish.specs.declared.readings.FusedSpan.{FusedSpan}
 use Rattle.tt_world.specs.declared.workers.Arrival.{Arrival}
 use Rattle.tt_daemon.specs.Config.{Configuration}
 use Rattle.tt_world.specs.Config.{config_at}
@@ -37,10 +36,6 @@ use Rattle.tt_world.specs.Commits.{arrival_of, reading_of, reading_since, stampi
 use Rattle.tt_world.specs.Bad.{first_bad, accepted}
 use Rattle.tt_world.specs.Reply.{delivery_reply, reply_to_packet, fusion_reply, stamping_reply, queueing_reply, reply_to, reply_unless_bad, reply_of}
 use Rattle.tt_world.specs.Headline.{IsLeastFor}
-
--- what the proofs need of stamps: the one that is computed is the answer
-abbrev pub StampLaws : Type 0
-StampLaws = (given : List ℕ) (latest floor : ℕ) (lease : Interval) → IsAnswer given latest floor lease (stamp_of given latest floor lease)
 
 -- ---- commits that are asked for
 
@@ -84,14 +79,14 @@ stamped_of given lease (Some arrival) (Some reading) s h =
     same_answer a b h = cc
 
 -- a stamp is the least that may be given by the last reading since the commit was asked for
-pub stamp_least : StampLaws → (configs : List Configuration) (past : List Event) (at m w s : ℕ) → reply_of configs past (record { at = at; action = does.Stamp m w }) ≡ Stamped s → IsLeastFor (config_at configs m) (accepted configs past) (life_at (accepted configs past) m) w s
-stamp_least laws configs past at m w s h =
+pub stamp_least : (configs : List Configuration) (past : List Event) (at m w s : ℕ) → reply_of configs past (record { at = at; action = does.Stamp m w }) ≡ Stamped s → IsLeastFor (config_at configs m) (accepted configs past) (life_at (accepted configs past) m) w s
+stamp_least configs past at m w s h =
     let before : List Event = accepted configs past in
     let config : Configuration = config_at configs m in
     let event : Event = record { at = at; action = does.Stamp m w } in
     let made = stamping_made (stamping_of config before (life_at before m) w) s (stamped_not_bad (first_bad configs before event) (reply_to configs before (does.Stamp m w)) s h) in
     let stamped = stamped_of (stamps_of config before (life_at before m)) (lease_of before m) (arrival_of before (life_at before m) w) (reading_since config before (life_at before m) w) s made in
-    let answer = subst (IsAnswer (stamps_of config before (life_at before m)) stamped.reading.hi stamped.arrival.floor (lease_of before m)) stamped.answer (laws (stamps_of config before (life_at before m)) stamped.reading.hi stamped.arrival.floor (lease_of before m)) in
+    let answer = subst (IsAnswer (stamps_of config before (life_at before m)) stamped.reading.hi stamped.arrival.floor (lease_of before m)) stamped.answer (IsAnswer-stamp_of (stamps_of config before (life_at before m)) stamped.reading.hi stamped.arrival.floor (lease_of before m)) in
     record {
       arrival = stamped.arrival;
       reading = stamped.reading;
@@ -117,7 +112,7 @@ no_release_of_packet past clock None receipts h = cc
 no_release_of_packet past clock (Some packet) receipts h =
     no_release_delivered (statement_of_message (machine_of_packet packet) (life_of past (machine_of_packet packet)) (source_of_packet packet) (outstanding past (life_at past (machine_of_packet packet)) (source_of_packet packet)) clock (read_of2 (bytes_of packet))) receipts h
 
-no_release_fused : (count : ℕ) (made : Result Publication ℕ) (receipts : List Receipt) → fusion_reply count made ≡ Released receipts → ⊥
+no_release_fused : (count : ℕ) (made : Result FusedSpan ℕ) (receipts : List Receipt) → fusion_reply count made ≡ Released receipts → ⊥
 no_release_fused count (Ok publication) receipts h = cc
 no_release_fused count (Err number) receipts h = cc
 
@@ -132,25 +127,6 @@ no_release_queued (Some fault) receipts h = cc
 
 same_receipts : (a b : List Receipt) → Released a ≡ Released b → a ≡ b
 same_receipts a b h = cc
-
--- a commit that waits: its stamp and its id
-abbrev Commit : Type 0
-Commit = ℕ × Id
-
-abbrev IsBelow : ℕ → Receipt → Type 0
-IsBelow earliest receipt = receipt.stamp < earliest
-
-abbrev receipt_for : ℕ → Commit → Receipt
-receipt_for earliest commit = record { id = commit.1; stamp = commit.0; earliest = earliest }
-
-below_if : (earliest : ℕ) (commit : Commit) (kept : List Commit) (b : Bool) → ltb commit.0 earliest ≡ b → AllByRecursion (IsBelow earliest) (map (receipt_for earliest) kept) →
-    AllByRecursion (IsBelow earliest) (map (receipt_for earliest) (cond b (commit ∷ kept) kept))
-below_if earliest commit kept true e h = (ltb-true commit.0 earliest e, h)
-below_if earliest commit kept false e h = h
-
-all_below : (earliest : ℕ) (waiting : List Commit) → AllByRecursion (IsBelow earliest) (release_of waiting earliest)
-all_below earliest [] = tt
-all_below earliest (commit ∷ waiting) = below_if earliest commit (filter (λ (c : Commit). ltb c.0 earliest) waiting) (ltb commit.0 earliest) refl (all_below earliest waiting)
 
 -- where a commit is released, its worker had read the time, and the commit's stamp is below the last reading
 pub record IsReleasing (configs : List Configuration) (past : List Event) (receipt : Receipt) : Type 0 where
@@ -168,7 +144,7 @@ releasing_with configs past m w receipt book (Some reading) e contained = record
   worker = w;
   reading = reading;
   last = e;
-  below = All-contains (IsBelow reading.lo) (release_of (waiting_of book) reading.lo) receipt (All-from_recursion (IsBelow reading.lo) _ (all_below reading.lo (waiting_of book))) contained;
+  below = (All-contains (λ (r : Receipt). (r.earliest ≡ reading.lo) × (r.stamp < reading.lo) × Contains (waiting_of book) (r.stamp, r.id)) (release_of (waiting_of book) reading.lo) receipt (IsRelease-release_of book reading.lo).each contained).1;
 }
 
 releasing_by : (configs : List Configuration) (past : List Event) (action : Action) (receipts : List Receipt) (receipt : Receipt) → reply_to configs past action ≡ Released receipts → Contains receipts receipt → IsReleasing configs past receipt

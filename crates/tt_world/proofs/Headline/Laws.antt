@@ -1,5 +1,5 @@
 -- Which replies come to which events.
-use Rattle.std.proofs.Common.{◌≡◌, ◌↔◌, ℕ, Bool, true, false, cond, ◌&&◌, ◌||◌, not, eqb, List, is_some, Option, Some, None, Result, refl, subst, sym, arith}
+use Rattle.std.proofs.Common.{◌≡◌, ◌↔◌, ℕ, ◌<◌, Bool, true, false, cond, ◌&&◌, ◌||◌, not, eqb, List, is_some, Option, Some, None, Result, refl, subst, sym, arith}
 use Rattle.std.specs.Prelude.{Ok, Err}
 use Rattle.std.specs.Result.{result_ok}
 use Rattle.std.proofs.lemmas.Bool.{and_parts, eqb-true, eq-eqb}
@@ -7,7 +7,9 @@ use Rattle.tt_span.specs.Interval.{Interval}
 use Rattle.tt_poll.specs.Reading.{read_of2}
 use Rattle.tt_source.specs.Statement.{Statement}
 use Rattle.tt_source.specs.Table.{statement_of_message}
+use Rattle.tt_source.specs.Fault.{number_of}
 use Rattle.tt_source.specs.declared.faults.SourceFault.{SourceFault}
+use Rattle.tt_source.specs.declared.faults.SourceFault.TheVariants.{NoSource, ClockBack, NoncesUsedUp, BadMessage, NotMine, OtherEpoch, NotOutstanding}
 use Rattle.tt_stamp.specs.declared.faults.StampFault.{StampFault}
 use Rattle.tt_stamp.specs.declared.faults.StampFault.TheVariants as stamp_fault
 use Rattle.tt_stamp.specs.declared.faults.BookFault.{BookFault}
@@ -16,12 +18,14 @@ use Rattle.tt_world.specs.Lease.{lease_of}
 use Rattle.tt_world.proofs.Simulation.Lives.{is_of-own, same_life-true}
 use Rattle.tt_world.specs.Life.{Life, life_of, life_at, is_of}
 use Rattle.tt_world.specs.declared.faults.WorldFault.{WorldFault}
+use Rattle.tt_world.specs.declared.faults.WorldFault.TheVariants as bad
+use Rattle.tt_world.specs.Fault.{bad_reply}
 use Rattle.tt_world.specs.declared.events.Event.{Event}
 use Rattle.tt_world.specs.declared.events.Action.{Action}
 use Rattle.tt_world.specs.declared.events.Action.TheVariants.{Send, Answer, Forge, Deliver, Fuse, Read, Arrive, Stamp, Queue, Restart, Lease, Release}
 use Rattle.tt_world.specs.declared.events.Reply.TheVariants.{Taken}
 use Rattle.tt_world.specs.declared.packets.Packet.{Packet}
-use Rattle.tt_world.specs.declared.publications.Publication.{Publication}
+use Rattle.tt_publish.specs.declared.readings.FusedSpan.{FusedSpan}
 use Rattle.tt_world.specs.declared.workers.Arrival.{Arrival}
 use Rattle.tt_daemon.specs.Config.{Configuration}
 use Rattle.tt_world.specs.Config.{config_at}
@@ -32,7 +36,31 @@ use Rattle.tt_world.specs.Commits.{arrival_of, reading_since, stamp_held, is_que
 use Rattle.tt_world.specs.Bad.{can_be_delivered, is_arrived, first_bad, accepted}
 use Rattle.tt_world.specs.Reply.{IsBadReply, delivery_reply, reply_to_packet, fusion_reply, stamping_reply, queueing_reply, reply_to, reply_unless_bad, reply_of, MakesStatement}
 use Rattle.tt_world.proofs.Histories.Judging.{IsGood, good_of}
-use Rattle.tt_world.proofs.Simulation.Events.{few_number, reason_at}
+
+-- a number of a lower crate
+few_number : (fault : SourceFault) → number_of fault < 1201
+few_number NoSource = omega arith
+few_number ClockBack = omega arith
+few_number NoncesUsedUp = omega arith
+few_number BadMessage = omega arith
+few_number NotMine = omega arith
+few_number OtherEpoch = omega arith
+few_number NotOutstanding = omega arith
+
+-- the reasons why an event can be bad
+reason_of : (t u v w x y z : Bool) (fault : WorldFault)
+    → cond t (Some bad.TimeBack) (cond u (Some bad.UnknownNumber) (cond v (Some bad.NoPacket) (cond w (Some bad.ClockBack) (cond x (Some bad.NoPublication) (cond y (Some bad.NothingThere) (cond z (Some bad.LivesUsedUp) None)))))) ≡ Some fault → IsBadReply (bad_reply fault)
+reason_of true u v w x y z fault h = let e : bad.TimeBack ≡ fault = cc in subst (λ (f : WorldFault). IsBadReply (bad_reply f)) e (omega arith, omega arith)
+reason_of false true v w x y z fault h = let e : bad.UnknownNumber ≡ fault = cc in subst (λ (f : WorldFault). IsBadReply (bad_reply f)) e (omega arith, omega arith)
+reason_of false false true w x y z fault h = let e : bad.NoPacket ≡ fault = cc in subst (λ (f : WorldFault). IsBadReply (bad_reply f)) e (omega arith, omega arith)
+reason_of false false false true x y z fault h = let e : bad.ClockBack ≡ fault = cc in subst (λ (f : WorldFault). IsBadReply (bad_reply f)) e (omega arith, omega arith)
+reason_of false false false false true y z fault h = let e : bad.NoPublication ≡ fault = cc in subst (λ (f : WorldFault). IsBadReply (bad_reply f)) e (omega arith, omega arith)
+reason_of false false false false false true z fault h = let e : bad.NothingThere ≡ fault = cc in subst (λ (f : WorldFault). IsBadReply (bad_reply f)) e (omega arith, omega arith)
+reason_of false false false false false false true fault h = let e : bad.LivesUsedUp ≡ fault = cc in subst (λ (f : WorldFault). IsBadReply (bad_reply f)) e (omega arith, omega arith)
+reason_of false false false false false false false fault h = absurd cc
+
+reason_at : (configs : List Configuration) (past : List Event) (event : Event) (fault : WorldFault) → first_bad configs past event ≡ Some fault → IsBadReply (bad_reply fault)
+reason_at configs past event fault is = reason_of _ _ _ _ _ _ _ fault is
 
 -- ---- an accepted event has no bad reply
 
@@ -92,7 +120,7 @@ accepted-reply configs past event = by_reason configs (accepted configs past) ev
 
 -- ---- what is taken
 
-not_taken_fused : (count : ℕ) (made : Result Publication ℕ) → fusion_reply count made ≡ Taken → ⊥
+not_taken_fused : (count : ℕ) (made : Result FusedSpan ℕ) → fusion_reply count made ≡ Taken → ⊥
 not_taken_fused count (Ok publication) h = cc
 not_taken_fused count (Err number) h = cc
 

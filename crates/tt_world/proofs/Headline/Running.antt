@@ -12,7 +12,6 @@ use Rattle.tt_daemon.specs.Config.{Configuration}
 use Rattle.tt_world.specs.Reply.{reply_of, replies_from}
 use Rattle.tt_world.specs.Headline.{AreConfigurations, IsAction, AreEvents, ReadingsHold, FusionsAreShortest, NoFusionRefused}
 use Rattle.tt_world.proofs.Histories.Places.{all_append, all_by_recursion}
-use Rattle.tt_world.proofs.Histories.Fusing.{FusionLaws}
 use Rattle.tt_world.proofs.Headline.Promises.{reading_holds, fusion_shortest, fusion_not_refused}
 
 reverse_onto : (event : Event) (before past : List Event) → reverse before ++ event ∷ past ≡ reverse (event ∷ before) ++ past
@@ -46,21 +45,21 @@ same_reply : (a b : Reply) (o : Option Reply) → o ≡ Some a → o ≡ Some b 
 same_reply a b o h k = cc
 
 -- every reading of a run holds the true time, if the run keeps the assumptions up to then
-pub readings-hold : FusionLaws → (configs : List Configuration) (events : List Event) → AreConfigurations configs → AreEvents events → ReadingsHold configs events (replies_from configs [] events)
-readings-hold laws configs events configurations valid before event after reading e replied meets =
-    reading_holds laws configs configurations (reverse before) (events_before events before event after e valid) event reading
+pub readings-hold : (configs : List Configuration) (events : List Event) → AreConfigurations configs → AreEvents events → ReadingsHold configs events (replies_from configs [] events)
+readings-hold configs events configurations valid before event after reading e replied meets =
+    reading_holds configs configurations (reverse before) (events_before events before event after e valid) event reading
     (same_reply (reply_of configs (reverse before) event) _ (slice_get (replies_from configs [] events) (length before)) (reply_at configs events before event after e) replied) meets
 
 -- every span that is published is the least that holds every possible time, whatever the run
-pub fusions-shortest : FusionLaws → (configs : List Configuration) (events : List Event) → AreConfigurations configs → FusionsAreShortest configs events (replies_from configs [] events)
-fusions-shortest laws configs events configurations before at m clock after number span e replied =
+pub fusions-shortest : (configs : List Configuration) (events : List Event) → AreConfigurations configs → FusionsAreShortest configs events (replies_from configs [] events)
+fusions-shortest configs events configurations before at m clock after number span e replied =
     let event : Event = record { at = at; action = does.Fuse m clock } in
-    fusion_shortest laws configs configurations (reverse before) at m clock number span
+    fusion_shortest configs configurations (reverse before) at m clock number span
     (same_reply (reply_of configs (reverse before) event) (Published number span) (slice_get (replies_from configs [] events) (length before)) (reply_at configs events before event after e) replied)
 
 -- no fusion that is not bad is refused where enough sources are known, if the run keeps the assumptions up to then
-pub no-fusion-refused : FusionLaws → (configs : List Configuration) (events : List Event) → AreConfigurations configs → AreEvents events → NoFusionRefused configs events (replies_from configs [] events)
-no-fusion-refused laws configs events configurations valid before at m clock after e not_bad known meets =
+pub no-fusion-refused : (configs : List Configuration) (events : List Event) → AreConfigurations configs → AreEvents events → NoFusionRefused configs events (replies_from configs [] events)
+no-fusion-refused configs events configurations valid before at m clock after e not_bad known meets =
     let event : Event = record { at = at; action = does.Fuse m clock } in
-    let made = fusion_not_refused laws configs configurations (reverse before) (events_before events before event after e valid) at m clock not_bad known meets in
+    let made = fusion_not_refused configs configurations (reverse before) (events_before events before event after e valid) at m clock not_bad known meets in
     (made.0, made.1, reply_at configs events before event after e ∙ ap (λ (reply : Reply). Some reply) made.2)

@@ -11,9 +11,10 @@ use Rattle.tt_source.specs.Statement.{Statement}
 use Rattle.tt_source.specs.Table.{stated_at}
 use Rattle.tt_fuse.specs.Fusion.{IsFusion, HasNoPossibleTime, IsPossibleTime}
 use Rattle.tt_fuse.specs.Depth.{slow_fusion}
+use Rattle.tt_fuse.proofs.Slowly.{fusion-found_slowly, none-found_slowly}
 use Rattle.tt_world.specs.Life.{Life}
 use Rattle.tt_world.specs.declared.events.Event.{Event}
-use Rattle.tt_world.specs.declared.publications.Publication.{Publication}
+use Rattle.tt_publish.specs.declared.readings.FusedSpan.{FusedSpan}
 use Rattle.tt_daemon.specs.Config.{Configuration, IsConfiguration}
 use Rattle.tt_world.specs.Past.{clock_reading, time_of, clock_of, moments_of}
 use Rattle.tt_world.specs.Sources.{statement_of}
@@ -25,11 +26,6 @@ use Rattle.tt_world.proofs.Histories.Ageing.{statement_holds, statement_valid}
 use Rattle.tt_world.proofs.Histories.Judging.{IsGood, AreGood}
 use Rattle.tt_world.proofs.Histories.Clocks.{reading_on, reading_of}
 use Rattle.tt_world.proofs.Histories.Stating.{IsStated, statement_known}
-
--- what the proofs need of the fusion: the slow fusion finds it, or that there is none
-pub record FusionLaws : Type 0 where
-  pub found_slowly : (spans : List Interval) (f : ℕ) (i : Interval) → All IsInterval spans → f < length spans → IsFusion spans f i ↔ (slow_fusion spans f ≡ Some i)
-  pub none_slowly : (spans : List Interval) (f : ℕ) → All IsInterval spans → f < length spans → HasNoPossibleTime spans f ↔ (slow_fusion spans f ≡ None)
 
 -- one span for each source
 pub length-spans_of : (config : Configuration) (past : List Event) (life : Life) (clock : ℕ) → length (spans_of config past life clock) ≡ config.sources
@@ -89,46 +85,46 @@ true_time_possible configs past event config life clock all_good valid good read
           (stated_holds config.drift past life k clock event.at (statement_of past life k) (statement_known configs past all_good life k) reading.not_before good.not_before good.in_time agree valid honest);
     }
 
-abbrev as_made : Publication → Result Publication ℕ
+abbrev as_made : FusedSpan → Result FusedSpan ℕ
 as_made p = Ok p
 
-same_made : (a b : Publication) → as_made a ≡ as_made b → a ≡ b
+same_made : (a b : FusedSpan) → as_made a ≡ as_made b → a ≡ b
 same_made a b e = cc
 
 -- what is known of what was made
-made_of : (few : Bool) (clock : ℕ) (fused : Option Interval) (publication : Publication) → cond few (Err 701) (published clock fused) ≡ Ok publication → (fused ≡ Some publication.span) × (publication.clock ≡ clock)
+made_of : (few : Bool) (clock : ℕ) (fused : Option Interval) (publication : FusedSpan) → cond few (Err 701) (published clock fused) ≡ Ok publication → (fused ≡ Some publication.span) × (publication.clock ≡ clock)
 made_of true clock fused publication h = absurd cc
 made_of false clock None publication h = absurd cc
 made_of false clock (Some span) publication h =
     let same : record { clock = clock; span = span } ≡ publication = same_made (record { clock = clock; span = span }) publication h in
-    (ap (λ (p : Publication). Some p.span) same, sym (ap (λ (p : Publication). p.clock) same))
+    (ap (λ (p : FusedSpan). Some p.span) same, sym (ap (λ (p : FusedSpan). p.clock) same))
 
 few_faulty : (config : Configuration) → IsConfiguration config → config.faulty < config.sources
 few_faulty config h = omega (arith, h.enough)
 
 -- what a fusion publishes is the least span that holds every possible time
-pub made_is_fusion : FusionLaws → (configs : List Configuration) (past : List Event) (config : Configuration) (life : Life) (clock : ℕ) (publication : Publication) → IsConfiguration config → AreGood configs past →
+pub made_is_fusion : (configs : List Configuration) (past : List Event) (config : Configuration) (life : Life) (clock : ℕ) (publication : FusedSpan) → IsConfiguration config → AreGood configs past →
     fusion_of config past life clock ≡ Ok publication → IsFusion (spans_of config past life clock) config.faulty publication.span × (publication.clock ≡ clock)
-made_is_fusion laws configs past config life clock publication configuration good h =
+made_is_fusion configs past config life clock publication configuration good h =
     let facts = made_of (ltb (known_of config past life) (config.sources - config.faulty)) clock (slow_fusion (spans_of config past life clock) config.faulty) publication h in
     let few = few_faulty config configuration in (
-      (laws.found_slowly (spans_of config past life clock) config.faulty publication.span (spans_valid configs past config life clock good) (omega (arith, length-spans_of config past life clock))).1 facts.0,
+      (fusion-found_slowly (spans_of config past life clock) config.faulty publication.span (spans_valid configs past config life clock good) (omega (arith, length-spans_of config past life clock))).1 facts.0,
       facts.1,
     )
 
 -- a fusion, made or not
-made_unless : (clock : ℕ) (fused : Option Interval) → (fused ≡ None → ⊥) → (publication : Publication) × (published clock fused ≡ Ok publication)
+made_unless : (clock : ℕ) (fused : Option Interval) → (fused ≡ None → ⊥) → (publication : FusedSpan) × (published clock fused ≡ Ok publication)
 made_unless clock None h = absurd (h refl)
 made_unless clock (Some span) h = (record { clock = clock; span = span }, refl)
 
 -- where enough sources are known and some time is possible, there is a fusion
-pub fusion_made : FusionLaws → (configs : List Configuration) (past : List Event) (config : Configuration) (life : Life) (clock x : ℕ) → IsConfiguration config → AreGood configs past →
-    config.sources - config.faulty ≤ known_of config past life → IsPossibleTime (spans_of config past life clock) config.faulty x → (publication : Publication) × (fusion_of config past life clock ≡ Ok publication)
-fusion_made laws configs past config life clock x configuration good known possible =
+pub fusion_made : (configs : List Configuration) (past : List Event) (config : Configuration) (life : Life) (clock x : ℕ) → IsConfiguration config → AreGood configs past →
+    config.sources - config.faulty ≤ known_of config past life → IsPossibleTime (spans_of config past life clock) config.faulty x → (publication : FusedSpan) × (fusion_of config past life clock ≡ Ok publication)
+fusion_made configs past config life clock x configuration good known possible =
     let few = few_faulty config configuration in
     let spans : List Interval = spans_of config past life clock in
     let some : slow_fusion spans config.faulty ≡ None → ⊥ = λ none.
-    (laws.none_slowly spans config.faulty (spans_valid configs past config life clock good) (omega (arith, length-spans_of config past life clock))).1 none x possible in
+    (none-found_slowly spans config.faulty (spans_valid configs past config life clock good) (omega (arith, length-spans_of config past life clock))).1 none x possible in
     let made = made_unless clock (slow_fusion spans config.faulty) some in
     let enough : ltb (known_of config past life) (config.sources - config.faulty) ≡ false = le-ltb (known_of config past life) (config.sources - config.faulty) known in
     (made.0, ap (λ (b : Bool). cond b (Err 701) (published clock (slow_fusion spans config.faulty))) enough ∙ made.1)

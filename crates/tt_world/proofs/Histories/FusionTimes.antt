@@ -8,7 +8,7 @@ use Rattle.tt_world.specs.Life.{Life, life_at, is_of}
 use Rattle.tt_world.specs.declared.events.Event.{Event}
 use Rattle.tt_world.specs.declared.events.Action.{Action}
 use Rattle.tt_world.specs.declared.events.Action.TheVariants.{Fuse}
-use Rattle.tt_world.specs.declared.publications.Publication.{Publication}
+use Rattle.tt_publish.specs.declared.readings.FusedSpan.{FusedSpan}
 use Rattle.tt_daemon.specs.Config.{Configuration, IsConfiguration}
 use Rattle.tt_world.specs.Config.{config_at}
 use Rattle.tt_world.specs.Past.{clock_reading, time_of, clock_of, moment_at, moments_of}
@@ -19,17 +19,17 @@ use Rattle.tt_world.proofs.Histories.Places.{IsIn, all_append, all_weaker}
 use Rattle.tt_world.proofs.Histories.Ageing.{drift_kept_before}
 use Rattle.tt_world.proofs.Histories.Judging.{IsGood, AreGood}
 use Rattle.tt_world.proofs.Histories.Clocks.{reading_on, reading_of, clock_on, moment_stays}
-use Rattle.tt_world.proofs.Histories.Fusing.{FusionLaws, true_time_possible, made_is_fusion}
+use Rattle.tt_world.proofs.Histories.Fusing.{true_time_possible, made_is_fusion}
 
 -- a publication of machine life held the true time when it was made
-pub record WasRight (past : List Event) (life : Life) (publication : Publication) : Type 0 where
+pub record WasRight (past : List Event) (life : Life) (publication : FusedSpan) : Type 0 where
   pub fused_at : ℕ
   pub moment : IsIn (record { clock = publication.clock; time = fused_at }) (moments_of past life)
   pub by_now : fused_at ≤ time_of past
   pub clock_by_now : publication.clock ≤ clock_of past life
   pub held : Holds publication.span fused_at
 
-was_right_stays : (configs : List Configuration) (past : List Event) (event : Event) (life : Life) (publication : Publication) → IsGood configs past event → WasRight past life publication → WasRight (event ∷ past) life publication
+was_right_stays : (configs : List Configuration) (past : List Event) (event : Event) (life : Life) (publication : FusedSpan) → IsGood configs past event → WasRight past life publication → WasRight (event ∷ past) life publication
 was_right_stays configs past event life publication good was =
     let on : time_of past ≤ event.at = good.not_before in
     let clock : clock_of past life ≤ clock_of (event ∷ past) life = clock_on configs past event life good in
@@ -75,14 +75,14 @@ kept_before configs past event life kept = record {
   few = kept.few.1;
 }
 
-right_if_made : FusionLaws → (configs : List Configuration) (past : List Event) (event : Event) (life : Life) (clock : ℕ) (made : Result Publication ℕ) → IsConfiguration (config_at configs life.machine) → IsKept configs (event ∷ past) life →
-    fuses_at past life event.action ≡ Some clock → fusion_of (config_at configs life.machine) past life clock ≡ made → AllByRecursion (λ (p : Publication). WasRight (event ∷ past) life p) (one_if_made made)
-right_if_made laws configs past event life clock (Err number) configuration kept fuses h = tt
-right_if_made laws configs past event life clock (Ok publication) configuration kept fuses h =
+right_if_made : (configs : List Configuration) (past : List Event) (event : Event) (life : Life) (clock : ℕ) (made : Result FusedSpan ℕ) → IsConfiguration (config_at configs life.machine) → IsKept configs (event ∷ past) life →
+    fuses_at past life event.action ≡ Some clock → fusion_of (config_at configs life.machine) past life clock ≡ made → AllByRecursion (λ (p : FusedSpan). WasRight (event ∷ past) life p) (one_if_made made)
+right_if_made configs past event life clock (Err number) configuration kept fuses h = tt
+right_if_made configs past event life clock (Ok publication) configuration kept fuses h =
     let fusing = fusing_of configs past life event.action clock fuses in
     let reading = reading_of configs past event life clock kept.good.0 fusing.reads in
     let possible = true_time_possible configs past event (config_at configs life.machine) life clock kept.good.1 kept.valid.1 kept.good.0 fusing.reads kept.drift (fusing.few kept.few.0) in
-    let made = made_is_fusion laws configs past (config_at configs life.machine) life clock publication configuration kept.good.1 h in
+    let made = made_is_fusion configs past (config_at configs life.machine) life clock publication configuration kept.good.1 h in
     let same : publication.clock ≡ clock = made.1 in (
       record {
         fused_at = event.at;
@@ -94,21 +94,21 @@ right_if_made laws configs past event life clock (Ok publication) configuration 
       tt,
     )
 
-right_if_fused : FusionLaws → (configs : List Configuration) (past : List Event) (event : Event) (life : Life) (fuses : Option ℕ) → IsConfiguration (config_at configs life.machine) → IsKept configs (event ∷ past) life →
-    fuses_at past life event.action ≡ fuses → AllByRecursion (λ (p : Publication). WasRight (event ∷ past) life p) (published_at (config_at configs life.machine) past life fuses)
-right_if_fused laws configs past event life None configuration kept h = tt
-right_if_fused laws configs past event life (Some clock) configuration kept h =
-    right_if_made laws configs past event life clock (fusion_of (config_at configs life.machine) past life clock) configuration kept h refl
+right_if_fused : (configs : List Configuration) (past : List Event) (event : Event) (life : Life) (fuses : Option ℕ) → IsConfiguration (config_at configs life.machine) → IsKept configs (event ∷ past) life →
+    fuses_at past life event.action ≡ fuses → AllByRecursion (λ (p : FusedSpan). WasRight (event ∷ past) life p) (published_at (config_at configs life.machine) past life fuses)
+right_if_fused configs past event life None configuration kept h = tt
+right_if_fused configs past event life (Some clock) configuration kept h =
+    right_if_made configs past event life clock (fusion_of (config_at configs life.machine) past life clock) configuration kept h refl
 
 -- each publication of machine life held the true time when it was made
-were_right : FusionLaws → (configs : List Configuration) (past : List Event) (life : Life) → IsConfiguration (config_at configs life.machine) → IsKept configs past life → AllByRecursion (λ (p : Publication). WasRight past life p) (publications_of (config_at configs life.machine) past life)
-were_right laws configs [] life configuration kept = tt
-were_right laws configs (event ∷ past) life configuration kept =
-    all_append (λ (p : Publication). WasRight (event ∷ past) life p) (publications_of (config_at configs life.machine) past life) (published_at (config_at configs life.machine) past life (fuses_at past life event.action))
-    (all_weaker (λ (p : Publication). WasRight past life p) (λ (p : Publication). WasRight (event ∷ past) life p) (λ p was. was_right_stays configs past event life p kept.good.0 was) (publications_of (config_at configs life.machine) past life)
-    (were_right laws configs past life configuration (kept_before configs past event life kept)))
-    (right_if_fused laws configs past event life (fuses_at past life event.action) configuration kept refl)
+were_right : (configs : List Configuration) (past : List Event) (life : Life) → IsConfiguration (config_at configs life.machine) → IsKept configs past life → AllByRecursion (λ (p : FusedSpan). WasRight past life p) (publications_of (config_at configs life.machine) past life)
+were_right configs [] life configuration kept = tt
+were_right configs (event ∷ past) life configuration kept =
+    all_append (λ (p : FusedSpan). WasRight (event ∷ past) life p) (publications_of (config_at configs life.machine) past life) (published_at (config_at configs life.machine) past life (fuses_at past life event.action))
+    (all_weaker (λ (p : FusedSpan). WasRight past life p) (λ (p : FusedSpan). WasRight (event ∷ past) life p) (λ p was. was_right_stays configs past event life p kept.good.0 was) (publications_of (config_at configs life.machine) past life)
+    (were_right configs past life configuration (kept_before configs past event life kept)))
+    (right_if_fused configs past event life (fuses_at past life event.action) configuration kept refl)
 
-pub publications_right : FusionLaws → (configs : List Configuration) (past : List Event) (life : Life) → IsConfiguration (config_at configs life.machine) → AreGood configs past → AllByRecursion (λ (e : Event). IsAction e.action) past →
-    KeepsDrift (config_at configs life.machine).drift (moments_of past life) → FewLie configs past → AllByRecursion (λ (p : Publication). WasRight past life p) (publications_of (config_at configs life.machine) past life)
-publications_right laws configs past life configuration good valid drift few = were_right laws configs past life configuration (record { good = good; valid = valid; drift = drift; few = few })
+pub publications_right : (configs : List Configuration) (past : List Event) (life : Life) → IsConfiguration (config_at configs life.machine) → AreGood configs past → AllByRecursion (λ (e : Event). IsAction e.action) past →
+    KeepsDrift (config_at configs life.machine).drift (moments_of past life) → FewLie configs past → AllByRecursion (λ (p : FusedSpan). WasRight past life p) (publications_of (config_at configs life.machine) past life)
+publications_right configs past life configuration good valid drift few = were_right configs past life configuration (record { good = good; valid = valid; drift = drift; few = few })

@@ -16,11 +16,11 @@ use Rattle.tt_world.specs.declared.workers.Arrival.{Arrival}
 use Rattle.tt_daemon.specs.Config.{Configuration}
 use Rattle.tt_world.specs.Config.{config_at}
 use Rattle.tt_world.specs.Past.{time_of}
-use Rattle.tt_world.specs.Publications.{publications_of, publication_at, reading_at}
+use Rattle.tt_world.specs.Publications.{publications_of, publication_at}
+use Rattle.tt_publish.specs.Reading.{reading_at}
 use Rattle.tt_world.specs.Commits.{arrived_by, read_by, reading_of, reading_since}
 use Rattle.tt_world.specs.Headline.{AreConfigurations}
 use Rattle.tt_world.proofs.Histories.Judging.{AreGood}
-use Rattle.tt_world.proofs.Histories.Fusing.{FusionLaws}
 use Rattle.tt_world.proofs.Histories.FusionTimes.{publications_right}
 use Rattle.tt_world.proofs.Headline.Promises.{machine_of_worker, read_holds}
 use Rattle.tt_world.proofs.Histories.Sound.{IsSound, sound_before}
@@ -31,25 +31,25 @@ some_if : (b : Bool) (r s : Interval) → cond b (Some r) None ≡ Some s → (b
 some_if true r s h = (refl, same_Some r s h)
 some_if false r s h = absurd cc
 
-taken_holds : FusionLaws → (configs : List Configuration) → AreConfigurations configs → (past : List Event) (at m w clock k : ℕ) → IsSound configs (record { at = at; action = Read m w clock k } ∷ past) →
+taken_holds : (configs : List Configuration) → AreConfigurations configs → (past : List Event) (at m w clock k : ℕ) → IsSound configs (record { at = at; action = Read m w clock k } ∷ past) →
     Holds (reading_at (config_at configs m).drift (publication_at (publications_of (config_at configs m) past (life_at past m)) k) clock) at
-taken_holds laws configs configurations past at m w clock k sound =
+taken_holds configs configurations past at m w clock k sound =
     let event : Event = record { at = at; action = Read m w clock k } in
     let there = machine_of_worker configs m w sound.good.0.named in
     let drift = sound.clocks (life_at past m) there in
     let before = sound_before configs past event sound in
     read_holds configs past at m w clock k there sound.good.0 drift
-    (publications_right laws configs past (life_at past m) (configurations m there) before.good before.valid (before.clocks (life_at past m) there) before.few)
+    (publications_right configs past (life_at past m) (configurations m there) before.good before.valid (before.clocks (life_at past m) there) before.few)
 
-read_by_holds : FusionLaws → (configs : List Configuration) → AreConfigurations configs → (past : List Event) (at : ℕ) (action : Action) (life : Life) (w : ℕ) (r : Interval) → IsSound configs (record { at = at; action = action } ∷ past) →
+read_by_holds : (configs : List Configuration) → AreConfigurations configs → (past : List Event) (at : ℕ) (action : Action) (life : Life) (w : ℕ) (r : Interval) → IsSound configs (record { at = at; action = action } ∷ past) →
     read_by (config_at configs life.machine) past life w action ≡ Some r → Holds r at
-read_by_holds laws configs configurations past at (Read machine worker clock k) life w r sound h =
+read_by_holds configs configurations past at (Read machine worker clock k) life w r sound h =
     let parts = some_if (is_of past life machine && eqb worker w) (reading_at (config_at configs life.machine).drift (publication_at (publications_of (config_at configs life.machine) past life) k) clock) r h in
     let here = and_parts (is_of past life machine) (eqb worker w) parts.0 in
     subst (λ (i : Interval). Holds i at) parts.1
     (subst (λ (j : Life). Holds (reading_at (config_at configs j.machine).drift (publication_at (publications_of (config_at configs j.machine) past j) k) clock) at) (same_life-true (life_at past machine) life here.0)
-    (taken_holds laws configs configurations past at machine worker clock k sound))
-read_by_holds laws configs configurations past at _ life w r sound h = absurd cc
+    (taken_holds configs configurations past at machine worker clock k sound))
+read_by_holds configs configurations past at _ life w r sound h = absurd cc
 
 -- ---- the last reading
 
@@ -60,13 +60,13 @@ lo_after before at None old r on taken kept e =
 lo_after before at (Some s) old r on taken kept e = (taken r e).0
 
 -- the last reading of a worker does not begin after the true time
-pub reading_not_ahead : FusionLaws → (configs : List Configuration) → AreConfigurations configs → (past : List Event) (life : Life) (w : ℕ) (r : Interval) → IsSound configs past →
+pub reading_not_ahead : (configs : List Configuration) → AreConfigurations configs → (past : List Event) (life : Life) (w : ℕ) (r : Interval) → IsSound configs past →
     reading_of (config_at configs life.machine) past life w ≡ Some r → r.lo ≤ time_of past
-reading_not_ahead laws configs configurations [] life w r sound e = absurd cc
-reading_not_ahead laws configs configurations (event ∷ past) life w r sound e =
+reading_not_ahead configs configurations [] life w r sound e = absurd cc
+reading_not_ahead configs configurations (event ∷ past) life w r sound e =
     lo_after (time_of past) event.at (read_by (config_at configs life.machine) past life w event.action) (reading_of (config_at configs life.machine) past life w) r sound.good.0.not_before
-    (λ s h. read_by_holds laws configs configurations past event.at event.action life w s sound h)
-    (λ s h. reading_not_ahead laws configs configurations past life w s (sound_before configs past event sound) h) e
+    (λ s h. read_by_holds configs configurations past event.at event.action life w s sound h)
+    (λ s h. reading_not_ahead configs configurations past life w s (sound_before configs past event sound) h) e
 
 -- ---- the last commit that was asked for
 
@@ -128,20 +128,20 @@ hi_since false asked before at arrival (Some s) old r by on taken kept e =
     omega arith
 
 -- a reading since a worker was last asked for a commit does not end before that
-pub reading_since_holds : FusionLaws → (configs : List Configuration) → AreConfigurations configs → (past : List Event) (life : Life) (w : ℕ) (r : Interval) → IsSound configs past → life_of past life.machine ≤ life.number →
+pub reading_since_holds : (configs : List Configuration) → AreConfigurations configs → (past : List Event) (life : Life) (w : ℕ) (r : Interval) → IsSound configs past → life_of past life.machine ≤ life.number →
     reading_since (config_at configs life.machine) past life w ≡ Some r → arrival_time_of past life.machine w ≤ r.hi
-reading_since_holds laws configs configurations [] life w r sound begun e = absurd cc
-reading_since_holds laws configs configurations (event ∷ past) life w r sound begun e =
+reading_since_holds configs configurations [] life w r sound begun e = absurd cc
+reading_since_holds configs configurations (event ∷ past) life w r sound begun e =
     let before : life_of past life.machine ≤ life.number = omega (arith, life_of-on past event life.machine) in
     hi_since (is_some (arrived_by past life w event.action)) (asked_by life.machine w event.action) (time_of past) event.at (arrival_time_of past life.machine w)
     (read_by (config_at configs life.machine) past life w event.action) (reading_since (config_at configs life.machine) past life w) r
     (arrived_by_now configs past life.machine w sound.good.1) sound.good.0.not_before
-    (λ s h. read_by_holds laws configs configurations past event.at event.action life w s sound h)
+    (λ s h. read_by_holds configs configurations past event.at event.action life w s sound h)
     (λ s h. (
       λ asked missed.
           let unborn = not_mine-unborn past life before (not_asked_here past life w event.action asked missed) in
           some-none s (sym h ∙ reading_since-unborn (config_at configs life.machine) past life w unborn),
-      reading_since_holds laws configs configurations past life w s (sound_before configs past event sound) before h,
+      reading_since_holds configs configurations past life w s (sound_before configs past event sound) before h,
     )) e
   where
     some-none : (s : Interval) → Some s ≡ None → ⊥

@@ -42,9 +42,9 @@ module _ (config : Configuration) (past : List Event) (at m w : ℕ) (id : Id) (
 
   pub arrive_turn-machine_of : w < config.workers
       → arrive_turn (machine_of config past life) w (record { id = id; floor = floor })
-      ≡ record { machine = machine_of config (happens at (Arrive m w id floor) ∷ past) life; reply = replies.Arrived }
+      ≡ record { state = machine_of config (happens at (Arrive m w id floor) ∷ past) life; reply = replies.Arrived }
   arrive_turn-machine_of there =
-      ap (λ (machine : MachineState). record { machine = machine; reply = replies.Arrived })
+      ap (λ (machine : MachineState). record { state = machine; reply = replies.Arrived })
       (ap (λ (workers : List Worker). record (machine_of config past life) { workers = workers }) (workers_after there)
       ∙ sym (machine_of-arrive config past at m w id floor life ∙ ap (machine_if_asked config past arrival w life) (is_of-own past m)))
 

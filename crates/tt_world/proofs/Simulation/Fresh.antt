@@ -1,11 +1,12 @@
 -- What is kept of a machine before anything has happened.
-use Rattle.std.proofs.Common.{◌≡◌, ap₂, Option, ℕ, zero, suc, ◌+◌, List, [], ◌∷◌, ap, sym, ◌∙◌, refl, map, replicate, None}
+use Rattle.std.proofs.Common.{◌≡◌, ap₂, Option, ℕ, zero, suc, ◌+◌, List, [], ◌∷◌, ap, sym, refl, map, replicate, None}
 use Rattle.std.specs.List.{range_with_len}
-use Rattle.tt_source.specs.Table.{TableState, SourceState, unknown, new_table}
+use Rattle.tt_source.specs.Table.{SourceState, unknown}
 use Rattle.tt_span.specs.Interval.{Interval, whole}
 use Rattle.tt_world.specs.Life.{life_at}
-use Rattle.tt_world.specs.declared.publications.Publication.{Publication}
+use Rattle.tt_publish.specs.declared.readings.FusedSpan.{FusedSpan}
 use Rattle.tt_daemon.specs.Config.{Configuration}
+use Rattle.tt_daemon.specs.Daemon.{DaemonState, new_daemon}
 use Rattle.tt_stamp.specs.declared.commits.Entry.{Entry}
 use Rattle.tt_world.specs.declared.workers.Worker.{Worker}
 use Rattle.tt_world.specs.State.{MachineState, machine_of}
@@ -19,19 +20,16 @@ map-const v a (suc n) = ap (λ xs. v ∷ xs) (map-const v (a + 1) n)
 -- a machine before anything has happened is as new
 pub machine_in-first : (config : Configuration) (m : ℕ) → machine_in config m 1 whole 0 ≡ machine_of config [] (life_at [] m)
 machine_in-first config m =
-    ap₂ (λ (sources : List SourceState) (workers : List Worker). record (machine_of config [] (life_at [] m)) { table = record (machine_of config [] (life_at [] m)).table { sources = sources }; workers = workers })
+    let first : MachineState = machine_of config [] (life_at [] m) in
+    ap₂ (λ (sources : List SourceState) (workers : List Worker). record first { daemon = record first.daemon { table = record first.daemon.table { sources = sources } }; workers = workers })
     (sym (map-const unknown 0 config.sources)) (sym (map-const new_worker 0 config.workers))
 
 -- a machine as it begins a life, by its parts
-abbrev pub machine : Configuration → TableState → ℕ → Interval → ℕ → List Publication → Option ℕ → List Entry → List Worker → MachineState
-machine config table life lease clock publications row book workers =
-    record { config = config; table = table; life = life; lease = lease; clock = clock; publications = publications; row = row; book = book; workers = workers }
+abbrev pub machine : DaemonState → ℕ → Interval → ℕ → List FusedSpan → Option ℕ → List Entry → List Worker → MachineState
+machine daemon life lease clock publications row book workers =
+    record { daemon = daemon; life = life; lease = lease; clock = clock; publications = publications; row = row; book = book; workers = workers }
 
-pub fresh-machine : (config : Configuration) (m life : ℕ) (lease : Interval) (clock : ℕ) (table : TableState) (publications : List Publication) (row : Option ℕ) (book : List Entry) (workers : List Worker) →
-    table ≡ new_table m config.sources config.drift 0 life → publications ≡ [] → row ≡ None → book ≡ [] → workers ≡ replicate config.workers new_worker →
-    machine config table life lease clock publications row book workers ≡ machine_in config m life lease clock
-fresh-machine config m life lease clock table publications row book workers e f r g h =
-    ap (λ (t : TableState). machine config t life lease clock publications row book workers) e
-    ∙ ap (λ (p : List Publication). machine config (machine_in config m life lease clock).table life lease clock p row book workers) f
-    ∙ ap₂ (λ (o : Option ℕ) (b : List Entry). machine config (machine_in config m life lease clock).table life lease clock [] o b workers) r g
-    ∙ ap (λ (w : List Worker). machine config (machine_in config m life lease clock).table life lease clock [] None [] w) h
+pub fresh-machine : (config : Configuration) (m life : ℕ) (lease : Interval) (clock : ℕ) (daemon : DaemonState) (publications : List FusedSpan) (row : Option ℕ) (book : List Entry) (workers : List Worker) →
+    daemon ≡ new_daemon m config life → publications ≡ [] → row ≡ None → book ≡ [] → workers ≡ replicate config.workers new_worker →
+    machine daemon life lease clock publications row book workers ≡ machine_in config m life lease clock
+fresh-machine config m life lease clock daemon publications row book workers e f r g h = rw (e, f, r, g, h) refl

@@ -16,23 +16,24 @@ use Rattle.tt_world.specs.Life.{Life, life_at, is_of}
 use Rattle.tt_world.specs.declared.events.Event.{Event}
 use Rattle.tt_world.specs.declared.events.Action.TheVariants.{Send, Answer, Forge, Deliver, Fuse, Read, Arrive, Stamp, Queue, Lease, Release}
 use Rattle.tt_world.specs.declared.packets.Packet.{Packet}
-use Rattle.tt_world.specs.declared.publications.Publication.{Publication}
+use Rattle.tt_publish.specs.declared.readings.FusedSpan.{FusedSpan}
 use Rattle.tt_world.specs.declared.workers.Arrival.{Arrival}
 use Rattle.tt_world.specs.declared.workers.Worker.{Worker}
 use Rattle.tt_daemon.specs.Config.{Configuration}
 use Rattle.tt_world.specs.Packet.{machine_of_packet}
 use Rattle.tt_world.specs.Past.{sends_of, packets_of, clock_of, clock_after}
 use Rattle.tt_world.specs.Sources.{outstanding, stated_in, statement_of}
-use Rattle.tt_world.specs.Publications.{publications_of, seen_of, published_at, publication_at, reading_at}
+use Rattle.tt_world.specs.Publications.{publications_of, seen_of, published_at, publication_at}
+use Rattle.tt_publish.specs.Reading.{reading_at}
 use Rattle.tt_world.specs.Commits.{arrival_of, reading_of, reading_since, stamp_given, stamps_after, stamps_of, stamping_of, stamp_held, with_queued, released_with, book_of, queueing_of, is_queued, task_with}
 use Rattle.tt_world.specs.State.{MachineState, is_taken, polled_clock_of, source_of, worker_of, machine_of}
 use Rattle.tt_world.proofs.Simulation.Ranges.{map-same}
 use Rattle.tt_world.proofs.Simulation.Waiting.{happens, outstanding-send, outstanding-deliver}
 
 -- a machine with another table, clock and publications
-abbrev pub kept : MachineState → ℕ → ℕ → List SourceState → ℕ → List Publication → MachineState
+abbrev pub kept : MachineState → ℕ → ℕ → List SourceState → ℕ → List FusedSpan → MachineState
 kept machine last polled sources clock publications = record machine {
-  table = record machine.table { last = last; clock = polled; sources = sources };
+  daemon = record machine.daemon { table = record machine.daemon.table { last = last; clock = polled; sources = sources } };
   clock = clock;
   publications = publications;
 }
@@ -45,9 +46,9 @@ module _ (config : Configuration) (past : List Event) where
   -- a machine that publishes nothing more
   same_publications : (machine : MachineState) (j : Life)
       → ◌≡◌ {A = MachineState} (record machine { publications = publications_of config past j ++ [] }) (record machine { publications = publications_of config past j })
-  same_publications machine j = ap (λ (publications : List Publication). record machine { publications = publications }) (append-nil (publications_of config past j))
+  same_publications machine j = ap (λ (publications : List FusedSpan). record machine { publications = publications }) (append-nil (publications_of config past j))
 
-  same_sources : (j : Life) (last polled : ℕ) (f g : ℕ → SourceState) (clock : ℕ) (publications : List Publication) → ((i : ℕ) → f i ≡ g i)
+  same_sources : (j : Life) (last polled : ℕ) (f g : ℕ → SourceState) (clock : ℕ) (publications : List FusedSpan) → ((i : ℕ) → f i ≡ g i)
       → kept (machine_of config past j) last polled (map f (range_with_len 0 config.sources)) clock publications
       ≡ kept (machine_of config past j) last polled (map g (range_with_len 0 config.sources)) clock publications
   same_sources j last polled f g clock publications same =

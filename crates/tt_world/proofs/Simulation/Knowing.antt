@@ -24,8 +24,8 @@ module _ (configs : List Configuration) (past : List Event) (world : WorldState)
   pub unknown-beyond : length world.machines ≤ m → false ≡ knows configs past m i
   unknown-beyond beyond = let none = le-ltb m (length configs) (omega (arith, count)) in rw none refl
 
-  kept_of_source : (i < (config_at configs m).sources → is_known_of (machine_of (config_at configs m) past (life_at past m)).table i ≡ knows configs past m i) → m < length configs
-      → is_known_of (machine_of (config_at configs m) past (life_at past m)).table i ≡ knows configs past m i
+  kept_of_source : (i < (config_at configs m).sources → is_known_of (machine_of (config_at configs m) past (life_at past m)).daemon.table i ≡ knows configs past m i) → m < length configs
+      → is_known_of (machine_of (config_at configs m) past (life_at past m)).daemon.table i ≡ knows configs past m i
   kept_of_source inside there =
       let config = config_at configs m in
       let named = lt-ltb m (length configs) there in
@@ -34,18 +34,18 @@ module _ (configs : List Configuration) (past : List Event) (world : WorldState)
         | inr beyond ↦
             let none = le-ltb i config.sources beyond in
             ap (λ (source : SourceState). is_some source.statement)
-            (get_or-past (machine_of config past (life_at past m)).table.sources i unknown (omega (arith, length-map-range_with_len (λ k. source_of past (life_at past m) k) 0 config.sources)))
+            (get_or-past (machine_of config past (life_at past m)).daemon.table.sources i unknown (omega (arith, length-map-range_with_len (λ k. source_of past (life_at past m) k) 0 config.sources)))
             ∙ (rw (named, none) refl)
       ]
 
   -- what a machine that is there knows
-  pub known-there : (machine : MachineState) → slice_get world.machines m ≡ Some machine → is_known_of machine.table i ≡ knows configs past m i
+  pub known-there : (machine : MachineState) → slice_get world.machines m ≡ Some machine → is_known_of machine.daemon.table i ≡ knows configs past m i
   known-there machine found =
       let config = config_at configs m in
       let there : m < length configs = omega (arith, count, slice_get_within world.machines m machine found) in
       let same : machine_of config past (life_at past m) ≡ machine =
       same_Some _ _ (sym (slice_get-made (λ k. machine_of (config_at configs k) past (life_at past k)) (length configs) m there) ∙ ap (λ (w : WorldState). slice_get w.machines m) (sym stands) ∙ found) in
-      ap (λ (x : MachineState). is_known_of x.table i) (sym same)
+      ap (λ (x : MachineState). is_known_of x.daemon.table i) (sym same)
       ∙ kept_of_source (λ within.
       let named = lt-ltb m (length configs) there in
       let asks = lt-ltb i config.sources within in

@@ -19,9 +19,9 @@ module _ (config : Configuration) (past : List Event) (at m : ℕ) (lease : Inte
   leased j here = record (machine_of config past (life_at past j)) { lease = unwrap_or (cond here (Some lease) None) (lease_of past j) }
 
   pub lease_turn-machine_of : lease_turn (machine_of config past (life_at past m)) lease
-      ≡ record { machine = machine_of config (happens at (Lease m lease) ∷ past) (life_at past m); reply = replies.Leased }
+      ≡ record { state = machine_of config (happens at (Lease m lease) ∷ past) (life_at past m); reply = replies.Leased }
   lease_turn-machine_of =
-      ap (λ (machine : MachineState). record { machine = machine; reply = replies.Leased })
+      ap (λ (machine : MachineState). record { state = machine; reply = replies.Leased })
       (sym (machine_of-lease config past at m lease (life_at past m) ∙ ap (leased m) (eq-eqb m m refl)))
 
   pub machine_of-lease_other : (j : ℕ) → (j ≡ m → ⊥) → machine_of config past (life_at past j) ≡ machine_of config (happens at (Lease m lease) ∷ past) (life_at past j)

@@ -52,7 +52,7 @@ module _ (config : Configuration) (past : List Event) (at m s clock : ℕ) where
       (λ j other. sym (ap (if_asked j) (ne_eqb s j (λ same. other (sym same)))))
 
   pub with_table-polled : s < config.sources
-      → with_table (machine_of config past life) clock (polled_table (machine_of config past life).table s clock) ≡ machine_of config (happens at (Send m s clock) ∷ past) life
+      → with_table (machine_of config past life) clock (polled_table (machine_of config past life).daemon.table s clock) ≡ machine_of config (happens at (Send m s clock) ∷ past) life
   with_table-polled there =
       ap (λ (sources : List SourceState). kept (machine_of config past life) (sends_of past life + 1) clock sources clock (publications_of config past life))
       (asked_sources there)

@@ -80,24 +80,24 @@ module _ (config : Configuration) (past : List Event) (at m w : ℕ) where
         ])
 
     -- the machine with this book and these workers, and the reply
-    abbrev replied : List Entry → List Worker → Reply → Turn
-    replied book workers reply = record { machine = record (machine_of config past life) { book = book; workers = workers }; reply = reply }
+    abbrev replied : List Entry → List Worker → Reply → Turn MachineState
+    replied book workers reply = record { state = record (machine_of config past life) { book = book; workers = workers }; reply = reply }
 
     queue_turn-by : (fault : Option BookFault) → first_queue_fault (book_of config past life) a.id s ≡ fault
         → queue_turn (machine_of config past life) w a.id s fault
-        ≡ record { machine = machine_if_queued config past w life true; reply = queueing_reply (queueing_of config past life w) }
+        ≡ record { state = machine_if_queued config past w life true; reply = queueing_reply (queueing_of config past life w) }
     queue_turn-by None is =
         ap₂ (λ (book : List Entry) (workers : List Worker). replied book workers (queueing_reply None)) (sym (book_is None is)) (workers_if_queued is)
-        ∙ ap (λ (reply : Reply). record { machine = machine_if_queued config past w life true; reply = reply }) (sym (ap queueing_reply (queueing_is None is)))
+        ∙ ap (λ (reply : Reply). record { state = machine_if_queued config past w life true; reply = reply }) (sym (ap queueing_reply (queueing_is None is)))
     queue_turn-by (Some e) is =
         ap₂ (λ (book : List Entry) (workers : List Worker). replied book workers (queueing_reply (Some e))) (sym (book_is (Some e) is)) (workers_if_refused e is)
-        ∙ ap (λ (reply : Reply). record { machine = machine_if_queued config past w life true; reply = reply }) (sym (ap queueing_reply (queueing_is (Some e) is)))
+        ∙ ap (λ (reply : Reply). record { state = machine_if_queued config past w life true; reply = reply }) (sym (ap queueing_reply (queueing_is (Some e) is)))
 
     pub queue_turn-machine_of : queue_turn (machine_of config past life) w a.id s (first_queue_fault (book_of config past life) a.id s)
-        ≡ record { machine = machine_of config (happens at (Queue m w) ∷ past) life; reply = queueing_reply (queueing_of config past life w) }
+        ≡ record { state = machine_of config (happens at (Queue m w) ∷ past) life; reply = queueing_reply (queueing_of config past life w) }
     queue_turn-machine_of =
         queue_turn-by (first_queue_fault (book_of config past life) a.id s) refl
-        ∙ ap (λ (machine : MachineState). record { machine = machine; reply = queueing_reply (queueing_of config past life w) })
+        ∙ ap (λ (machine : MachineState). record { state = machine; reply = queueing_reply (queueing_of config past life w) })
         (sym (machine_of-queue config past at m w life ∙ ap (machine_if_queued config past w life) (is_of-own past m)))
 
   pub machine_of-queue_other : (j : ℕ) → (j ≡ m → ⊥) → machine_of config past (life_at past j) ≡ machine_of config (happens at (Queue m w) ∷ past) (life_at past j)
@@ -107,18 +107,18 @@ module _ (config : Configuration) (past : List Event) (at m w : ℕ) where
   -- ---- it releases
 
   -- the machine after a release with a reading, if there is one, and the reply
-  abbrev released : Option Interval → Turn
+  abbrev released : Option Interval → Turn MachineState
   released reading = record {
-    machine = record (machine_of config past life) { book = with_receipts (released_with (book_of config past life) reading) (book_of config past life) };
+    state = record (machine_of config past life) { book = with_receipts (released_with (book_of config past life) reading) (book_of config past life) };
     reply = replies.Released (released_with (book_of config past life) reading);
   }
 
   pub release_turn-machine_of : (reading : Interval) → reading_of config past life w ≡ Some reading
       → release_turn (machine_of config past life) reading
-      ≡ record { machine = machine_of config (happens at (Release m w) ∷ past) life; reply = replies.Released (released_with (book_of config past life) (reading_of config past life w)) }
+      ≡ record { state = machine_of config (happens at (Release m w) ∷ past) life; reply = replies.Released (released_with (book_of config past life) (reading_of config past life w)) }
   release_turn-machine_of reading is =
       sym (ap released is)
-      ∙ ap (λ (machine : MachineState). record { machine = machine; reply = replies.Released (released_with (book_of config past life) (reading_of config past life w)) })
+      ∙ ap (λ (machine : MachineState). record { state = machine; reply = replies.Released (released_with (book_of config past life) (reading_of config past life w)) })
       (sym (machine_of-release config past at m w life ∙ ap (machine_if_released config past w life) (is_of-own past m)))
 
   pub machine_of-release_other : (j : ℕ) → (j ≡ m → ⊥) → machine_of config past (life_at past j) ≡ machine_of config (happens at (Release m w) ∷ past) (life_at past j)

@@ -9,7 +9,7 @@ use Rattle.tt_stamp.specs.Stamp.{greatest_of}
 use Rattle.tt_world.specs.declared.events.Event.{Event}
 use Rattle.tt_world.specs.declared.events.Action.TheVariants.{Restart}
 use Rattle.tt_world.specs.declared.events.Reply.TheVariants as replies
-use Rattle.tt_world.specs.declared.publications.Publication.{Publication}
+use Rattle.tt_publish.specs.declared.readings.FusedSpan.{FusedSpan}
 use Rattle.tt_world.specs.declared.workers.Task.{Task}
 use Rattle.tt_world.specs.declared.workers.Worker.{Worker}
 use Rattle.tt_daemon.specs.Config.{Configuration}
@@ -26,10 +26,9 @@ use Rattle.tt_world.proofs.Simulation.Fresh.{map-const}
 use Rattle.tt_world.proofs.Simulation.Unborn.{IsUnborn, sends_of-unborn, outstanding-unborn, statement_of-unborn, polled_clock_of-unborn, publications_of-unborn, seen_of-unborn, task_of-unborn, reading_of-unborn, reading_since-unborn, stamps_of-unborn, book_of-unborn}
 
 -- a machine by its parts
-abbrev made : Configuration → ℕ → ℕ → Interval → ℕ → ℕ → List SourceState → ℕ → List Publication → Option ℕ → List Entry → List Worker → MachineState
+abbrev made : Configuration → ℕ → ℕ → Interval → ℕ → ℕ → List SourceState → ℕ → List FusedSpan → Option ℕ → List Entry → List Worker → MachineState
 made config m life lease last polled sources clock publications row book workers = record {
-  config = config;
-  table = record { machine = m; epoch = life; drift = config.drift; last = last; clock = polled; sources = sources };
+  daemon = record { config = config; table = record { machine = m; epoch = life; drift = config.drift; last = last; clock = polled; sources = sources } };
   life = life;
   lease = lease;
   clock = clock;
@@ -67,7 +66,7 @@ module _ (config : Configuration) (past : List Event) (at m clock : ℕ) where
   workers_are = map-same (λ w. worker_of config past life w) (λ w. new_worker) config.workers worker_is ∙ map-const new_worker 0 config.workers
 
   -- the machine with what is kept of the life before its restart
-  abbrev with_parts : ℕ → ℕ → List SourceState → ℕ → List Publication → Option ℕ → List Entry → List Worker → MachineState
+  abbrev with_parts : ℕ → ℕ → List SourceState → ℕ → List FusedSpan → Option ℕ → List Entry → List Worker → MachineState
   with_parts last polled sources shows publications row book workers =
       made config m (life_of past m + 1) (lease_of past m) last polled sources shows publications row book workers
 
@@ -76,9 +75,9 @@ module _ (config : Configuration) (past : List Event) (at m clock : ℕ) where
 
   machine_of-restart : machine_of config (happens at (Restart m clock) ∷ past) life ≡ machine_in config m (life_of past m + 1) (lease_of past m) clock
   machine_of-restart =
-      ap₂ (λ (shows : ℕ) (publications : List Publication). with_parts before.table.last before.table.clock before.table.sources shows publications before.row before.book before.workers)
+      ap₂ (λ (shows : ℕ) (publications : List FusedSpan). with_parts before.daemon.table.last before.daemon.table.clock before.daemon.table.sources shows publications before.row before.book before.workers)
       (ap (λ (b : Bool). cond b clock (clock_of past life)) (same_life-own life)) (append-nil (publications_of config past life) ∙ publications_of-unborn config past life unborn)
-      ∙ ap₂ (λ (last polled : ℕ). with_parts last polled before.table.sources clock [] before.row before.book before.workers) (sends_of-unborn past life unborn) (polled_clock_of-unborn past life unborn)
+      ∙ ap₂ (λ (last polled : ℕ). with_parts last polled before.daemon.table.sources clock [] before.row before.book before.workers) (sends_of-unborn past life unborn) (polled_clock_of-unborn past life unborn)
       ∙ ap₂ (λ (sources : List SourceState) (workers : List Worker). with_parts 0 0 sources clock [] before.row before.book workers) sources_are workers_are
       ∙ ap₂ (λ (stamps : List ℕ) (book : List Entry). with_parts 0 0 (replicate config.sources unknown) clock [] (greatest_of stamps) book (replicate config.workers new_worker))
       (stamps_of-unborn config past life unborn) (book_of-unborn config past life unborn)
@@ -88,9 +87,9 @@ module _ (config : Configuration) (past : List Event) (at m clock : ℕ) where
   own_life = ap (λ (b : Bool). record { machine = m; number = cond b (life_of past m + 1) (life_of past m) }) (eq-eqb m m refl)
 
   pub restart_turn-machine_of : restart_turn m (machine_of config past (life_at past m)) clock
-      ≡ record { machine = machine_of config (happens at (Restart m clock) ∷ past) (life_at (happens at (Restart m clock) ∷ past) m); reply = replies.Restarted (life_of past m + 1) }
+      ≡ record { state = machine_of config (happens at (Restart m clock) ∷ past) (life_at (happens at (Restart m clock) ∷ past) m); reply = replies.Restarted (life_of past m + 1) }
   restart_turn-machine_of =
-      ap (λ (machine : MachineState). record { machine = machine; reply = replies.Restarted (life_of past m + 1) })
+      ap (λ (machine : MachineState). record { state = machine; reply = replies.Restarted (life_of past m + 1) })
       (sym (ap (machine_of config (happens at (Restart m clock) ∷ past)) own_life ∙ machine_of-restart))
 
   -- another machine, by whether this reading is of its clock
@@ -106,4 +105,4 @@ module _ (config : Configuration) (past : List Event) (at m clock : ℕ) where
       let not_its_clock : same_life life (life_at past j) ≡ false = rw not_same refl in
       sym (ap (machine_of config (happens at (Restart m clock) ∷ past)) same_life_at
       ∙ ap (kept j) not_its_clock
-      ∙ ap (λ (publications : List Publication). record (machine_of config past (life_at past j)) { publications = publications }) (append-nil (publications_of config past (life_at past j))))
+      ∙ ap (λ (publications : List FusedSpan). record (machine_of config past (life_at past j)) { publications = publications }) (append-nil (publications_of config past (life_at past j))))

@@ -43,9 +43,9 @@ module _ (config : Configuration) (past : List Event) (at m w clock k : ℕ) whe
 
   pub read_turn-machine_of : seen_of past life w ≤ k → w < config.workers
       → read_turn (machine_of config past life) w clock k (publication_at (publications_of config past life) k)
-      ≡ record { machine = machine_of config (happens at (Read m w clock k) ∷ past) life; reply = replies.Read reading }
+      ≡ record { state = machine_of config (happens at (Read m w clock k) ∷ past) life; reply = replies.Read reading }
   read_turn-machine_of newer there =
-      ap (λ (machine : MachineState). record { machine = machine; reply = replies.Read reading })
+      ap (λ (machine : MachineState). record { state = machine; reply = replies.Read reading })
       (ap (λ (workers : List Worker). record (machine_of config past life) { clock = clock; workers = workers }) (workers_after newer there)
       ∙ sym (machine_of-read config past at m w clock k life ∙ ap (machine_if_read config past w clock k life) (is_of-own past m)))
 

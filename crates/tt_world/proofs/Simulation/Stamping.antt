@@ -1,5 +1,5 @@
 -- A machine that stamps keeps what its past says.
-use Rattle.std.proofs.Common.{◌≡◌, ℕ, ◌<◌, Bool, true, false, cond, eqb, List, ◌∷◌, map, get_or, set, Option, Some, None, Result, Ok, Err, inl, inr, refl, sym, ap, ap₂, subst, ◌∙◌, eq-eqb, ne_eqb}
+use Rattle.std.proofs.Common.{◌≡◌, ℕ, ◌<◌, Bool, true, false, cond, eqb, List, ◌∷◌, map, get_or, set, Option, Some, None, Result, Ok, Err, inl, inr, refl, sym, ap, ap₂, subst, ◌∙◌, eq-eqb, ne_eqb, arith}
 use Rattle.std.specs.List.{range_with_len}
 use Rattle.std.specs.Option.{option_or}
 use Rattle.std.proofs.lemmas.Bool.{cases_eq}
@@ -25,7 +25,11 @@ use Rattle.tt_world.specs.Step.{Turn, new_worker, given_in, stamp_turn}
 use Rattle.tt_world.proofs.Simulation.Ranges.{get_or-made, set-made, map-same}
 use Rattle.tt_world.proofs.Simulation.Waiting.{happens}
 use Rattle.tt_world.proofs.Simulation.Kept.{worker_if_stamped, machine_of-stamp, machine_if_stamped}
-use Rattle.tt_world.proofs.Simulation.Greatest.{stamp_of-greatest, greatest_of-given}
+use Rattle.tt_stamp.proofs.Laws.{stamp_of-same_greatest, greatest_of-given}
+
+greatest_of-given_in : (o : Option ℕ) → greatest_of (given_in o) ≡ o
+greatest_of-given_in None = refl
+greatest_of-given_in (Some s) = ap (λ (n : ℕ). Some n) (omega arith)
 
 module _ (config : Configuration) (past : List Event) (at m w : ℕ) where
   -- the life that the machine is in
@@ -84,27 +88,27 @@ module _ (config : Configuration) (past : List Event) (at m w : ℕ) where
         ])
 
     -- the machine with this row and these workers, and the reply
-    abbrev replied : Option ℕ → List Worker → Reply → Turn
-    replied row workers reply = record { machine = record (machine_of config past life) { row = row; workers = workers }; reply = reply }
+    abbrev replied : Option ℕ → List Worker → Reply → Turn MachineState
+    replied row workers reply = record { state = record (machine_of config past life) { row = row; workers = workers }; reply = reply }
 
     stamp_turn-by : (made : Result ℕ StampFault) → stamp_of (stamps_of config past life) reading.hi a.floor (lease_of past m) ≡ made
         → stamp_turn (machine_of config past life) w a.id made
-        ≡ record { machine = machine_if_stamped config past w life true; reply = stamping_reply (stamping_of config past life w) }
+        ≡ record { state = machine_if_stamped config past w life true; reply = stamping_reply (stamping_of config past life w) }
     stamp_turn-by (Ok s) is =
         ap₂ (λ (row : Option ℕ) (workers : List Worker). replied row workers (replies.Stamped s))
         (sym (ap greatest_of (row_is (Ok s) is) ∙ greatest_of-given (stamps_of config past life) reading.hi a.floor (lease_of past m) s is)) (workers_if_given s is)
-        ∙ ap (λ (reply : Reply). record { machine = machine_if_stamped config past w life true; reply = reply }) (sym (ap stamping_reply (stamping_is (Ok s) is)))
+        ∙ ap (λ (reply : Reply). record { state = machine_if_stamped config past w life true; reply = reply }) (sym (ap stamping_reply (stamping_is (Ok s) is)))
     stamp_turn-by (Err e) is =
         ap₂ (λ (row : Option ℕ) (workers : List Worker). replied row workers (stamping_reply (Some (Err e))))
         (sym (ap greatest_of (row_is (Err e) is))) (workers_if_refused e is)
-        ∙ ap (λ (reply : Reply). record { machine = machine_if_stamped config past w life true; reply = reply }) (sym (ap stamping_reply (stamping_is (Err e) is)))
+        ∙ ap (λ (reply : Reply). record { state = machine_if_stamped config past w life true; reply = reply }) (sym (ap stamping_reply (stamping_is (Err e) is)))
 
     pub stamp_turn-machine_of : stamp_turn (machine_of config past life) w a.id (stamp_of (given_in (greatest_of (stamps_of config past life))) reading.hi a.floor (lease_of past m))
-        ≡ record { machine = machine_of config (happens at (Stamp m w) ∷ past) life; reply = stamping_reply (stamping_of config past life w) }
+        ≡ record { state = machine_of config (happens at (Stamp m w) ∷ past) life; reply = stamping_reply (stamping_of config past life w) }
     stamp_turn-machine_of =
-        ap (stamp_turn (machine_of config past life) w a.id) (stamp_of-greatest (stamps_of config past life) reading.hi a.floor (lease_of past m))
+        ap (stamp_turn (machine_of config past life) w a.id) (stamp_of-same_greatest (given_in (greatest_of (stamps_of config past life))) (stamps_of config past life) reading.hi a.floor (lease_of past m) (greatest_of-given_in (greatest_of (stamps_of config past life))))
         ∙ stamp_turn-by (stamp_of (stamps_of config past life) reading.hi a.floor (lease_of past m)) refl
-        ∙ ap (λ (machine : MachineState). record { machine = machine; reply = stamping_reply (stamping_of config past life w) })
+        ∙ ap (λ (machine : MachineState). record { state = machine; reply = stamping_reply (stamping_of config past life w) })
         (sym (machine_of-stamp config past at m w life ∙ ap (machine_if_stamped config past w life) (is_of-own past m)))
 
   pub machine_of-stamp_other : (j : ℕ) → (j ≡ m → ⊥) → machine_of config past (life_at past j) ≡ machine_of config (happens at (Stamp m w) ∷ past) (life_at past j)

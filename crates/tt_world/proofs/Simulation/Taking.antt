@@ -83,13 +83,13 @@ module _ (config : Configuration) (past : List Event) (life : Life) (s clock : �
       ∙ ap (λ (r : Result Statement SourceFault). cond (is_some (result_ok r)) clock (polled_clock_of past life)) is)
 
   take_turn-by : (made : Result Statement SourceFault) → stated_for s ≡ made
-      → take_turn (machine_of config past life) clock (after_statement (machine_of config past life).table s clock made)
-      ≡ record { machine = machine_if_reached life true (λ i. eqb s i); reply = delivery_reply made }
+      → take_turn (machine_of config past life) clock (after_statement (machine_of config past life).daemon.table s clock made)
+      ≡ record { state = machine_if_reached life true (λ i. eqb s i); reply = delivery_reply made }
   take_turn-by (Ok statement) is =
-      ap₂ (λ (polled : ℕ) (sources : List SourceState). record { machine = with_sources polled sources; reply = delivery_reply (Ok statement) })
+      ap₂ (λ (polled : ℕ) (sources : List SourceState). record { state = with_sources polled sources; reply = delivery_reply (Ok statement) })
       (polled_by_message (Ok statement) is) (sources_if_taken statement is)
   take_turn-by (Err e) is =
-      ap₂ (λ (polled : ℕ) (sources : List SourceState). record { machine = with_sources polled sources; reply = delivery_reply (Err e) })
+      ap₂ (λ (polled : ℕ) (sources : List SourceState). record { state = with_sources polled sources; reply = delivery_reply (Err e) })
       (polled_by_message (Err e) is) (sources_if_refused e is)
 
 module _ (config : Configuration) (past : List Event) (at k clock : ℕ) (p : Packet) (is : slice_get (packets_of past) k ≡ Some p) where
@@ -106,20 +106,20 @@ module _ (config : Configuration) (past : List Event) (at k clock : ℕ) (p : Pa
   abbrev stated : Result Statement SourceFault
   stated = statement_of_message (machine_of_packet p) (life_of past (machine_of_packet p)) (source_of_packet p) (outstanding past life (source_of_packet p)) clock (read_of2 (bytes_of p))
 
-  pub take_turn-take_of : source_of_packet p < config.sources → is_back (machine_of config past life).table clock ≡ false
-      → take_turn (machine_of config past life) clock (take_of (machine_of config past life).table (source_of_packet p) clock (bytes_of p))
-      ≡ record { machine = machine_of config (happens at (Deliver k clock) ∷ past) life; reply = delivery_reply stated }
+  pub take_turn-take_of : source_of_packet p < config.sources → is_back (machine_of config past life).daemon.table clock ≡ false
+      → take_turn (machine_of config past life) clock (take_of (machine_of config past life).daemon.table (source_of_packet p) clock (bytes_of p))
+      ≡ record { state = machine_of config (happens at (Deliver k clock) ∷ past) life; reply = delivery_reply stated }
   take_turn-take_of there in_time =
       let m = machine_of_packet p in
       let s = source_of_packet p in
       let machine = machine_of config past life in
-      let known : get_or machine.table.sources s unknown ≡ source_of past life s = get_or-made (λ i. source_of past life i) config.sources s unknown there in
-      let length_is : ltb s (length machine.table.sources) ≡ true = lt-ltb s _ (omega (arith, length-map-range_with_len (λ i. source_of past life i) 0 config.sources)) in
-      ap (take_turn machine clock) (take_of-taken machine.table s clock (bytes_of p) length_is in_time)
-      ∙ ap (λ (source : SourceState). take_turn machine clock (after_statement machine.table s clock (statement_of_message m (life_of past m) s source.waiting clock (read_of2 (bytes_of p))))) known
+      let known : get_or machine.daemon.table.sources s unknown ≡ source_of past life s = get_or-made (λ i. source_of past life i) config.sources s unknown there in
+      let length_is : ltb s (length machine.daemon.table.sources) ≡ true = lt-ltb s _ (omega (arith, length-map-range_with_len (λ i. source_of past life i) 0 config.sources)) in
+      ap (take_turn machine clock) (take_of-taken machine.daemon.table s clock (bytes_of p) length_is in_time)
+      ∙ ap (λ (source : SourceState). take_turn machine clock (after_statement machine.daemon.table s clock (statement_of_message m (life_of past m) s source.waiting clock (read_of2 (bytes_of p))))) known
       ∙ take_turn-by config past life s clock (read_of2 (bytes_of p)) stated refl
-      ∙ ap (λ (b : Bool). record { machine = machine_if_reached config past life s clock (read_of2 (bytes_of p)) life b (λ i. eqb s i); reply = delivery_reply stated }) (sym (is_of-own past m))
-      ∙ ap (λ (t : MachineState). record { machine = t; reply = delivery_reply stated }) (sym (machine_of-reached life))
+      ∙ ap (λ (b : Bool). record { state = machine_if_reached config past life s clock (read_of2 (bytes_of p)) life b (λ i. eqb s i); reply = delivery_reply stated }) (sym (is_of-own past m))
+      ∙ ap (λ (t : MachineState). record { state = t; reply = delivery_reply stated }) (sym (machine_of-reached life))
 
   pub machine_of-deliver_other : (j : ℕ) → (j ≡ machine_of_packet p → ⊥) → machine_of config past (life_at past j) ≡ machine_of config (happens at (Deliver k clock) ∷ past) (life_at past j)
   machine_of-deliver_other j other =

@@ -62,6 +62,7 @@ fn reads_commands_without_options(rt: HostRuntime) -> Result<(), Fail> {
         read_words(rt.alloc(), &["check"])?,
         Asked::Run(Command::Check)
     );
+    assert_eq!(rt; read_words(rt.alloc(), &["run"])?, Asked::Run(Command::Run));
     assert_eq!(rt;
         read_words(rt.alloc(), &["fuse", "--drift", "1"]),
         Err(WordsFault::BadWords)
@@ -108,6 +109,17 @@ fn gives_help(rt: HostRuntime) -> Result<(), Fail> {
     assert_eq!(rt; read_words(rt.alloc(), &["help", "age"])?, Asked::Help);
     assert_eq!(rt; read_words(rt.alloc(), &["age", "-h"])?, Asked::Help);
     assert!(rt; help_text(rt.alloc(), &["--help"])?.as_str().contains("age"));
+    assert_eq!(rt; read_words(rt.alloc(), &["--version"])?, Asked::Help);
+    assert!(rt;
+        help_text(rt.alloc(), &["--version"])?
+            .as_str()
+            .starts_with("ttd ")
+    );
+    assert!(rt;
+        help_text(rt.alloc(), &["run", "--help"])?
+            .as_str()
+            .contains("Usage: ttd run")
+    );
     assert!(rt;
         help_text(rt.alloc(), &["age", "--help"])?
             .as_str()

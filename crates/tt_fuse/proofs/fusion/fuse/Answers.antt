@@ -1,7 +1,7 @@
 use Rattle.std.proofs.Common.{refl, arith}
 use Rattle.tt_fuse.specs.declared.fusion.FuseFault.TheVariants.{NoPoint}
 use Rattle.tt_fuse.proofs.Answering.{refused-none, answered-some, within-source, within-right_source}
-use Rattle.tt_fuse.proofs.Ends.{length-lows_of}
+use Rattle.tt_fuse.proofs.EndLists.{length-lows_of}
 use Rattle.tt_fuse.proofs.fusion.fuse.Goals as goal
 
 pub fused-requires : goal.fused-requires

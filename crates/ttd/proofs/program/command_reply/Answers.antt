@@ -1,6 +1,6 @@
-use Rattle.std.specs.Prelude.{string_bytes}
 use Rattle.std.proofs.Common.{List, ℕ, subst, arith}
 use Rattle.std.proofs.lemmas.Result.{err_from_is_err_and}
+use Rattle.ttd.specs.Answer.{answer_in}
 use Rattle.ttd.specs.Command.{HasReply, IsCommandReply}
 use Rattle.ttd.proofs.Replies.{command_replied, fault_replied}
 use Rattle.ttd.proofs.program.command_reply.Goals as goal
@@ -14,5 +14,5 @@ returns-in_err-bytes-clause-value g c =
 pub returns-clause-value : goal.returns-clause-value
 returns-clause-value g c =
     let read = c.in_ok-bytes.ensures in
-    command_replied string_bytes c.args.command c.in_ok-bytes.bytes.items _ _ c.command_text.result read.whole (omega (arith, read.short, c.in_ok-bytes.bytes.ok.0)) read.end (read.sound (λ e. cc))
-    (subst (λ (bytes : List ℕ). HasReply string_bytes (IsCommandReply c.args.command bytes) c.command_text.result) c.as_slice.ensures.value c.command_text.ensures.value)
+    command_replied answer_in c.args.command c.in_ok-bytes.bytes.items _ _ c.reply_to.result read.whole (omega (arith, read.short, c.in_ok-bytes.bytes.ok.0)) read.end (read.sound (λ e. cc))
+    (subst (λ (bytes : List ℕ). HasReply answer_in (IsCommandReply c.args.command bytes) c.reply_to.result) c.as_slice.ensures.value c.reply_to.ensures.value)

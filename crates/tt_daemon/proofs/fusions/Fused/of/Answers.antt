@@ -1,5 +1,5 @@
 use Rattle.std.proofs.Common.{arith}
-use Rattle.tt_fuse.proofs.Ends.{length-lows_of}
+use Rattle.tt_fuse.proofs.EndLists.{length-lows_of}
 use Rattle.tt_daemon.proofs.fusions.Fused.of.Goals as goal
 
 pub fused-requires : goal.fused-requires

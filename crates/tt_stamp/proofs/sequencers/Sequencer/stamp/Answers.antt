@@ -1,7 +1,7 @@
 use Rattle.std.proofs.Common.{ℕ, subst, arith}
 use Rattle.tt_stamp.specs.Stamping.{Gives, stamps_of}
 use Rattle.tt_stamp.proofs.Stamps.{HasNoStamp-past_max, IsPastLease-past_end}
-use Rattle.tt_stamp.proofs.Seats.{Looks-trans, Gives-after_look}
+use Rattle.tt_stamp.proofs.Seats.{SeatLooks-trans, Gives-after_look}
 use Rattle.tt_stamp.proofs.sequencers.Sequencer.stamp.Goals as goal
 
 pub returns-then-stamp-gt-MAX_TIME-clause-used_up :
@@ -23,6 +23,6 @@ returns-in-Ok-clause-given g c =
 
 pub loop-preserved : goal.loop-preserved
 loop-preserved g c = record {
-  looked = Looks-trans c.args.seat.now c.loop.seat c.try_stamp.new.seat c.loop.invariant.looked c.in-Err.ensures.missed.0;
+  looked = SeatLooks-trans c.args.seat.now c.loop.seat c.try_stamp.new.seat c.loop.invariant.looked c.in-Err.ensures.missed.0;
   last_word = c.in-Err.ensures.missed.1;
 }

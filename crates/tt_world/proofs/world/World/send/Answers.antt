@@ -1,11 +1,10 @@
-use Rattle.std.proofs.Common.{◌≡◌, true, false, [], ◌<◌, ◌≤◌, ◌∙◌, List, ◌∷◌, ◌++◌, ap, sym, refl, slice_get, slice_set, Some, length, arith}
+use Rattle.std.proofs.Common.{◌≡◌, true, false, [], ◌<◌, ◌≤◌, ◌∙◌, List, ◌∷◌, ◌++◌, ap, sym, refl, slice_get, slice_set, Ok, Some, length, arith}
 use Rattle.tt_poll.specs.Message.{PollRequest2}
-use Rattle.tt_world.specs.declared.faults.WorldFault.TheVariants as bad
 use Rattle.tt_world.specs.declared.events.Reply.TheVariants.{Refused}
 use Rattle.tt_world.specs.declared.packets.Packet.{Packet}
 use Rattle.tt_world.specs.declared.packets.Packet.TheVariants.{Asked}
 use Rattle.tt_world.specs.State.{MachineState, WorldState}
-use Rattle.tt_world.specs.Step.{is_back_on, send_on, refused}
+use Rattle.tt_world.specs.Step.{is_back_on, send_on}
 use Rattle.tt_world.specs.contracts.world.World.{the_view}
 use Rattle.tt_world.proofs.Simulation.Turns.{same_item, found_at, send_on-no_source, send_on-back, send_on-sent, send_on-refused, outcome}
 use Rattle.tt_world.proofs.world.World.send.Goals as goal
@@ -18,12 +17,11 @@ returns-then-from-sources-clause-does c =
     let x : MachineState = c.index.result.now in
     let inside : p < length w.machines = omega (arith, c.len.ensures) in
     let found : slice_get w.machines m ≡ Some x = found_at w.machines p m x c.from-place.ensures inside c.index.ensures in
-    let no_source : x.config.sources ≤ c.args.source =
+    let no_source : x.daemon.config.sources ≤ c.args.source =
     omega (arith, c.sources.ensures.value, ap (λ k. k.sources) c.config.ensures.value, c.from.ensures, c.if-from-sources.true) in (
       refl,
       ap (λ (v : WorldState). send_on v c.args.at m c.args.source c.args.clock (slice_get v.machines m)) (sym c.self.view_is)
-          ∙ send_on-no_source w c.args.at m c.args.source c.args.clock x found no_source
-          ∙ ap (λ (v : WorldState). refused v bad.UnknownNumber) c.self.view_is,
+          ∙ send_on-no_source w c.args.at m c.args.source c.args.clock x found no_source,
     )
 
 pub returns-then-is_back-clause-does : goal.returns-then-is_back-clause-does
@@ -35,12 +33,11 @@ returns-then-is_back-clause-does c =
     let inside : p < length w.machines = omega (arith, c.len.ensures) in
     let found : slice_get w.machines m ≡ Some x = found_at w.machines p m x c.from-place.ensures inside c.index.ensures in
     let one : x ≡ c.index-2.result.now = same_item w.machines p x c.index-2.result.now inside c.index.ensures c.index-2.ensures in
-    let source : c.args.source < x.config.sources = omega (arith, c.sources.ensures.value, ap (λ k. k.sources) c.config.ensures.value, c.from.ensures, c.if-from-sources.false) in
+    let source : c.args.source < x.daemon.config.sources = omega (arith, c.sources.ensures.value, ap (λ k. k.sources) c.config.ensures.value, c.from.ensures, c.if-from-sources.false) in
     let back : is_back_on x c.args.clock ≡ true = ap (λ (y : MachineState). is_back_on y c.args.clock) one ∙ sym c.is_back.ensures.value ∙ c.if-is_back.true in (
       refl,
       ap (λ (v : WorldState). send_on v c.args.at m c.args.source c.args.clock (slice_get v.machines m)) (sym c.self.view_is)
-          ∙ send_on-back w c.args.at m c.args.source c.args.clock x found source back
-          ∙ ap (λ (v : WorldState). refused v bad.ClockBack) c.self.view_is,
+          ∙ send_on-back w c.args.at m c.args.source c.args.clock x found source back,
     )
 
 pub returns-in-Ok-clause-does : goal.returns-in-Ok-clause-does
@@ -53,8 +50,8 @@ returns-in-Ok-clause-does c =
     let found : slice_get w.machines m ≡ Some x = found_at w.machines p m x c.from-place.ensures inside c.index_mut.ensures.value in
     let first : x ≡ c.index.result.now = same_item w.machines p x c.index.result.now inside c.index_mut.ensures.value c.index.ensures in
     let one : x ≡ c.index-2.result.now = same_item w.machines p x c.index-2.result.now inside c.index_mut.ensures.value c.index-2.ensures in
-    let source : c.args.source < x.config.sources =
-    omega (arith, ap (λ (y : MachineState). y.config.sources) first, c.sources.ensures.value, ap (λ k. k.sources) c.config.ensures.value, c.from.ensures, c.if-from-sources.false) in
+    let source : c.args.source < x.daemon.config.sources =
+    omega (arith, ap (λ (y : MachineState). y.daemon.config.sources) first, c.sources.ensures.value, ap (λ k. k.sources) c.config.ensures.value, c.from.ensures, c.if-from-sources.false) in
     let forward : is_back_on x c.args.clock ≡ false = ap (λ (y : MachineState). is_back_on y c.args.clock) one ∙ sym c.is_back.ensures.value ∙ c.if-is_back.false in
     let request = rw c.unwrap-request.ensures at c.new.ensures.value in
     let pushed = rw c.unwrap.ensures at c.push.ensures.items in
@@ -75,10 +72,10 @@ returns-in-Err-clause-does c =
     let found : slice_get w.machines m ≡ Some x = found_at w.machines p m x c.from-place.ensures inside c.index_mut.ensures.value in
     let first : x ≡ c.index.result.now = same_item w.machines p x c.index.result.now inside c.index_mut.ensures.value c.index.ensures in
     let one : x ≡ c.index-2.result.now = same_item w.machines p x c.index-2.result.now inside c.index_mut.ensures.value c.index-2.ensures in
-    let source : c.args.source < x.config.sources =
-    omega (arith, ap (λ (y : MachineState). y.config.sources) first, c.sources.ensures.value, ap (λ k. k.sources) c.config.ensures.value, c.from.ensures, c.if-from-sources.false) in
+    let source : c.args.source < x.daemon.config.sources =
+    omega (arith, ap (λ (y : MachineState). y.daemon.config.sources) first, c.sources.ensures.value, ap (λ k. k.sources) c.config.ensures.value, c.from.ensures, c.if-from-sources.false) in
     let forward : is_back_on x c.args.clock ≡ false = ap (λ (y : MachineState). is_back_on y c.args.clock) one ∙ sym c.is_back.ensures.value ∙ c.if-is_back.false in
     ap (λ (v : WorldState). send_on v c.args.at m c.args.source c.args.clock (slice_get v.machines m)) (sym c.self.view_is)
     ∙ send_on-refused w c.args.at m p c.args.source c.args.clock c.number.result x c.poll.new.self c.in-Err.fault found source forward
     c.in-Err.ensures.refused.0 c.in-Err.ensures.refused.1 c.number.ensures c.from-place.ensures
-    ∙ ap (λ (ps : List Packet). outcome c.args.at ps (slice_set w.machines p c.poll.new.self) w.shown (Refused c.number.result)) (sym c.in_ok-reserve.ensures.items)
+    ∙ ap (λ (ps : List Packet). Ok (outcome c.args.at ps (slice_set w.machines p c.poll.new.self) w.shown (Refused c.number.result))) (sym c.in_ok-reserve.ensures.items)

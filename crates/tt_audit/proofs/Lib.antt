@@ -1,0 +1,13 @@
+mod Judging
+mod Naming
+mod Late
+mod Appending
+mod Pacing
+mod Carrying
+mod Ticking
+mod Cells
+mod Lying
+mod Noting
+mod Following
+mod Releasing
+mod Keeping

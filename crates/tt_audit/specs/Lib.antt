@@ -1,0 +1,11 @@
+pub mod Fault
+pub mod Counts
+pub mod Suspects
+pub mod Violations
+pub mod Ordering
+pub mod Pace
+pub mod Watch
+pub mod Breaking
+pub mod Report
+pub mod Text
+pub mod Live

@@ -1,0 +1,51 @@
+-- Scaled keys: the ends of statements, so that ageing does not change their order. They count millionths of a nanosecond.
+use Rattle.std.specs.Prelude.{◌≡◌, ℕ, ℤ, pos, negsuc, ◌+◌, ◌-◌, ◌*◌, ◌/◌, ◌+ℤ◌, ◌-ℤ◌, ◌≤ℤ◌, Bool, false, List, Option, Some, None, count_by, All}
+use Rattle.std.specs.List.Sorted.{IsNonDecreasingBy}
+use Rattle.tt_span.specs.Time.{cut}
+use Rattle.tt_span.specs.Statement.{Statement}
+use Rattle.tt_fuse.specs.Stated.{Stated, IsStated}
+
+-- how far keys go down at most, and up: the greatest drift and the greatest time, in millionths of a nanosecond
+abbrev pub key_bound : ℕ
+key_bound = 4400000000000000000000000
+
+-- a key as a number, counted from the least
+abbrev pub key_number : ℤ → ℕ
+key_number (pos n) = n + key_bound
+key_number (negsuc n) = key_bound - (n + 1)
+
+-- a key of some statement lies between these
+abbrev pub IsKey : ℤ → Type 0
+IsKey key = (pos 0 ≤ℤ (key +ℤ pos key_bound)) × (key ≤ℤ pos key_bound)
+
+-- keys in ascending order
+pub record AreSortedKeys (keys : List ℤ) : Type 0 where
+  pub in_range : All IsKey keys
+  pub ascend : IsNonDecreasingBy key_number keys
+
+-- the key of a lower end that was received at a clock reading: the end less what the slowest clock has gone on by until then
+unfoldable pub low_key_of : ℕ → ℕ → ℕ → ℤ
+low_key_of ppm lo got = pos (lo * 1000000) -ℤ pos (got * (1000000 - ppm))
+
+-- the key of an upper end that was asked for at a clock reading: the end less what the fastest clock has gone on by until then
+unfoldable pub high_key_of : ℕ → ℕ → ℕ → ℤ
+high_key_of ppm hi sent = pos (hi * 1000000) -ℤ pos (sent * (1000000 + ppm))
+
+-- the lower end of a key at a clock reading, in nanoseconds: rounded down, and cut at the greatest time
+unfoldable pub low_end_of : ℕ → ℕ → ℤ → ℕ
+low_end_of ppm clock key = cut ((key_number key + clock * (1000000 - ppm) - key_bound) / 1000000)
+
+-- the upper end of a key at a clock reading, in nanoseconds: rounded up, and cut at the greatest time
+unfoldable pub high_end_of : ℕ → ℕ → ℤ → ℕ
+high_end_of ppm clock key = cut ((key_number key + clock * (1000000 + ppm) - key_bound + 999999) / 1000000)
+
+-- whether there is a statement that passes the test
+abbrev pub passes : (Statement → Bool) → Option Statement → Bool
+passes p None = false
+passes p (Some statement) = p statement
+
+-- these are the keys of the statements, each as often as it stands: as many of either pass any test
+pub record AreKeysOf (s : Stated) (lows highs : List ℤ) : Type 0 where
+  pub stated : IsStated s
+  pub low_keys : (p : ℤ → Bool) → count_by p lows ≡ count_by (passes (λ statement. p (low_key_of s.drift statement.span.lo statement.got))) s.statements
+  pub high_keys : (p : ℤ → Bool) → count_by p highs ≡ count_by (passes (λ statement. p (high_key_of s.drift statement.span.hi statement.sent))) s.statements

@@ -1,0 +1,215 @@
+//! Fusion over scaled keys, which never have to be sorted again.
+
+ghost use Rattle.std.specs.Prelude.{◌≡◌, ℕ, ◌+◌, ◌-◌, ◌*◌, ◌<◌, ◌≤◌, ◌↔◌, ◌++◌, length, map, replicate, All, IsSome, IsOk, IfOk, IsErrOf, None};
+ghost use Rattle.std.specs.List.Sorted.{IsNonDecreasing};
+ghost use Rattle.tt_span.specs.Time.{max_time};
+ghost use Rattle.tt_span.specs.Statement.{Statement};
+ghost use Rattle.tt_fuse.specs.Fusion.{IsPossibleTime, IsFusion, HasNoPossibleTime, CanBeFused};
+ghost use Rattle.tt_fuse.specs.Ends.{AreEndsOf};
+ghost use Rattle.tt_fuse.specs.Stated.{IsStated, nothing_stated, statement_of, with_statement, AreGotBy, AreAmongFirst, spans_at};
+ghost use Rattle.tt_fuse.specs.Scaled.{key_bound, key_number, low_end_of, high_end_of};
+
+use crate::counts::{MAX_SOURCES, check_counts};
+use crate::fusion::FuseFault;
+use crate::keys::{high_end, high_key, low_end, low_key};
+use crate::ordered::SortedKeys;
+use crate::sorted::SortedEnds;
+use arrayvec::ArrayVec;
+use std::marker::Model;
+use tt_span::{Drift, MAX_DRIFT, MAX_TIME, Span};
+
+/// What a source stated last: the span of its answer, and the clock readings at which its poll was sent and the answer
+/// came.
+#[derive(Clone, Copy, Debug)]
+struct Answered {
+    span: Span,
+    sent: u64,
+    got: u64,
+}
+
+impl Model for Answered {
+    ghost use Rattle.tt_span.specs.Statement.{Statement};
+
+    ghost Value = { Statement };
+
+    ghost view = { λ a. record { span = a.span; sent = a.sent; got = a.got } };
+
+    ghost inverse = { λ s. record { span = s.span; sent = s.sent; got = s.got } };
+}
+
+/// The ends of what the sources of a machine stated, by keys whose order does not change as the statements age.
+///
+/// A lower end that was received at a clock reading ages by the time since, less what the clock may be wrong by, and an
+/// upper end by the time since its poll was sent, and what the clock may be wrong by. So two lower ends stay in the
+/// order of their keys, which are what they would have been when the clock showed 0, and so do two upper ends. The keys
+/// are kept in ascending order: an accepted answer changes one of either kind, and a fusion goes over them once.
+#[derive(Debug, Drop)]
+pub struct Ends {
+    drift: Drift,
+    answers: [Option<Answered>; MAX_SOURCES],
+    lows: SortedKeys,
+    highs: SortedKeys,
+}
+
+impl Model for Ends {
+    ghost use Rattle.tt_fuse.specs.Stated.{Stated};
+    ghost use Rattle.tt_fuse.specs.Scaled.{AreKeysOf};
+
+    ghost Value = { Stated };
+
+    ghost view = { λ e. record { drift = e.drift; statements = e.answers } };
+
+    ghost invariant = { λ e. AreKeysOf (record { drift = e.drift; statements = e.answers }) e.lows e.highs };
+}
+
+impl Ends {
+    /// The ends of no statements, at a machine whose clock keeps this drift.
+    pub fn new(drift: Drift) -> Ends
+        ensures value { result ≡ nothing_stated drift }
+        ensures valid { IsStated result }
+    {
+        prove!(drift.ppm() <= MAX_DRIFT);
+        Ends {
+            drift,
+            answers: [None; MAX_SOURCES],
+            lows: SortedKeys::new(),
+            highs: SortedKeys::new(),
+        }
+    }
+
+    /// Takes up the statement of a source without one: the span of its answer, and the clock readings, in
+    /// nanoseconds, at which its poll was sent and the answer came. The other sources' statements stay.
+    ///
+    /// Requires: `i` is below [`MAX_SOURCES`], source `i` has no statement, and `sent` is at most `got`, which is at
+    /// most [`MAX_TIME`].
+    pub fn insert(&mut self, i: u8, span: &Span, sent: u64, got: u64)
+        requires there { i < 16 }
+        requires without { statement_of self.old i ≡ None }
+        requires ordered { sent ≤ got }
+        requires in_time { got ≤ max_time }
+        ensures value { self.new ≡ with_statement self.old i (record { span = span.now; sent = sent; got = got }) }
+        ensures valid { IsStated self.new }
+    {
+        self.lows.insert(low_key(self.drift, span.lo(), got));
+        self.highs.insert(high_key(self.drift, span.hi(), sent));
+        self.answers[usize::from(i)] = Some(Answered {
+            span: *span,
+            sent,
+            got,
+        });
+    }
+
+    /// Takes up the statement of a source that has one, in place of that: the span of its answer, and the clock
+    /// readings, in nanoseconds, at which its poll was sent and the answer came. The other sources' statements stay.
+    ///
+    /// Requires: `i` is below [`MAX_SOURCES`], source `i` has a statement, and `sent` is at most `got`, which is at
+    /// most [`MAX_TIME`].
+    pub fn replace(&mut self, i: u8, span: &Span, sent: u64, got: u64)
+        requires there { i < 16 }
+        requires with { IsSome (statement_of self.old i) }
+        requires ordered { sent ≤ got }
+        requires in_time { got ≤ max_time }
+        ensures value { self.new ≡ with_statement self.old i (record { span = span.now; sent = sent; got = got }) }
+        ensures valid { IsStated self.new }
+    {
+        let old = self.answers[usize::from(i)].unwrap();
+        self.lows.replace(
+            low_key(self.drift, old.span.lo(), old.got),
+            low_key(self.drift, span.lo(), got),
+        );
+        self.highs.replace(
+            high_key(self.drift, old.span.hi(), old.sent),
+            high_key(self.drift, span.hi(), sent),
+        );
+        self.answers[usize::from(i)] = Some(Answered {
+            span: *span,
+            sent,
+            got,
+        });
+    }
+
+    /// The ends of the first `sources` sources' spans when the clock shows `clock`, in order: each statement's span,
+    /// aged, and the whole of time for a source that has made none. Nothing is sorted.
+    ///
+    /// Requires: `clock` is at most [`MAX_TIME`] and no statement came after it, there are at most [`MAX_SOURCES`]
+    /// sources, and only the first `sources` have made statements.
+    pub fn at(&self, clock: u64, sources: usize) -> SortedEnds
+        requires in_time { clock ≤ max_time }
+        requires got { AreGotBy self.now clock }
+        requires few { sources ≤ 16 }
+        requires among { AreAmongFirst self.now sources }
+        ensures ends { AreEndsOf (spans_at self.now clock sources) result }
+        ensures valid { IsStated self.now }
+    {
+        let unknown = sources - self.lows.as_slice().len();
+        SortedEnds::in_order(
+            lows_at(self.drift, &self.lows, clock, unknown),
+            highs_at(self.drift, &self.highs, clock, unknown),
+        )
+    }
+
+    /// The fusion of the first `sources` sources' spans when the clock shows `clock`, as [`fuse`](crate::fuse) gives it:
+    /// of each statement's span, aged, and of the whole of time for a source that has made none.
+    ///
+    /// Refuses as `fuse`, in this order: 501 `NoSource` where there is no source, 502 `TooMany` where there are more
+    /// than [`MAX_SOURCES`], 503 `TooFew` where there are fewer than `2 * faulty + 1`, 504 `NoPoint` where no time is
+    /// possible, which shows that more than `faulty` sources are wrong.
+    ///
+    /// Requires: `clock` is at most [`MAX_TIME`] and no statement came after it, and only the first `sources` sources
+    /// have made statements.
+    pub fn fuse(&self, clock: u64, sources: usize, faulty: usize) -> Result<Span, FuseFault>
+        requires in_time { clock ≤ max_time }
+        requires got { AreGotBy self.now clock }
+        requires among { AreAmongFirst self.now sources }
+        ensures no_source { IsErrOf result FuseFault.NoSource ↔ (sources ≡ 0) }
+        ensures too_many { IsErrOf result FuseFault.TooMany ↔ (16 < sources) }
+        ensures too_few { IsErrOf result FuseFault.TooFew
+            ↔ ((0 < sources) × (sources ≤ 16) × (sources < 2 * faulty + 1)) }
+        ensures no_point { IsErrOf result FuseFault.NoPoint
+            ↔ (CanBeFused sources faulty × HasNoPossibleTime (spans_at self.now clock sources) faulty) }
+        ensures answered { IsOk result
+            ↔ (CanBeFused sources faulty × ((x : ℕ) × IsPossibleTime (spans_at self.now clock sources) faulty x)) }
+        ensures fused { IfOk result (λ span. IsFusion (spans_at self.now clock sources) faulty span) }
+    {
+        check_counts(sources, faulty)?;
+        self.at(clock, sources)
+            .fused(faulty)
+            .ok_or(FuseFault::NoPoint)
+    }
+}
+
+/// The lower ends of these keys when the clock shows `clock`, ascending, behind those of the sources of which nothing
+/// is known, which are 0.
+fn lows_at(drift: Drift, keys: &SortedKeys, clock: u64, unknown: usize) -> ArrayVec<u64, 16>
+    requires in_time { clock ≤ max_time }
+    requires reached { All (λ key. key_bound ≤ key_number key + clock * (1000000 - drift)) keys.now }
+    requires room { unknown + length keys.now ≤ 16 }
+    ensures ends { result.items ≡ replicate unknown 0 ++ map (low_end_of drift clock) keys.now }
+    ensures ascending { IsNonDecreasing result.items }
+{
+    let mut ends = ArrayVec::from([0; MAX_SOURCES]);
+    ends.truncate(unknown);
+    for key in keys.as_slice() {
+        ends.push(low_end(drift, *key, clock));
+    }
+    ends
+}
+
+/// The upper ends of these keys when the clock shows `clock`, ascending, and then those of the sources of which nothing
+/// is known, which are the greatest time.
+fn highs_at(drift: Drift, keys: &SortedKeys, clock: u64, unknown: usize) -> ArrayVec<u64, 16>
+    requires in_time { clock ≤ max_time }
+    requires reached { All (λ key. key_bound ≤ key_number key + clock * (1000000 + drift)) keys.now }
+    requires room { unknown + length keys.now ≤ 16 }
+    ensures ends { result.items ≡ map (high_end_of drift clock) keys.now ++ replicate unknown max_time }
+    ensures ascending { IsNonDecreasing result.items }
+{
+    let mut ends = ArrayVec::new();
+    for key in keys.as_slice() {
+        ends.push(high_end(drift, *key, clock));
+    }
+    for _ in 0..unknown {
+        ends.push(MAX_TIME);
+    }
+    ends
+}

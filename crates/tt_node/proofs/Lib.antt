@@ -1,0 +1,5 @@
+pub mod Failing
+pub mod Leading
+pub mod Listing
+pub mod Fusings
+pub mod Reading

@@ -1,0 +1,40 @@
+//! The running node: a daemon's rounds, a master's turns, and the threads that serve clients.
+//!
+//! A daemon polls its sources through a [`Link`], fuses what they answer, and publishes the fusions
+//! ([`daemon_rounds`]); a master answers polls ([`master_rounds`]); a [`Worker`] is the service of one client's
+//! session. [`run_node`] runs a daemon and many workers, each in a thread of its own, on one list of publications, one
+//! sequencer and one book.
+//!
+//! - `links`: the trait `Link`, by which packets are sent and received. `datagrams`: a link over UDP.
+//! - `rounds`: `daemon_rounds`, and what one call of it did. `masters`: `master_rounds`.
+//! - `gates`: the trait `Gate`, which may hold the calls of a worker. `workers`: `Worker`.
+//! - `nodes`: `run_node`, with its clocks, its limits and its end.
+//! - `faults`: what is answered where a call refuses.
+#![tactic(auto)]
+
+mod datagrams;
+mod faults;
+mod gates;
+mod links;
+mod masters;
+mod nodes;
+mod rounds;
+mod workers;
+
+pub use datagrams::UdpLink;
+pub use faults::{LinkFault, NodeFault};
+pub use gates::Gate;
+pub use links::{Link, PACKET_LEN};
+pub use masters::master_rounds;
+pub use nodes::{Clocks, Limits, NodeEnd, WorkerEnd, run_node};
+pub use rounds::{Rounds, course_laws, daemon_rounds};
+pub use workers::{MAX_TURNS, Worker};
+
+#[cfg(test)]
+mod datagram_tests;
+#[cfg(test)]
+mod node_tests;
+#[cfg(test)]
+mod round_tests;
+#[cfg(test)]
+mod test_devices;

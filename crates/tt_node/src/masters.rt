@@ -1,0 +1,114 @@
+//! A master's turns: it receives requests and answers them.
+
+ghost use Rattle.std.specs.Prelude.{◌≡◌, ◌<◌, ◌≤◌, length, IfOk, IfErr, IsTrue};
+ghost use Rattle.tt_node.specs.Counting.{FailsBy};
+
+use crate::faults::NodeFault;
+use crate::links::{Link, PACKET_LEN};
+use crate::rounds::receive;
+use tt_master::{Act, Master, MasterFault, Reference};
+
+/// The bytes that a packet of TTP2 begins with.
+const TTP2: &[u8] = b"TTP2";
+
+/// Receives `turns` times, and does one act for each request that comes: the first act for the first request, and so
+/// on, and the last one for all further requests. What an act sends goes to the peer that the request came from. It
+/// answers for how many requests an act was done.
+///
+/// A packet that begins with `TTP2` is played by [`Master::play2`], and any other by [`Master::play`]. One that is
+/// refused by 301, 302 or 303 is passed over: no act is done for it. Requires: there is an act.
+///
+/// Refuses with 1501 `LinkFailed` where the link failed, and with 304 `ReferenceFailed` where the master's reference
+/// did. Then the turns end, and the call may be made again.
+pub fn master_rounds<L: Link, R: Reference>(
+    link: &mut L,
+    master: &mut Master<R>,
+    acts: &[Act],
+    turns: u32,
+) -> Result<u32, NodeFault>
+    requires some_act { 0 < length acts.now }
+    ensures few { IfOk result (λ played. played ≤ turns) }
+    // A device's fault is answered exactly where it failed.
+    ensures link_fails { FailsBy result NodeFault.LinkFailed (L.failed link.old) (L.failed link.new) }
+    ensures reference_fails { FailsBy result NodeFault.ReferenceFailed (R.failed master.old.reference) (R.failed master.new.reference) }
+{
+    let mut played = 0;
+    for _ in 0..turns {
+        let act = acts[(played as usize).min(acts.len() - 1)];
+        if master_turn(link, master, act)? {
+            played += 1;
+        }
+    }
+    Ok(played)
+}
+
+/// One turn: whether a request came, for which the act was done.
+fn master_turn<L: Link, R: Reference>(
+    link: &mut L,
+    master: &mut Master<R>,
+    act: Act,
+) -> Result<bool, NodeFault>
+    ensures link_fails { FailsBy result NodeFault.LinkFailed (L.failed link.old) (L.failed link.new) }
+    ensures reference_fails { FailsBy result NodeFault.ReferenceFailed (R.failed master.old.reference) (R.failed master.new.reference) }
+{
+    let mut buffer = [0; PACKET_LEN];
+    let Some((peer, length)) = receive(link, &mut buffer)? else {
+        return Ok(false);
+    };
+    let bytes = &buffer[..length];
+    if bytes.starts_with(TTP2) {
+        answer2(link, master, act, peer, bytes)
+    } else {
+        answer(link, master, act, peer, bytes)
+    }
+}
+
+/// Does the act for a packet of TTP1, and sends what it gives.
+fn answer<L: Link, R: Reference>(
+    link: &mut L,
+    master: &mut Master<R>,
+    act: Act,
+    peer: u8,
+    bytes: &[u8],
+) -> Result<bool, NodeFault>
+    ensures link_fails { FailsBy result NodeFault.LinkFailed (L.failed link.old) (L.failed link.new) }
+    ensures reference_fails { FailsBy result NodeFault.ReferenceFailed (R.failed master.old.reference) (R.failed master.new.reference) }
+{
+    match master.play(act, bytes) {
+        Ok(Some(packet)) => send(link, peer, &packet),
+        Ok(None) => Ok(true),
+        Err(MasterFault::Reference) => Err(NodeFault::ReferenceFailed),
+        Err(_) => Ok(false),
+    }
+}
+
+/// The same of TTP2.
+fn answer2<L: Link, R: Reference>(
+    link: &mut L,
+    master: &mut Master<R>,
+    act: Act,
+    peer: u8,
+    bytes: &[u8],
+) -> Result<bool, NodeFault>
+    ensures link_fails { FailsBy result NodeFault.LinkFailed (L.failed link.old) (L.failed link.new) }
+    ensures reference_fails { FailsBy result NodeFault.ReferenceFailed (R.failed master.old.reference) (R.failed master.new.reference) }
+{
+    match master.play2(act, bytes) {
+        Ok(Some(packet)) => send(link, peer, &packet),
+        Ok(None) => Ok(true),
+        Err(MasterFault::Reference) => Err(NodeFault::ReferenceFailed),
+        Err(_) => Ok(false),
+    }
+}
+
+/// Sends a packet, and answers yes.
+fn send<L: Link>(link: &mut L, peer: u8, packet: &[u8]) -> Result<bool, NodeFault>
+    ensures sends { IfOk result (λ sent. IsTrue sent) }
+    ensures fault { IfErr result (λ fault. fault ≡ NodeFault.LinkFailed) }
+    ensures link_fails { FailsBy result NodeFault.LinkFailed (L.failed link.old) (L.failed link.new) }
+{
+    match link.send(peer, packet) {
+        Ok(()) => Ok(true),
+        Err(_) => Err(NodeFault::LinkFailed),
+    }
+}

@@ -1,0 +1,451 @@
+//! The running node: one daemon and many workers, each in a thread of its own.
+
+ghost use Rattle.std.specs.Prelude.{◌≡◌, ◌≢◌, ◌<◌, ◌≤◌, ◌↔◌, ◌⊎◌, ◌+◌, All, IfOk, IfErr, IfSome, IsErrOf, OnOk, IsTrue, vec_len, vec_capacity};
+
+use crate::faults::NodeFault;
+use crate::gates::Gate;
+use crate::links::Link;
+use crate::rounds::{Rounds, daemon_rounds};
+use crate::workers::Worker;
+use std::alloc::Global;
+use std::sync::{Mutex, Wait};
+use std::thread;
+use std::thread::{JoinHandle, Promise, PromisedHandle, Scope, Threads};
+use tt_audit::LiveNote;
+use tt_daemon::Daemon;
+use tt_publish::{Clock, MAX_WATCHES, PublishFault, Teller, Watch, open};
+use tt_session::{ServeFault, Served, Turns, serve};
+use tt_span::Span;
+use tt_stamp::{Book, Seat, Sequencer};
+use tt_stream::{ByteReader, ByteWriter};
+
+/// The clocks of a node.
+#[derive(Drop)]
+pub struct Clocks<C> {
+    /// The daemon's.
+    pub daemon: C,
+    /// The workers', one for each stream.
+    pub workers: Vec<C>,
+}
+
+/// How long a node goes on, and the lease that it stamps in.
+#[derive(Clone, Copy, Debug)]
+pub struct Limits {
+    /// The daemon's rounds.
+    pub rounds: u32,
+    /// The turns of each round.
+    pub turns: u32,
+    /// How long each session may go on.
+    pub serve: Turns,
+    /// The lease of the node's stamps.
+    pub lease: Span,
+}
+
+/// What became of a worker.
+#[derive(Debug, Drop)]
+pub struct WorkerEnd {
+    /// What its session did, or why it ended before its input did.
+    pub served: Result<Served, ServeFault>,
+    /// The notes of the readings that it gave, oldest first.
+    pub notes: Vec<LiveNote>,
+}
+
+/// What became of a node.
+#[derive(Debug, Drop)]
+pub struct NodeEnd {
+    /// What its daemon did.
+    pub rounds: Rounds,
+    /// What became of its workers, in the order of their streams.
+    pub workers: Vec<WorkerEnd>,
+}
+
+/// What the workers of a node share.
+struct Shared<'a, R, G> {
+    rt: &'a R,
+    alloc: Global,
+    book: &'a Mutex<Book>,
+    gate: &'a G,
+}
+
+impl<'a, R, G> Clone for Shared<'a, R, G> {
+    fn clone(&self) -> Result<Self, std::alloc::AllocError> {
+        Ok(Shared {
+            rt: self.rt,
+            alloc: self.alloc,
+            book: self.book,
+            gate: self.gate,
+        })
+    }
+}
+
+impl<'a, R, G> Copy for Shared<'a, R, G> {}
+
+/// A seat, with the sequencer that it is of.
+#[derive(Drop)]
+struct Place<'a> {
+    seat: Seat,
+    sequencer: &'a Sequencer,
+    ghost of_it: { seat.table ≡ sequencer.now },
+}
+
+/// That a daemon's thread did this many rounds.
+#[derive(Drop)]
+struct DoesRounds(u32);
+
+impl Promise<Result<Rounds, NodeFault>> for DoesRounds {
+    ghost use Rattle.std.specs.Prelude.{◌≡◌, IfOk};
+
+    ghost kept_by = { λ promise result. IfOk result (λ did. did.done ≡ promise.0) };
+}
+
+/// Serves a session as the worker that has these parts.
+fn work<'a, R: Wait, C: Clock + Drop, I: ByteReader, O: ByteWriter, G: Gate>(
+    shared: Shared<'a, R, G>,
+    serving: Turns,
+    lease: Span,
+    session: u32,
+    place: Place<'a>,
+    watch: Watch,
+    clock: C,
+    reader: &mut I,
+    writer: &mut O,
+) -> WorkerEnd {
+    let Place { seat, sequencer } = place;
+    let mut worker = Worker::new(
+        shared.rt,
+        shared.alloc,
+        session,
+        watch,
+        clock,
+        seat,
+        sequencer,
+        shared.book,
+        shared.gate,
+        lease,
+    );
+    let served = serve(reader, writer, &mut worker, serving);
+    WorkerEnd {
+        served,
+        notes: worker.into_notes(),
+    }
+}
+
+/// Starts the thread of a worker, if one can be made.
+fn start<
+    's,
+    E,
+    R: Wait + Sync,
+    C: Clock + Send + Drop + 's,
+    I: ByteReader + Send + Drop + 's,
+    O: ByteWriter + Send + Drop + 's,
+    G: Gate + Sync,
+>(
+    scope: &Scope<'s, E>,
+    shared: Shared<'s, R, G>,
+    serving: Turns,
+    lease: Span,
+    session: u32,
+    place: Place<'s>,
+    watch: Watch,
+    clock: C,
+    stream: (I, O),
+) -> Option<JoinHandle<WorkerEnd>> {
+    let (reader, writer) = stream;
+    scope
+        .spawn(move || {
+            let (mut reader, mut writer) = (reader, writer);
+            work(
+                shared,
+                serving,
+                lease,
+                session,
+                place,
+                watch,
+                clock,
+                &mut reader,
+                &mut writer,
+            )
+        })
+        .ok()
+}
+
+/// Starts the thread of the daemon, if one can be made.
+fn start_daemon<
+    's,
+    E,
+    R: Threads + Wait + Sync,
+    L: Link + Send + Drop + 's,
+    C: Clock + Send + Drop + 's,
+>(
+    scope: &Scope<'s, E>,
+    rt: &'s R,
+    daemon: Daemon,
+    link: L,
+    clock: C,
+    teller: &'s mut Teller,
+    rounds: u32,
+    turns: u32,
+) -> Option<PromisedHandle<Result<Rounds, NodeFault>, DoesRounds>>
+    ensures promise { IfSome result (λ handle. handle.promise ≡ record { 0 = rounds }) }
+{
+    let lent = &mut *teller;
+    scope
+        .spawn_with(
+            DoesRounds(rounds),
+            move || -> Result<Rounds, NodeFault>
+                ensures { IfOk result (λ did. did.done ≡ rounds) }
+            {
+                let (mut daemon, mut link, mut clock) = (daemon, link, clock);
+                daemon_rounds(rt, &mut daemon, &mut link, &mut clock, lent, rounds, turns)
+            },
+        )
+        .ok()
+}
+
+/// A seat with its sequencer.
+fn place_of<'a>(seat: Seat, sequencer: &'a Sequencer) -> Place<'a>
+    requires { seat.table ≡ sequencer.now }
+{
+    Place { seat, sequencer }
+}
+
+/// All seats with their sequencer.
+fn places_of<'a>(
+    alloc: Global,
+    sequencer: &'a Sequencer,
+    seats: Vec<Seat>,
+) -> Result<Vec<Place<'a>>, NodeFault>
+    requires { All (λ seat. seat.table ≡ sequencer.now) seats.items }
+    ensures fault { IfErr result (λ fault. fault ≡ NodeFault.Memory) }
+{
+    let mut seats = seats;
+    let Ok(mut places) = Vec::with_capacity(alloc, seats.len()) else {
+        return Err(NodeFault::Memory);
+    };
+    for _ in 0..seats.len() {
+        let Some(seat) = seats.pop() else {
+            return Ok(places);
+        };
+        places.push_reserved(place_of(seat, sequencer));
+    }
+    Ok(places)
+}
+
+/// Starts the threads of all workers, from the last stream to the first: whether each was started.
+fn start_workers<
+    's,
+    E,
+    R: Wait + Sync,
+    C: Clock + Send + Drop + 's,
+    I: ByteReader + Send + Drop + 's,
+    O: ByteWriter + Send + Drop + 's,
+    G: Gate + Sync,
+>(
+    scope: &Scope<'s, E>,
+    shared: Shared<'s, R, G>,
+    serving: Turns,
+    lease: Span,
+    places: Vec<Place<'s>>,
+    watches: Vec<Watch>,
+    clocks: Vec<C>,
+    streams: Vec<(I, O)>,
+    handles: &mut Vec<JoinHandle<WorkerEnd>>,
+) -> bool
+    requires none { vec_len handles.old ≡ 0 }
+    requires room { vec_len streams ≤ vec_capacity handles.old }
+    ensures all { IsTrue result → vec_len handles.new ≡ vec_len streams }
+    ensures some { vec_len handles.new ≤ vec_len streams }
+{
+    let (mut places, mut watches) = (places, watches);
+    let (mut clocks, mut streams) = (clocks, streams);
+    for _ in 0..streams.len() {
+        let Some(stream) = streams.pop() else {
+            return false;
+        };
+        let Ok(session) = u32::try_from(streams.len()) else {
+            return false;
+        };
+        let (Some(place), Some(watch), Some(clock)) = (places.pop(), watches.pop(), clocks.pop())
+        else {
+            return false;
+        };
+        let Some(handle) = start(
+            scope, shared, serving, lease, session, place, watch, clock, stream,
+        ) else {
+            return false;
+        };
+        handles.push_reserved(handle);
+    }
+    true
+}
+
+/// Joins all workers, from the one that was started last to the first.
+fn join_workers<R: Threads>(
+    rt: &R,
+    handles: Vec<JoinHandle<WorkerEnd>>,
+    ends: Vec<WorkerEnd>,
+) -> Vec<WorkerEnd>
+    requires none { vec_len ends ≡ 0 }
+    requires room { vec_len handles ≤ vec_capacity ends }
+    ensures all { vec_len result ≡ vec_len handles }
+{
+    let (mut handles, mut ends) = (handles, ends);
+    for _ in 0..handles.len() {
+        let Some(handle) = handles.pop() else {
+            return ends;
+        };
+        ends.push_reserved(handle.join(rt));
+    }
+    ends
+}
+
+/// Starts the daemon's thread and those of the workers, and joins all that were started.
+fn run_threads<
+    's,
+    E,
+    R: Threads + Wait + Sync,
+    L: Link + Send + Drop + 's,
+    C: Clock + Send + Drop + 's,
+    I: ByteReader + Send + Drop + 's,
+    O: ByteWriter + Send + Drop + 's,
+    G: Gate + Sync,
+>(
+    scope: &Scope<'s, E>,
+    shared: Shared<'s, R, G>,
+    rounds: u32,
+    turns: u32,
+    serving: Turns,
+    lease: Span,
+    daemon: Daemon,
+    link: L,
+    clocks: Clocks<C>,
+    teller: &'s mut Teller,
+    places: Vec<Place<'s>>,
+    watches: Vec<Watch>,
+    streams: Vec<(I, O)>,
+) -> Result<NodeEnd, NodeFault>
+    ensures done { IfOk result (λ end. end.rounds.done ≡ rounds) }
+    ensures all { IfOk result (λ end. vec_len end.workers ≡ vec_len streams) }
+{
+    let Clocks {
+        daemon: clock,
+        workers,
+    } = clocks;
+    let Ok(mut handles) = Vec::with_capacity(shared.alloc, streams.len()) else {
+        return Err(NodeFault::Memory);
+    };
+    let Ok(ends) = Vec::with_capacity(shared.alloc, streams.len()) else {
+        return Err(NodeFault::Memory);
+    };
+    let Some(running) = start_daemon(scope, shared.rt, daemon, link, clock, teller, rounds, turns)
+    else {
+        return Err(NodeFault::Memory);
+    };
+    let started = start_workers(
+        scope,
+        shared,
+        serving,
+        lease,
+        places,
+        watches,
+        workers,
+        streams,
+        &mut handles,
+    );
+    let did = running.join(shared.rt);
+    let workers = join_workers(shared.rt, handles, ends);
+    if !started {
+        return Err(NodeFault::Memory);
+    }
+    Ok(NodeEnd {
+        rounds: did?,
+        workers,
+    })
+}
+
+/// Runs a node: one thread for the daemon, which does its rounds, and one for each stream, which serves its session;
+/// the sessions are numbered from 0 in the order of the streams. All of them work on one list of publications, one
+/// sequencer and one book, which begin here. Each session's service is a [`Worker`] with the clock of its number.
+///
+/// It joins every thread that it started before it answers, also where one could not be started. What is published is
+/// kept until then.
+///
+/// Refuses, in this order: 1503 `BadLimits` where there is no stream, or not one clock for each stream; 804 `Publish`
+/// where there are more than [`MAX_WATCHES`] streams; 1 where an allocation failed or a thread was not started; then
+/// what the daemon's rounds refused: 1501 `LinkFailed`, 1502 `ClockFailed`, 802 `Publish`. A fault of a session is no
+/// fault of the node. A call of a service that its gate never lets pass is refused by 1504 and does nothing.
+pub fn run_node<
+    'n,
+    R: Threads + Wait + Sync,
+    L: Link + Send + Drop,
+    C: Clock + Send + Drop,
+    I: ByteReader + Send + Drop,
+    O: ByteWriter + Send + Drop,
+    G: Gate + Sync,
+>(
+    rt: &'n R,
+    alloc: Global,
+    daemon: Daemon,
+    link: L,
+    clocks: Clocks<C>,
+    streams: Vec<(I, O)>,
+    gate: &'n G,
+    limits: Limits,
+) -> Result<NodeEnd, NodeFault>
+    ensures bad_limits { (vec_len streams ≡ 0) ⊎ (vec_len clocks.workers ≢ vec_len streams) → IsErrOf result NodeFault.BadLimits }
+    ensures places { (vec_len clocks.workers ≡ vec_len streams) → 32 < vec_len streams → IsErrOf result (NodeFault.Publish PublishFault.Places) }
+    ensures done { IfOk result (λ end. end.rounds.done ≡ limits.rounds) }
+    ensures all { IfOk result (λ end. vec_len end.workers ≡ vec_len streams) }
+{
+    check_limits(streams.len(), clocks.workers.len())?;
+    let Ok((sequencer, seats)) = Sequencer::open(alloc, streams.len()) else {
+        return Err(NodeFault::Memory);
+    };
+    let places = places_of(alloc, &sequencer, seats)?;
+    let book = Mutex::new(Book::new(alloc));
+    let drift = daemon.config().drift();
+    let (mut teller, watches) = match open(rt, alloc, drift, streams.len()) {
+        Ok(opened) => opened,
+        Err(fault) => return Err(NodeFault::Publish(fault)),
+    };
+    let shared = Shared {
+        rt,
+        alloc,
+        book: &book,
+        gate,
+    };
+    let lent = &mut teller;
+    let Limits {
+        rounds,
+        turns,
+        serve: serving,
+        lease,
+    } = limits;
+    let ended = thread::scope(
+        thread::scope_env(),
+        rt,
+        move |scope| -> Result<NodeEnd, NodeFault> {
+            run_threads(
+                scope, shared, rounds, turns, serving, lease, daemon, link, clocks, lent, places,
+                watches, streams,
+            )
+        },
+    );
+    teller.close(rt);
+    ended
+}
+
+/// Whether so many streams can be served with so many clocks.
+fn check_limits(streams: usize, clocks: usize) -> Result<(), NodeFault>
+    ensures taken { OnOk result ((streams ≢ 0) × (clocks ≡ streams) × (streams ≤ 32)) }
+    ensures bad_limits { (streams ≡ 0) ⊎ (clocks ≢ streams) → IsErrOf result NodeFault.BadLimits }
+    ensures places { (clocks ≡ streams) → 32 < streams → IsErrOf result (NodeFault.Publish PublishFault.Places) }
+{
+    if streams == 0 || clocks != streams {
+        return Err(NodeFault::BadLimits);
+    }
+    if streams > MAX_WATCHES {
+        return Err(NodeFault::Publish(PublishFault::Places));
+    }
+    Ok(())
+}

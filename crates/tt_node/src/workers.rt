@@ -1,0 +1,255 @@
+//! The service of one worker of a running node.
+
+ghost use Rattle.std.specs.Prelude.{◌≡◌, [], Some, None, IfOk, IfErr, IsErrOf, OnErr};
+ghost use Rattle.tt_span.specs.Interval.{Interval};
+ghost use Rattle.tt_publish.specs.Known.{ReadsLast};
+ghost use Rattle.tt_node.specs.Working.{Works, HasRead, HasBegun, Allows};
+
+use crate::faults::NodeFault;
+use crate::gates::Gate;
+use std::alloc::Global;
+use std::marker::Model;
+use std::sync::{Mutex, Wait};
+use tt_audit::LiveNote;
+use tt_publish::{Clock, Reading, Watch};
+use tt_session::Service;
+use tt_span::Span;
+use tt_stamp::{Book, Id, Seat, Sequencer, begin_step, release_step};
+
+/// How often a gate is asked for one call, at most.
+pub const MAX_TURNS: u32 = 10_000;
+
+/// The service of one worker, for one session: it reads through a watch of its own by a clock of its own, draws its
+/// stamps with a seat of its own from the sequencer that it shares, and queues and releases commits in the book that
+/// it shares. A gate may hold each of its calls.
+///
+/// It keeps a note of each reading that `now` gave, with what the clock showed just before and just after it. Contracts
+/// see its watch, its clock, its seat, its lease and its notes.
+///
+/// Each call asks the gate first, with the session and the call's number, which counts from 0 and stays at 2^64 - 1
+/// once it is there; where the gate never lets the call pass, it is refused by 1504 and does nothing. After the call
+/// the gate is told that it was answered.
+#[derive(Drop)]
+pub struct Worker<'a, R, C, G> {
+    rt: &'a R,
+    session: u32,
+    watch: Watch,
+    clock: C,
+    seat: Seat,
+    sequencer: &'a Sequencer,
+    book: &'a Mutex<Book>,
+    gate: &'a G,
+    lease: Span,
+    calls: u64,
+    notes: Vec<LiveNote>,
+}
+
+impl<'a, R, C, G> Model for Worker<'a, R, C, G> {
+    ghost use Rattle.std.specs.Prelude.{◌≡◌};
+    ghost use Rattle.tt_node.specs.Working.{WorkerState};
+
+    ghost Value = { WorkerState C };
+
+    ghost view = { λ w. record { watch = w.watch; clock = w.clock; seat = w.seat; lease = w.lease; notes = w.notes.items } };
+
+    ghost invariant = { λ w. w.seat.table ≡ w.sequencer.now };
+}
+
+impl<'a, R: Wait, C: Clock, G: Gate> Worker<'a, R, C, G> {
+    /// The worker of a session, which has no notes yet. Requires: the seat is of the sequencer.
+    pub fn new(
+        rt: &'a R,
+        alloc: Global,
+        session: u32,
+        watch: Watch,
+        clock: C,
+        seat: Seat,
+        sequencer: &'a Sequencer,
+        book: &'a Mutex<Book>,
+        gate: &'a G,
+        lease: Span,
+    ) -> Self
+        requires of_it { seat.table ≡ sequencer.now }
+        ensures made { result ≡ record { watch = watch; clock = clock; seat = seat; lease = lease; notes = [] } }
+    {
+        Worker {
+            rt,
+            session,
+            watch,
+            clock,
+            seat,
+            sequencer,
+            book,
+            gate,
+            lease,
+            calls: 0,
+            notes: Vec::new(alloc),
+        }
+    }
+
+    /// The notes of the readings that `now` gave, oldest first.
+    pub fn notes(&self) -> &[LiveNote]
+        ensures shows { result.now ≡ self.now.notes }
+    {
+        &self.notes
+    }
+}
+
+impl<'a, R, C: Drop, G> Worker<'a, R, C, G> {
+    /// Its notes, oldest first, once it has ended.
+    pub fn into_notes(self) -> Vec<LiveNote>
+        ensures notes { result.items ≡ self.entry.notes }
+    {
+        let Worker { notes, .. } = self;
+        notes
+    }
+}
+
+impl<'a, R: Wait, C: Clock, G: Gate> Worker<'a, R, C, G> {
+    /// Whether the gate lets the next call pass, and the number of that call.
+    fn passes(&mut self) -> (bool, u64)
+        ensures { self.new ≡ self.old }
+    {
+        let call = self.calls;
+        self.calls = self.calls.saturating_add(1);
+        for _ in 0..MAX_TURNS {
+            if self.gate.may_pass(self.session, call) {
+                return (true, call);
+            }
+        }
+        (false, call)
+    }
+
+    /// A reading, of which a note is kept.
+    fn read(&mut self) -> Result<Reading, u16>
+        ensures works { Works self.old self.new }
+        ensures open { ¬ IsErrOf result 1504 }
+        ensures seat { self.new.seat ≡ self.old.seat }
+        ensures read { IfOk result (λ reading. HasRead C.gives C.failed self.old reading self.new) }
+        ensures unread { OnErr result (self.new.notes ≡ self.old.notes) }
+    {
+        if self.notes.reserve(1).is_err() {
+            return Err(NodeFault::Memory.number());
+        }
+        let before = show(&mut self.clock)?;
+        let reading = match self.watch.now(&mut self.clock) {
+            Ok(reading) => reading,
+            Err(fault) => return Err(fault.number()),
+        };
+        let after = show(&mut self.clock)?;
+        self.notes.push_reserved(LiveNote {
+            before,
+            after,
+            reading,
+        });
+        Ok(reading)
+    }
+
+    /// A commit is stamped and queued.
+    fn commit(&mut self, number: u64, floor: u64) -> Result<u64, u16>
+        ensures works { Works self.old self.new }
+        ensures open { ¬ IsErrOf result 1504 }
+        ensures notes { self.new.notes ≡ self.old.notes }
+        ensures begun { IfOk result (λ stamp. HasBegun C.gives self.old floor stamp self.new) }
+    {
+        let stamp = match begin_step(
+            self.rt,
+            self.sequencer,
+            &mut self.seat,
+            &mut self.watch,
+            &mut self.clock,
+            floor,
+            &self.lease,
+        ) {
+            Ok(stamp) => stamp,
+            Err(fault) => return Err(fault.number()),
+        };
+        let id = Id {
+            session: self.session,
+            number,
+        };
+        match self.book.lock(self.rt).queue(id, stamp) {
+            Ok(()) => Ok(stamp),
+            Err(fault) => Err(fault.number()),
+        }
+    }
+
+    /// One release step, and whether the commit is released.
+    fn release(&mut self, number: u64) -> Result<bool, u16>
+        ensures works { Works self.old self.new }
+        ensures open { ¬ IsErrOf result 1504 }
+        ensures seat { self.new.seat ≡ self.old.seat }
+        ensures notes { self.new.notes ≡ self.old.notes }
+        ensures read { IfOk result (λ _. (reading : Interval) × ReadsLast self.new.watch (λ c. C.gives self.old.clock (Some c) self.new.clock) reading) }
+    {
+        let id = Id {
+            session: self.session,
+            number,
+        };
+        let mut book = self.book.lock(self.rt);
+        match release_step(&mut book, &mut self.watch, &mut self.clock) {
+            Ok(_) => Ok(book.is_released(id).is_some()),
+            Err(fault) => Err(fault.number()),
+        }
+    }
+}
+
+impl<'a, R: Wait, C: Clock, G: Gate> Service for Worker<'a, R, C, G> {
+    ghost allows = { Allows C.gives C.failed };
+
+    /// One [`Watch::now`] between two readings of the clock, of which a note is kept.
+    ///
+    /// Refuses with 1504 where the gate is closed, 1 where there is no room for the note, and then, in this order, as
+    /// the readings and `Watch::now` do: 803, 801, 803, 802, 803. Only an answer with a reading is noted.
+    fn now(&mut self) -> Result<Reading, u16> {
+        let (passes, call) = self.passes();
+        let answer = if passes {
+            self.read()
+        } else {
+            Err(NodeFault::GateClosed.number())
+        };
+        self.gate.answered(self.session, call);
+        answer
+    }
+
+    /// One [`begin_step`], in the lease, and then one [`Book::queue`] of the session and the number with the stamp,
+    /// which it answers. The book is held for the queueing alone.
+    ///
+    /// Refuses with 1504 where the gate is closed, and then with the number of the first that refuses: 801, 803, 802,
+    /// 902, 901, 903, 1001, 1002, 1003, 1. A stamp that was given before a refused queueing is lost.
+    fn begin(&mut self, number: u64, floor: u64) -> Result<u64, u16> {
+        let (passes, call) = self.passes();
+        let answer = if passes {
+            self.commit(number, floor)
+        } else {
+            Err(NodeFault::GateClosed.number())
+        };
+        self.gate.answered(self.session, call);
+        answer
+    }
+
+    /// One [`release_step`], and whether the commit is released then: the book is held once for both.
+    ///
+    /// Refuses with 1504 where the gate is closed, and then as the step does: 801, 803, 802.
+    fn pass(&mut self, number: u64) -> Result<bool, u16> {
+        let (passes, call) = self.passes();
+        let answer = if passes {
+            self.release(number)
+        } else {
+            Err(NodeFault::GateClosed.number())
+        };
+        self.gate.answered(self.session, call);
+        answer
+    }
+}
+
+/// What the clock shows.
+fn show<C: Clock>(clock: &mut C) -> Result<u64, u16>
+    ensures gave { IfOk result (λ reading. C.gives clock.old (Some reading) clock.new) }
+    ensures failed { IfErr result (λ number. (number ≡ 803) × C.gives clock.old None clock.new) }
+{
+    match clock.read() {
+        Ok(reading) => Ok(reading),
+        Err(fault) => Err(fault.number()),
+    }
+}

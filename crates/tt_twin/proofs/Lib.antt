@@ -1,0 +1,4 @@
+pub mod Pushing
+pub mod Watching
+pub mod Telling
+pub mod Worth

@@ -1,0 +1,21 @@
+-- What a twin is worth.
+pub mod Paths
+pub mod Fitting
+pub mod Accepting
+pub mod Quiet
+pub mod Planning
+pub mod Polling
+pub mod Replying
+pub mod Delivering
+pub mod Merging
+pub mod Beginning
+pub mod Looking
+pub mod Granting
+pub mod Finding
+pub mod Choosing
+pub mod Planned
+pub mod Elsewhere
+pub mod Turning
+pub mod Together
+pub mod Reached
+pub mod Refusing

@@ -1,0 +1,14 @@
+use Rattle.tt_twin.proofs.Worth.Refusing.{wrong-machines, not-a-reading, is-cut, is-uncut}
+use Rattle.tt_twin.proofs.twins.twin_laws.Goals as goal
+
+pub returns-clause-machines : goal.returns-clause-machines
+returns-clause-machines c = wrong-machines
+
+pub returns-clause-not_a_reading : goal.returns-clause-not_a_reading
+returns-clause-not_a_reading c = not-a-reading
+
+pub returns-clause-cut : goal.returns-clause-cut
+returns-clause-cut c = is-cut
+
+pub returns-clause-answered : goal.returns-clause-answered
+returns-clause-answered c = λ configs events twin k side h. is-uncut configs events k side twin h

@@ -1,0 +1,5 @@
+pub mod TwinFault
+pub mod Looks
+pub mod Twin
+pub mod Alike
+pub mod Watch

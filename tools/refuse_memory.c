@@ -1,0 +1,74 @@
+/* Refuses one allocation of the program that it is loaded into: the one whose number stands in REFUSE, counted from 1.
+ * At the end it writes how many allocations there were to the file that COUNT names. It stands before the C library's
+ * allocator by LD_PRELOAD, and hands every other call on to it. */
+#define _GNU_SOURCE
+#include <errno.h>
+#include <fcntl.h>
+#include <stdatomic.h>
+#include <stddef.h>
+#include <stdlib.h>
+#include <unistd.h>
+
+extern void *__libc_malloc(size_t);
+extern void *__libc_calloc(size_t, size_t);
+extern void *__libc_realloc(void *, size_t);
+extern void *__libc_memalign(size_t, size_t);
+
+static atomic_ulong calls;
+static unsigned long refused;
+static int begun;
+
+/* Before main, and so behind the allocations of the loader, which are not counted. */
+__attribute__((constructor)) static void begin(void) {
+    const char *text = getenv("REFUSE");
+    refused = text ? strtoul(text, NULL, 10) : 0;
+    begun = 1;
+}
+
+__attribute__((destructor)) static void end(void) {
+    begun = 0;
+    const char *name = getenv("COUNT");
+    if (!name) return;
+    int file = open(name, O_WRONLY | O_CREAT | O_TRUNC, 0600);
+    if (file < 0) return;
+    char digits[24];
+    int at = sizeof digits;
+    unsigned long n = calls;
+    digits[--at] = '\n';
+    do digits[--at] = '0' + n % 10; while (n /= 10);
+    ssize_t written = write(file, digits + at, sizeof digits - at);
+    (void)written;
+    close(file);
+}
+
+static int is_refused(void) {
+    return begun && ++calls == refused;
+}
+
+void *malloc(size_t size) {
+    if (is_refused()) { errno = ENOMEM; return NULL; }
+    return __libc_malloc(size);
+}
+
+void *calloc(size_t count, size_t size) {
+    if (is_refused()) { errno = ENOMEM; return NULL; }
+    return __libc_calloc(count, size);
+}
+
+void *realloc(void *old, size_t size) {
+    if (is_refused()) { errno = ENOMEM; return NULL; }
+    return __libc_realloc(old, size);
+}
+
+void *aligned_alloc(size_t align, size_t size) {
+    if (is_refused()) { errno = ENOMEM; return NULL; }
+    return __libc_memalign(align, size);
+}
+
+int posix_memalign(void **place, size_t align, size_t size) {
+    if (is_refused()) return ENOMEM;
+    void *found = __libc_memalign(align, size);
+    if (!found) return ENOMEM;
+    *place = found;
+    return 0;
+}
