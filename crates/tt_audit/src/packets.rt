@@ -1,12 +1,12 @@
-//! What is kept of packets on their way.
+//! What is kept of packets in transit.
 
 ghost use Rattle.std.specs.Prelude.{◌≡◌, slice_get};
 ghost use Rattle.tt_audit.specs.Watch.{carried_by, tick_of as tick_in, taken_in};
 
 use tt_world::{Action, Reply};
 
-/// A packet on its way between a machine and a source, and whether it lies: its bytes were made up, or its span does
-/// not hold the true time at which it was put.
+/// A packet in transit between a machine and a source, and whether it lies: its bytes were made up, or its span does
+/// not hold the true time at which it was sent.
 #[derive(Clone, Copy, Debug, PartialEq, Eq)]
 pub struct Carried {
     pub machine: u8,

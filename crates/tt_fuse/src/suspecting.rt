@@ -9,7 +9,7 @@ use arrayvec::ArrayVec;
 use tt_span::Span;
 
 /// The numbers of the sources whose span does not meet `fused`, ascending. A source's number is its place in
-/// `spans`, from 0. Spans that touch at one point meet. The caller sees to it that there are at most
+/// `spans`, from 0. Spans that touch at one point meet. Requires: there are at most
 /// [`MAX_SOURCES`](crate::MAX_SOURCES) of them.
 pub fn suspects(spans: &[Span], fused: &Span) -> ArrayVec<u8, 16>
     requires { length spans.now ≤ 16 }

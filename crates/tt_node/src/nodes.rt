@@ -1,6 +1,7 @@
 //! The running node: one daemon and many workers, each in a thread of its own.
 
 ghost use Rattle.std.specs.Prelude.{◌≡◌, ◌≢◌, ◌<◌, ◌≤◌, ◌↔◌, ◌⊎◌, ◌+◌, All, IfOk, IfErr, IfSome, IsErrOf, OnOk, IsTrue, vec_len, vec_capacity};
+ghost use Rattle.tt_node.specs.Fault.{IsRoundsFault, IsRunFault};
 
 use crate::faults::NodeFault;
 use crate::gates::Gate;
@@ -88,14 +89,15 @@ struct Place<'a> {
     ghost of_it: { seat.table ≡ sequencer.now },
 }
 
-/// That a daemon's thread did this many rounds.
+/// That a daemon's thread did this many rounds, or ended as rounds end.
 #[derive(Drop)]
 struct DoesRounds(u32);
 
 impl Promise<Result<Rounds, NodeFault>> for DoesRounds {
-    ghost use Rattle.std.specs.Prelude.{◌≡◌, IfOk};
+    ghost use Rattle.std.specs.Prelude.{◌≡◌, IfOk, IfErr};
+    ghost use Rattle.tt_node.specs.Fault.{IsRoundsFault};
 
-    ghost kept_by = { λ promise result. IfOk result (λ did. did.done ≡ promise.0) };
+    ghost kept_by = { λ promise result. IfOk result (λ did. did.done ≡ promise.0) × IfErr result IsRoundsFault };
 }
 
 /// Serves a session as the worker that has these parts.
@@ -193,7 +195,7 @@ fn start_daemon<
         .spawn_with(
             DoesRounds(rounds),
             move || -> Result<Rounds, NodeFault>
-                ensures { IfOk result (λ did. did.done ≡ rounds) }
+                ensures { IfOk result (λ did. did.done ≡ rounds) × IfErr result IsRoundsFault }
             {
                 let (mut daemon, mut link, mut clock) = (daemon, link, clock);
                 daemon_rounds(rt, &mut daemon, &mut link, &mut clock, lent, rounds, turns)
@@ -326,6 +328,7 @@ fn run_threads<
 ) -> Result<NodeEnd, NodeFault>
     ensures done { IfOk result (λ end. end.rounds.done ≡ rounds) }
     ensures all { IfOk result (λ end. vec_len end.workers ≡ vec_len streams) }
+    ensures fault { IfErr result (λ fault. IsRoundsFault fault ⊎ (fault ≡ NodeFault.Memory)) }
 {
     let Clocks {
         daemon: clock,
@@ -392,7 +395,8 @@ pub fn run_node<
     gate: &'n G,
     limits: Limits,
 ) -> Result<NodeEnd, NodeFault>
-    ensures bad_limits { (vec_len streams ≡ 0) ⊎ (vec_len clocks.workers ≢ vec_len streams) → IsErrOf result NodeFault.BadLimits }
+    ensures bad_limits { IsErrOf result NodeFault.BadLimits ↔ ((vec_len streams ≡ 0) ⊎ (vec_len clocks.workers ≢ vec_len streams)) }
+    ensures fault { IfErr result IsRunFault }
     ensures places { (vec_len clocks.workers ≡ vec_len streams) → 32 < vec_len streams → IsErrOf result (NodeFault.Publish PublishFault.Places) }
     ensures done { IfOk result (λ end. end.rounds.done ≡ limits.rounds) }
     ensures all { IfOk result (λ end. vec_len end.workers ≡ vec_len streams) }
@@ -438,8 +442,9 @@ pub fn run_node<
 /// Whether so many streams can be served with so many clocks.
 fn check_limits(streams: usize, clocks: usize) -> Result<(), NodeFault>
     ensures taken { OnOk result ((streams ≢ 0) × (clocks ≡ streams) × (streams ≤ 32)) }
-    ensures bad_limits { (streams ≡ 0) ⊎ (clocks ≢ streams) → IsErrOf result NodeFault.BadLimits }
-    ensures places { (clocks ≡ streams) → 32 < streams → IsErrOf result (NodeFault.Publish PublishFault.Places) }
+    ensures bad_limits { IsErrOf result NodeFault.BadLimits ↔ ((streams ≡ 0) ⊎ (clocks ≢ streams)) }
+    ensures places { IsErrOf result (NodeFault.Publish PublishFault.Places) ↔ ((streams ≢ 0) × (clocks ≡ streams) × (32 < streams)) }
+    ensures fault { IfErr result (λ fault. (fault ≡ NodeFault.BadLimits) ⊎ (fault ≡ NodeFault.Publish PublishFault.Places)) }
 {
     if streams == 0 || clocks != streams {
         return Err(NodeFault::BadLimits);

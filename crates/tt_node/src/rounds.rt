@@ -3,6 +3,7 @@
 ghost use Rattle.std.specs.Prelude.{◌≡◌, ℕ, ◌+◌, ◌<◌, ◌≤◌, ◌^◌, List, length, Option, Some, None, Result, IfOk, IfErr, IfSome, OnOk, OnErr, IsErrOf};
 ghost use Rattle.tt_node.specs.Link.{Exchange, Receive, came_as};
 ghost use Rattle.tt_node.specs.Counting.{FailsBy};
+ghost use Rattle.tt_node.specs.Fault.{IsRoundsFault};
 ghost use Rattle.tt_node.specs.Fusing.{Fusion, fusions_in, Grows};
 ghost use Rattle.tt_node.specs.Course.{Stand, Part, poll_at, poll_all as polls_all, each_below, turn as turn_of, fuse_at as fuses_at, round_of, rounds_of};
 ghost use Rattle.tt_node.specs.Lists.{GivesInTurn, Line, MovesInTurn, IsCourse};
@@ -37,6 +38,7 @@ fn poll_one<L: Link>(
         (stand_of daemon.old items refused) (stand_of daemon.new items refused) result }
     ensures fails { FailsBy result NodeFault.LinkFailed (L.failed link.old) (L.failed link.new) }
     ensures no_clock { ¬ IsErrOf result NodeFault.ClockFailed }
+    ensures rounds_fault { IfErr result IsRoundsFault }
     ensures config { daemon.new.config ≡ daemon.old.config }
 {
     let Ok(request) = daemon.poll(source, clock) else {
@@ -54,6 +56,7 @@ fn poll_all<L: Link>(daemon: &mut Daemon, link: &mut L, clock: u64) -> Result<()
         (stand_of daemon.old items refused) (stand_of daemon.new items refused) result }
     ensures fails { FailsBy result NodeFault.LinkFailed (L.failed link.old) (L.failed link.new) }
     ensures no_clock { ¬ IsErrOf result NodeFault.ClockFailed }
+    ensures rounds_fault { IfErr result IsRoundsFault }
 {
     for source in 0..daemon.config().sources() {
         poll_one(daemon, link, source as u8, clock)?;
@@ -103,6 +106,7 @@ fn turn<L: Link, C: Clock>(
         (stand_of daemon.old items counts.old.refused) (stand_of daemon.new items counts.new.refused) result }
     ensures link_fails { FailsBy result NodeFault.LinkFailed (L.failed link.old) (L.failed link.new) }
     ensures clock_fails { FailsBy result NodeFault.ClockFailed (C.failed clock.old) (C.failed clock.new) }
+    ensures rounds_fault { IfErr result IsRoundsFault }
     ensures done { counts.new.done ≡ counts.old.done }
     ensures published { counts.new.published ≡ counts.old.published }
     ensures few { counts.new.refused ≤ counts.old.refused + 1 }
@@ -134,6 +138,7 @@ fn all_turns<L: Link, C: Clock>(
         (stand_of daemon.old items counts.old.refused) (stand_of daemon.new items counts.new.refused) result }
     ensures link_fails { FailsBy result NodeFault.LinkFailed (L.failed link.old) (L.failed link.new) }
     ensures clock_fails { FailsBy result NodeFault.ClockFailed (C.failed clock.old) (C.failed clock.new) }
+    ensures rounds_fault { IfErr result IsRoundsFault }
     ensures done { counts.new.done ≡ counts.old.done }
     ensures published { counts.new.published ≡ counts.old.published }
     ensures few { counts.new.refused ≤ counts.old.refused + turns }
@@ -158,6 +163,7 @@ fn fuse<R: Wait>(
         (stand_of daemon.new (fusions_in teller.new.items) counts.new.refused) result }
     ensures grew { Grows teller.old.items teller.new.items counts.old.published counts.new.published }
     ensures no_device { (¬ IsErrOf result NodeFault.LinkFailed) × (¬ IsErrOf result NodeFault.ClockFailed) }
+    ensures rounds_fault { IfErr result IsRoundsFault }
     ensures done { counts.new.done ≡ counts.old.done }
     ensures few { counts.new.refused ≤ counts.old.refused + 1 }
     ensures fewer { counts.new.published ≤ counts.old.published + 1 }
@@ -195,6 +201,7 @@ fn round<R: Wait, L: Link, C: Clock>(
     ensures grew { Grows teller.old.items teller.new.items counts.old.published counts.new.published }
     ensures link_fails { FailsBy result NodeFault.LinkFailed (L.failed link.old) (L.failed link.new) }
     ensures clock_fails { FailsBy result NodeFault.ClockFailed (C.failed clock.old) (C.failed clock.new) }
+    ensures rounds_fault { IfErr result IsRoundsFault }
     ensures done { counts.new.done ≡ counts.old.done }
     ensures few { counts.new.refused ≤ counts.old.refused + turns + 1 }
     ensures fewer { counts.new.published ≤ counts.old.published + 1 }
@@ -227,6 +234,7 @@ fn all_rounds<R: Wait, L: Link, C: Clock>(
     ensures grew { Grows teller.old.items teller.new.items 0 counts.new.published }
     ensures link_fails { FailsBy result NodeFault.LinkFailed (L.failed link.old) (L.failed link.new) }
     ensures clock_fails { FailsBy result NodeFault.ClockFailed (C.failed clock.old) (C.failed clock.new) }
+    ensures rounds_fault { IfErr result IsRoundsFault }
     ensures done { OnOk result (counts.new.done ≡ rounds) }
     ensures source { teller.new.source ≡ teller.old.source }
 {
@@ -269,6 +277,7 @@ pub fn daemon_rounds<R: Wait, L: Link, C: Clock>(
     // A device's fault is answered exactly where it failed.
     ensures link_fails { FailsBy result NodeFault.LinkFailed (L.failed link.old) (L.failed link.new) }
     ensures clock_fails { FailsBy result NodeFault.ClockFailed (C.failed clock.old) (C.failed clock.new) }
+    ensures rounds_fault { IfErr result IsRoundsFault }
     ensures source { teller.new.source ≡ teller.old.source }
 {
     let mut counts = Rounds {

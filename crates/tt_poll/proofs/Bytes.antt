@@ -34,7 +34,7 @@ IsBytes-append : (front back : List ℕ) → IsBytes front → IsBytes back → 
 IsBytes-append [] back f h = h
 IsBytes-append (b ∷ front) back f h = IsBytes-cons b (front ++ back) (f 0) (IsBytes-append front back (λ i. f (suc i)) h)
 
-IsBytes-high_first : (k n : ℕ) → IsBytes (bytes_high_first k n)
+pub IsBytes-high_first : (k n : ℕ) → IsBytes (bytes_high_first k n)
 IsBytes-high_first zero n = λ i. lit< tt
 IsBytes-high_first (suc zero) n = IsBytes-cons (n % 256) [] (omega arith) (IsBytes-high_first zero n)
 IsBytes-high_first (suc (suc k)) n = IsBytes-cons _ (bytes_high_first (suc k) n) (mod_below _ 256 (lit< tt)) (IsBytes-high_first (suc k) n)

@@ -20,7 +20,7 @@ use Rattle.tt_poll.specs.declared.messages.Message2.TheVariants as two
 use Rattle.tt_poll.specs.Format.{magic_of, kind_of}
 use Rattle.tt_poll.specs.Message.{max_machine, max_source, IsPoll, IsEpoch, IsRequest, IsAnswer, IsRequest2, IsAnswer2}
 use Rattle.tt_poll.specs.Spelling.{IsMessage, IsMessage2, head_of, ends_of, spelling_of, spelling_of2}
-use Rattle.tt_poll.specs.Reading.{IsBytes, number_at, kind_at, machine_at, source_at, reserved_at, nonce_at, epoch_at, ends_at, span_at, span_at2, request_at, answer_at, message_at, request_at2, answer_at2, message_at2, are_no_span, applies, applies_in, head_faults, poll_faults, poll_faults2, read_of, read_of2}
+use Rattle.tt_poll.specs.Reading.{IsBytes, number_at, kind_at, machine_at, source_byte_at, reserved_at, nonce_at, epoch_at, ends_at, span_at, span_at2, request_at, answer_at, message_at, request_at2, answer_at2, message_at2, are_no_span, applies, applies_in, head_faults, poll_faults, poll_faults2, read_of, read_of2}
 use Rattle.tt_poll.proofs.Refusing.{NoneApplies, NoneApplies-append, fields_of_read, fields_of_read2}
 use Rattle.tt_poll.proofs.Bytes.{IsBytes-drop, IsBytes-take}
 
@@ -31,7 +31,7 @@ number_first bytes fits long =
     sym (take-append-drop 8 bytes) ∙ ap (λ (t : List ℕ). t ++ drop 8 bytes) (sym part)
 
 -- the number in eight bytes fits them
-number_fits : (bytes : List ℕ) → IsBytes bytes → from_be_bytes w64 bytes < 2 ^ 64
+pub number_fits : (bytes : List ℕ) → IsBytes bytes → from_be_bytes w64 bytes < 2 ^ 64
 number_fits bytes fits = omega (arith, fits 0, fits 1, fits 2, fits 3, fits 4, fits 5, fits 6, fits 7)
 
 -- bytes that begin with the magic have it in front
@@ -40,13 +40,13 @@ magic_first Ttp1 bytes begins = (starts_is Decides-eqb bytes (magic_of Ttp1) (st
 magic_first Ttp2 bytes begins = (starts_is Decides-eqb bytes (magic_of Ttp2) (starts_with nat_eq bytes (magic_of Ttp2)) refl).0 begins
 
 -- after it come four single bytes
-four_next : (bytes : List ℕ) → 8 ≤ length bytes → drop 4 bytes ≡ kind_at bytes ∷ machine_at bytes ∷ source_at bytes ∷ reserved_at bytes ∷ drop 8 bytes
+four_next : (bytes : List ℕ) → 8 ≤ length bytes → drop 4 bytes ≡ kind_at bytes ∷ machine_at bytes ∷ source_byte_at bytes ∷ reserved_at bytes ∷ drop 8 bytes
 four_next bytes long =
     let four = drop-cons bytes 4 0 (omega arith) in
     let five = drop-cons bytes 5 0 (omega arith) in
     let six = drop-cons bytes 6 0 (omega arith) in
     let seven = drop-cons bytes 7 0 (omega arith) in
-    four ∙ ap (λ (t : List ℕ). kind_at bytes ∷ t) (five ∙ ap (λ (t : List ℕ). machine_at bytes ∷ t) (six ∙ ap (λ (t : List ℕ). source_at bytes ∷ t) seven))
+    four ∙ ap (λ (t : List ℕ). kind_at bytes ∷ t) (five ∙ ap (λ (t : List ℕ). machine_at bytes ∷ t) (six ∙ ap (λ (t : List ℕ). source_byte_at bytes ∷ t) seven))
 
 -- from place i on stand the eight bytes of the number there
 number_next : (bytes : List ℕ) (i : ℕ) → IsBytes bytes → i + 8 ≤ length bytes → drop i bytes ≡ to_be_bytes w64 (number_at bytes i) ++ drop (i + 8) bytes
@@ -61,24 +61,24 @@ number_at-fits bytes i fits = number_fits (take (i + 8 - i) (drop i bytes)) (IsB
 
 -- what no refusal says of the first sixteen bytes
 record HasHead (format : Format) (bytes : List ℕ) (kind : ℕ) : Type 0 where
-  head_is : bytes ≡ head_of format kind (machine_at bytes) (source_at bytes) (nonce_at bytes) ++ drop 16 bytes
-  poll : IsPoll (machine_at bytes) (source_at bytes) (nonce_at bytes)
+  head_is : bytes ≡ head_of format kind (machine_at bytes) (source_byte_at bytes) (nonce_at bytes) ++ drop 16 bytes
+  poll : IsPoll (machine_at bytes) (source_byte_at bytes) (nonce_at bytes)
 
 head_found : (format : Format) (bytes : List ℕ) (kind : ℕ) → IsBytes bytes → 16 ≤ length bytes → kind_of format (length bytes) ≡ kind → NoneApplies (applies_in format bytes) head_faults → HasHead format bytes kind
 head_found format bytes kind fits long of_length none =
     let begins : starts_with nat_eq bytes (magic_of format) ≡ true = not-false _ none.1.0 in
     let kind-is : kind_at bytes ≡ kind = eqb-true _ _ (not-false _ none.1.1.0) ∙ of_length in
     let reserved-is : reserved_at bytes ≡ 0 = eqb-true _ _ (not-false _ none.1.1.1.0) in
-    let numbers = or_parts (ltb max_machine (machine_at bytes)) (ltb max_source (source_at bytes)) none.1.1.1.1.0 in
+    let numbers = or_parts (ltb max_machine (machine_at bytes)) (ltb max_source (source_byte_at bytes)) none.1.1.1.1.0 in
     let nonce-is = eqb-false (nonce_at bytes) 0 none.1.1.1.1.1.0 in
     let nonce_in : 0 < nonce_at bytes = omega arith in
-    let rest : drop 4 bytes ≡ kind ∷ machine_at bytes ∷ source_at bytes ∷ 0 ∷ (to_be_bytes w64 (nonce_at bytes) ++ drop 16 bytes) =
+    let rest : drop 4 bytes ≡ kind ∷ machine_at bytes ∷ source_byte_at bytes ∷ 0 ∷ (to_be_bytes w64 (nonce_at bytes) ++ drop 16 bytes) =
     four_next bytes (omega arith)
-    ∙ ap (λ (k : ℕ). k ∷ machine_at bytes ∷ source_at bytes ∷ reserved_at bytes ∷ drop 8 bytes) kind-is
-    ∙ ap (λ (z : ℕ). kind ∷ machine_at bytes ∷ source_at bytes ∷ z ∷ drop 8 bytes) reserved-is
-    ∙ ap (λ (t : List ℕ). kind ∷ machine_at bytes ∷ source_at bytes ∷ 0 ∷ t) (number_next bytes 8 fits (omega arith)) in
+    ∙ ap (λ (k : ℕ). k ∷ machine_at bytes ∷ source_byte_at bytes ∷ reserved_at bytes ∷ drop 8 bytes) kind-is
+    ∙ ap (λ (z : ℕ). kind ∷ machine_at bytes ∷ source_byte_at bytes ∷ z ∷ drop 8 bytes) reserved-is
+    ∙ ap (λ (t : List ℕ). kind ∷ machine_at bytes ∷ source_byte_at bytes ∷ 0 ∷ t) (number_next bytes 8 fits (omega arith)) in
     record {
-      head_is = magic_first format bytes begins ∙ ap (λ (t : List ℕ). magic_of format ++ t) rest ∙ sym (append_assoc (magic_of format) (kind ∷ machine_at bytes ∷ source_at bytes ∷ 0 ∷ to_be_bytes w64 (nonce_at bytes)) (drop 16 bytes));
+      head_is = magic_first format bytes begins ∙ ap (λ (t : List ℕ). magic_of format ++ t) rest ∙ sym (append_assoc (magic_of format) (kind ∷ machine_at bytes ∷ source_byte_at bytes ∷ 0 ∷ to_be_bytes w64 (nonce_at bytes)) (drop 16 bytes));
       poll = record { machine_in = ltb-false _ _ numbers.0; source_in = ltb-false _ _ numbers.1; nonce_in = nonce_in; nonce_fits = number_at-fits bytes 8 fits };
     }
 
@@ -104,12 +104,12 @@ request_found : (bytes : List ℕ) → length bytes ≡ 16 → HasHead Ttp1 byte
 unfolding spelling_of
 request_found bytes len head =
     let nothing : drop 16 bytes ≡ [] = drop_all 16 bytes (omega arith) in
-    (head.poll, head.head_is ∙ ap (λ (t : List ℕ). head_of Ttp1 1 (machine_at bytes) (source_at bytes) (nonce_at bytes) ++ t) nothing)
+    (head.poll, head.head_is ∙ ap (λ (t : List ℕ). head_of Ttp1 1 (machine_at bytes) (source_byte_at bytes) (nonce_at bytes) ++ t) nothing)
 
 answer_found : (bytes : List ℕ) → IsBytes bytes → length bytes ≡ 32 → HasHead Ttp1 bytes 2 → IsInterval (span_at bytes) → IsAnswer (answer_at bytes) × (bytes ≡ spelling_of (Answer (answer_at bytes)))
 unfolding spelling_of
 answer_found bytes fits len head span =
-    (record { poll = head.poll; span_in = span }, head.head_is ∙ ap (λ (t : List ℕ). head_of Ttp1 2 (machine_at bytes) (source_at bytes) (nonce_at bytes) ++ t) (ends_last bytes 16 fits len))
+    (record { poll = head.poll; span_in = span }, head.head_is ∙ ap (λ (t : List ℕ). head_of Ttp1 2 (machine_at bytes) (source_byte_at bytes) (nonce_at bytes) ++ t) (ends_last bytes 16 fits len))
 
 -- bytes to which no refusal applies are the spelling of the message whose fields they have
 spelled : (bytes : List ℕ) → IsBytes bytes → NoneApplies (applies bytes) poll_faults → IsMessage (message_at bytes) × (bytes ≡ spelling_of (message_at bytes))
@@ -143,7 +143,7 @@ request_found2 bytes fits len head epoch =
     let rest : drop 16 bytes ≡ to_be_bytes w64 (epoch_at bytes) ++ drop 24 bytes = number_next bytes 16 fits (omega arith) in
     let nothing : drop 24 bytes ≡ [] = drop_all 24 bytes (omega arith) in (
       record { poll = head.poll; epoch_in = epoch },
-      head.head_is ∙ ap (λ (t : List ℕ). head_of Ttp2 1 (machine_at bytes) (source_at bytes) (nonce_at bytes) ++ t) (rest ∙ ap (λ (t : List ℕ). to_be_bytes w64 (epoch_at bytes) ++ t) nothing),
+      head.head_is ∙ ap (λ (t : List ℕ). head_of Ttp2 1 (machine_at bytes) (source_byte_at bytes) (nonce_at bytes) ++ t) (rest ∙ ap (λ (t : List ℕ). to_be_bytes w64 (epoch_at bytes) ++ t) nothing),
     )
 
 answer_found2 : (bytes : List ℕ) → IsBytes bytes → length bytes ≡ 40 → HasHead Ttp2 bytes 2 → IsEpoch (epoch_at bytes) → IsInterval (span_at2 bytes) → IsAnswer2 (answer_at2 bytes) × (bytes ≡ spelling_of2 (two.Answer (answer_at2 bytes)))
@@ -151,7 +151,7 @@ unfolding spelling_of2
 answer_found2 bytes fits len head epoch span =
     let rest : drop 16 bytes ≡ to_be_bytes w64 (epoch_at bytes) ++ drop 24 bytes = number_next bytes 16 fits (omega arith) in (
       record { poll = head.poll; epoch_in = epoch; span_in = span },
-      head.head_is ∙ ap (λ (t : List ℕ). head_of Ttp2 2 (machine_at bytes) (source_at bytes) (nonce_at bytes) ++ t) (rest ∙ ap (λ (t : List ℕ). to_be_bytes w64 (epoch_at bytes) ++ t) (ends_last bytes 24 fits len)),
+      head.head_is ∙ ap (λ (t : List ℕ). head_of Ttp2 2 (machine_at bytes) (source_byte_at bytes) (nonce_at bytes) ++ t) (rest ∙ ap (λ (t : List ℕ). to_be_bytes w64 (epoch_at bytes) ++ t) (ends_last bytes 24 fits len)),
     )
 
 spelled2 : (bytes : List ℕ) → IsBytes bytes → NoneApplies (applies_in Ttp2 bytes) poll_faults2 → IsMessage2 (message_at2 bytes) × (bytes ≡ spelling_of2 (message_at2 bytes))

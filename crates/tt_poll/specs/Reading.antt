@@ -31,9 +31,9 @@ kind_at bytes = slice_index bytes 4
 abbrev pub machine_at : List ℕ → ℕ
 machine_at bytes = slice_index bytes 5
 
--- the source that they name
-abbrev pub source_at : List ℕ → ℕ
-source_at bytes = slice_index bytes 6
+-- the source that they name, in one byte
+abbrev pub source_byte_at : List ℕ → ℕ
+source_byte_at bytes = slice_index bytes 6
 
 -- the byte that is to be 0
 abbrev pub reserved_at : List ℕ → ℕ
@@ -61,11 +61,11 @@ span_at2 bytes = ends_at bytes (request_len_of Ttp2)
 
 -- the request whose fields stand in the bytes
 abbrev pub request_at : List ℕ → PollRequest
-request_at bytes = record { machine = machine_at bytes; source = source_at bytes; nonce = nonce_at bytes }
+request_at bytes = record { machine = machine_at bytes; source = source_byte_at bytes; nonce = nonce_at bytes }
 
 -- the answer whose fields stand in the bytes
 abbrev pub answer_at : List ℕ → PollAnswer
-answer_at bytes = record { machine = machine_at bytes; source = source_at bytes; nonce = nonce_at bytes; span = span_at bytes }
+answer_at bytes = record { machine = machine_at bytes; source = source_byte_at bytes; nonce = nonce_at bytes; span = span_at bytes }
 
 -- the message whose fields stand in the bytes: a request where they have the length of one, else an answer
 abbrev pub message_at : List ℕ → Message
@@ -73,10 +73,10 @@ message_at bytes = if length bytes == request_len_of Ttp1 then Request (request_
 
 -- the same three, of TTP2
 abbrev pub request_at2 : List ℕ → PollRequest2
-request_at2 bytes = record { machine = machine_at bytes; source = source_at bytes; nonce = nonce_at bytes; epoch = epoch_at bytes }
+request_at2 bytes = record { machine = machine_at bytes; source = source_byte_at bytes; nonce = nonce_at bytes; epoch = epoch_at bytes }
 
 abbrev pub answer_at2 : List ℕ → PollAnswer2
-answer_at2 bytes = record { machine = machine_at bytes; source = source_at bytes; nonce = nonce_at bytes; epoch = epoch_at bytes; span = span_at2 bytes }
+answer_at2 bytes = record { machine = machine_at bytes; source = source_byte_at bytes; nonce = nonce_at bytes; epoch = epoch_at bytes; span = span_at2 bytes }
 
 abbrev pub message_at2 : List ℕ → Message2
 message_at2 bytes = if length bytes == request_len_of Ttp2 then two.Request (request_at2 bytes) else two.Answer (answer_at2 bytes)
@@ -91,7 +91,7 @@ applies_in format bytes Length = not (length bytes == request_len_of format || l
 applies_in format bytes Magic = not (starts_with nat_eq bytes (magic_of format))
 applies_in format bytes Kind = not (kind_at bytes == kind_of format (length bytes))
 applies_in format bytes Reserved = not (reserved_at bytes == 0)
-applies_in format bytes Number = nat_lt max_machine (machine_at bytes) || nat_lt max_source (source_at bytes)
+applies_in format bytes Number = nat_lt max_machine (machine_at bytes) || nat_lt max_source (source_byte_at bytes)
 applies_in format bytes Nonce = nonce_at bytes == 0
 applies_in format bytes Epoch = epoch_at bytes == 0
 applies_in format bytes Span = length bytes == answer_len_of format && are_no_span (ends_at bytes (request_len_of format))

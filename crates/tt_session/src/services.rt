@@ -19,7 +19,7 @@ pub trait Service {
     fn begin(&mut self, number: u64, floor: u64) -> Result<u64, u16>
         ensures { allows self.old (Call.Begin number floor result) self.new };
 
-    /// One release step: lets those commits go whose stamps have surely passed, and answers whether the one with
+    /// One release step: releases the commits whose stamps have surely passed, and answers whether the one with
     /// this number is released.
     fn pass(&mut self, number: u64) -> Result<bool, u16>
         ensures { allows self.old (Call.Pass number result) self.new };

@@ -55,7 +55,7 @@ impl Drift {
     }
 
     /// What the clock may be wrong by when it has gone on by `d` nanoseconds: the least whole number that is at
-    /// least `d` times the drift. The caller sees to it that `d` is at most [`MAX_TIME`].
+    /// least `d` times the drift. Requires: `d` is at most [`MAX_TIME`].
     pub fn widen(&self, d: u64) -> u64
         requires { d ≤ max_time }
         ensures value { result ≡ widening self.now d }
@@ -67,7 +67,7 @@ impl Drift {
     }
 
     /// The least time that `x` may have become when the clock has gone on by `d`: `x + d` less the widening, cut
-    /// at [`MAX_TIME`]. The widening is never above `d`. In nanoseconds; the caller sees to it that `d` is at most
+    /// at [`MAX_TIME`]. The widening is never above `d`. In nanoseconds. Requires: `d` is at most
     /// [`MAX_TIME`].
     pub fn age_low(&self, x: u64, d: u64) -> u64
         requires { d ≤ max_time }
@@ -79,7 +79,7 @@ impl Drift {
     }
 
     /// The greatest time that `x` may have become when the clock has gone on by `d`: `x + d` and the widening,
-    /// cut at [`MAX_TIME`]. In nanoseconds; the caller sees to it that `d` is at most [`MAX_TIME`].
+    /// cut at [`MAX_TIME`]. In nanoseconds. Requires: `d` is at most [`MAX_TIME`].
     pub fn age_high(&self, x: u64, d: u64) -> u64
         requires { d ≤ max_time }
         ensures value { result ≡ aged_high self.now x d }
@@ -90,7 +90,7 @@ impl Drift {
 
     /// The span when the clock has gone on by `d` nanoseconds: moved by `d` and widened both ways, each end cut
     /// at [`MAX_TIME`]. If it held the true time before and the clock kept the drift bound, it holds the true
-    /// time now. The caller sees to it that `d` is at most [`MAX_TIME`].
+    /// time now. Requires: `d` is at most [`MAX_TIME`].
     pub fn age(&self, span: &Span, d: u64) -> Span
         requires { d ≤ max_time }
         ensures ages { result ≡ aged self.now span.now d }

@@ -122,7 +122,7 @@ impl Book {
         count
     }
 
-    /// How many commits a release with this reading lets go.
+    /// How many commits a release with this reading would release.
     pub fn releasable(&self, reading: &Reading) -> usize
         ensures value { result ≡ length (release_of (waiting_of self.now) reading.now.lo) }
     {

@@ -62,7 +62,7 @@ impl BeginFault {
 /// Why a commit was not queued. The book is as it was.
 #[derive(Clone, Copy, Debug, PartialEq, Eq, Error)]
 pub enum BookFault {
-    #[error("as many commits wait as may")]
+    #[error("the queue is full")]
     Full,
     #[error("a commit with this id waits or was released")]
     IdThere,

@@ -6,7 +6,7 @@
 //! each of which draws with a [`Seat`] of its own: all stamps stand in one legal order, of which each seat has seen a
 //! beginning.
 //!
-//! A [`Book`] keeps the commits that wait. A release with a reading lets those go whose stamp is below its earliest,
+//! A [`Book`] keeps the commits that wait. A release with a reading releases those whose stamp is below its earliest,
 //! least stamp first, and keeps a [`Receipt`] of each for good. What happened in it is a legal history.
 //!
 //! [`begin_step`] and [`release_step`] take the reading themselves, from a watch of the publications: so neither goes

@@ -3,7 +3,7 @@ use Rattle.std.proofs.Common.{◌≡◌, ◌<◌, ◌++◌, ℕ, List, Option, l
 use Rattle.std.specs.Io.KnownBytes.{Appends, Keeps}
 use Rattle.std.proofs.KnownBytes.{Appends-kept}
 use Rattle.std.proofs.Math.Seq.{take-append_seam}
-use Rattle.tt_stream.specs.Known.{WritesFront}
+use Rattle.tt_stream.specs.DeviceBytes.{WritesFront}
 
 -- n more of the rest are done
 pub moved_on : (all done rest next : List ℕ) (n : ℕ) → all ≡ done ++ rest → next ≡ drop n rest → all ≡ (done ++ take n rest) ++ next

@@ -1,4 +1,4 @@
 pub mod Counts
-pub mod Known
+pub mod DeviceBytes
 pub mod Counted
 pub mod Memory

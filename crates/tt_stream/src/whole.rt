@@ -3,7 +3,7 @@
 ghost use Rattle.std.specs.Prelude.{◌≡◌, ◌≢◌, ◌<◌, ◌≤◌, ◌+◌, ◌-◌, ◌++◌, ℕ, List, length, vec_len, true, false, IfOk, OnOk, OnErr, IfSome, IsErrOf};
 ghost use Rattle.std.specs.Io.KnownBytes.{Appends, Consumes, IsAtEnd};
 ghost use Rattle.tt_stream.specs.Counts.{HasFailed, CountsOn, count_after};
-ghost use Rattle.tt_stream.specs.Known.{ReadsOn, WritesFront};
+ghost use Rattle.tt_stream.specs.DeviceBytes.{ReadsOn, WritesFront};
 
 use crate::device::{ByteReader, ByteWriter};
 use crate::fault::{DeviceFault, ReadFault};

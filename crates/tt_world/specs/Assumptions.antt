@@ -15,7 +15,7 @@ use Rattle.tt_world.specs.Past.{packets_of, ClockReading, clock_reading, moments
 use Rattle.tt_world.specs.Sources.{stated_by, outstanding}
 use Rattle.tt_world.specs.Bad.{first_bad, accepted}
 
--- the event that put packet p on its way, if it was put
+-- the event that sent packet p, if it was sent
 abbrev pub origin_of : List Event → ℕ → Option Event
 origin_of [] p = None
 origin_of (event ∷ past) p =
@@ -35,13 +35,13 @@ packet_of_statement (event ∷ past) life i =
     if is_some (stated_by past life i (outstanding past life i) event.action) then delivered_by event.action
     else packet_of_statement past life i
 
--- whether an action at a true time puts a lie on its way: bytes that were made up, or an answer whose span does not hold that time
+-- whether an action at a true time sends a lie: bytes that were made up, or an answer whose span does not hold that time
 abbrev pub is_lie : ℕ → Action → Bool
 is_lie at (Answer packet span) = not (nat_le span.lo at && nat_le at span.hi)
 is_lie at (Forge machine source payload) = true
 is_lie at _ = false
 
--- whether an event, if there is one, puts a lie on its way
+-- whether an event, if there is one, sends a lie
 abbrev pub is_lying : Option Event → Bool
 is_lying None = false
 is_lying (Some event) = is_lie event.at event.action

@@ -1,4 +1,4 @@
--- The packets on their way between machines and sources.
+-- The packets in transit between machines and sources.
 use Rattle.std.specs.Prelude.{ℕ, Bool, true, false, List, [], ◌∷◌, Option, Some}
 use Rattle.tt_span.specs.Interval.{Interval}
 use Rattle.tt_poll.specs.declared.messages.Message2.TheVariants.{Request, Answer}

@@ -29,14 +29,14 @@ sends_of (event ∷ past) life = if is_send_of past life event.action then sends
 abbrev pub sends_now : List Event → ℕ → ℕ
 sends_now past m = sends_of past (life_at past m)
 
--- the packets that an event puts on their way: lives says which life a machine is in, sends how many polls it has sent in it, and packets have been put before
+-- the packets that an event sends: lives says which life a machine is in, sends how many polls it has sent in it, and packets have been sent before
 abbrev pub put_by : (ℕ → ℕ) → (ℕ → ℕ) → List Packet → Action → List Packet
 put_by lives sends packets (Send machine source clock) = Asked (record { machine = machine; source = source; nonce = sends machine + 1; epoch = lives machine }) ∷ []
 put_by lives sends packets (Answer packet span) = answer_to (slice_get packets packet) span
 put_by lives sends packets (Forge machine source payload) = Forged machine source payload ∷ []
 put_by lives sends packets _ = []
 
--- all packets that were put on their way, in the order in which they were put
+-- all packets that were sent, in the order in which they were sent
 abbrev pub packets_of : List Event → List Packet
 packets_of [] = []
 packets_of (event ∷ past) = packets_of past ++ put_by (life_of past) (sends_now past) (packets_of past) event.action

@@ -53,7 +53,7 @@ Judged S = Result (Turn S) WorldFault
 abbrev pub is_back_on : MachineState → ℕ → Bool
 is_back_on machine clock = nat_lt clock machine.clock || nat_lt max_time clock
 
--- machine m has had its turn at a true time, and these packets were put on their way
+-- machine m has had its turn at a true time, and these packets were sent
 abbrev pub after_turn : WorldState → ℕ → ℕ → Turn MachineState → List Packet → Turn WorldState
 after_turn world at m turn put = record {
   state = record world { time = at; packets = world.packets ++ put; machines = slice_set world.machines m turn.state };
@@ -85,17 +85,17 @@ send_on world at m i clock (Some machine) =
     else if is_back_on machine clock then Err bad.ClockBack
     else Ok (after_poll world at m i clock machine (poll_of machine.daemon.table i clock))
 
--- packets were put on their way at a true time
+-- packets were sent at a true time
 abbrev pub after_put : WorldState → ℕ → List Packet → Turn WorldState
 after_put world at put =
     record { state = record world { time = at; packets = world.packets ++ put }; reply = replies.Put (length world.packets) }
 
--- an answer is put on its way, if there is one
+-- an answer is sent, if there is one
 abbrev pub answer_on : WorldState → ℕ → List Packet → Judged WorldState
 answer_on world at [] = Err bad.NoPacket
 answer_on world at (packet ∷ packets) = Ok (after_put world at (packet ∷ packets))
 
--- bytes that source i made up are put on their way to machine m, if it is there and asks that source
+-- bytes that source i made up are sent to machine m, if it is there and asks that source
 abbrev pub forge_on : WorldState → ℕ → ℕ → ℕ → List ℕ → Option MachineState → Judged WorldState
 forge_on world at m i payload None = Err bad.UnknownNumber
 forge_on world at m i payload (Some machine) =
@@ -114,7 +114,7 @@ deliver_to world at clock packet (Some machine) =
     if is_back_on machine clock then Err bad.ClockBack
     else Ok (after_turn world at (machine_of_packet packet) (take_turn machine clock (take_of machine.daemon.table (source_of_packet packet) clock (bytes_of packet))) [])
 
--- a packet reaches its machine, if it was put and is no request
+-- a packet reaches its machine, if it was sent and is no request
 abbrev pub deliver_on : WorldState → ℕ → ℕ → Option Packet → Judged WorldState
 deliver_on world at clock None = Err bad.NoPacket
 deliver_on world at clock (Some packet) =
@@ -294,7 +294,7 @@ stepped world event =
     if nat_lt event.at world.time || nat_lt max_time event.at then Err bad.TimeBack
     else acted world event.at event.action
 
--- where the action polls, fewer packets were put than a nonce can count
+-- where the action polls, fewer packets were sent than a nonce can count
 abbrev pub HasRoom : WorldState → Action → Type 0
 HasRoom world (Send m i clock) = length world.packets < 2 ^ 64 - 1
 HasRoom world _ = Unit {0}

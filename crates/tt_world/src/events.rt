@@ -71,21 +71,21 @@ impl Event {
 }
 
 /// What happens. Machines, their sources and their workers are counted from 0, packets from 0 in the order in
-/// which they were put, and publications from 1 for each machine. Clock readings are in nanoseconds.
+/// which they were sent, and publications from 1 for each machine. Clock readings are in nanoseconds.
 #[derive(Clone, Debug, Drop)]
 pub enum Action {
-    /// The machine polls the source, and the request is put on its way.
+    /// The machine polls the source, and the request is sent.
     Send {
         machine: u8,
         source: u8,
         clock: u64,
     },
-    /// The source that the request `packet` asks answers it, and the answer is put on its way.
+    /// The source that the request `packet` asks answers it, and the answer is sent.
     Answer {
         packet: u64,
         span: Span,
     },
-    /// The source puts any bytes on their way to the machine.
+    /// The source sends any bytes to the machine.
     Forge {
         machine: u8,
         source: u8,
@@ -128,7 +128,7 @@ pub enum Action {
     },
     /// The machine restarts, and is in a new life from then on: it knows nothing of its sources, has published and
     /// stamped nothing, its book is empty, its workers have no task and no reading, its nonces begin at 1 again, and
-    /// its clock begins anew at this reading. Its lease stays, and so do the packets that are on their way.
+    /// its clock begins anew at this reading. Its lease stays, and so do the packets in transit.
     Restart {
         machine: u8,
         clock: u64,
@@ -194,9 +194,9 @@ impl Receipts {
 /// What is replied to an event.
 #[derive(Debug, PartialEq, Drop)]
 pub enum Reply {
-    /// The request was put as the packet of this number.
+    /// The request was sent as the packet of this number.
     Sent(u64),
-    /// The packet of this number was put.
+    /// The packet of this number was sent.
     Put(u64),
     /// The machine took the answer.
     Taken,

@@ -27,7 +27,7 @@
 //!
 //! - `events`: what happens, and what is replied.
 //! - `breaches`: what breaks the assumptions of a run.
-//! - `packets`: what is on its way between machines and sources.
+//! - `packets`: what is in transit between machines and sources.
 //! - `publications`: what is shown of what a machine has published.
 //! - `workers`: what is kept of one worker. `deeds`: what a machine is asked to do by itself.
 //! - `machines`: what is kept of one machine.

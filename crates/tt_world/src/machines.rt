@@ -223,7 +223,7 @@ impl Machine {
 
     /// Does a deed, as the machine of this number, or answers why it is bad: 1202 `ClockBack`, 1204 `NoPublication`,
     /// 1205 `NothingThere`, 1206 `UnknownNumber` where there is no such worker, or 1208 `LivesUsedUp`. A bad deed
-    /// changes nothing, and nor does want of memory.
+    /// changes nothing, and nor does a failed allocation.
     pub fn act(&mut self, alloc: Global, number: u8, deed: Deed) -> Result<Reply, WorldFault>
         requires { number < 8 }
         ensures { Does TakesMemory (deed_on number self.old deed) self.old result self.new }

@@ -1,4 +1,4 @@
-//! Packets on their way between machines and sources.
+//! Packets in transit between machines and sources.
 
 ghost use Rattle.std.specs.Prelude.{◌≡◌};
 ghost use Rattle.tt_world.specs.Packet.{machine_of_packet, is_asked};

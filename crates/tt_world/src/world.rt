@@ -28,8 +28,8 @@ use tt_span::{MAX_TIME, Span};
 /// How many machines a run has at most.
 pub const MAX_MACHINES: usize = 8;
 
-/// A run of up to eight machines, as far as it has come: the last true time, the packets that were put on their
-/// way, the machines, and what they have published.
+/// A run of up to eight machines, as far as it has come: the last true time, the packets that were sent, the machines,
+/// and what they have published.
 #[derive(Drop)]
 pub struct World {
     alloc: Global,
@@ -82,7 +82,7 @@ impl World {
         }
     }
 
-    /// A source puts bytes that it made up on their way.
+    /// A source sends bytes that it made up.
     fn forge(
         &mut self,
         at: u64,

@@ -3,7 +3,7 @@
 ghost use Rattle.std.specs.Prelude.{◌≡◌, ◌≢◌, ◌⊎◌, IfOk, map, string_bytes};
 ghost use Rattle.clap.specs.Walk.{texts};
 ghost use Rattle.tt_stream.specs.Counts.{HasFailed};
-ghost use Rattle.tt_stream.specs.Known.{ReadsOn};
+ghost use Rattle.tt_stream.specs.DeviceBytes.{ReadsOn};
 ghost use Rattle.ttd.specs.Run.{IsWritten, memory_answer, output_at};
 
 use crate::ending::{Ended, Status};

@@ -3,7 +3,7 @@
 ghost use Rattle.std.specs.Prelude.{◌≡◌, ◌≢◌, ◌<◌, ◌≤◌, length, vec_len, IfOk, IfErr, OnOk, IfSome, IsErrOf};
 ghost use Rattle.std.specs.Io.KnownBytes.{IsAtEnd};
 ghost use Rattle.tt_stream.specs.Counts.{HasFailed};
-ghost use Rattle.tt_stream.specs.Known.{ReadsOn};
+ghost use Rattle.tt_stream.specs.DeviceBytes.{ReadsOn};
 ghost use Rattle.ttd.specs.Input.{IsInputFault, input_fault_of, most_input};
 
 use crate::faults::Fault;

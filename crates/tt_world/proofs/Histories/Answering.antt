@@ -1,14 +1,16 @@
 -- What is read from bytes as an answer.
-use Rattle.std.proofs.Common.{◌≡◌, ℕ, zero, suc, ◌^◌, ◌%◌, ◌<◌, ◌≤◌, Bool, true, false, cond, eqb, ltb, ◌||◌, ◌&&◌, not, List, [], ◌∷◌, length, Ok, inl, inr, refl, ap, subst, ◌∙◌, arith, lit<}
-use Rattle.std.specs.Int.{w64, from_be_bytes, to_be_bytes, bytes_high_first}
+use Rattle.std.proofs.Common.{◌≡◌, ℕ, ◌^◌, ◌<◌, ◌≤◌, Bool, true, false, cond, eqb, ltb, ◌||◌, ◌&&◌, not, List, length, Ok, inl, inr, refl, ap, subst, ◌∙◌, arith}
+use Rattle.std.specs.Int.{w64, from_be_bytes, to_be_bytes}
 use Rattle.std.proofs.lemmas.Bool.{cases_lt, not-false, or_cases, or_parts, and_cases, eqb-true, eqb-false, ltb-false}
-use Rattle.std.proofs.lemmas.Nat.{from_be_bytes-to_be_bytes_8, mod_below}
+use Rattle.std.proofs.lemmas.Nat.{from_be_bytes-to_be_bytes_8}
 use Rattle.tt_span.specs.Time.{max_time}
 use Rattle.tt_span.specs.Interval.{Interval, IsInterval}
 use Rattle.tt_poll.specs.declared.messages.Message2.TheVariants.{Request, Answer}
 use Rattle.tt_poll.specs.Message.{PollRequest2, PollAnswer2}
 use Rattle.tt_poll.specs.Spelling.{spelling_of2}
-use Rattle.tt_poll.specs.Reading.{IsBytes, number_at, span_at2, request_at2, answer_at2, are_no_span, read_of2}
+use Rattle.tt_poll.specs.Reading.{number_at, span_at2, request_at2, answer_at2, are_no_span, read_of2}
+use Rattle.tt_poll.proofs.Bytes.{IsBytes-high_first}
+use Rattle.tt_poll.proofs.Finding.{number_fits}
 use Rattle.tt_poll.proofs.Refusing.{fields_of_read2}
 
 is_answer : (b : Bool) (r : PollRequest2) (a c : PollAnswer2) → cond b (Request r) (Answer a) ≡ Answer c → (b ≡ false) × (a ≡ c)
@@ -45,19 +47,6 @@ answer_valid bytes a h =
       | inr long ↦ eqb-true _ _ long
     ] in
     subst (λ (b : PollAnswer2). IsInterval b.span) read.0 (span_of bytes len read.2)
-
-IsBytes-cons : (b : ℕ) (bytes : List ℕ) → b < 256 → IsBytes bytes → IsBytes (b ∷ bytes)
-IsBytes-cons b bytes lt h zero = lt
-IsBytes-cons b bytes lt h (suc i) = h i
-
-IsBytes-high_first : (k n : ℕ) → IsBytes (bytes_high_first k n)
-IsBytes-high_first zero n = λ i. lit< tt
-IsBytes-high_first (suc zero) n = IsBytes-cons (n % 256) [] (omega arith) (IsBytes-high_first zero n)
-IsBytes-high_first (suc (suc k)) n = IsBytes-cons _ (bytes_high_first (suc k) n) (mod_below _ 256 (lit< tt)) (IsBytes-high_first (suc k) n)
-
--- the number in eight bytes fits them
-number_fits : (bytes : List ℕ) → IsBytes bytes → from_be_bytes w64 bytes < 2 ^ 64
-number_fits bytes fits = omega (arith, fits 0, fits 1, fits 2, fits 3, fits 4, fits 5, fits 6, fits 7)
 
 -- a number that is spelled in eight bytes and read again does not become greater
 number_back : (n : ℕ) → from_be_bytes w64 (to_be_bytes w64 n) ≤ n

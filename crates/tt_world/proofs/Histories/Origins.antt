@@ -115,7 +115,7 @@ epochs_fit configs (event ∷ past) good p packet e =
       | inr ge ↦ new_epoch past event.action (p - length (packets_of past)) packet (lives_fit configs past good.1) (epochs_fit configs past good.1) (put_place past event p packet ge e)
     ]
 
--- what a packet says where its event put no lie on its way at this true time
+-- what a packet says where its event sent no lie at this true time
 abbrev pub IsHonest : ℕ → Packet → Type 0
 IsHonest at (Asked request) = Unit {0}
 IsHonest at (Answered answer) = Holds answer.span at × IsInterval answer.span

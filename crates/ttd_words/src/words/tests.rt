@@ -2,13 +2,16 @@
 
 use super::{Asked, Command, WordsFault, help_text, read_words};
 use std::test::Fail;
+use tt_span::Drift;
 
-const AGE: Asked = Asked::Run(Command::Age {
-    drift: 200,
-    sent: 500,
-    got: 900,
-    clock: 30_000_000_900,
-});
+fn age_asked() -> Result<Asked, Fail> {
+    Ok(Asked::Run(Command::Age {
+        drift: Drift::new(200).ok_or("a drift")?,
+        sent: 500,
+        got: 900,
+        clock: 30_000_000_900,
+    }))
+}
 
 #[test]
 fn reads_age(rt: HostRuntime) -> Result<(), Fail> {
@@ -21,7 +24,7 @@ fn reads_age(rt: HostRuntime) -> Result<(), Fail> {
         "--clock",
         "30000000900",
     ];
-    assert_eq!(rt; read_words(rt.alloc(), &words)?, AGE);
+    assert_eq!(rt; read_words(rt.alloc(), &words)?, age_asked()?);
     let words = [
         "age",
         "--clock=+0030000000900",
@@ -29,7 +32,7 @@ fn reads_age(rt: HostRuntime) -> Result<(), Fail> {
         "--drift=00200",
         "--sent=+500",
     ];
-    assert_eq!(rt; read_words(rt.alloc(), &words)?, AGE);
+    assert_eq!(rt; read_words(rt.alloc(), &words)?, age_asked()?);
     Ok(())
 }
 
@@ -39,7 +42,7 @@ fn takes_a_drift_up_to_the_greatest(rt: HostRuntime) -> Result<(), Fail> {
         "age", "--drift", "100000", "--sent", "1", "--got", "2", "--clock", "3",
     ];
     let asked = Asked::Run(Command::Age {
-        drift: 100_000,
+        drift: Drift::new(100_000).ok_or("a drift")?,
         sent: 1,
         got: 2,
         clock: 3,
@@ -140,7 +143,7 @@ fn numbers_refusals(rt: HostRuntime) {
 
 // Also with one allocation refused, whichever it is: each answer is as ever, or out of memory.
 #[test]
-fn only_memory_changes_an_answer(rt: HostRuntime) {
+fn only_memory_changes_an_answer(rt: HostRuntime) -> Result<(), Fail> {
     let words = [
         "age",
         "--sent",
@@ -151,9 +154,10 @@ fn only_memory_changes_an_answer(rt: HostRuntime) {
         "30000000900",
     ];
     let asked = read_words(rt.alloc(), &words);
-    assert!(rt; asked == Ok(AGE) || asked == Err(WordsFault::Memory));
+    assert!(rt; asked == Ok(age_asked()?) || asked == Err(WordsFault::Memory));
     let refused = read_words(rt.alloc(), &["age", "--sent", "x"]);
     assert!(rt; refused == Err(WordsFault::BadWords) || refused == Err(WordsFault::Memory));
     let helped = read_words(rt.alloc(), &["--help"]);
     assert!(rt; helped == Ok(Asked::Help) || helped == Err(WordsFault::Memory));
+    Ok(())
 }

@@ -43,3 +43,9 @@ loop-preserved g c = record {
 
 pub returns-clause-course : goal.returns-clause-course
 returns-clause-course g c = rounds-all g.C.Clock.gives g.L.Link.does c.loop.counter _ _ _ _ _ _ _ _ _ (omega arith) c.loop.invariant.course
+
+pub returns-in_err-round-clause-rounds_fault : goal.returns-in_err-round-clause-rounds_fault
+returns-in_err-round-clause-rounds_fault g c =
+    let p = err_from_is_err_and c.from_residual.result c.from_residual.ensures.1 in
+    let e : c.from_residual.result ≡ Err c.in_err-round.field-0.0 = cc (p.1, p.2) in
+    rw e c.in_err-round.ensures.rounds_fault

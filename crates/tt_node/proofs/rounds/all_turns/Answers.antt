@@ -30,3 +30,9 @@ loop-preserved g c = record {
   published = c.in_ok-turn.ensures.published ∙ c.loop.invariant.published;
   few = omega (arith, c.in_ok-turn.ensures.few, c.loop.invariant.few);
 }
+
+pub returns-in_err-turn-clause-rounds_fault : goal.returns-in_err-turn-clause-rounds_fault
+returns-in_err-turn-clause-rounds_fault g c =
+    let p = err_from_is_err_and c.from_residual.result c.from_residual.ensures.1 in
+    let e : c.from_residual.result ≡ Err c.in_err-turn.field-0.0 = cc (p.1, p.2) in
+    rw e c.in_err-turn.ensures.rounds_fault

@@ -30,3 +30,9 @@ pub returns-clause-course : goal.returns-clause-course
 returns-clause-course g c = λ items refused.
     polls-all g.L.Link.does c.loop-source.source _ _ _ _ items refused _ _ (omega (arith, c.sources-source-end.ensures.value, ap (λ config. config.sources) c.config.ensures.value))
     (c.loop-source.invariant.course items refused)
+
+pub returns-in_err-poll_one-clause-rounds_fault : goal.returns-in_err-poll_one-clause-rounds_fault
+returns-in_err-poll_one-clause-rounds_fault g c =
+    let p = err_from_is_err_and c.from_residual.result c.from_residual.ensures.1 in
+    let e : c.from_residual.result ≡ Err c.in_err-poll_one.field-0.0 = cc (p.1, p.2) in
+    rw e c.in_err-poll_one.ensures.rounds_fault

@@ -27,3 +27,15 @@ returns-in-Ok-clause-course g c = λ items.
 pub returns-in-Err-clause-course : goal.returns-in-Err-clause-course
 returns-in-Err-clause-course g c = λ items.
     turn-refused g.C.Clock.gives g.L.Link.does _ _ _ _ _ _ items _ _ _ _ (rw c.in-Some.is at c.in_ok-source.ensures.did) c.in_ok-now.ensures.gave c.in-Err.ensures.refused c.in-Err.ensures.unchanged
+
+pub returns-in_err-source-clause-rounds_fault : goal.returns-in_err-source-clause-rounds_fault
+returns-in_err-source-clause-rounds_fault g c =
+    let p = err_from_is_err_and c.from_residual.result c.from_residual.ensures.1 in
+    let e : c.from_residual.result ≡ Err LinkFailed = cc (p.1, p.2, c.in_err-source.ensures.fault) in
+    rw e tt
+
+pub returns-in_err-now-clause-rounds_fault : goal.returns-in_err-now-clause-rounds_fault
+returns-in_err-now-clause-rounds_fault g c =
+    let p = err_from_is_err_and c.from_residual-in_err-now.result c.from_residual-in_err-now.ensures.1 in
+    let e : c.from_residual-in_err-now.result ≡ Err ClockFailed = cc (p.1, p.2, c.in_err-now.ensures.fault) in
+    rw e tt
