@@ -6,7 +6,7 @@ use Rattle.ttd.specs.Run.{Input, IsRead}
 use Rattle.ttd_words.specs.declared.words.Asked.{Asked}
 use Rattle.ttd_words.specs.declared.words.Asked.TheVariants.{Run}
 use Rattle.ttd_words.specs.declared.words.Command.{Command}
-use Rattle.ttd_words.specs.declared.words.Command.TheVariants.{Age, Fuse, Check, Run as RunScript, Twin}
+use Rattle.ttd_words.specs.declared.words.Command.TheVariants.{Age, Fuse, Check, Run as RunScript, Twin, Picture, Live}
 use Rattle.ttd_words.specs.declared.words.WordsFault.{WordsFault}
 use Rattle.ttd_words.specs.declared.words.WordsFault.TheVariants.{BadWords as BadWordsAsked, Memory as NoMemory}
 use Rattle.ttd.specs.declared.faults.Fault.{Fault}
@@ -26,6 +26,8 @@ IsCommandReply Fuse input = EndsFine (IsFuseReply input)
 IsCommandReply Check input = EndsFine (IsCheckReply input)
 IsCommandReply RunScript input = IsRunReply input
 IsCommandReply (Twin event side) input = IsTwinReply event side input
+IsCommandReply Picture input = λ reply. reply ≡ Err BadWords
+IsCommandReply Live input = λ reply. reply ≡ Err BadWords
 
 -- The reply is what the command answers to any input: one that is too long is rejected before anything else is looked at.
 abbrev pub IsReply : Command → List ℕ → Result Answer Fault → Type 0

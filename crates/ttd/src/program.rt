@@ -4,9 +4,8 @@ ghost use Rattle.std.specs.Prelude.{◌≡◌, ◌≢◌, ◌≤◌, ◌⊎◌, 
 ghost use Rattle.std.specs.Result.{result_map_both};
 ghost use Rattle.clap.specs.Walk.{texts};
 ghost use Rattle.tt_stream.specs.Counts.{HasFailed};
-ghost use Rattle.tt_stream.specs.Known.{ReadsOn};
-ghost use Rattle.tt_span.specs.Drift.{max_drift};
-ghost use Rattle.ttd_words.specs.Reading.{AreForHelp, AreMistaken, AreTaken, HasDriftInRange, asked_of};
+ghost use Rattle.tt_stream.specs.DeviceBytes.{ReadsOn};
+ghost use Rattle.ttd_words.specs.Reading.{AreForHelp, AreMistaken, AreTaken, asked_of};
 ghost use Rattle.ttd.specs.Answer.{answer_in, answer_of, fine};
 ghost use Rattle.ttd.specs.Command.{HasReply, IsCommandReply, IsReply, IsReplyRead, IsReplyTo, words_fault_of};
 ghost use Rattle.ttd.specs.Run.{Answers, Gives, GivesUnlessMemory, IsWritten, input_at, memory_answer, output_at};
@@ -21,7 +20,6 @@ use crate::output::give;
 use crate::running::run_reply;
 use crate::twinning::twin_reply;
 use std::alloc::Global;
-use tt_span::Drift;
 use tt_stream::{ByteReader, ByteWriter};
 use ttd_words::{Asked, Command, WordsFault, help_text, read_words};
 
@@ -36,17 +34,8 @@ impl From<WordsFault> for Fault {
     }
 }
 
-/// A drift that the words gave, which is in range.
-fn drift_of(ppm: u64) -> Drift
-    requires { ppm ≤ max_drift }
-    ensures { result ≡ ppm }
-{
-    Drift::new(ppm as u32).unwrap()
-}
-
 /// What a command answers to its input.
 fn reply_to(alloc: Global, command: Command, input: &[u8]) -> Result<Reply, Fault>
-    requires { HasDriftInRange command }
     ensures value { HasReply answer_in (IsCommandReply command input.now) result }
     ensures no_device { result ≢ Err Fault.ReadFailed }
 {
@@ -58,7 +47,7 @@ fn reply_to(alloc: Global, command: Command, input: &[u8]) -> Result<Reply, Faul
             clock,
         } => {
             let ageing = Ageing {
-                drift: drift_of(drift),
+                drift,
                 sent,
                 got,
                 clock,
@@ -69,6 +58,7 @@ fn reply_to(alloc: Global, command: Command, input: &[u8]) -> Result<Reply, Faul
         Command::Check => fine(check_text(alloc, input)),
         Command::Run => run_reply(alloc, input),
         Command::Twin { event, side } => twin_reply(alloc, event, side, input),
+        Command::Picture | Command::Live => Err(Fault::BadWords),
     }
 }
 
@@ -78,7 +68,6 @@ fn command_reply<R: ByteReader>(
     command: Command,
     input: &mut R,
 ) -> Result<Reply, Fault>
-    requires { HasDriftInRange command }
     ensures value { IsReplyRead answer_in (IsReply command) (input_at (R.left input.old) (R.failed input.old) (R.asked input.old))
         (input_at (R.left input.new) (R.failed input.new) (R.asked input.new)) result }
     ensures failed { IsErrOf result Fault.ReadFailed → HasFailed (R.failed input.old) (R.failed input.new) }

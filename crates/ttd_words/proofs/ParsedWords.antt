@@ -1,5 +1,5 @@
 -- What a parse of the words gives, in the words of the command line's own definitions.
-use Rattle.std.proofs.Common.{◌≡◌, ◌∙◌, ◌⊎◌, Bool, true, not, refl, sym, ap, subst, inl, inr, List, [], ◌∷◌, Result, Ok, Err, IsOk}
+use Rattle.std.proofs.Common.{◌≡◌, ◌∙◌, ◌⊎◌, Bool, true, not, refl, sym, ap, subst, inl, inr, List, [], ◌∷◌, Ok, Err, IsOk}
 use Rattle.std.specs.List.{list_all}
 use Rattle.std.proofs.lemmas.Bool.{false≢true}
 use Rattle.clap.proofs.OnLiterals.{clap_on_literals}
@@ -14,8 +14,7 @@ use Rattle.clap.specs.declared.error.kind.ErrorKind.{ErrorKind}
 use Rattle.clap.specs.declared.error.kind.ErrorKind.TheVariants.{DisplayHelp, DisplayVersion, OutOfMemory}
 use Rattle.clap.specs.declared.parser.matches.ArgMatches.{ArgMatches}
 use Rattle.ttd_words.specs.CommandLine.{faults_of, named_by, ttd_app}
-use Rattle.ttd_words.specs.Reading.{AreForHelp, AreMistaken, AreTaken, HasDriftInRange, all_and_some, asked_by, asked_of, command_named, is_help, to_run}
-use Rattle.ttd_words.specs.declared.words.Asked.{Asked}
+use Rattle.ttd_words.specs.Reading.{AreForHelp, AreMistaken, AreTaken, all_and_some, asked_by, asked_of, command_named, is_help, to_run}
 use Rattle.ttd_words.specs.declared.words.Asked.TheVariants.{Run}
 use Rattle.ttd_words.specs.declared.words.Command.{Command}
 use Rattle.ttd_words.specs.declared.words.WordsFault.{WordsFault}
@@ -71,18 +70,6 @@ refused_is_bad words fault e is = elim (taken_judged words e).answer [
 
 pub asked_is_ok : (words : List Text) → AreTaken words → IsOk (asked_of words)
 asked_is_ok words e = subst IsOk (sym (asked_to_run words e).1) refl
-
--- a command in words that clap takes has a drift in range
-pub taken_in_range : (words : List Text) (command : Command) → AreTaken words → command_named (named_by words) ≡ Ok command → HasDriftInRange command
-taken_in_range words command e is =
-    let asks = taken_asks words e in
-    let same : Ok asks.command ≡ Ok command = sym asks.is ∙ is in
-    let one : asks.command ≡ command = cc in
-    subst HasDriftInRange one asks.in_range
-
--- an answer runs one command
-pub run_is : (a b : Command) (r : Result Asked WordsFault) → r ≡ Ok (Run a) → r ≡ Ok (Run b) → a ≡ b
-run_is a b r p q = cc
 
 -- ---- kinds of error
 

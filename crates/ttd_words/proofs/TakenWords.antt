@@ -7,11 +7,12 @@ use Rattle.clap.specs.Walk.{Row, Rule, Text, answers_to, arg_by_index, first_of,
 use Rattle.clap.specs.Simple.{Shape, built, filled_from, help_rule, label_of}
 use Rattle.clap.specs.Takes.{is_given}
 use Rattle.clap.specs.Faults.{level_fault}
-use Rattle.ttd_words.specs.CommandLine.{age_app, faults_of, max_drift, max_number, named_by, ttd_app, twin_app}
-use Rattle.ttd_words.specs.Reading.{HasDriftInRange, HasNumbers, age_by, age_of, command_named, command_of, number_at, side_of, twin_by}
+use Rattle.tt_span.specs.Drift.{max_drift}
+use Rattle.ttd_words.specs.CommandLine.{age_app, faults_of, max_number, named_by, ttd_app, twin_app}
+use Rattle.ttd_words.specs.Reading.{HasNumbers, age_by, age_of, command_named, command_of, number_at, side_of, twin_by}
 use Rattle.ttd_words.specs.declared.words.Side.{Side}
 use Rattle.ttd_words.specs.declared.words.Command.{Command}
-use Rattle.ttd_words.specs.declared.words.Command.TheVariants.{Age, Fuse, Check, Run as RunScript, Twin}
+use Rattle.ttd_words.specs.declared.words.Command.TheVariants.{Age, Fuse, Check, Run as RunScript, Twin, Picture, Live}
 use Rattle.ttd_words.specs.declared.words.WordsFault.{WordsFault}
 use Rattle.ttd_words.specs.declared.words.WordsFault.TheVariants.{BadWords}
 use Rattle.ttd_words.proofs.RowLemmas.{Each, HasDefault, IsPlainRule, find_has}
@@ -19,11 +20,10 @@ use Rattle.ttd_words.proofs.WalkKeeps.{IsPlainShape}
 use Rattle.ttd_words.proofs.LevelKeeps.{level_defaults, level_given, level_parts, level_sound, words_named}
 use Rattle.ttd_words.proofs.NumberLemmas.{IsUpTo, number_there, row_given, row_there}
 
--- the answer is a command, with a drift in range
+-- the answer is a command
 pub record AsksFor (r : Result Command WordsFault) : Type 0 where
   pub command : Command
   pub is : r ≡ Ok command
-  pub in_range : HasDriftInRange command
 
 -- the answer is a command, or bad words, and the numbers that the command needs were found
 pub record IsJudged (named : Option (Text × List Row)) : Type 0 where
@@ -48,7 +48,6 @@ age_asks : (drift sent got clock : Option ℕ) → IsUpTo max_drift drift → Is
 age_asks drift sent got clock d s g c = record {
   command = Age d.number s.number g.number c.number;
   is = rw (d.is, s.is, g.is, c.is) refl;
-  in_range = d.bound;
 }
 
 -- texts that the test tells apart differ
@@ -80,7 +79,7 @@ age_taken s name is negates named words answers not_help e =
     record {
       answer = inl (rw name asks);
       numbers = (
-        (λ is_age. subst IsOk (sym asks.is) refl),
+        (λ is_age. (subst IsOk (sym asks.is) refl, rw drift.is drift.bound)),
         (λ is_twin. absurd (age_is_not_twin (sym name ∙ is_twin))),
       );
     }
@@ -99,7 +98,7 @@ twin_plain s is = record {
 }
 
 twin_asks : (event : Option ℕ) (side : Option Side) → IsUpTo max_number event → AsksFor (twin_by event side) ⊎ (twin_by event side ≡ Err BadWords)
-twin_asks event (Some side) e = inl (record { command = Twin e.number side; is = rw e.is refl; in_range = tt })
+twin_asks event (Some side) e = inl (record { command = Twin e.number side; is = rw e.is refl })
 twin_asks event None e = inr (rw e.is refl)
 
 twin_taken : (s : Shape) → s.name ≡ codes "twin" → s.rules ≡ twin_rules → s.subcommand_negates_reqs ≡ false → Asks s
@@ -118,10 +117,10 @@ twin_taken s name is negates named words answers not_help e =
       );
     }
 
-plain_taken : (s : Shape) (command : Command) → HasDriftInRange command → ((rows : List Row) → command_of s.name rows ≡ Ok command)
+plain_taken : (s : Shape) (command : Command) → ((rows : List Row) → command_of s.name rows ≡ Ok command)
     → bytes_eq s.name (codes "age") ≡ false → bytes_eq s.name (codes "twin") ≡ false → Asks s
-plain_taken s command in_range is not_age not_twin named words answers not_help e = record {
-  answer = inl (record { command = command; is = is (rows_after s.rules [] words); in_range = in_range });
+plain_taken s command is not_age not_twin named words answers not_help e = record {
+  answer = inl (record { command = command; is = is (rows_after s.rules [] words) });
   numbers = (
     (λ is_age. absurd (differ s.name (codes "age") not_age is_age)),
     (λ is_twin. absurd (differ s.name (codes "twin") not_twin is_twin)),
@@ -145,10 +144,16 @@ unfolding ttd_app
 all_taken = (
   age_taken _ refl refl refl,
   (
-    plain_taken _ Fuse tt (λ rows. refl) refl refl,
+    plain_taken _ Fuse (λ rows. refl) refl refl,
     (
-      plain_taken _ Check tt (λ rows. refl) refl refl,
-      (plain_taken _ RunScript tt (λ rows. refl) refl refl, (twin_taken _ refl refl refl, (help_taken _ refl refl, tt))),
+      plain_taken _ Check (λ rows. refl) refl refl,
+      (
+        plain_taken _ RunScript (λ rows. refl) refl refl,
+        (
+          twin_taken _ refl refl refl,
+          (plain_taken _ Picture (λ rows. refl) refl refl, (plain_taken _ Live (λ rows. refl) refl refl, (help_taken _ refl refl, tt))),
+        ),
+      ),
     ),
   ),
 )

@@ -5,14 +5,11 @@ use Rattle.clap.specs.Simple.{App, new_app, new_rule, on_top, subcommand_of, wit
 use Rattle.clap.specs.Faults.{fault_of}
 use Rattle.clap.specs.Kinds.{Kinds}
 use Rattle.clap.specs.declared.builder.value_parser.ValueParser.TheVariants as vp
+use Rattle.tt_span.specs.Drift.{max_drift}
 
 -- The greatest number of 64 bits.
 abbrev pub max_number : ℕ
 max_number = 18446744073709551615
-
--- The greatest drift, in parts per million.
-abbrev pub max_drift : ℕ
-max_drift = 100000
 
 -- An option `--NAME N` with a number of at most `most`.
 abbrev pub number_rule : Text → ℕ → Rule
@@ -49,8 +46,9 @@ bare_app = on_top (λ s. record s { has_version = true; no_binary_name = true; s
 
 -- The program with all its commands.
 unfoldable pub ttd_app : App
-ttd_app = with_subcommand (with_subcommand (with_subcommand (with_subcommand (with_subcommand bare_app age_app.top)
-    (new_app (codes "fuse")).top) (new_app (codes "check")).top) (new_app (codes "run")).top) twin_app.top
+ttd_app = with_subcommand (with_subcommand (with_subcommand (with_subcommand (with_subcommand (with_subcommand (with_subcommand bare_app
+    age_app.top) (new_app (codes "fuse")).top) (new_app (codes "check")).top) (new_app (codes "run")).top) twin_app.top)
+    (new_app (codes "picture")).top) (new_app (codes "live")).top
 
 -- What clap finds wrong with the words: nothing where it takes them, and else the kinds of error that it may answer.
 unfoldable pub faults_of : List Text → Kinds

@@ -1,5 +1,5 @@
 -- What words ask for.
-use Rattle.std.specs.Prelude.{◌≡◌, ◌⊎◌, ◌≤◌, ℕ, Bool, true, false, List, [], ◌∷◌, Option, Some, None, Result, Ok, Err, IsOk, IsSome, if◌then◌else◌, codes, option_and_then, not}
+use Rattle.std.specs.Prelude.{◌≡◌, ◌⊎◌, ◌≤◌, ℕ, Bool, true, false, List, [], ◌∷◌, Option, Some, None, Result, Ok, Err, IsOk, IsSome, IfSome, if◌then◌else◌, codes, option_and_then, not}
 use Rattle.std.specs.List.{list_all}
 use Rattle.std.specs.Str.{bytes_eq}
 use Rattle.std.specs.Str.Parse.{digits_value, without_leading_plus}
@@ -8,11 +8,12 @@ use Rattle.clap.specs.ValueTests.{is_unsigned_in}
 use Rattle.clap.specs.Kinds.{Kinds}
 use Rattle.clap.specs.declared.error.kind.ErrorKind.{ErrorKind}
 use Rattle.clap.specs.declared.error.kind.ErrorKind.TheVariants.{DisplayHelp, DisplayVersion}
-use Rattle.ttd_words.specs.CommandLine.{faults_of, max_drift, max_number, named_by}
+use Rattle.tt_span.specs.Drift.{max_drift}
+use Rattle.ttd_words.specs.CommandLine.{faults_of, max_number, named_by}
 use Rattle.ttd_words.specs.declared.words.Asked.{Asked}
 use Rattle.ttd_words.specs.declared.words.Asked.TheVariants.{Run, Help}
 use Rattle.ttd_words.specs.declared.words.Command.{Command}
-use Rattle.ttd_words.specs.declared.words.Command.TheVariants.{Age, Fuse, Check, Run as RunScript, Twin}
+use Rattle.ttd_words.specs.declared.words.Command.TheVariants.{Age, Fuse, Check, Run as RunScript, Twin, Picture, Live}
 use Rattle.ttd_words.specs.declared.words.Side.{Side}
 use Rattle.ttd_words.specs.declared.words.Side.TheVariants.{Low, High}
 use Rattle.ttd_words.specs.declared.words.WordsFault.{WordsFault}
@@ -55,7 +56,9 @@ command_of name rows = if bytes_eq name (codes "age") then age_of rows
     else (if bytes_eq name (codes "fuse") then Ok Fuse
     else (if bytes_eq name (codes "check") then Ok Check
     else (if bytes_eq name (codes "run") then Ok RunScript
-    else (if bytes_eq name (codes "twin") then twin_of rows else Err BadWords))))
+    else (if bytes_eq name (codes "twin") then twin_of rows
+    else (if bytes_eq name (codes "picture") then Ok Picture
+    else (if bytes_eq name (codes "live") then Ok Live else Err BadWords))))))
 
 -- The command that is named, and bad words where none is.
 abbrev pub command_named : Option (Text × List Row) → Result Command WordsFault
@@ -104,12 +107,11 @@ AreForHelp words = all_and_some is_help (faults_of words) ≡ true
 abbrev pub IsUnlessMemory : {T E : Type 0} → E → Result T E → Result T E → Type 0
 IsUnlessMemory memory expected result = (result ≡ expected) ⊎ (result ≡ Err memory)
 
+-- The options of `age` were found, with a drift in range.
+abbrev pub HasAge : List Row → Type 0
+HasAge rows = IsOk (age_of rows) × IfSome (number_at (codes "drift") rows) (λ drift. drift ≤ max_drift)
+
 -- What was found for the options of the command that is named has the numbers that the command needs.
 abbrev pub HasNumbers : Option (Text × List Row) → Type 0
 HasNumbers None = Unit {0}
-HasNumbers (Some named) = (named.0 ≡ codes "age" → IsOk (age_of named.1)) × (named.0 ≡ codes "twin" → IsSome (number_at (codes "event") named.1))
-
--- The drift of the command is at most the greatest drift.
-abbrev pub HasDriftInRange : Command → Type 0
-HasDriftInRange (Age drift sent got clock) = drift ≤ max_drift
-HasDriftInRange _ = Unit {0}
+HasNumbers (Some named) = (named.0 ≡ codes "age" → HasAge named.1) × (named.0 ≡ codes "twin" → IsSome (number_at (codes "event") named.1))

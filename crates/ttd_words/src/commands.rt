@@ -8,6 +8,7 @@ ghost use Rattle.ttd_words.specs.CommandLine.{age_app, bare_app, drift_rule, giv
 
 use clap::{Arg, Command, value_parser};
 use std::alloc::{AllocError, Global};
+use tt_span::MAX_DRIFT;
 
 /// The version of the program.
 const VERSION: &str = "0.1";
@@ -65,8 +66,22 @@ Prints the twin's events, one a line, and then `reading LO HI truth T`.
 
 Refused: as `run`; 1401 event K gives no reading; 1402 the chosen end is past the greatest time.";
 
-/// The greatest drift that `age` takes, in parts per million.
-const MAX_DRIFT: i64 = 100_000;
+/// What `picture` reads and prints.
+const ABOUT_PICTURE: &str = "\
+Reads a script as `run` does. Prints its run as an SVG document: true time across, each machine's readings as bands around it,
+fusions, commits from arrival to release, and lies.
+
+Example: ttd picture < examples/one-liar.toml > run.svg
+
+Refused: as `run`.";
+
+/// What `live` reads and prints.
+const ABOUT_LIVE: &str = "\
+Reads a script with one machine and a table `[live]`. Runs that machine: its sources' masters over UDP, its daemon, and a client
+for each of its sessions over TCP, all on 127.0.0.1.
+Prints `readings N` and `wrong N`; the status is 3 where a reading is wrong, and 4 after a device fault.
+
+Refused: as `run`; 1302 no table `[live]`; 1303 not exactly one machine, one master per source and one session per worker.";
 
 /// The option `--drift N`: 200 where it is not given, and at most [`MAX_DRIFT`].
 fn drift_option<'a>(alloc: Global) -> Arg<'a>
@@ -78,7 +93,7 @@ fn drift_option<'a>(alloc: Global) -> Arg<'a>
         .value_name("N")
         .default_value("200")
         .help("What the clock may be wrong by, in parts per million, up to 100000")
-        .value_parser(value_parser!(u64).range(..=MAX_DRIFT))
+        .value_parser(value_parser!(u64).range(..=i64::from(MAX_DRIFT)))
 }
 
 /// An option `--NAME N` with a number of 64 bits, which has to be given.
@@ -196,6 +211,20 @@ pub(crate) fn ttd_command<'a>(alloc: Global) -> Result<Command<'a>, AllocError>
     let with_age = bare_command(alloc)?.subcommand(age_command(alloc)?)?;
     let with_fuse = with_age.subcommand(fuse)?;
     let with_check = with_fuse.subcommand(check)?;
+    let picture = plain_command(
+        alloc,
+        "picture",
+        "Draws the run of the script that is read",
+        ABOUT_PICTURE,
+    );
+    let live = plain_command(
+        alloc,
+        "live",
+        "Runs a machine live on this host, by the script that is read",
+        ABOUT_LIVE,
+    );
     let with_run = with_check.subcommand(run)?;
-    with_run.subcommand(twin_command(alloc)?)
+    let with_twin = with_run.subcommand(twin_command(alloc)?)?;
+    let with_picture = with_twin.subcommand(picture)?;
+    with_picture.subcommand(live)
 }

@@ -1,24 +1,26 @@
 //! What the arguments ask for.
 
-ghost use Rattle.std.specs.Prelude.{◌≡◌, ◌⊎◌, ℕ, List, [], ◌∷◌, codes, Some, Ok, Err, IfErr, IfOk, IsOk, IsSome};
+ghost use Rattle.std.specs.Prelude.{◌≡◌, ◌≤◌, ◌⊎◌, ℕ, List, [], ◌∷◌, codes, Some, Ok, Err, IfErr, IfOk, IfSome, IsSome, IsOk};
 ghost use Rattle.clap.specs.Walk.{texts};
 ghost use Rattle.clap.specs.Words.{FailsBy, found_of, rows_of, subcommand_rows_of};
+ghost use Rattle.tt_span.specs.Drift.{max_drift};
 ghost use Rattle.ttd_words.specs.CommandLine.{faults_of, named_by};
-ghost use Rattle.ttd_words.specs.Reading.{asked_of, age_of, command_named, number_at, side_of, twin_of, HasNumbers, AreForHelp, AreMistaken, AreTaken, HasDriftInRange, IsUnlessMemory};
+ghost use Rattle.ttd_words.specs.Reading.{asked_of, age_of, command_named, number_at, side_of, twin_of, HasAge, HasNumbers, AreForHelp, AreMistaken, AreTaken, IsUnlessMemory};
 ghost use Rattle.ttd_words.specs.Fault.{number_of};
 
 use crate::commands::ttd_command;
 use clap::error::ErrorKind;
 use clap::{ArgMatches, Error};
 use std::alloc::Global;
+use tt_span::Drift;
 
 /// A command of the program, with its options.
 #[derive(Clone, Copy, Debug, PartialEq, Eq)]
 pub enum Command {
     /// `age`: ages the answer that is read.
     Age {
-        /// What the clock may be wrong by, in parts per million: at most 100000, and 200 where it was not given.
-        drift: u64,
+        /// What the clock may be wrong by: 200 parts per million where it was not given.
+        drift: Drift,
         /// The clock when the poll was sent, in nanoseconds.
         sent: u64,
         /// The clock when the answer came, in nanoseconds.
@@ -39,6 +41,10 @@ pub enum Command {
         /// The end of the reading at which the true time lies in the twin.
         side: Side,
     },
+    /// `picture`: draws the run of the script that is read.
+    Picture,
+    /// `live`: runs a machine live, by the script that is read.
+    Live,
 }
 
 /// An end of a reading.
@@ -90,13 +96,22 @@ fn number_given(matches: &ArgMatches<'_>, id: &str) -> u64
     matches.get_one::<u64>(id).unwrap()
 }
 
+/// The drift that was given, or its default.
+fn drift_given(matches: &ArgMatches<'_>) -> Drift
+    requires there { IsSome (number_at (codes "drift") (rows_of (found_of matches.now))) }
+    requires in_range { IfSome (number_at (codes "drift") (rows_of (found_of matches.now))) (λ drift. drift ≤ max_drift) }
+    ensures { number_at (codes "drift") (rows_of (found_of matches.now)) ≡ Some result }
+{
+    Drift::new(number_given(matches, "drift") as u32).unwrap()
+}
+
 /// The command `age` with these options.
 fn age_asked(matches: &ArgMatches<'_>) -> Command
-    requires { IsOk (age_of (rows_of (found_of matches.now))) }
+    requires { HasAge (rows_of (found_of matches.now)) }
     ensures { age_of (rows_of (found_of matches.now)) ≡ Ok result }
 {
     Command::Age {
-        drift: number_given(matches, "drift"),
+        drift: drift_given(matches),
         sent: number_given(matches, "sent"),
         got: number_given(matches, "got"),
         clock: number_given(matches, "clock"),
@@ -140,6 +155,8 @@ fn command_asked(matches: &ArgMatches<'_>) -> Result<Command, WordsFault>
         Some(("check", _)) => Ok(Command::Check),
         Some(("run", _)) => Ok(Command::Run),
         Some(("twin", options)) => twin_asked(options),
+        Some(("picture", _)) => Ok(Command::Picture),
+        Some(("live", _)) => Ok(Command::Live),
         _ => Err(WordsFault::BadWords),
     }
 }
@@ -164,7 +181,7 @@ pub fn read_words(alloc: Global, words: &[&str]) -> Result<Asked, WordsFault>
     ensures mistaken { AreMistaken (texts words.now) → IsUnlessMemory WordsFault.Memory (Err WordsFault.BadWords) result }
     ensures helped { AreForHelp (texts words.now) → IsUnlessMemory WordsFault.Memory (Ok Asked.Help) result }
     ensures help { result ≡ Ok Asked.Help → ¬ AreTaken (texts words.now) }
-    ensures commands { (command : Command) → result ≡ Ok (Asked.Run command) → AreTaken (texts words.now) × HasDriftInRange command }
+    ensures commands { (command : Command) → result ≡ Ok (Asked.Run command) → AreTaken (texts words.now) }
 {
     match parsed(alloc, words) {
         Ok(matches) => Ok(Asked::Run(command_asked(&matches)?)),

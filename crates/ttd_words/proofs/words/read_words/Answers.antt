@@ -3,8 +3,8 @@ use Rattle.clap.specs.Values.{kind_of}
 use Rattle.clap.specs.Walk.{texts}
 use Rattle.clap.specs.declared.error.kind.ErrorKind.TheVariants.{DisplayHelp, DisplayVersion, OutOfMemory}
 use Rattle.ttd_words.specs.CommandLine.{faults_of, named_by}
-use Rattle.ttd_words.specs.Reading.{AreTaken, HasNumbers, command_named}
-use Rattle.ttd_words.proofs.ParsedWords.{asked_is_ok, help_no_memory, help_not_mistaken, not_taken, other_not_help, run_is, shown, taken_in_range, taken_judged}
+use Rattle.ttd_words.specs.Reading.{HasNumbers, command_named}
+use Rattle.ttd_words.proofs.ParsedWords.{asked_is_ok, help_no_memory, help_not_mistaken, not_taken, other_not_help, shown, taken_judged}
 use Rattle.ttd_words.proofs.words.read_words.Goals as goal
 
 pub command_asked-requires : goal.command_asked-requires
@@ -45,5 +45,4 @@ returns-in-Ok-clause-commands c = λ command is.
     let ws = texts c.args.words.now in
     let found = c.in_ok-command_asked-in-Ok.field-0 in
     let named : command_named (named_by ws) ≡ Ok found = sym (ap command_named c.in-Ok.ensures.named) ∙ (sym c.command_asked.ensures ∙ c.in_ok-command_asked-in-Ok.was) in
-    let taken : AreTaken ws = (c.in-Ok.ensures.fails, subst IsOk (sym named) refl) in
-    (taken, taken_in_range ws command taken (named ∙ ap Ok (run_is _ _ _ refl is)))
+    (c.in-Ok.ensures.fails, subst IsOk (sym named) refl)
