@@ -36,7 +36,6 @@ pub use audits::audit;
 pub use faults::AuditFault;
 pub use live::{LiveNote, LiveReport, audit_live, live_laws};
 pub use reports::{Broken, Report, Suspect};
-pub use suspecting::all_suspects;
 pub use writing::report_text;
 
 #[cfg(test)]

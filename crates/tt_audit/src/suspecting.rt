@@ -12,7 +12,7 @@ use tt_world::Shown;
 
 /// The suspects of the publications, in their order: of each, the sources whose span does not meet its fused span,
 /// ascending, with the publication's number over all lives of its machine.
-pub fn all_suspects(alloc: Global, shown: &[Shown]) -> Result<Vec<Suspect>, AllocError>
+pub(crate) fn all_suspects(alloc: Global, shown: &[Shown]) -> Result<Vec<Suspect>, AllocError>
     ensures { IfOk result (λ v. AreAllSuspects [] (map outline shown.now) v.items) }
 {
     let mut found = Vec::new(alloc);
