@@ -43,6 +43,11 @@ fn run<R: Threads + Wait + Sync + Print>(
     teller: &mut Teller,
     mut watches: Vec<Watch>,
 ) -> Result<()> {
+    // All threads that commit share the sequencer, each with a seat of its own, and the book: with several of them it
+    // stands behind a lock.
+    let (sequencer, mut seats) = Sequencer::open(alloc, 1)?;
+    let book = Book::new(alloc);
+
     // The daemon's round. A database makes one every some seconds, in a thread of its own, while the workers go on.
     let fused = round(&mut daemon)?;
     let (span, clock) = (fused.span(), fused.clock());
@@ -52,9 +57,7 @@ fn run<R: Threads + Wait + Sync + Print>(
     }
     teller.publish(rt, fused)?;
 
-    // Two workers, each with a watch and a clock of its own. All threads that commit share the sequencer, each with a
-    // seat of its own.
-    let (sequencer, mut seats) = Sequencer::open(alloc, 1)?;
+    // Two workers, each in a thread of its own, with a watch and a clock of its own.
     let (Some(seat), Some(first), Some(second)) = (seats.pop(), watches.pop(), watches.pop()) else {
         bail!("a seat or a watch is missing");
     };
@@ -66,7 +69,7 @@ fn run<R: Threads + Wait + Sync + Print>(
         rt,
         || -> Result<Receipt>
             requires { IsSync R.row × (seat.table ≡ sequencer) }
-        { commit(rt, alloc, id, &sequencer, seat, first) },
+        { commit(rt, id, &sequencer, seat, book, first) },
         || snapshot(second),
     );
     let (receipt, reading) = (committed?, read?);
@@ -104,18 +107,16 @@ fn ask(daemon: &mut Daemon, clock: &mut SteppedClock, source: u8, time: u64, act
 /// One commit, from its arrival to its receipt.
 fn commit<R: Wait + Print>(
     rt: &R,
-    alloc: Global,
     id: Id,
     sequencer: &Sequencer,
     mut seat: Seat,
+    mut book: Book,
     mut watch: Watch,
 ) -> Result<Receipt>
     requires { seat.table ≡ sequencer.now }
     ensures { IfOk result (λ receipt. receipt.id ≡ id) }
 {
     let mut clock = SteppedClock::at(5_000);
-    // A database with several committing threads keeps one book for all of them, behind a lock.
-    let mut book = Book::new(alloc);
     // The commit has arrived, and its locks are held: stamp it. No participant asks for a floor, and the leader's lease
     // is the whole of time.
     let stamp = begin_step(
