@@ -114,7 +114,7 @@ fn commit<R: Wait + Print>(
     mut watch: Watch,
 ) -> Result<Receipt>
     requires { seat.table ≡ sequencer.now }
-    ensures { IfOk result (λ receipt. receipt.id ≡ id) }
+    ensures receipt { IfOk result (λ receipt. receipt.id ≡ id) }
 {
     let mut clock = SteppedClock::at(5_000);
     // The commit has arrived, and its locks are held: stamp it. No participant asks for a floor, and the leader's lease
