@@ -16,18 +16,17 @@ const SOURCES: u8 = 16;
 
 const FAULTY: usize = 5;
 
-/// A daemon that polls its sources in turn. With `takes` it also takes their answers.
+/// A daemon that polls its sources in turn, and takes their answers.
 #[derive(Drop)]
 pub struct Polling {
     daemon: Daemon,
     spans: Vec<Span>,
     clock: u64,
-    takes: bool,
 }
 
 impl Polling {
     /// A daemon that knows all its sources.
-    pub fn new(alloc: Global, takes: bool) -> Result<Polling> {
+    pub fn new(alloc: Global) -> Result<Polling> {
         let drift = Drift::new(200).context("a drift")?;
         let config = Config::new(usize::from(SOURCES), FAULTY, drift, 1)?;
         let spans = spans_of(alloc, &mut Numbers::new(), usize::from(SOURCES), FAULTY)?;
@@ -35,10 +34,8 @@ impl Polling {
             daemon: Daemon::new(0, &config, 1),
             spans,
             clock: 0,
-            takes: true,
         };
         let _ = polling.batch(64);
-        polling.takes = takes;
         Ok(polling)
     }
 
@@ -50,13 +47,13 @@ impl Polling {
         Some(encode_answer2(&answer))
     }
 
-    /// Polls a source, and takes its answer where it `takes`.
+    /// Polls a source, and takes its answer.
     fn turn(&mut self, source: u8) -> u64 {
         self.clock = self.clock.saturating_add(1);
         let Some(bytes) = self.ask(source) else {
             return 0;
         };
-        if self.takes && self.daemon.take(source, self.clock, &bytes).is_err() {
+        if self.daemon.take(source, self.clock, &bytes).is_err() {
             return 0;
         }
         u64::from(bytes[15])
@@ -82,7 +79,7 @@ pub struct DaemonFusing {
 impl DaemonFusing {
     pub fn new(alloc: Global) -> Result<DaemonFusing> {
         Ok(DaemonFusing {
-            known: Polling::new(alloc, true)?,
+            known: Polling::new(alloc)?,
         })
     }
 }

@@ -19,7 +19,7 @@ use std::thread::Threads;
 use std::time::Clock;
 
 /// The rows, each with what a call of it is.
-const ROWS: [(&str, &str); 41] = [
+const ROWS: [(&str, &str); 40] = [
     ("age", "Drift::age"),
     ("decode", "decode of an answer"),
     ("decode2", "decode2 of an answer"),
@@ -35,8 +35,10 @@ const ROWS: [(&str, &str); 41] = [
     ),
     ("ends_16", "Ends::fuse of 16 sources"),
     ("check_16", "check of a certificate of 16 sources"),
-    ("poll", "Daemon::poll and the encoding of the answer"),
-    ("poll_take", "the same, and Daemon::take"),
+    (
+        "poll_take",
+        "Daemon::poll, the encoding of an answer, and Daemon::take",
+    ),
     ("daemon_fuse", "Daemon::fuse of 16 sources"),
     ("copy", "Fused::copied"),
     ("publish", "Fused::copied and Teller::publish"),
@@ -141,16 +143,15 @@ fn measured<R: Threads + Wait + Clock + Sync>(
 ) -> Result<Measured> {
     match name {
         "age" => short(rt, &mut Ageing::new()?),
-        "decode" => short(rt, &mut Decoding::new()?),
-        "decode2" => short(rt, &mut Decoding2::new()?),
+        "decode" => short(rt, &mut Decoding::new(alloc)?),
+        "decode2" => short(rt, &mut Decoding2::new(alloc)?),
         "fuse_4" => short(rt, &mut Fusing::new(alloc, 4, 1)?),
         "fuse_16" => short(rt, &mut Fusing::new(alloc, 16, 5)?),
         "certified_4" => short(rt, &mut Certifying::new(alloc, 4, 1)?),
         "certified_16" => short(rt, &mut Certifying::new(alloc, 16, 5)?),
         "ends_16" => short(rt, &mut EndsFusing::new(alloc, 16, 5)?),
         "check_16" => short(rt, &mut Checking::new(alloc, 16, 5)?),
-        "poll" => short(rt, &mut Polling::new(alloc, false)?),
-        "poll_take" => short(rt, &mut Polling::new(alloc, true)?),
+        "poll_take" => short(rt, &mut Polling::new(alloc)?),
         "daemon_fuse" => short(rt, &mut DaemonFusing::new(alloc)?),
         "copy" => short(rt, &mut Copying::new(alloc)?),
         "row_stamp" => short(rt, &mut RowStamping::new()?),

@@ -1,7 +1,9 @@
 //! Ageing and decoding.
 
 use crate::measuring::Work;
+use crate::numbers::Numbers;
 use anyhow::{Context, Result};
+use std::alloc::Global;
 use tt_poll::{
     ANSWER_LEN, ANSWER2_LEN, Answer, Answer2, Message, Message2, decode, decode2, encode_answer,
     encode_answer2,
@@ -35,6 +37,9 @@ impl Work for Ageing {
     }
 }
 
+/// How many messages are decoded in turn.
+const MESSAGES: usize = 64;
+
 /// What an answer tells, in one number.
 fn told(bytes: &[u8]) -> u64 {
     let Ok(message) = decode(bytes) else {
@@ -46,18 +51,28 @@ fn told(bytes: &[u8]) -> u64 {
     }
 }
 
-/// The 32 bytes of an answer, of which the last changes.
+/// The span and the nonce of a message.
+fn next_span(numbers: &mut Numbers) -> Result<(Span, u64)> {
+    let lo = 1_000_000_000 + numbers.below(1_000_000);
+    let span = Span::new(lo, lo + numbers.below(1_000_000))?;
+    Ok((span, 1 + numbers.below(1_000_000)))
+}
+
+/// The 32 bytes of each of some answers.
 #[derive(Drop)]
 pub struct Decoding {
-    bytes: [u8; ANSWER_LEN],
+    messages: Vec<[u8; ANSWER_LEN]>,
 }
 
 impl Decoding {
-    pub fn new() -> Result<Decoding> {
-        let span = Span::new(1_000_000_000, 1_000_010_000)?;
-        Ok(Decoding {
-            bytes: encode_answer(&Answer::new(3, 2, 77, span)?),
-        })
+    pub fn new(alloc: Global) -> Result<Decoding> {
+        let mut numbers = Numbers::new();
+        let mut messages = Vec::new(alloc);
+        for _ in 0..MESSAGES {
+            let (span, nonce) = next_span(&mut numbers)?;
+            messages.push(encode_answer(&Answer::new(3, 2, nonce, span)?))?;
+        }
+        Ok(Decoding { messages })
     }
 }
 
@@ -65,8 +80,9 @@ impl Work for Decoding {
     fn batch(&mut self, calls: u32) -> u64 {
         let mut sum = 0u64;
         for call in 0..calls {
-            self.bytes[ANSWER_LEN - 1] = (call % 256) as u8;
-            sum = sum.wrapping_add(told(&self.bytes));
+            if let Some(bytes) = self.messages.get(call as usize % MESSAGES) {
+                sum = sum.wrapping_add(told(bytes));
+            }
         }
         sum
     }
@@ -83,18 +99,21 @@ fn told2(bytes: &[u8]) -> u64 {
     }
 }
 
-/// The 40 bytes of an answer to one life, of which the last changes.
+/// The 40 bytes of each of some answers to one life.
 #[derive(Drop)]
 pub struct Decoding2 {
-    bytes: [u8; ANSWER2_LEN],
+    messages: Vec<[u8; ANSWER2_LEN]>,
 }
 
 impl Decoding2 {
-    pub fn new() -> Result<Decoding2> {
-        let span = Span::new(1_000_000_000, 1_000_010_000)?;
-        Ok(Decoding2 {
-            bytes: encode_answer2(&Answer2::new(3, 2, 77, 5, span)?),
-        })
+    pub fn new(alloc: Global) -> Result<Decoding2> {
+        let mut numbers = Numbers::new();
+        let mut messages = Vec::new(alloc);
+        for _ in 0..MESSAGES {
+            let (span, nonce) = next_span(&mut numbers)?;
+            messages.push(encode_answer2(&Answer2::new(3, 2, nonce, 5, span)?))?;
+        }
+        Ok(Decoding2 { messages })
     }
 }
 
@@ -102,8 +121,9 @@ impl Work for Decoding2 {
     fn batch(&mut self, calls: u32) -> u64 {
         let mut sum = 0u64;
         for call in 0..calls {
-            self.bytes[ANSWER2_LEN - 1] = (call % 256) as u8;
-            sum = sum.wrapping_add(told2(&self.bytes));
+            if let Some(bytes) = self.messages.get(call as usize % MESSAGES) {
+                sum = sum.wrapping_add(told2(bytes));
+            }
         }
         sum
     }
