@@ -1,0 +1,109 @@
+//! A book of commits, small and large.
+
+use crate::measuring::Measured;
+use crate::numbers::Numbers;
+use anyhow::Result;
+use std::alloc::Global;
+use std::time::{Clock, Instant};
+use tt_publish::Reading;
+use tt_span::{MAX_TIME, Span};
+use tt_stamp::{Book, Id};
+
+/// The commit of this number: they come from thirty-two sessions in turn.
+fn id(number: u32) -> Id {
+    Id {
+        session: number % 32,
+        number: u64::from(number),
+    }
+}
+
+/// What is measured of a book.
+#[derive(Clone, Copy)]
+pub struct Booked {
+    pub queue: Measured,
+    pub release: Measured,
+    pub is_released: Measured,
+}
+
+/// Queues the commits from one number up to another, with their numbers as stamps.
+fn queue_all(book: &mut Book, from: u32, to: u32) -> u64 {
+    let mut sum = 0u64;
+    for number in from..to {
+        if book.queue(id(number), u64::from(number)).is_ok() {
+            sum = sum.wrapping_add(1);
+        }
+    }
+    sum
+}
+
+/// Looks up so many of the commits below a number.
+fn look_up(book: &Book, below: u32, calls: u32) -> u64 {
+    let mut sum = 0u64;
+    let mut numbers = Numbers::new();
+    for _ in 0..calls {
+        let number = numbers.below(u64::from(below.max(1)));
+        if let Some(receipt) = book.is_released(id(number as u32)) {
+            sum = sum.wrapping_add(receipt.stamp);
+        }
+    }
+    sum
+}
+
+/// A book in which so many commits were released.
+fn filled(alloc: Global, commits: u32, late: &Reading) -> Book {
+    let mut book = Book::new(alloc);
+    for part in 0..commits / 50_000 + 1 {
+        let from = part.saturating_mul(50_000).min(commits);
+        queue_all(&mut book, from, from.saturating_add(50_000).min(commits));
+        book.release(late);
+    }
+    book
+}
+
+/// What calls take in a book in which so many commits were released: twenty times a fiftieth of them are queued,
+/// released, and looked up.
+fn booked_once<R: Clock>(rt: &R, alloc: Global, commits: u32) -> Result<Booked> {
+    let late = Reading::of(Span::new(MAX_TIME, MAX_TIME)?);
+    let mut book = filled(alloc, commits, &late);
+    let calls = commits / 50;
+    let none = Measured::longest();
+    let mut booked = Booked {
+        queue: none,
+        release: none,
+        is_released: none,
+    };
+    let mut from = commits;
+    for _ in 0..20 {
+        let to = from.saturating_add(calls);
+        let start = Instant::now(rt)?;
+        let queued = queue_all(&mut book, from, to);
+        let after = Instant::now(rt)?;
+        let released = book.release(&late);
+        let end = Instant::now(rt)?;
+        let found = look_up(&book, to, calls);
+        let last = end.elapsed(rt)?;
+        let queue = Measured::of(after.duration_since(start), calls, queued);
+        let release = Measured::of(end.duration_since(after), calls, released as u64);
+        booked = Booked {
+            queue: booked.queue.and(queue),
+            release: booked.release.and(release),
+            is_released: booked.is_released.and(Measured::of(last, calls, found)),
+        };
+        from = to;
+    }
+    Ok(booked)
+}
+
+/// The least of so many books.
+pub fn measure_books<R: Clock>(rt: &R, alloc: Global, commits: u32, books: u32) -> Result<Booked> {
+    let mut least = booked_once(rt, alloc, commits)?;
+    for _ in 1..books {
+        let next = booked_once(rt, alloc, commits)?;
+        least = Booked {
+            queue: least.queue.and(next.queue),
+            release: least.release.and(next.release),
+            is_released: least.is_released.and(next.is_released),
+        };
+    }
+    Ok(least)
+}

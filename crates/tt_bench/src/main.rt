@@ -1,0 +1,39 @@
+//! The program `tt_bench`: it measures what calls of the time service take.
+//!
+//! Without words it lists the rows that it can measure. With names of rows, or with `all`, it measures these, and prints a
+//! line for each: its name, the nanoseconds that a call took in the fastest of many batches, and a number made of the
+//! results of all calls, which only keeps them from being optimised away. `bench/run` sets the same work in plain Rust
+//! beside it, and docs/SPEED.md says what came of it.
+//!
+//! - `measuring` times batches. `rows` has the names, and what is measured under each.
+//! - `spans`, `fusing`, `machine`, `reading`, `stamping`, `booking`, `running` and `serving`: the work.
+//! - `numbers`, `histories` and `clocks`: what it is done with.
+#![tactic(auto)]
+
+mod booking;
+mod clocks;
+mod fusing;
+mod histories;
+mod machine;
+mod measuring;
+mod numbers;
+mod reading;
+mod rows;
+mod running;
+mod serving;
+mod spans;
+mod stamping;
+
+use anyhow::Result;
+use std::env;
+
+fn main(rt: HostRuntime) -> Result<()> {
+    let words: Vec<String> = env::args(&rt)?.skip(1).collect(rt.alloc())?;
+    if words.is_empty() {
+        return rows::list(&rt);
+    }
+    for word in &words {
+        rows::measure(&rt, rt.alloc(), word.as_str())?;
+    }
+    Ok(())
+}

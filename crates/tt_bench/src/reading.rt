@@ -1,0 +1,281 @@
+//! Readings, alone and in threads, with and without a writer that publishes meanwhile.
+
+use crate::clocks::{Running, Steps};
+use crate::machine::{Publishing, make_fusion};
+use crate::measuring::{Measured, Work, least_of, once};
+use anyhow::{Context, Result};
+use std::alloc::Global;
+use std::io;
+use std::sync::Wait;
+use std::sync::atomic::{AtomicBool, Ordering};
+use std::thread::{Threads, join};
+use std::time::{Clock as SystemClock, Instant};
+use tt_daemon::Fused;
+use tt_publish::{Clock, Teller, Watch, open};
+use tt_span::Drift;
+
+/// So many readings of one watch by this clock.
+fn read_on<C: Clock>(watch: &mut Watch, clock: &mut C, calls: u32) -> u64 {
+    let mut sum = 0u64;
+    for _ in 0..calls {
+        if let Ok(reading) = watch.now(clock) {
+            sum = sum
+                .wrapping_add(reading.earliest())
+                .wrapping_add(reading.latest());
+        }
+    }
+    sum
+}
+
+/// Readings of one watch by this clock.
+#[derive(Drop)]
+struct Reading<C> {
+    watch: Watch,
+    clock: C,
+}
+
+impl<C: Clock> Work for Reading<C> {
+    fn batch(&mut self, calls: u32) -> u64 {
+        read_on(&mut self.watch, &mut self.clock, calls)
+    }
+}
+
+/// A publication, and a reading of it.
+struct Renewing<'a, R: Wait> {
+    publishing: Publishing<'a, R>,
+    reading: Reading<Steps>,
+}
+
+impl<'a, R: Wait> Work for Renewing<'a, R> {
+    fn batch(&mut self, calls: u32) -> u64 {
+        let mut sum = 0u64;
+        for _ in 0..calls {
+            sum = sum
+                .wrapping_add(self.publishing.batch(1))
+                .wrapping_add(self.reading.batch(1));
+        }
+        sum
+    }
+}
+
+/// Publications alone.
+pub fn publish<R: Wait + SystemClock>(rt: &R, alloc: Global) -> Result<Measured> {
+    let fused = make_fusion(alloc)?;
+    let drift = Drift::new(200).context("a drift")?;
+    let (teller, _watches) = open(rt, alloc, drift, 1)?;
+    let mut work = Publishing { rt, teller, fused };
+    let measured = least_of(rt, &mut work, 200, 500);
+    let Publishing {
+        rt,
+        teller,
+        fused: _fused,
+    } = work;
+    teller.close(rt);
+    Ok(measured?)
+}
+
+/// A teller that has published a fusion of sixteen sources, and so many watches of it.
+fn published<R: Wait>(rt: &R, alloc: Global, readers: usize) -> Result<(Teller, Vec<Watch>)> {
+    let fused = make_fusion(alloc)?;
+    let drift = Drift::new(200).context("a drift")?;
+    let (mut teller, watches) = open(rt, alloc, drift, readers)?;
+    if teller.publish(rt, fused).is_err() {
+        teller.close(rt);
+        return Err(anyhow::anyhow!("no publication"));
+    }
+    Ok((teller, watches))
+}
+
+/// A publication and a reading that finds it new.
+pub fn publish_and_read<R: Wait + SystemClock>(rt: &R, alloc: Global) -> Result<Measured> {
+    let fused = make_fusion(alloc)?;
+    let (teller, mut watches) = published(rt, alloc, 1)?;
+    let Some(watch) = watches.pop() else {
+        teller.close(rt);
+        return Err(anyhow::anyhow!("no watch"));
+    };
+    let mut work = Renewing {
+        publishing: Publishing { rt, teller, fused },
+        reading: Reading {
+            watch,
+            clock: Steps { time: 0 },
+        },
+    };
+    let measured = least_of(rt, &mut work, 200, 500);
+    let Renewing {
+        publishing: Publishing {
+            rt,
+            teller,
+            fused: _fused,
+        },
+        reading: _reading,
+    } = work;
+    teller.close(rt);
+    Ok(measured?)
+}
+
+/// Readings of what is known, by a clock that costs nothing.
+pub fn read_same<R: Wait + SystemClock>(rt: &R, alloc: Global) -> Result<Measured> {
+    let (teller, mut watches) = published(rt, alloc, 1)?;
+    let measured = match watches.pop() {
+        Some(watch) => {
+            let clock = Steps { time: 0 };
+            least_of(rt, &mut Reading { watch, clock }, 200, 10_000)
+        }
+        None => Ok(Measured::longest()),
+    };
+    teller.close(rt);
+    Ok(measured?)
+}
+
+/// Readings of what is known, by the system's clock.
+pub fn read_same_by_system<R: Wait + SystemClock>(rt: &R, alloc: Global) -> Result<Measured> {
+    let start = Instant::now(rt)?;
+    let (teller, mut watches) = published(rt, alloc, 1)?;
+    let measured = match watches.pop() {
+        Some(watch) => {
+            let clock = Running::new(rt, start);
+            least_of(rt, &mut Reading { watch, clock }, 200, 10_000)
+        }
+        None => Ok(Measured::longest()),
+    };
+    teller.close(rt);
+    Ok(measured?)
+}
+
+/// The system's clock alone.
+#[derive(Drop)]
+struct Ticking<C> {
+    clock: C,
+}
+
+impl<C: Clock> Work for Ticking<C> {
+    fn batch(&mut self, calls: u32) -> u64 {
+        let mut sum = 0u64;
+        for _ in 0..calls {
+            if let Ok(time) = self.clock.read() {
+                sum = sum.wrapping_add(time);
+            }
+        }
+        sum
+    }
+}
+
+/// Readings of the system's clock alone.
+pub fn read_clock<R: SystemClock>(rt: &R) -> Result<Measured> {
+    let clock = Running::new(rt, Instant::now(rt)?);
+    Ok(least_of(rt, &mut Ticking { clock }, 200, 10_000)?)
+}
+
+/// How many readings each thread makes.
+const CALLS: u32 = 2_000_000;
+
+/// What a reading took in this thread.
+fn read_in_thread<R: SystemClock>(rt: &R, mut watch: Watch) -> io::Result<Measured> {
+    let clock = Steps { time: 0 };
+    once(rt, &mut Reading { watch, clock }, CALLS)
+}
+
+/// What a reading took in each of two threads, at the slower of them.
+fn read_in_two<R: Threads + Wait + SystemClock + Sync>(
+    rt: &R,
+    first: Watch,
+    second: Watch,
+) -> io::Result<Measured> {
+    let (first, second) = join(
+        rt,
+        || read_in_thread(rt, first),
+        || read_in_thread(rt, second),
+    );
+    Ok(slower(first?, second?))
+}
+
+fn slower(first: Measured, second: Measured) -> Measured {
+    Measured {
+        tenths: first.tenths.max(second.tenths),
+        sum: first.sum.wrapping_add(second.sum),
+    }
+}
+
+/// What a reading took in each of two threads, or four.
+fn read_in_threads<R: Threads + Wait + SystemClock + Sync>(
+    rt: &R,
+    mut watches: Vec<Watch>,
+) -> Result<Measured> {
+    let first = watches.pop().context("a watch")?;
+    let Some(second) = watches.pop() else {
+        return Ok(read_in_thread(rt, first)?);
+    };
+    let (Some(third), Some(fourth)) = (watches.pop(), watches.pop()) else {
+        return Ok(read_in_two(rt, first, second)?);
+    };
+    let (front, back) = join(
+        rt,
+        || read_in_two(rt, first, second),
+        || read_in_two(rt, third, fourth),
+    );
+    Ok(slower(front?, back?))
+}
+
+/// Readings in so many threads while nothing is published: one, two, or four.
+pub fn read_together<R: Threads + Wait + SystemClock + Sync>(
+    rt: &R,
+    alloc: Global,
+    readers: usize,
+) -> Result<Measured> {
+    let mut least = Measured::longest();
+    for _ in 0..10 {
+        let (teller, watches) = published(rt, alloc, readers)?;
+        let measured = read_in_threads(rt, watches);
+        teller.close(rt);
+        least = least.and(measured?);
+    }
+    Ok(least)
+}
+
+/// Publishes copies of a fusion until it is told to end.
+fn publish_until<R: Wait>(rt: &R, teller: &mut Teller, fused: &Fused, ended: &AtomicBool) -> u64 {
+    let mut published = 0u64;
+    for _ in 0..100_000_000 {
+        if ended.load(Ordering::Relaxed) {
+            return published;
+        }
+        if teller.publish(rt, fused.copied()).is_ok() {
+            published = published.wrapping_add(1);
+        }
+    }
+    published
+}
+
+/// Reads, and then says that it has ended.
+fn read_and_end<R: Threads + Wait + SystemClock + Sync>(
+    rt: &R,
+    watches: Vec<Watch>,
+    ended: &AtomicBool,
+) -> Result<Measured> {
+    let measured = read_in_threads(rt, watches);
+    ended.store(true, Ordering::Relaxed);
+    measured
+}
+
+/// Readings in so many threads, one or two, while another thread publishes as fast as it can.
+pub fn read_while_published<R: Threads + Wait + SystemClock + Sync>(
+    rt: &R,
+    alloc: Global,
+    readers: usize,
+) -> Result<Measured> {
+    let fused = make_fusion(alloc)?;
+    let mut least = Measured::longest();
+    for _ in 0..10 {
+        let (mut teller, watches) = published(rt, alloc, readers)?;
+        let ended = AtomicBool::new(false);
+        let (_published, measured) = join(
+            rt,
+            || publish_until(rt, &mut teller, &fused, &ended),
+            || read_and_end(rt, watches, &ended),
+        );
+        teller.close(rt);
+        least = least.and(measured?);
+    }
+    Ok(least)
+}
