@@ -1,8 +1,14 @@
 -- Beginnings of one list, and its last item.
-use Rattle.std.proofs.Common.{◌≡◌, ◌≤◌, List, [], ◌∷◌, ◌++◌, length, Option, Some, None, ◌≢◌, refl, ap, sym, subst, inl, inr, ⊎_elim, ◌∙◌, arith}
+use Rattle.std.proofs.Common.{ℕ, IsTrue, nat_lt, ◌≡◌, ◌≤◌, ◌↔◌, List, [], ◌∷◌, ◌++◌, length, Option, Some, None, ◌≢◌, refl, ap, sym, subst, inl, inr, ⊎_elim, arith}
 use Rattle.std.specs.List.{last_or}
+use Rattle.std.specs.Option.{option_map}
+use Rattle.std.proofs.lemmas.Bool.{lt-ltb, ltb-true}
+use Rattle.tt_span.specs.Interval.{Interval}
 use mathlib.Core.List.{IsPrefix}
-use Rattle.tt_publish.specs.Known.{last_of, IsLonger}
+use Rattle.tt_daemon.specs.Publication.{Publication}
+use Rattle.tt_publish.specs.Known.{last_of, last_read_of, GoesBack, IsLonger}
+use Rattle.tt_publish.specs.Reading.{fused_span_of}
+use Rattle.tt_publish.specs.declared.readings.FusedSpan.{FusedSpan}
 
 -- each list begins with itself
 pub prefix_self : {A : Type 0} (xs : List A) → IsPrefix xs xs
@@ -43,6 +49,37 @@ last_or-some x (y ∷ ys) e = last_or-some y ys e
 pub last_of-none : {A : Type 0} (xs : List A) → last_of xs ≡ None → xs ≡ []
 last_of-none [] e = refl
 last_of-none (x ∷ xs) e = absurd (last_or-some x xs e)
+
+read_some : (o : Option Publication) (read : FusedSpan) → option_map fused_span_of o ≡ Some read → (p : Publication) × (o ≡ Some p) × (fused_span_of p ≡ read)
+read_some None read e = absurd (cc e)
+read_some (Some p) read e = (p, refl, cc e)
+
+read_none : (o : Option Publication) → option_map fused_span_of o ≡ None → o ≡ None
+read_none None e = refl
+read_none (Some p) e = absurd (cc e)
+
+-- where something is read of the last publication, there is one, of which it is read
+pub last_read : (items : List Publication) (read : FusedSpan) → last_read_of items ≡ Some read → (p : Publication) × (last_of items ≡ Some p) × (fused_span_of p ≡ read)
+last_read items read e = read_some (last_of items) read e
+
+-- where nothing is read, there is no publication
+pub nothing_read : (items : List Publication) → last_read_of items ≡ None → items ≡ []
+nothing_read items e = last_of-none items (read_none (last_of items) e)
+
+-- a publication goes back where its clock is below the one that is read
+pub goes_back_by : (items : List Publication) (next : Publication) (clock : ℕ) (read : FusedSpan) → clock ≡ next.clock → last_read_of items ≡ Some read
+    → IsTrue (nat_lt clock read.clock) ↔ GoesBack items next
+goes_back_by items next clock read is e =
+    let p = last_read items read e in
+    let at : p.0.clock ≡ read.clock = ap (λ (r : FusedSpan). r.clock) p.2 in (
+      (λ less. (p.0, p.1, rw (at, ← is) (ltb-true clock read.clock less))),
+      (λ back. let same : back.0 ≡ p.0 = cc (back.1, p.1) in lt-ltb clock read.clock (rw (← at, ← same, is) back.2)),
+    )
+
+-- what is read of a publication that is put behind a list is what is read of the last
+pub last_read-more : (items : List Publication) (next : Publication) (clock : ℕ) (span : Interval) → clock ≡ next.clock → span ≡ next.span
+    → Some (record { clock = clock; span = span }) ≡ last_read_of (items ++ next ∷ [])
+last_read-more items next clock span at over = rw (at, over) (ap (option_map fused_span_of) (sym (last_of-more items next)))
 
 -- of two beginnings of one list the first begins the second, which is at least as long
 pub longer_second : {A : Type 0} (xs ys zs new : List A) → IsPrefix xs zs → IsPrefix ys zs → length xs ≤ length ys → new ≡ ys → IsLonger xs ys new

@@ -1,11 +1,13 @@
 -- What is known of the publications of a machine.
 use Rattle.std.specs.Prelude.{ℕ, ◌≡◌, ◌<◌, ◌⊎◌, List, Option, Some, None}
 use Rattle.std.specs.List.{last_or}
+use Rattle.std.specs.Option.{option_map}
 use mathlib.Core.List.{IsPrefix}
 use Rattle.logbook.specs.Pages.{Book}
 use Rattle.tt_span.specs.Interval.{Interval}
 use Rattle.tt_daemon.specs.Publication.{Publication}
 use Rattle.tt_publish.specs.Reading.{fused_span_of, CanBeReadAt, reading_at}
+use Rattle.tt_publish.specs.declared.readings.FusedSpan.{FusedSpan}
 
 -- publications that are known: the first ones of one source, oldest first
 pub record Known : Type 0 where
@@ -21,6 +23,10 @@ pub record WatchState : Type 0 where
 -- the last of a list, if it has one
 abbrev pub last_of : {A : Type 0} → List A → Option A
 last_of xs = last_or None xs
+
+-- what is read of the last publication of a list, if it has one
+abbrev pub last_read_of : List Publication → Option FusedSpan
+last_read_of items = option_map fused_span_of (last_of items)
 
 -- the clock of the publication is below that of the last one
 abbrev pub GoesBack : List Publication → Publication → Type 0

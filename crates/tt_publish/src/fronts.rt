@@ -1,13 +1,14 @@
 //! What is known of the publications: the last one, beside the history that it ends.
 //!
-//! The history has each publication, and exists in the proofs alone: in memory are the last publication and how many
-//! there are. So a front takes the same room however long the list is.
+//! The history has each publication, and exists in the proofs alone: in memory are what is read of the last publication
+//! and how many there are. So a front takes the same few bytes however long the list is.
 
-ghost use Rattle.std.specs.Prelude.{◌≡◌, ◌-◌, ◌<◌, ◌^◌, ◌++◌, ◌∷◌, [], ◌↔◌, length, IsTrue, IfSome, Some, None, MatchOption};
+ghost use Rattle.std.specs.Prelude.{◌≡◌, ◌-◌, ◌<◌, ◌^◌, ◌++◌, ◌∷◌, [], ◌↔◌, length, IsTrue, IfSome};
 ghost use mathlib.Core.List.{IsPrefix};
-ghost use Rattle.tt_publish.specs.Known.{last_of, GoesBack, IsLonger};
+ghost use Rattle.tt_publish.specs.Known.{last_read_of, GoesBack, IsLonger};
 ghost use Rattle.tt_publish.specs.History.{head_of};
 
+use crate::readings::FusedSpan;
 use logbook::{Gain, Offer, Plain, Play, Rule, Seen, Start, Word};
 use std::marker::{Model, PhantomData};
 use tt_daemon::Fused;
@@ -65,20 +66,20 @@ pub type Head = Word<Fused, u64, Law>;
 /// What is known of the publications of one source. Contracts see the source and the list of them, oldest first.
 #[derive(Drop)]
 pub struct Front {
-    last: Option<Fused>,
+    last: Option<FusedSpan>,
     number: u64,
     seen: Seen<Fused, u64, Law>,
 }
 
 impl Model for Front {
     ghost use Rattle.std.specs.Prelude.{◌≡◌, length};
-    ghost use Rattle.tt_publish.specs.Known.{Known, last_of};
+    ghost use Rattle.tt_publish.specs.Known.{Known, last_read_of};
 
     ghost Value = { Known };
 
     ghost view = { λ f. record { source = f.seen.book; items = f.seen.log } };
 
-    ghost invariant = { λ f. (f.number ≡ length f.seen.log) × (f.last ≡ last_of f.seen.log) };
+    ghost invariant = { λ f. (f.number ≡ length f.seen.log) × (f.last ≡ last_read_of f.seen.log) };
 }
 
 impl Front {
@@ -96,11 +97,11 @@ impl Front {
         (Word::tracked(0, &mut first), front)
     }
 
-    /// The last publication.
-    pub fn last(&self) -> Option<&Fused>
-        ensures { MatchOption result (last_of self.now.items ≡ None) (λ last. last_of self.now.items ≡ Some last.now) }
+    /// What is read of the last publication.
+    pub fn last(&self) -> Option<FusedSpan>
+        ensures { result ≡ last_read_of self.now.items }
     {
-        self.last.as_ref()
+        self.last
     }
 
     /// How many publications there are.
@@ -114,8 +115,8 @@ impl Front {
     pub fn goes_back(&self, next: &Fused) -> bool
         ensures { IsTrue result ↔ GoesBack self.now.items next.now }
     {
-        match &self.last {
-            Some(last) => next.clock() < last.clock(),
+        match self.last {
+            Some(last) => next.clock() < last.clock,
             None => false,
         }
     }
@@ -124,12 +125,8 @@ impl Front {
     pub fn copied(&self) -> Front
         ensures { result ≡ self.now }
     {
-        let last = match &self.last {
-            Some(last) => Some(last.copied()),
-            None => None,
-        };
         Front {
-            last,
+            last: self.last,
             number: self.number,
             seen: self.seen.again(),
         }
@@ -151,14 +148,14 @@ impl Front {
 
     /// What is known once a publication was added to the history. None where the history has gone on without this
     /// front.
-    pub fn extended(&self, head: &Head, next: Fused) -> Option<Front>
+    pub fn extended(&self, head: &Head, next: &Fused) -> Option<Front>
         requires source { head.now ≡ head_of self.now.source }
         requires room { length self.now.items < 2 ^ 64 - 1 }
-        ensures { IfSome result (λ front. front ≡ record self.now { items = self.now.items ++ next ∷ [] }) }
+        ensures { IfSome result (λ front. front ≡ record self.now { items = self.now.items ++ next.now ∷ [] }) }
     {
         let number = self.number;
         let mut seen = self.seen.again();
-        let mut offer: Offer<Fused, u64, Law, Nothing> = seen.plain::<Nothing, Fused, Add>(&next);
+        let mut offer: Offer<Fused, u64, Law, Nothing> = seen.plain::<Nothing, Fused, Add>(next);
         let mut pen = seen.no_pen();
         let found = head.compare_exchange::<Add, Nothing>(
             number,
@@ -171,7 +168,10 @@ impl Front {
             return None;
         }
         Some(Front {
-            last: Some(next),
+            last: Some(FusedSpan {
+                clock: next.clock(),
+                span: next.span(),
+            }),
             number: number + 1,
             seen,
         })

@@ -121,7 +121,7 @@ impl Teller {
         if self.front.number() == u64::MAX {
             return Err(PublishFault::UsedUp);
         }
-        let Some(next) = self.front.extended(&self.head, fused) else {
+        let Some(next) = self.front.extended(&self.head, &fused) else {
             return Err(PublishFault::Memory);
         };
         let (writer, shown) = show(rt, self.writer.take().unwrap(), &next);

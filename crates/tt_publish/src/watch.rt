@@ -10,7 +10,7 @@ ghost use Rattle.tt_publish.specs.Shown.{source_of};
 use crate::clocks::Clock;
 use crate::faults::ReadFault;
 use crate::fronts::Front;
-use crate::readings::{ReadAt, Reading};
+use crate::readings::Reading;
 use crate::shows::{FrontReader, look};
 use crate::teller::Told;
 use std::marker::Model;
