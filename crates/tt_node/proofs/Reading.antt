@@ -1,5 +1,5 @@
 -- What a release step and a begin step read.
-use Rattle.std.proofs.Common.{◌≡◌, ◌≤◌, ℕ, ◌↔◌, ◌∙◌, ap, refl, sym, List, [], Bool, Option, Some, None, Result, Ok, Err, IfOk}
+use Rattle.std.proofs.Common.{◌≡◌, ◌≤◌, ℕ, ◌↔◌, ◌∙◌, ap, refl, sym, List, [], Bool, Option, Some, None, Result, Ok, Err}
 use Rattle.std.specs.Prelude.{IsErrOf}
 use mathlib.Core.List.{IsPrefix}
 use Rattle.tt_stream.specs.Counts.{HasFailed}
