@@ -1,6 +1,6 @@
 -- Courses over devices that keep their lists.
-use Rattle.std.proofs.Common.{◌≡◌, ℕ, List, [], ◌∷◌, ◌++◌, Option, Result, refl, sym, ap, ◌∙◌, append_assoc, append-nil}
-use Rattle.tt_node.specs.Link.{Call, Gift, Exchange, gifts_in, sent_by, sends_in, ClockGives, LinkDoes}
+use Rattle.std.proofs.Common.{◌≡◌, ℕ, List, [], ◌∷◌, ◌++◌, Option, Result, sym, ap, ◌∙◌, append_assoc, append-nil}
+use Rattle.tt_node.specs.Link.{Exchange, gifts_in, sent_by, sends_in, ClockGives, LinkDoes}
 use Rattle.tt_node.specs.Course.{Stand, Part}
 use Rattle.tt_node.specs.Making.{Makes}
 use Rattle.tt_node.specs.Lists.{GivesInTurn, Line, MovesInTurn, IsCourse}

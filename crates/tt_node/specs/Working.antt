@@ -1,10 +1,17 @@
 -- The service of one worker.
-use Rattle.std.specs.Prelude.{◌≡◌, ℕ, List, [], ◌∷◌, ◌++◌, Option, Some, Ok, Err, IfOk, OnErr}
+use Rattle.std.specs.Prelude.{◌≡◌, ◌≢◌, ℕ, ◌⊎◌, List, [], ◌∷◌, ◌++◌, Bool, Option, Some, None, Result, Ok, Err, IfOk, IfErr, IsOk, OnErr}
 use mathlib.Core.List.{IsPrefix}
 use Rattle.tt_span.specs.Interval.{Interval, Holds}
-use Rattle.tt_publish.specs.Known.{WatchState, ReadsLast}
+use Rattle.tt_publish.specs.Fault.{read_number_of}
+use Rattle.tt_publish.specs.Known.{WatchState}
 use Rattle.tt_publish.specs.Looks.{Looks}
-use Rattle.tt_stamp.specs.Stamping.{SeatState, Gives}
+use Rattle.tt_publish.specs.declared.faults.ReadFault.{ReadFault}
+use Rattle.tt_stamp.specs.Fault.{number_of as stamp_number_of, book_number_of}
+use Rattle.tt_stamp.specs.Stamp.{IsTooFar, HasNoStamp, IsPastLease}
+use Rattle.tt_stamp.specs.Stamping.{SeatState, Gives, SeatLooks, stamps_of}
+use Rattle.tt_stamp.specs.declared.faults.StampFault.{StampFault}
+use Rattle.tt_stamp.specs.declared.faults.StampFault.TheVariants.{UsedUp, FloorTooFar, LeaseOver}
+use Rattle.tt_stamp.specs.declared.faults.BookFault.{BookFault}
 use Rattle.tt_audit.specs.declared.live.LiveNote.{LiveNote}
 use Rattle.tt_session.specs.declared.calls.Call.{Call}
 use Rattle.tt_session.specs.declared.calls.Call.TheVariants.{Now, Begin, Pass}
@@ -34,12 +41,45 @@ pub record HasRead {C : Type 0} (gives : C → Option ℕ → C → Type 0) (fai
   pub shown_last : gives later (Some last) after.clock
   pub noted : after.notes ≡ before.notes ++ record { before = first; after = last; reading = reading } ∷ []
 
--- a commit began with this stamp: by one reading on the watch, in this call, its seat gave the stamp, in the lease
-pub record HasBegun {C : Type 0} (gives : C → Option ℕ → C → Type 0) (before : WorkerState C) (floor stamp : ℕ) (after : WorkerState C) : Type 0 where
-  pub reading : Interval
-  pub reads : ReadsLast after.watch (λ c. gives before.clock (Some c) after.clock) reading
-  pub gave : Gives before.seat after.seat reading.hi floor before.lease stamp
-  pub in_lease : Holds before.lease stamp
+-- why no reading was given, by the number of the refusal
+pub data GivesNone {C : Type 0} (gives : C → Option ℕ → C → Type 0) (failed : C → ℕ) (before : WorkerState C) (number : ℕ) (after : WorkerState C) : Type 0 where
+  -- there was no room for the note, and nothing was done
+  NoRoom : number ≡ 1 → after ≡ before → GivesNone gives failed before number after
+  -- the clock failed just before the `now` on the watch, which was not called
+  FailedBefore : number ≡ 803 → gives before.clock None after.clock → after.watch ≡ before.watch → GivesNone gives failed before number after
+  -- the watch gave no reading
+  NotRead : (first : ℕ) (clock : C) (fault : ReadFault) → number ≡ read_number_of fault → gives before.clock (Some first) clock
+      → Looks gives failed before.watch clock (Err fault) after.watch after.clock → GivesNone gives failed before number after
+  -- the clock failed just after the watch gave its reading
+  FailedAfter : (first : ℕ) (clock later : C) (reading : Interval) → number ≡ 803 → gives before.clock (Some first) clock
+      → Looks gives failed before.watch clock (Ok reading) after.watch later → gives later None after.clock → GivesNone gives failed before number after
+
+-- one stamp of a seat, after a reading with this latest: it made of the seat `old` the seat `new`, and answered this
+abbrev pub Stamps : SeatState → ℕ → ℕ → Interval → Result ℕ StampFault → SeatState → Type 0
+Stamps old latest floor lease (Ok stamp) new = Gives old new latest floor lease stamp × Holds lease stamp
+Stamps old latest floor lease (Err FloorTooFar) new = IsTooFar latest floor × (new ≡ old)
+Stamps old latest floor lease (Err UsedUp) new = (¬ IsTooFar latest floor) × SeatLooks old new × HasNoStamp (stamps_of new.seen) latest floor lease
+Stamps old latest floor lease (Err LeaseOver) new = (¬ IsTooFar latest floor) × SeatLooks old new × IsPastLease (stamps_of new.seen) latest floor lease
+Stamps old latest floor lease (Err _) new = ⊥
+
+-- the stamp is the answer, or the number of a refusal of the book, which others change too; where there is no stamp, the number of its refusal
+abbrev pub AnswersStamp : Result ℕ StampFault → Result ℕ ℕ → Type 0
+AnswersStamp (Ok stamp) answer = (answer ≡ Ok stamp) ⊎ ((fault : BookFault) × (answer ≡ Err (book_number_of fault)))
+AnswersStamp (Err fault) answer = answer ≡ Err (stamp_number_of fault)
+
+-- the answer to a commit whose reading was taken, and to one whose reading was refused
+abbrev pub BeginsAt : SeatState → ℕ → Interval → Result Interval ReadFault → Result ℕ ℕ → SeatState → Type 0
+BeginsAt old floor lease (Ok reading) answer new = (stamped : Result ℕ StampFault) × Stamps old reading.hi floor lease stamped new × AnswersStamp stamped answer
+BeginsAt old floor lease (Err fault) answer new = (answer ≡ Err (read_number_of fault)) × (new ≡ old)
+
+-- a release step that took a reading is answered, by a book that others change too; one whose reading was refused, by the number of that
+abbrev pub PassesAt : Result Interval ReadFault → Result Bool ℕ → Type 0
+PassesAt (Ok reading) answer = IsOk answer
+PassesAt (Err fault) answer = answer ≡ Err (read_number_of fault)
+
+-- a call that begins with one `now` on the watch, and then does this with what it answered
+abbrev pub LooksThen : {C : Type 0} → (C → Option ℕ → C → Type 0) → (C → ℕ) → WorkerState C → (Result Interval ReadFault → Type 0) → WorkerState C → Type 0
+LooksThen gives failed before Then after = (looked : Result Interval ReadFault) × Looks gives failed before.watch before.clock looked after.watch after.clock × Then looked
 
 -- what a worker promises of each call of its service: where its gate never lets the call pass, it does nothing
 abbrev pub Allows : {C : Type 0} → (C → Option ℕ → C → Type 0) → (C → ℕ) → WorkerState C → Call → WorkerState C → Type 0
@@ -49,17 +89,18 @@ Allows gives failed before (Now answer) after = record {
   seat : after.seat ≡ before.seat;
   read : IfOk answer (λ reading. HasRead gives failed before reading after);
   unread : OnErr answer (after.notes ≡ before.notes);
+  refused : answer ≢ Err 1504 → IfErr answer (λ number. GivesNone gives failed before number after);
 }
 Allows gives failed before (Begin number floor answer) after = record {
   works : Works before after;
   closed : answer ≡ Err 1504 → after ≡ before;
   notes : after.notes ≡ before.notes;
-  begun : IfOk answer (λ stamp. HasBegun gives before floor stamp after);
+  begins : answer ≢ Err 1504 → LooksThen gives failed before (λ looked. BeginsAt before.seat floor before.lease looked answer after.seat) after;
 }
 Allows gives failed before (Pass number answer) after = record {
   works : Works before after;
   closed : answer ≡ Err 1504 → after ≡ before;
   seat : after.seat ≡ before.seat;
   notes : after.notes ≡ before.notes;
-  read : IfOk answer (λ _. (reading : Interval) × ReadsLast after.watch (λ c. gives before.clock (Some c) after.clock) reading);
+  passes : answer ≢ Err 1504 → LooksThen gives failed before (λ looked. PassesAt looked answer) after;
 }

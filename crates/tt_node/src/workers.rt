@@ -1,9 +1,7 @@
 //! The service of one worker of a running node.
 
 ghost use Rattle.std.specs.Prelude.{◌≡◌, [], Some, None, IfOk, IfErr, IsErrOf, OnErr};
-ghost use Rattle.tt_span.specs.Interval.{Interval};
-ghost use Rattle.tt_publish.specs.Known.{ReadsLast};
-ghost use Rattle.tt_node.specs.Working.{Works, HasRead, HasBegun, Allows};
+ghost use Rattle.tt_node.specs.Working.{Works, HasRead, GivesNone, LooksThen, BeginsAt, PassesAt, Allows};
 
 use crate::faults::NodeFault;
 use crate::gates::Gate;
@@ -127,6 +125,7 @@ impl<'a, R: Wait, C: Clock, G: Gate> Worker<'a, R, C, G> {
         ensures seat { self.new.seat ≡ self.old.seat }
         ensures read { IfOk result (λ reading. HasRead C.gives C.failed self.old reading self.new) }
         ensures unread { OnErr result (self.new.notes ≡ self.old.notes) }
+        ensures refused { IfErr result (λ number. GivesNone C.gives C.failed self.old number self.new) }
     {
         if self.notes.reserve(1).is_err() {
             return Err(NodeFault::Memory.number());
@@ -136,7 +135,10 @@ impl<'a, R: Wait, C: Clock, G: Gate> Worker<'a, R, C, G> {
             Ok(reading) => reading,
             Err(fault) => return Err(fault.number()),
         };
-        let after = show(&mut self.clock)?;
+        let after = match show(&mut self.clock) {
+            Ok(after) => after,
+            Err(number) => return Err(number),
+        };
         self.notes.push_reserved(LiveNote {
             before,
             after,
@@ -150,7 +152,7 @@ impl<'a, R: Wait, C: Clock, G: Gate> Worker<'a, R, C, G> {
         ensures works { Works self.old self.new }
         ensures open { ¬ IsErrOf result 1504 }
         ensures notes { self.new.notes ≡ self.old.notes }
-        ensures begun { IfOk result (λ stamp. HasBegun C.gives self.old floor stamp self.new) }
+        ensures begins { LooksThen C.gives C.failed self.old (λ looked. BeginsAt self.old.seat floor self.old.lease looked result self.new.seat) self.new }
     {
         let stamp = match begin_step(
             self.rt,
@@ -180,7 +182,7 @@ impl<'a, R: Wait, C: Clock, G: Gate> Worker<'a, R, C, G> {
         ensures open { ¬ IsErrOf result 1504 }
         ensures seat { self.new.seat ≡ self.old.seat }
         ensures notes { self.new.notes ≡ self.old.notes }
-        ensures read { IfOk result (λ _. (reading : Interval) × ReadsLast self.new.watch (λ c. C.gives self.old.clock (Some c) self.new.clock) reading) }
+        ensures passes { LooksThen C.gives C.failed self.old (λ looked. PassesAt looked result) self.new }
     {
         let id = Id {
             session: self.session,
