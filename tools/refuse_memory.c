@@ -7,6 +7,7 @@
 #include <stdatomic.h>
 #include <stddef.h>
 #include <stdlib.h>
+#include <sys/syscall.h>
 #include <unistd.h>
 
 extern void *__libc_malloc(size_t);
@@ -39,6 +40,13 @@ __attribute__((destructor)) static void end(void) {
     ssize_t written = write(file, digits + at, sizeof digits - at);
     (void)written;
     close(file);
+}
+
+/* A program with threads ends by this call, which runs no destructor. */
+void _exit(int status) {
+    end();
+    syscall(SYS_exit_group, status);
+    __builtin_unreachable();
 }
 
 static int is_refused(void) {
