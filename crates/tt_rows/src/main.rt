@@ -77,3 +77,8 @@ fn say<W: ByteWriter>(output: &mut W, call: Call, text: &str) -> Result<(), Devi
     write_all(output, b"\n")?;
     output.flush()
 }
+
+#[cfg(test)]
+mod fault_tests;
+#[cfg(test)]
+mod line_tests;
