@@ -1,12 +1,14 @@
-/* Refuses one allocation of the program that it is loaded into: the one whose number stands in REFUSE, counted from 1.
- * At the end it writes how many allocations there were to the file that COUNT names. It stands before the C library's
- * allocator by LD_PRELOAD, and hands every other call on to it. */
+/* Makes one call of the program that it is loaded into fail: the allocation, the read or the write whose number stands in
+ * REFUSE, FAIL_READ or FAIL_WRITE, counted from 1. Where SHORT is set, each read and write moves one byte. At the end it
+ * writes how many allocations there were to the file that COUNT names. It stands before the C library by LD_PRELOAD, and
+ * hands every other call on to it. */
 #define _GNU_SOURCE
 #include <errno.h>
 #include <fcntl.h>
 #include <stdatomic.h>
 #include <stddef.h>
 #include <stdlib.h>
+#include <sys/syscall.h>
 #include <unistd.h>
 
 extern void *__libc_malloc(size_t);
@@ -14,14 +16,21 @@ extern void *__libc_calloc(size_t, size_t);
 extern void *__libc_realloc(void *, size_t);
 extern void *__libc_memalign(size_t, size_t);
 
-static atomic_ulong calls;
-static unsigned long refused;
-static int begun;
+static atomic_ulong calls, reads, writes;
+static unsigned long refused, read_failed, write_failed;
+static int is_short, begun;
+
+static unsigned long number_in(const char *name) {
+    const char *text = getenv(name);
+    return text ? strtoul(text, NULL, 10) : 0;
+}
 
 /* Before main, and so behind the allocations of the loader, which are not counted. */
 __attribute__((constructor)) static void begin(void) {
-    const char *text = getenv("REFUSE");
-    refused = text ? strtoul(text, NULL, 10) : 0;
+    refused = number_in("REFUSE");
+    read_failed = number_in("FAIL_READ");
+    write_failed = number_in("FAIL_WRITE");
+    is_short = number_in("SHORT") != 0;
     begun = 1;
 }
 
@@ -39,6 +48,13 @@ __attribute__((destructor)) static void end(void) {
     ssize_t written = write(file, digits + at, sizeof digits - at);
     (void)written;
     close(file);
+}
+
+/* A program with threads ends by this call, which runs no destructor. */
+void _exit(int status) {
+    end();
+    syscall(SYS_exit_group, status);
+    __builtin_unreachable();
 }
 
 static int is_refused(void) {
@@ -71,4 +87,14 @@ int posix_memalign(void **place, size_t align, size_t size) {
     if (!found) return ENOMEM;
     *place = found;
     return 0;
+}
+
+ssize_t read(int file, void *place, size_t size) {
+    if (begun && ++reads == read_failed) { errno = EIO; return -1; }
+    return syscall(SYS_read, file, place, is_short && size > 1 ? 1 : size);
+}
+
+ssize_t write(int file, const void *bytes, size_t size) {
+    if (begun && ++writes == write_failed) { errno = EIO; return -1; }
+    return syscall(SYS_write, file, bytes, is_short && size > 1 ? 1 : size);
 }

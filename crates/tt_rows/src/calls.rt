@@ -1,0 +1,102 @@
+//! The calls that take memory.
+
+use crate::outcomes::Outcome;
+use crate::{commits, nodes, publications, texts, worlds};
+use std::alloc::Global;
+use std::sync::Wait;
+use std::thread::Threads;
+
+/// A call that takes memory.
+#[derive(Clone, Copy, Debug, PartialEq, Eq)]
+pub(crate) enum Call {
+    WriteText,
+    ReadScript,
+    Audit,
+    ReportText,
+    NewWorld,
+    Step,
+    Run,
+    Twin,
+    Open,
+    Publish,
+    DaemonRounds,
+    OpenSequencer,
+    Queue,
+    BeginAtDesk,
+    NowOfWorker,
+    BeginOfWorker,
+    RunNode,
+}
+
+/// All of them, in the order in which they are made.
+pub(crate) const CALLS: [Call; 17] = [
+    Call::WriteText,
+    Call::ReadScript,
+    Call::Audit,
+    Call::ReportText,
+    Call::NewWorld,
+    Call::Step,
+    Call::Run,
+    Call::Twin,
+    Call::Open,
+    Call::Publish,
+    Call::DaemonRounds,
+    Call::OpenSequencer,
+    Call::Queue,
+    Call::BeginAtDesk,
+    Call::NowOfWorker,
+    Call::BeginOfWorker,
+    Call::RunNode,
+];
+
+impl Call {
+    /// Its name.
+    pub(crate) fn name(self) -> &'static str {
+        match self {
+            Call::WriteText => "tt_cert::write_text",
+            Call::ReadScript => "tt_script::read",
+            Call::Audit => "tt_audit::audit",
+            Call::ReportText => "tt_audit::report_text",
+            Call::NewWorld => "tt_world::World::new",
+            Call::Step => "tt_world::World::step",
+            Call::Run => "tt_world::run",
+            Call::Twin => "tt_twin::twin",
+            Call::Open => "tt_publish::open",
+            Call::Publish => "tt_publish::Teller::publish",
+            Call::DaemonRounds => "tt_node::daemon_rounds",
+            Call::OpenSequencer => "tt_stamp::Sequencer::open",
+            Call::Queue => "tt_stamp::Book::queue",
+            Call::BeginAtDesk => "tt_session::Desk::begin",
+            Call::NowOfWorker => "tt_node::Worker::now",
+            Call::BeginOfWorker => "tt_node::Worker::begin",
+            Call::RunNode => "tt_node::run_node",
+        }
+    }
+
+    /// Makes it, and once more where it was refused for memory.
+    pub(crate) fn make<R: Threads + Wait + std::time::Clock + Sync>(
+        self,
+        rt: &R,
+        alloc: Global,
+    ) -> Outcome {
+        match self {
+            Call::WriteText => texts::certificate(alloc),
+            Call::ReadScript => texts::script(alloc),
+            Call::Audit => texts::audited(alloc),
+            Call::ReportText => texts::report(alloc),
+            Call::NewWorld => worlds::world(alloc),
+            Call::Step => worlds::steps(alloc),
+            Call::Run => worlds::whole_run(alloc),
+            Call::Twin => worlds::low_twin(alloc),
+            Call::Open => publications::opened(rt, alloc),
+            Call::Publish => publications::published(rt, alloc),
+            Call::DaemonRounds => publications::rounds(rt, alloc),
+            Call::OpenSequencer => commits::sequencer(rt, alloc),
+            Call::Queue => commits::book(alloc),
+            Call::BeginAtDesk => commits::desk(rt, alloc),
+            Call::NowOfWorker => commits::worker_now(rt, alloc),
+            Call::BeginOfWorker => commits::worker_begin(rt, alloc),
+            Call::RunNode => nodes::node(rt, alloc),
+        }
+    }
+}

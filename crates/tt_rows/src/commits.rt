@@ -1,0 +1,180 @@
+//! Stamps, books, and the services that begin commits.
+
+use crate::devices::OpenGate;
+use crate::outcomes::{MEMORY, Outcome};
+use crate::scenes;
+use std::alloc::Global;
+use std::sync::{Mutex, Wait};
+use tt_node::Worker;
+use tt_publish::{MemoryClock, Reading, Watch, open};
+use tt_session::{Desk, Service};
+use tt_span::{Drift, Span};
+use tt_stamp::{Book, BookFault, Id, Row, Sequencer};
+
+/// How many commits and readings there are, so that what is kept of them grows more than once.
+const MANY: u64 = 40;
+
+/// What the clocks show.
+const CLOCK: [u64; 400] = [0; 400];
+
+/// A watch that has seen the publication [100, 200], made at clock 0, and whose teller is closed.
+fn watch_of<R: Wait>(rt: &R, alloc: Global) -> Option<Watch> {
+    let (fused, drift) = (scenes::fused(100, 200)?, Drift::new(0)?);
+    let Ok((mut teller, mut watches)) = open(rt, alloc, drift, 1) else {
+        return None;
+    };
+    let published = teller.publish(rt, fused);
+    for watch in watches.iter_mut() {
+        let _ = watch.now(&mut MemoryClock::new(&[0], None));
+    }
+    teller.close(rt);
+    if published.is_err() {
+        return None;
+    }
+    watches.pop()
+}
+
+/// Opens a sequencer with two seats, of which the first stamps by the reading [100, 200].
+pub(crate) fn sequencer<R: Wait>(rt: &R, alloc: Global) -> Outcome {
+    match Outcome::at_once(open_sequencer(rt, alloc)) {
+        Some(outcome) => outcome,
+        None => Outcome::again(open_sequencer(rt, alloc)),
+    }
+}
+
+fn open_sequencer<R: Wait>(rt: &R, alloc: Global) -> Result<bool, u16> {
+    let (sequencer, mut seats) = match Sequencer::open(alloc, 2) {
+        Ok(opened) => opened,
+        Err(fault) => return Err(fault.number()),
+    };
+    let count = seats.len();
+    let Some(mut seat) = seats.pop() else {
+        return Ok(false);
+    };
+    let reading = Reading::of(scenes::span(100, 200));
+    let stamp = sequencer.stamp(rt, &mut seat, &reading, 0, &Span::whole());
+    Ok(count == 2 && stamp == Ok(200))
+}
+
+/// Queues many commits. One that is refused for memory leaves the book as it was, and is queued when it comes again.
+pub(crate) fn book(alloc: Global) -> Outcome {
+    let mut book = Book::new(alloc);
+    let mut was_refused = false;
+    for number in 0..MANY {
+        let id = Id { session: 0, number };
+        let (waiting, history) = (book.waiting(), book.history().len());
+        let mut queued = book.queue(id, number + 1);
+        if queued == Err(BookFault::Memory) {
+            was_refused = true;
+            if (book.waiting(), book.history().len()) != (waiting, history) {
+                return Outcome::Wrong;
+            }
+            queued = book.queue(id, number + 1);
+        }
+        if queued.is_err() {
+            return Outcome::Wrong;
+        }
+    }
+    // The stamps 1 to 40 are below 41.
+    let released = book.release(&Reading::of(scenes::span(41, 50)));
+    let is_as_worked = released == 40 && book.waiting() == 0 && book.history().len() == 80;
+    Outcome::of(is_as_worked, was_refused)
+}
+
+/// Begins many commits at a desk. One that is refused for memory leaves the book as it was and loses its stamp; when it
+/// comes again it has the next one.
+pub(crate) fn desk<R: Wait>(rt: &R, alloc: Global) -> Outcome {
+    let Some(watch) = watch_of(rt, alloc) else {
+        return Outcome::Unprepared;
+    };
+    let clock = MemoryClock::new(&CLOCK, None);
+    let mut desk = Desk::new(0, watch, clock, Row::new(), Book::new(alloc));
+    let mut was_refused = false;
+    for number in 1..MANY {
+        let history = desk.book().history().len();
+        let mut begun = desk.begin(number, 0);
+        if begun == Err(MEMORY) {
+            was_refused = true;
+            if desk.book().history().len() != history {
+                return Outcome::Wrong;
+            }
+            begun = desk.begin(number, 0);
+        }
+        if begun != Ok(199 + number + u64::from(was_refused)) {
+            return Outcome::Wrong;
+        }
+    }
+    Outcome::of(desk.book().waiting() == 39, was_refused)
+}
+
+/// Reads the time often as a worker. A reading that is refused for memory leaves no note, and is given when it is asked
+/// for again.
+pub(crate) fn worker_now<R: Wait>(rt: &R, alloc: Global) -> Outcome {
+    let Some(watch) = watch_of(rt, alloc) else {
+        return Outcome::Unprepared;
+    };
+    let Ok((sequencer, mut seats)) = Sequencer::open(alloc, 1) else {
+        return Outcome::Unprepared;
+    };
+    let Some(seat) = seats.pop() else {
+        return Outcome::Wrong;
+    };
+    let (book, gate) = (Mutex::new(Book::new(alloc)), OpenGate);
+    let clock = MemoryClock::new(&CLOCK, None);
+    let lease = Span::whole();
+    let mut worker = Worker::new(
+        rt, alloc, 0, watch, clock, seat, &sequencer, &book, &gate, lease,
+    );
+    let mut was_refused = false;
+    for _ in 0..MANY {
+        let notes = worker.notes().len();
+        let mut read = worker.now();
+        if read.is_err() {
+            was_refused = read == Err(MEMORY);
+            if worker.notes().len() != notes || !was_refused {
+                return Outcome::Wrong;
+            }
+            read = worker.now();
+        }
+        if read != Ok(Reading::of(scenes::span(100, 200))) {
+            return Outcome::Wrong;
+        }
+    }
+    Outcome::of(worker.notes().len() == 40, was_refused)
+}
+
+/// Begins many commits as a worker, as at a desk.
+pub(crate) fn worker_begin<R: Wait>(rt: &R, alloc: Global) -> Outcome {
+    let Some(watch) = watch_of(rt, alloc) else {
+        return Outcome::Unprepared;
+    };
+    let Ok((sequencer, mut seats)) = Sequencer::open(alloc, 1) else {
+        return Outcome::Unprepared;
+    };
+    let Some(seat) = seats.pop() else {
+        return Outcome::Wrong;
+    };
+    let (book, gate) = (Mutex::new(Book::new(alloc)), OpenGate);
+    let clock = MemoryClock::new(&CLOCK, None);
+    let lease = Span::whole();
+    let mut worker = Worker::new(
+        rt, alloc, 0, watch, clock, seat, &sequencer, &book, &gate, lease,
+    );
+    let mut was_refused = false;
+    for number in 1..MANY {
+        let history = book.lock(rt).history().len();
+        let mut begun = worker.begin(number, 0);
+        if begun == Err(MEMORY) {
+            was_refused = true;
+            if book.lock(rt).history().len() != history {
+                return Outcome::Wrong;
+            }
+            begun = worker.begin(number, 0);
+        }
+        if begun != Ok(199 + number + u64::from(was_refused)) {
+            return Outcome::Wrong;
+        }
+    }
+    let waiting = book.lock(rt).waiting();
+    Outcome::of(waiting == 39, was_refused)
+}

@@ -1,0 +1,188 @@
+//! Links, gates and writers in memory, which take no memory of their own.
+
+ghost use Rattle.std.specs.Prelude.{◌≡◌, true, None};
+
+use arrayvec::ArrayVec;
+use std::sync::atomic::{AtomicU64, Ordering};
+use std::sync::{Mutex, Wait};
+use std::thread;
+use std::time::Duration;
+use tt_master::{Act, Master, MemoryReference};
+use tt_node::{Gate, Link, LinkFault, PACKET_LEN};
+use tt_poll::ANSWER2_LEN;
+use tt_stream::{ByteWriter, DeviceFault};
+
+/// How long a gate pauses where it says no, in microseconds.
+const PAUSE: u64 = 200;
+
+/// A gate that lets every call pass.
+#[derive(Drop)]
+pub(crate) struct OpenGate;
+
+impl Gate for OpenGate {
+    fn may_pass(&self, _worker: u32, _call: u64) -> bool {
+        true
+    }
+
+    fn answered(&self, _worker: u32, _call: u64) {}
+}
+
+/// A packet's bytes in front of zeros.
+pub(crate) fn in_front(packet: &[u8]) -> [u8; PACKET_LEN] {
+    let mut bytes = [0; PACKET_LEN];
+    for (place, byte) in packet.iter().enumerate() {
+        if place < PACKET_LEN {
+            bytes[place] = *byte;
+        }
+    }
+    bytes
+}
+
+/// A link with one honest master on its other side, that is source 0. Its call number `fails_at`, counted from 1,
+/// fails.
+#[derive(Drop)]
+pub(crate) struct MasterLink<'a> {
+    master: Master<MemoryReference<'a>>,
+    answers: ArrayVec<[u8; PACKET_LEN], 8>,
+    fails_at: Option<u64>,
+    calls: u64,
+    failures: u64,
+}
+
+impl<'a> MasterLink<'a> {
+    /// The link to a master of no uncertainty, whose reference gives these times.
+    pub(crate) fn new(times: &'a [u64], fails_at: Option<u64>) -> Self {
+        MasterLink {
+            master: Master::new(0, 0, MemoryReference::new(times, None)),
+            answers: ArrayVec::new(),
+            fails_at,
+            calls: 0,
+            failures: 0,
+        }
+    }
+
+    /// Counts a call: whether it is the one that fails.
+    fn fails(&mut self) -> bool
+        ensures { self.new.failures ≡ self.old.failures }
+    {
+        self.calls = self.calls.saturating_add(1);
+        self.fails_at == Some(self.calls)
+    }
+}
+
+impl<'a> Link for MasterLink<'a> {
+    ghost does = { λ _ _ _ _. Unit {0} };
+
+    ghost failed = { λ link. link.failures };
+
+    fn send(&mut self, _peer: u8, bytes: &[u8]) -> Result<(), LinkFault> {
+        if self.fails() {
+            self.failures = self.failures.saturating_add(1);
+            return Err(LinkFault::Failed);
+        }
+        if let Ok(Some(packet)) = self.master.play2(Act::Honest, bytes) {
+            if !self.answers.is_full() {
+                self.answers.push(in_front(&packet));
+            }
+        }
+        Ok(())
+    }
+
+    fn receive(&mut self, buffer: &mut [u8; PACKET_LEN]) -> Result<Option<(u8, usize)>, LinkFault> {
+        if self.fails() {
+            self.failures = self.failures.saturating_add(1);
+            return Err(LinkFault::Failed);
+        }
+        let Some(packet) = self.answers.pop() else {
+            return Ok(None);
+        };
+        *buffer = packet;
+        Ok(Some((0, ANSWER2_LEN)))
+    }
+
+    fn failures(&self) -> u64 {
+        self.failures
+    }
+}
+
+/// A link that counts the requests that it sends, for the gate of a node.
+#[derive(Drop)]
+pub(crate) struct CountedLink<'a> {
+    pub(crate) sent: &'a AtomicU64,
+    pub(crate) link: MasterLink<'a>,
+}
+
+impl<'a> Link for CountedLink<'a> {
+    ghost does = { λ _ _ _ _. Unit {0} };
+
+    ghost failed = { λ link. link.link.failures };
+
+    fn send(&mut self, peer: u8, bytes: &[u8]) -> Result<(), LinkFault> {
+        let sent = self.link.send(peer, bytes);
+        self.sent.fetch_add(1, Ordering::SeqCst);
+        sent
+    }
+
+    fn receive(&mut self, buffer: &mut [u8; PACKET_LEN]) -> Result<Option<(u8, usize)>, LinkFault> {
+        self.link.receive(buffer)
+    }
+
+    fn failures(&self) -> u64 {
+        self.link.failures()
+    }
+}
+
+/// A gate that lets calls pass once two requests were sent: then what the first one asked is published.
+#[derive(Drop)]
+pub(crate) struct SecondRoundGate<'a, R> {
+    pub(crate) rt: &'a R,
+    pub(crate) sent: &'a AtomicU64,
+}
+
+impl<'a, R: std::time::Clock> Gate for SecondRoundGate<'a, R> {
+    fn may_pass(&self, _worker: u32, _call: u64) -> bool {
+        let is_open = self.sent.load(Ordering::SeqCst) > 1;
+        if !is_open {
+            thread::sleep(self.rt, Duration::from_micros(PAUSE));
+        }
+        is_open
+    }
+
+    fn answered(&self, _worker: u32, _call: u64) {}
+}
+
+/// What a session writes.
+pub(crate) type Page = Mutex<ArrayVec<u8, 256>>;
+
+/// A writer on a page that others can read.
+#[derive(Drop)]
+pub(crate) struct PageWriter<'a, R> {
+    pub(crate) rt: &'a R,
+    pub(crate) page: &'a Page,
+}
+
+impl<'a, R: Wait> ByteWriter for PageWriter<'a, R> {
+    ghost taken = { λ _. None };
+
+    ghost failed = { λ _. 0 };
+
+    ghost flushed = { λ _. true };
+
+    fn write(&mut self, bytes: &[u8]) -> Result<usize, DeviceFault> {
+        let mut page = self.page.lock(self.rt);
+        for byte in bytes {
+            if !page.is_full() {
+                page.push(*byte);
+            }
+        }
+        Ok(bytes.len())
+    }
+
+    fn flush(&mut self) -> Result<(), DeviceFault> {
+        Ok(())
+    }
+
+    fn failures(&self) -> u64 {
+        0
+    }
+}

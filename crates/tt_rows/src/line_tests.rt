@@ -1,0 +1,73 @@
+//! Lines of a session that are changed at each byte, and one of a megabyte.
+
+use std::alloc::Global;
+use std::test::Fail;
+use tt_publish::Reading;
+use tt_session::{ServeFault, Served, Service, Turns, serve};
+use tt_stream::{MemoryReader, MemoryWriter};
+
+/// A service that refuses everything, since nothing was published.
+#[derive(Drop)]
+struct Closed;
+
+impl Service for Closed {
+    ghost allows = { λ _ _ _. Unit {0} };
+
+    fn now(&mut self) -> Result<Reading, u16> {
+        Err(801)
+    }
+
+    fn begin(&mut self, _number: u64, _floor: u64) -> Result<u64, u16> {
+        Err(801)
+    }
+
+    fn pass(&mut self, _number: u64) -> Result<bool, u16> {
+        Err(801)
+    }
+}
+
+/// What `serve` did with the input, and what was written.
+fn talk(alloc: Global, input: &[u8]) -> (Result<Served, ServeFault>, MemoryWriter) {
+    let mut reader = MemoryReader::new(input, 512, None);
+    let mut writer = MemoryWriter::new(alloc, 512, None);
+    let turns = Turns {
+        reads: 10_000,
+        waits: 0,
+    };
+    let served = serve(&mut reader, &mut writer, &mut Closed, turns);
+    (served, writer)
+}
+
+const LINE: [u8; 11] = *b"commit 1 0\n";
+
+#[test]
+fn each_changed_line_is_refused_by_a_number(rt: HostRuntime) -> Result<(), Fail> {
+    let mut input = Vec::new(rt.alloc());
+    for place in 0..10 {
+        for value in 0..=255 {
+            let mut line = LINE;
+            if let Some(byte) = line.get_mut(place) {
+                *byte = value;
+            }
+            input.extend_from_slice(&line)?;
+        }
+    }
+    let (served, writer) = talk(rt.alloc(), &input);
+    // A line feed makes two lines of one. Requests are the line itself, ten times, the numbers 0 and 2 to 9, and the
+    // floors 1 to 9: these are refused by 801, and all others by 1101.
+    let (lines, refused) = (2570, 2570);
+    assert_eq!(rt; served, Ok(Served { lines, refused }));
+    assert_eq!(rt; writer.taken().len(), 28 * 12 + 2542 * 13);
+    Ok(())
+}
+
+#[test]
+fn a_line_of_a_megabyte_is_refused_once(rt: HostRuntime) -> Result<(), Fail> {
+    let mut input = vec![in rt.alloc(); b'a'; 1_048_576]?;
+    input.extend_from_slice(b"\nnow\n")?;
+    let (served, writer) = talk(rt.alloc(), &input);
+    let (lines, refused) = (2, 2);
+    assert_eq!(rt; served, Ok(Served { lines, refused }));
+    assert_eq!(rt; writer.taken(), b"refused 1102\nrefused 801\n".as_slice());
+    Ok(())
+}

@@ -1,0 +1,156 @@
+//! Texts that are written and read.
+
+use crate::outcomes::Outcome;
+use crate::scenes;
+use std::alloc::Global;
+use tt_audit::{Report, audit, report_text};
+use tt_cert::{certify, write_text};
+use tt_daemon::Config;
+use tt_fuse::fuse;
+use tt_script::read;
+use tt_span::Span;
+use tt_world::{Action, Event, run};
+
+/// The certificate of [0, 10], [5, 15] and [12, 20], of which one may be wrong.
+const CERTIFICATE: &str =
+    "claim 5 15\nleft 0 1\nright 1 2\nbelow 0 4 1\nabove 16 20 1\nabove 21 4000000000000000000 0\n";
+
+/// One machine asks its one source, fuses the answer and reads the time.
+const SCRIPT: &str = "event = [
+  { do = \"send\", at = 150, machine = 0, source = 0, clock = 0 },
+  { do = \"answer\", at = 150, packet = 0, lo = 100, hi = 200 },
+  { do = \"forge\", at = 150, machine = 0, source = 0, bytes = \"ff00ff\" },
+  { do = \"deliver\", at = 150, packet = 1, clock = 0 },
+  { do = \"fuse\", at = 150, machine = 0, clock = 7 },
+]
+
+[[machine]]
+sources = 1
+faulty = 0
+workers = 2
+
+[live]
+base = 5
+rounds = 1
+turns = 2
+sessions = [[\"now\"], [\"now\", \"commit 1 0\"]]
+
+[[live.masters]]
+uncertainty = 1000
+acts = [\"honest\", \"ahead 7\"]
+";
+
+/// The report on one liar of three.
+const REPORT: &str =
+    "events 11\nrefused 0\nfusions 1\nreadings 1\nwrong 0\nreleased 0\nviolations 0\nsuspect 0 1 2\npremise kept\n";
+
+/// Writes the certificate.
+pub(crate) fn certificate(alloc: Global) -> Outcome {
+    match Outcome::at_once(write_certificate(alloc)) {
+        Some(outcome) => outcome,
+        None => Outcome::again(write_certificate(alloc)),
+    }
+}
+
+fn write_certificate(alloc: Global) -> Result<bool, u16> {
+    let spans = [
+        scenes::span(0, 10),
+        scenes::span(5, 15),
+        scenes::span(12, 20),
+    ];
+    let spans: &[Span] = &spans;
+    let claim = match fuse(spans, 1) {
+        Ok(claim) => claim,
+        Err(fault) => return Err(fault.number()),
+    };
+    let certificate = certify(spans, 1, &claim);
+    match write_text(alloc, &claim, &certificate) {
+        Ok(text) => Ok(text.as_str() == CERTIFICATE),
+        Err(fault) => Err(fault.number()),
+    }
+}
+
+/// Reads the script.
+pub(crate) fn script(alloc: Global) -> Outcome {
+    match Outcome::at_once(read_script(alloc)) {
+        Some(outcome) => outcome,
+        None => Outcome::again(read_script(alloc)),
+    }
+}
+
+fn read_script(alloc: Global) -> Result<bool, u16> {
+    let script = match read(alloc, SCRIPT) {
+        Ok(script) => script,
+        Err(fault) => return Err(fault.number()),
+    };
+    let is_last = match script.to_events().last() {
+        Some(event) => event.at == 150
+            && matches!(
+                event.action,
+                Action::Fuse {
+                    machine: 0,
+                    clock: 7
+                }
+            ),
+        None => false,
+    };
+    let counts = (script.configs().len(), script.to_events().len());
+    Ok(counts == (1, 5) && is_last && script.live().is_some())
+}
+
+/// Reports on one liar of three.
+pub(crate) fn audited(alloc: Global) -> Outcome {
+    let Some(config) = scenes::machine(3, 1) else {
+        return Outcome::Wrong;
+    };
+    let (configs, events) = ([config], scenes::one_liar());
+    let (configs, events): (&[Config], &[Event]) = (&configs, &events);
+    let Ok(trace) = run(alloc, configs, events) else {
+        return Outcome::Unprepared;
+    };
+    let mut was_refused = false;
+    for _ in 0..2 {
+        match audit(alloc, configs, events, &trace) {
+            Ok(report) => return Outcome::of(is_as_worked(&report), was_refused),
+            Err(_) => was_refused = true,
+        }
+    }
+    Outcome::Wrong
+}
+
+fn is_as_worked(report: &Report) -> bool {
+    let counts = (
+        report.events,
+        report.refused,
+        report.fusions,
+        report.readings,
+    );
+    let suspects = report.suspects.as_slice();
+    counts == (11, 0, 1, 1)
+        && (report.wrong, report.released, report.violations) == (0, 0, 0)
+        && suspects.len() == 1
+        && report.broken.is_none()
+}
+
+/// Writes the report on one liar of three.
+pub(crate) fn report(alloc: Global) -> Outcome {
+    let Some(config) = scenes::machine(3, 1) else {
+        return Outcome::Wrong;
+    };
+    let (configs, events) = ([config], scenes::one_liar());
+    let (configs, events): (&[Config], &[Event]) = (&configs, &events);
+    let Ok(trace) = run(alloc, configs, events) else {
+        return Outcome::Unprepared;
+    };
+    let Ok(report) = audit(alloc, configs, events, &trace) else {
+        return Outcome::Unprepared;
+    };
+    let mut was_refused = false;
+    for _ in 0..2 {
+        match report_text(alloc, &report) {
+            Ok(text) => return Outcome::of(text.as_str() == REPORT, was_refused),
+            Err(_) => was_refused = true,
+        }
+    }
+    Outcome::Wrong
+}

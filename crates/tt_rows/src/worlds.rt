@@ -1,0 +1,108 @@
+//! Runs, event by event and whole, and the twin of a reading.
+
+use crate::outcomes::Outcome;
+use crate::scenes::{self, COMMIT_REPLIES, Said, said_of};
+use std::alloc::Global;
+use tt_daemon::Config;
+use tt_twin::{Side, twin};
+use tt_world::{Event, Reply, World, WorldFault, run};
+
+/// The two machines of the run of two commits.
+fn machines() -> Option<[Config; 2]> {
+    Some([scenes::machine(1, 0)?, scenes::machine(1, 0)?])
+}
+
+/// Makes a world of two machines.
+pub(crate) fn world(alloc: Global) -> Outcome {
+    match Outcome::at_once(make_world(alloc)) {
+        Some(outcome) => outcome,
+        None => Outcome::again(make_world(alloc)),
+    }
+}
+
+/// Whether a world was made that sends its first packet as packet 0, unless that is refused.
+fn make_world(alloc: Global) -> Result<bool, u16> {
+    let Some(configs) = machines() else {
+        return Ok(false);
+    };
+    match World::new(alloc, &configs) {
+        Ok(world) => Ok(!world.is_known(0, 0)),
+        Err(fault) => Err(fault.number()),
+    }
+}
+
+/// Does the run of two commits event by event. An event that is refused for memory comes again: the replies to it and
+/// to all after it are the worked ones, as the world was left as it was.
+pub(crate) fn steps(alloc: Global) -> Outcome {
+    let Some(configs) = machines() else {
+        return Outcome::Wrong;
+    };
+    let Ok(mut world) = World::new(alloc, &configs) else {
+        return Outcome::Unprepared;
+    };
+    let mut was_refused = false;
+    for (event, wanted) in scenes::commits().iter().zip(&COMMIT_REPLIES) {
+        let reply = match world.step(event) {
+            Err(WorldFault::Memory) => {
+                was_refused = true;
+                world.step(event)
+            }
+            replied => replied,
+        };
+        match reply {
+            Ok(reply) if said_of(&reply) == *wanted => {}
+            _ => return Outcome::Wrong,
+        }
+    }
+    Outcome::of(true, was_refused)
+}
+
+/// Does the run of two commits whole.
+pub(crate) fn whole_run(alloc: Global) -> Outcome {
+    match Outcome::at_once(run_commits(alloc)) {
+        Some(outcome) => outcome,
+        None => Outcome::again(run_commits(alloc)),
+    }
+}
+
+fn run_commits(alloc: Global) -> Result<bool, u16> {
+    let Some(configs) = machines() else {
+        return Ok(false);
+    };
+    match run(alloc, &configs, &scenes::commits()) {
+        Ok(trace) => Ok(are_as_worked(trace.replies()) && trace.shown().len() == 2),
+        Err(fault) => Err(fault.number()),
+    }
+}
+
+/// Whether these are the replies to the run of two commits.
+fn are_as_worked(replies: &[Reply]) -> bool {
+    let mut are = replies.len() == COMMIT_REPLIES.len();
+    for (reply, wanted) in replies.iter().zip(&COMMIT_REPLIES) {
+        are = are && said_of(reply) == *wanted;
+    }
+    are
+}
+
+/// Makes the twin of the reading of one liar of three, [45, 55], at its low end.
+pub(crate) fn low_twin(alloc: Global) -> Outcome {
+    match Outcome::at_once(make_twin(alloc)) {
+        Some(outcome) => outcome,
+        None => Outcome::again(make_twin(alloc)),
+    }
+}
+
+fn make_twin(alloc: Global) -> Result<bool, u16> {
+    let Some(config) = scenes::machine(3, 1) else {
+        return Ok(false);
+    };
+    match twin(alloc, &[config], &scenes::one_liar(), 10, Side::Low) {
+        Ok(events) => Ok(are_at(&events, 45)),
+        Err(fault) => Err(fault.number()),
+    }
+}
+
+/// Whether these are eleven events at this true time.
+fn are_at(events: &[Event], time: u64) -> bool {
+    events.len() == 11 && events.iter().all(|event| event.at == time)
+}
