@@ -2,6 +2,7 @@ pub mod Writing
 pub mod Replies
 pub mod Scripted
 pub mod Twinned
+pub mod Pictured
 pub mod Lines
 pub mod Suspects
 pub mod Checking

@@ -18,6 +18,7 @@ use Rattle.ttd.specs.Fuse.{IsFuseReply}
 use Rattle.ttd.specs.Check.{IsCheckReply}
 use Rattle.ttd.specs.Running.{IsRunReply}
 use Rattle.ttd.specs.Twinning.{IsTwinReply}
+use Rattle.ttd.specs.Picturing.{IsPictureReply}
 
 -- The reply is what the command answers to an input of allowed length.
 abbrev pub IsCommandReply : Command → List ℕ → Result Answer Fault → Type 0
@@ -26,7 +27,7 @@ IsCommandReply Fuse input = EndsFine (IsFuseReply input)
 IsCommandReply Check input = EndsFine (IsCheckReply input)
 IsCommandReply RunScript input = IsRunReply input
 IsCommandReply (Twin event side) input = IsTwinReply event side input
-IsCommandReply Picture input = λ reply. reply ≡ Err BadWords
+IsCommandReply Picture input = IsPictureReply input
 IsCommandReply Live input = λ reply. reply ≡ Err BadWords
 
 -- The reply is what the command answers to any input: one that is too long is rejected before anything else is looked at.

@@ -8,4 +8,5 @@ pub mod Fuse
 pub mod Check
 pub mod Running
 pub mod Twinning
+pub mod Picturing
 pub mod Command

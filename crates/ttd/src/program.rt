@@ -17,6 +17,7 @@ use crate::faults::Fault;
 use crate::fuse::fuse_text;
 use crate::input::read_input;
 use crate::output::give;
+use crate::picturing::picture_reply;
 use crate::running::run_reply;
 use crate::twinning::twin_reply;
 use std::alloc::Global;
@@ -58,7 +59,8 @@ fn reply_to(alloc: Global, command: Command, input: &[u8]) -> Result<Reply, Faul
         Command::Check => fine(check_text(alloc, input)),
         Command::Run => run_reply(alloc, input),
         Command::Twin { event, side } => twin_reply(alloc, event, side, input),
-        Command::Picture | Command::Live => Err(Fault::BadWords),
+        Command::Picture => picture_reply(alloc, input),
+        Command::Live => Err(Fault::BadWords),
     }
 }
 
@@ -142,7 +144,8 @@ pub(crate) fn answer_with<R: ByteReader, W: ByteWriter>(
 /// text, with its canonical certificate and its suspects. `check` writes `valid` where the certificate behind the spans proves its claim.
 /// `run` writes the report on the run of the script that the input gives. `twin --event K --side low` (or `high`) writes the events of the
 /// twin of the reading of event K in that run, and that reading with the true time at the twin's end. Each ends with [`Status::Fine`] then, but a report ends with
-/// [`Status::Broken`] where the run did not keep the assumptions. `--help` writes the help.
+/// [`Status::Broken`] where the run did not keep the assumptions. `picture` writes the run of the script that the input gives as a
+/// document in SVG, and ends with [`Status::Fine`] whether the run kept the assumptions or not. `--help` writes the help.
 ///
 /// Each refusal is the one line `refused N`, with [`Status::Bad`], of the first number that applies: 1601 bad words, before any read; 1603
 /// more than 1,048,576 bytes of input; and then those of the command.
@@ -153,6 +156,7 @@ pub(crate) fn answer_with<R: ByteReader, W: ByteWriter>(
 /// - `check`: 1603 no spans text before the first line that begins with `claim`; 606 no certificate text from there on; 501 to 503 as
 ///   `fuse`; 601 to 605 a certificate that proves nothing.
 /// - `run`: 1603 no UTF-8; 1301 to 1305 no script.
+/// - `picture`: as `run`.
 /// - `twin`: as `run`, then 1401 no reading at event K, 1402 that end of it lies past the greatest time.
 ///
 /// [`Status::Device`] comes only where a device failed: the reader, which is told by `refused 1604`, or the writer (1605), which has then

@@ -554,6 +554,35 @@ const THREE_SOURCES: [&str; 15] = [
     "]",
 ];
 
+// The run breaks no assumption, and the band of its last reading, [5004, 5016] at 5008, goes up over the whole half of the lane,
+// which is 8 nanoseconds, and down over half of it.
+#[test]
+fn draws_a_run(rt: HostRuntime) -> Result<(), Fail> {
+    let alloc = rt.alloc();
+    let input = lines_of(alloc, &THREE_SOURCES)?;
+    let mut reader = MemoryReader::new(input.as_bytes(), 4096, None);
+    let mut writer = MemoryWriter::new(alloc, 4096, None);
+    assert_eq!(rt;
+        main_with(alloc, &["picture"], &mut reader, &mut writer),
+        Status::Fine
+    );
+    assert!(rt; writer.taken().starts_with(b"<svg "));
+    assert!(rt;
+        writer.taken().ends_with(
+            b"<g class=\"reading\">\n<title>machine 0 reads 5004 to 5016 at 5008</title>\n<rect x=\"1098\" y=\"81\" width=\"5\" height=\"78\"></rect>\n</g>\n</svg>\n"
+        )
+    );
+    Ok(())
+}
+
+#[test]
+fn picture_refuses_what_is_no_script(rt: HostRuntime) {
+    let alloc = rt.alloc();
+    assert!(rt; refuses(alloc, &["picture"], b"machine = \xff", "refused 1603\n"));
+    assert!(rt; refuses(alloc, &["picture"], b"machine", "refused 1301\n"));
+    assert!(rt; refuses(alloc, &["picture"], b"", "refused 1302\n"));
+}
+
 // Whether `twin` of this event on this side answers the script so.
 fn twins(
     alloc: Global,

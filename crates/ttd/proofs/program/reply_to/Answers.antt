@@ -11,3 +11,7 @@ returns-in-Run-clause-value c =
 pub returns-in-Twin-clause-value : goal.returns-in-Twin-clause-value
 returns-in-Twin-clause-value c =
     subst (λ (command : Command). HasReply answer_in (IsCommandReply command c.args.input.now) c.twin_reply.result) (sym c.in-Twin.is) c.twin_reply.ensures.value
+
+pub returns-in-Picture-clause-value : goal.returns-in-Picture-clause-value
+returns-in-Picture-clause-value c =
+    subst (λ (command : Command). HasReply answer_in (IsCommandReply command c.args.input.now) c.picture_reply.result) (sym c.in-Picture.is) c.picture_reply.ensures.value

@@ -1,0 +1,6 @@
+mod Ranging
+mod Seeking
+mod Appending
+mod Whole
+mod Readings
+mod WellFormed
