@@ -5,3 +5,4 @@ pub mod Twinned
 pub mod Lines
 pub mod Suspects
 pub mod Checking
+pub mod Lived

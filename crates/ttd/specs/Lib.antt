@@ -9,3 +9,4 @@ pub mod Check
 pub mod Running
 pub mod Twinning
 pub mod Command
+pub mod Living
