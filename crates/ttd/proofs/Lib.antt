@@ -6,3 +6,4 @@ pub mod Pictured
 pub mod Lines
 pub mod Suspects
 pub mod Checking
+pub mod Lived

@@ -10,3 +10,4 @@ pub mod Running
 pub mod Twinning
 pub mod Picturing
 pub mod Command
+pub mod Living

@@ -8,12 +8,17 @@ ghost use Rattle.ttd.specs.Run.{IsWritten, memory_answer, output_at};
 
 use crate::ending::{Ended, Status};
 use crate::faults::Fault;
+use crate::living::{LIVE, LiveEnded, LiveRefusal, answer_live, give_live};
 use crate::output::give;
 use crate::program::answer_with;
 use std::alloc::{AllocError, Global};
 use std::env;
 use std::io::{self, ErrorKind};
+use std::net::{Net, TcpListener, TcpStream};
 use std::rt::Env;
+use std::sync::Wait;
+use std::thread::Threads;
+use std::time::Clock;
 use tt_stream::{ByteReader, ByteWriter};
 
 /// The words after the program's name.
@@ -55,5 +60,35 @@ pub(crate) fn main_from<R: ByteReader, W: ByteWriter>(
             give(rt.alloc(), output, Err(Fault::Memory))
         }
         Err(_) => answer_with(rt.alloc(), &[], input, output),
+    }
+}
+
+/// Whether the first word that the program was started with asks for `live`.
+pub(crate) fn asks_live(rt: &(impl Env + AllocGlobal)) -> bool {
+    match words_given(rt) {
+        Ok(words) => words.first().is_some_and(|word| word.as_str() == LIVE),
+        Err(_) => false,
+    }
+}
+
+/// Runs the command `live` with the words that the program was started with, the first of which is `live`.
+pub(crate) fn live_from<
+    H: Env
+        + AllocGlobal
+        + Threads
+        + Wait
+        + Clock
+        + Sync
+        + Net<Listener = TcpListener, Stream = TcpStream>,
+    R: ByteReader,
+    W: ByteWriter,
+>(rt: &H, input: &mut R, output: &mut W) -> LiveEnded {
+    let memory = Err(LiveRefusal::Program(Fault::Memory));
+    let Ok(words) = words_given(rt) else {
+        return give_live(rt.alloc(), output, memory);
+    };
+    match as_texts(rt.alloc(), words.as_slice()) {
+        Ok(texts) => answer_live(rt, rt.alloc(), texts.as_slice(), input, output),
+        Err(AllocError) => give_live(rt.alloc(), output, memory),
     }
 }

@@ -26,7 +26,7 @@ fn write<W: ByteWriter>(output: &mut W, bytes: &[u8]) -> Result<(), DeviceFault>
 }
 
 /// Writes a text, after which the program ends with `status`, unless the writer fails.
-fn end_with<W: ByteWriter>(output: &mut W, text: &str, status: Status) -> Status
+pub(crate) fn end_with<W: ByteWriter>(output: &mut W, text: &str, status: Status) -> Status
     ensures { Gives (record { text = text.now; status = status }) (output_at (W.taken output.old) (W.failed output.old) (W.flushed output.old))
         (output_at (W.taken output.new) (W.failed output.new) (W.flushed output.new)) result }
 {

@@ -1,0 +1,4 @@
+pub mod Fault
+pub mod Plan
+pub mod Notes
+pub mod Replies

@@ -1,0 +1,105 @@
+//! The clock of a run.
+
+ghost use Rattle.std.specs.Prelude.{◌≡◌, ◌+◌, ◌<◌, ◌≤◌, None, IfSome, OnSome};
+ghost use Rattle.std.specs.Duration.{as_nanos};
+ghost use Rattle.tt_span.specs.Time.{max_time};
+ghost use Rattle.tt_stream.specs.Counts.{HasFailed};
+
+use std::time::{Clock as SystemClock, Duration, Instant};
+use tt_master::{RefFault, Reference};
+use tt_publish::{Clock, ClockFault};
+use tt_span::MAX_TIME;
+
+/// Where the clocks of a run begin: at the time `base`, in nanoseconds, when the system's monotonic clock shows
+/// `start`.
+#[derive(Clone, Copy)]
+pub(crate) struct Origin {
+    pub(crate) base: u64,
+    pub(crate) start: Instant,
+}
+
+/// The time when so much has elapsed since `base`, in nanoseconds; None above [`MAX_TIME`].
+fn time_after(base: u64, elapsed: Duration) -> Option<u64>
+    ensures shown { IfSome result (λ time. (time ≡ base + as_nanos elapsed) × (time ≤ max_time)) }
+    ensures past { result ≡ None → max_time < base + as_nanos elapsed }
+{
+    let Ok(elapsed) = u64::try_from(elapsed.as_nanos()) else {
+        return None;
+    };
+    let Some(time) = base.checked_add(elapsed) else {
+        return None;
+    };
+    if time <= MAX_TIME { Some(time) } else { None }
+}
+
+/// A clock that shows the base of a run, and the time that has elapsed since it began by the system's monotonic clock.
+/// All clocks of one run show one time: it serves the masters as their reference, and the daemon and the workers as
+/// their clock.
+///
+/// It fails where the system's clock can't be read, and above [`MAX_TIME`]. Nothing is claimed of what it shows.
+#[derive(Drop)]
+pub(crate) struct LiveClock<'a, R> {
+    rt: &'a R,
+    origin: Origin,
+    failures: u64,
+}
+
+impl<'a, R: SystemClock> LiveClock<'a, R> {
+    /// A clock of the run that began so.
+    pub(crate) fn new(rt: &'a R, origin: Origin) -> Self {
+        LiveClock {
+            rt,
+            origin,
+            failures: 0,
+        }
+    }
+
+    /// The time, unless the clock fails, which is counted.
+    fn time(&mut self) -> Option<u64>
+        ensures in_time { IfSome result (λ time. time ≤ max_time) }
+        ensures sound { OnSome result (self.new.failures ≡ self.old.failures) }
+        ensures cause { result ≡ None → HasFailed self.old.failures self.new.failures }
+    {
+        if let Ok(elapsed) = self.origin.start.elapsed(self.rt) {
+            if let Some(time) = time_after(self.origin.base, elapsed) {
+                return Some(time);
+            }
+        }
+        self.failures = self.failures.saturating_add(1);
+        None
+    }
+}
+
+impl<'a, R: SystemClock> Clock for LiveClock<'a, R> {
+    ghost gives = { λ _ _ _. Unit {0} };
+
+    ghost failed = { λ clock. clock.failures };
+
+    fn read(&mut self) -> Result<u64, ClockFault> {
+        match self.time() {
+            Some(time) => Ok(time),
+            None => Err(ClockFault::Failed),
+        }
+    }
+
+    fn failures(&self) -> u64 {
+        self.failures
+    }
+}
+
+impl<'a, R: SystemClock> Reference for LiveClock<'a, R> {
+    ghost gives = { λ _ _ _. Unit {0} };
+
+    ghost failed = { λ clock. clock.failures };
+
+    fn read(&mut self) -> Result<u64, RefFault> {
+        match self.time() {
+            Some(time) => Ok(time),
+            None => Err(RefFault::Failed),
+        }
+    }
+
+    fn failures(&self) -> u64 {
+        self.failures
+    }
+}

@@ -1,0 +1,28 @@
+//! One machine, live: its masters, its daemon, its workers and their clients, each in a thread of its own.
+//!
+//! A script says how many sources, workers and rounds there are, what the masters do, and what the clients send.
+//! [`live`] runs it: polls go over UDP and sessions over TCP, all on this computer, and one clock serves the masters,
+//! the daemon and the workers. It answers how many readings the workers gave, and how many of them were wrong.
+//!
+//! - `plans`: which scripts are run, and why one is refused. `faults`: what is answered where a run is refused.
+//! - `clocks`: the clock. `sockets`: the sockets of a run.
+//! - `masters`: the thread of a master. `clients`: the thread of a client. `replies`: what a session may answer to a line.
+//! - `lives`: [`live`], which starts and joins the threads. `reports`: the count of the readings.
+#![tactic(auto)]
+
+mod clients;
+mod clocks;
+mod faults;
+mod lives;
+mod masters;
+mod plans;
+mod replies;
+mod reports;
+mod sockets;
+
+pub use clients::MAX_ASKS;
+pub use faults::LiveFault;
+pub use lives::{MAX_READS, MAX_WAITS, live};
+
+#[cfg(test)]
+mod tests;

@@ -1,0 +1,318 @@
+//! A run: its threads are started and joined.
+
+ghost use Rattle.std.specs.Prelude.{◌≡◌, Some, None, Err, IfSome, IfErr};
+ghost use Rattle.tt_node.specs.declared.faults.NodeFault.{NodeFault};
+ghost use Rattle.tt_live.specs.Plan.{refusal_of};
+
+use crate::clients::talk;
+use crate::clocks::{LiveClock, Origin};
+use crate::faults::LiveFault;
+use crate::masters::{Role, play, role_of};
+use crate::plans::machine_of;
+use crate::reports::report_of;
+use crate::sockets::{Links, Sessions, connect_clients, connect_masters};
+use std::alloc::Global;
+use std::net::{Net, TcpListener, TcpStream};
+use std::sync::Wait;
+use std::sync::atomic::{AtomicBool, Ordering};
+use std::thread;
+use std::thread::{JoinHandle, Scope, Threads};
+use std::time::{Clock as SystemClock, Instant};
+use tt_audit::LiveReport;
+use tt_daemon::{Config, Daemon};
+use tt_node::{Clocks, Gate, Limits, NodeEnd, NodeFault, UdpLink, run_node};
+use tt_script::{Live, Script, Session};
+use tt_session::Turns;
+use tt_stream::Counted;
+
+/// The most reads of a session.
+pub const MAX_READS: u32 = 1_000_000;
+
+/// The most release steps for one line.
+pub const MAX_WAITS: u32 = 10_000;
+
+/// The number of the machine, and its life.
+const MACHINE: u8 = 0;
+
+const EPOCH: u64 = 1;
+
+/// A gate that lets every call pass.
+#[derive(Drop)]
+struct OpenGate;
+
+impl Gate for OpenGate {
+    fn may_pass(&self, _worker: u32, _call: u64) -> bool {
+        true
+    }
+
+    fn answered(&self, _worker: u32, _call: u64) {}
+}
+
+/// What the threads of a run share.
+struct Shared<'a, R> {
+    rt: &'a R,
+    alloc: Global,
+    origin: Origin,
+    ended: &'a AtomicBool,
+    gate: &'a OpenGate,
+}
+
+impl<'a, R> Clone for Shared<'a, R> {
+    fn clone(&self) -> Result<Self, std::alloc::AllocError> {
+        Ok(Shared {
+            rt: self.rt,
+            alloc: self.alloc,
+            origin: self.origin,
+            ended: self.ended,
+            gate: self.gate,
+        })
+    }
+}
+
+impl<'a, R> Copy for Shared<'a, R> {}
+
+/// How a thread of a master or a client ended.
+type End = Result<(), NodeFault>;
+
+/// Starts the thread of a master, if one can be made.
+fn start_master<'s, E, R: Wait + SystemClock + Sync>(
+    scope: &Scope<'s, E>,
+    shared: Shared<'s, R>,
+    role: Role<'s>,
+    link: UdpLink,
+) -> Option<JoinHandle<End>> {
+    scope
+        .spawn(move || {
+            let mut link = link;
+            play(shared.rt, shared.ended, shared.origin, role, &mut link)
+        })
+        .ok()
+}
+
+/// Starts the thread of a client, if one can be made.
+fn start_client<'s, E, R: Wait + SystemClock + Sync>(
+    scope: &Scope<'s, E>,
+    shared: Shared<'s, R>,
+    session: &'s Session,
+    stream: TcpStream,
+) -> Option<JoinHandle<End>> {
+    scope
+        .spawn(move || {
+            let mut stream = Counted::new(stream);
+            talk(shared.rt, shared.alloc, &mut stream, session.lines())
+        })
+        .ok()
+}
+
+/// Starts the threads of all masters, from the last source to the first: whether each was started.
+fn start_masters<'s, E, R: Wait + SystemClock + Sync>(
+    scope: &Scope<'s, E>,
+    shared: Shared<'s, R>,
+    live: &'s Live,
+    links: Vec<UdpLink>,
+    handles: &mut Vec<JoinHandle<End>>,
+) -> bool {
+    let mut links = links;
+    let masters = live.masters();
+    for _ in 0..links.len() {
+        let Some(link) = links.pop() else {
+            return false;
+        };
+        let source = links.len();
+        let Some(master) = masters.get(source) else {
+            return false;
+        };
+        let Some(role) = role_of(source, master) else {
+            return false;
+        };
+        let Some(handle) = start_master(scope, shared, role, link) else {
+            return false;
+        };
+        if handles.push(handle).is_err() {
+            return false;
+        }
+    }
+    true
+}
+
+/// Starts the threads of all clients, from that of the last worker to that of the first: whether each was started.
+fn start_clients<'s, E, R: Wait + SystemClock + Sync>(
+    scope: &Scope<'s, E>,
+    shared: Shared<'s, R>,
+    live: &'s Live,
+    streams: Vec<TcpStream>,
+    handles: &mut Vec<JoinHandle<End>>,
+) -> bool {
+    let mut streams = streams;
+    let sessions = live.sessions();
+    for _ in 0..streams.len() {
+        let Some(stream) = streams.pop() else {
+            return false;
+        };
+        let Some(session) = sessions.get(streams.len()) else {
+            return false;
+        };
+        let Some(handle) = start_client(scope, shared, session, stream) else {
+            return false;
+        };
+        if handles.push(handle).is_err() {
+            return false;
+        }
+    }
+    true
+}
+
+/// Joins the threads, from the one that was started last to the first, and answers the first fault that one ended
+/// with.
+fn join_all<R: Threads>(rt: &R, handles: Vec<JoinHandle<End>>) -> End {
+    let mut handles = handles;
+    let mut first = Ok(());
+    for _ in 0..handles.len() {
+        if let Some(handle) = handles.pop() {
+            let end = handle.join(rt);
+            if first.is_ok() {
+                first = end;
+            }
+        }
+    }
+    first
+}
+
+/// The clocks of a node with so many workers.
+fn clocks_of<'s, R: SystemClock>(
+    shared: Shared<'s, R>,
+    workers: usize,
+) -> Result<Clocks<LiveClock<'s, R>>, NodeFault> {
+    let mut clocks = Vec::new(shared.alloc);
+    for _ in 0..workers {
+        if clocks
+            .push(LiveClock::new(shared.rt, shared.origin))
+            .is_err()
+        {
+            return Err(NodeFault::Memory);
+        }
+    }
+    Ok(Clocks {
+        daemon: LiveClock::new(shared.rt, shared.origin),
+        workers: clocks,
+    })
+}
+
+/// Starts the threads of the masters and the clients, runs the node, and joins all that were started.
+fn run_threads<'s, E, R: Threads + Wait + SystemClock + Sync>(
+    scope: &Scope<'s, E>,
+    shared: Shared<'s, R>,
+    config: Config,
+    live: &'s Live,
+    links: Links,
+    sessions: Sessions,
+) -> Result<NodeEnd, NodeFault> {
+    let Links {
+        daemon: link,
+        masters,
+    } = links;
+    let Sessions { clients, workers } = sessions;
+    let clocks = clocks_of(shared, workers.len())?;
+    let limits = Limits {
+        rounds: live.rounds(),
+        turns: live.turns(),
+        serve: Turns {
+            reads: MAX_READS,
+            waits: MAX_WAITS,
+        },
+        lease: live.lease(),
+    };
+    let (mut playing, mut talking) = (Vec::new(shared.alloc), Vec::new(shared.alloc));
+    let started = start_masters(scope, shared, live, masters, &mut playing)
+        && start_clients(scope, shared, live, clients, &mut talking);
+    let ended = if started {
+        let daemon = Daemon::new(MACHINE, &config, EPOCH);
+        run_node(
+            shared.rt,
+            shared.alloc,
+            daemon,
+            link,
+            clocks,
+            workers,
+            shared.gate,
+            limits,
+        )
+    } else {
+        Err(NodeFault::Memory)
+    };
+    shared.ended.store(true, Ordering::SeqCst);
+    let played = join_all(shared.rt, playing);
+    let talked = join_all(shared.rt, talking);
+    let end = ended?;
+    played?;
+    talked?;
+    Ok(end)
+}
+
+/// Runs a machine live.
+fn run<
+    'a,
+    R: Threads + Wait + SystemClock + Sync + Net<Listener = TcpListener, Stream = TcpStream>,
+>(rt: &'a R, alloc: Global, config: Config, live: &'a Live) -> Result<LiveReport, NodeFault> {
+    let links = connect_masters(rt, alloc, live.masters().len())?;
+    let sessions = connect_clients(rt, alloc, live.sessions().len())?;
+    let Ok(start) = Instant::now(rt) else {
+        return Err(NodeFault::ClockFailed);
+    };
+    let origin = Origin {
+        base: live.base(),
+        start,
+    };
+    let (ended, gate) = (AtomicBool::new(false), OpenGate);
+    let shared = Shared {
+        rt,
+        alloc,
+        origin,
+        ended: &ended,
+        gate: &gate,
+    };
+    let end = thread::scope(
+        thread::scope_env(),
+        rt,
+        move |scope| -> Result<NodeEnd, NodeFault> {
+            run_threads(scope, shared, config, live, links, sessions)
+        },
+    )?;
+    if end.workers.iter().any(|worker| worker.served.is_err()) {
+        return Err(NodeFault::LinkFailed);
+    }
+    match report_of(alloc, &end.workers) {
+        Ok(report) => Ok(report),
+        Err(_) => Err(NodeFault::Memory),
+    }
+}
+
+/// Runs the machine of a script live, by the script's part for a run in threads, and judges its readings: it answers
+/// how many readings the calls of `now` gave, and how many of them hold no time from the clock's reading just before
+/// the call to that just after it.
+///
+/// Each master is a thread that answers polls over UDP, the node polls and serves by [`run_node`], and each client is
+/// a thread that sends the lines of its session over TCP; all on 127.0.0.1, the machine in its first life. One clock
+/// serves all of them: it shows the base of the script, and what has elapsed since. The masters end after the node;
+/// every thread that was started is joined before the answer.
+///
+/// Refuses, in this order: 1302 `NoLive` where the script has no such part; 1303 `Unfit` where it has not exactly one
+/// machine, whose masters are not one for each source, or whose sessions are not one for each worker. Then with the
+/// fault of the node: 1 `Memory` where an allocation failed or a thread was not started, 1501 `LinkFailed` where a
+/// socket failed or a session broke off, 1502 `ClockFailed` and 304 `ReferenceFailed` where the clock failed, 802 where
+/// a fusion was not published.
+pub fn live<
+    R: Threads + Wait + SystemClock + Sync + Net<Listener = TcpListener, Stream = TcpStream>,
+>(rt: &R, alloc: Global, script: &Script) -> Result<LiveReport, LiveFault>
+    ensures refused { IfSome (refusal_of script.now.configs script.now.live) (λ fault. result ≡ Err fault) }
+    ensures run { refusal_of script.now.configs script.now.live ≡ None → IfErr result (λ fault. (node : NodeFault) × (fault ≡ LiveFault.Node node)) }
+{
+    let config = machine_of(script)?;
+    let Some(live) = script.live() else {
+        return Err(LiveFault::NoLive);
+    };
+    match run(rt, alloc, config, live) {
+        Ok(report) => Ok(report),
+        Err(fault) => Err(LiveFault::Node(fault)),
+    }
+}

@@ -1,0 +1,64 @@
+//! The thread of a master.
+
+ghost use Rattle.std.specs.Prelude.{◌≡◌, ◌<◌, ◌≤◌, IfSome};
+ghost use Rattle.tt_poll.specs.Message.{max_source};
+
+use crate::clocks::{LiveClock, Origin};
+use std::sync::atomic::{AtomicBool, Ordering};
+use std::time::Clock as SystemClock;
+use tt_master::Master;
+use tt_node::{NodeFault, UdpLink, master_rounds};
+use tt_poll::MAX_SOURCE;
+use tt_script::LiveMaster;
+
+/// A master of a script, and the source that it is.
+#[derive(Clone, Copy)]
+pub(crate) struct Role<'a> {
+    source: u8,
+    plan: &'a LiveMaster,
+    ghost is_source: { source ≤ max_source },
+}
+
+/// The role of the master at this place, which is that of its source; None where no source has such a number.
+pub(crate) fn role_of(place: usize, plan: &LiveMaster) -> Option<Role<'_>>
+    ensures { IfSome result (λ role. role.source ≡ place) }
+{
+    let Ok(source) = u8::try_from(place) else {
+        return None;
+    };
+    if source > MAX_SOURCE {
+        return None;
+    }
+    Some(Role { source, plan })
+}
+
+/// Answers polls until the run has ended: it does one act for each request that comes, in the order of the script, and
+/// the last one for all further requests. It looks whether the run has ended after each packet, and after each wait
+/// for one.
+///
+/// Refuses with 1501 `LinkFailed` where the link failed, and with 304 `ReferenceFailed` where the clock did.
+pub(crate) fn play<R: SystemClock>(
+    rt: &R,
+    ended: &AtomicBool,
+    origin: Origin,
+    role: Role<'_>,
+    link: &mut UdpLink,
+) -> Result<(), NodeFault> {
+    let acts = role.plan.acts();
+    let mut master = Master::new(
+        role.source,
+        role.plan.uncertainty(),
+        LiveClock::new(rt, origin),
+    );
+    let mut played: usize = 0;
+    for _ in 0..u64::MAX {
+        if ended.load(Ordering::SeqCst) {
+            return Ok(());
+        }
+        let left = &acts[played.min(acts.len() - 1)..];
+        if master_rounds(link, &mut master, left, 1)? > 0 {
+            played = played.saturating_add(1);
+        }
+    }
+    Ok(())
+}

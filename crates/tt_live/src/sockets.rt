@@ -1,0 +1,119 @@
+//! The sockets of a run, all on this computer.
+
+use std::alloc::Global;
+use std::io::{self, ErrorKind};
+use std::net::{Net, SocketAddr, TcpListener, TcpStream, UdpSocket};
+use std::time::Duration;
+use tt_node::{NodeFault, UdpLink};
+use tt_stream::Counted;
+
+/// Where sockets are bound: on this computer, at a port that is free.
+const HERE: &str = "127.0.0.1:0";
+
+/// How long the daemon waits for a packet, in milliseconds.
+const DAEMON_WAIT: u64 = 1;
+
+/// How long a master waits for a packet, in milliseconds.
+const MASTER_WAIT: u64 = 10;
+
+/// How many connections are accepted at most, until the one of a client is among them.
+const MAX_ACCEPTS: u32 = 1_000;
+
+/// The fault of a socket that failed.
+fn fault_of(error: io::Error) -> NodeFault {
+    if error.kind() == ErrorKind::OutOfMemory {
+        NodeFault::Memory
+    } else {
+        NodeFault::LinkFailed
+    }
+}
+
+/// A socket for packets, which waits so many milliseconds for one, and its address.
+fn socket<R: Net>(net: &R, wait: u64) -> io::Result<(UdpSocket, SocketAddr)> {
+    let socket = UdpSocket::bind(net, HERE)?;
+    socket.set_read_timeout(Some(Duration::from_millis(wait)))?;
+    let address = socket.local_addr()?;
+    Ok((socket, address))
+}
+
+/// The links of a run: that of the daemon, whose peers are the masters, and that of each master, whose peer is the
+/// daemon.
+#[derive(Drop)]
+pub(crate) struct Links {
+    pub(crate) daemon: UdpLink,
+    pub(crate) masters: Vec<UdpLink>,
+}
+
+/// The links between a daemon and so many masters.
+pub(crate) fn connect_masters<R: Net>(
+    net: &R,
+    alloc: Global,
+    masters: usize,
+) -> Result<Links, NodeFault> {
+    let (daemon, address) = socket(net, DAEMON_WAIT).map_err(fault_of)?;
+    let (mut links, mut addresses) = (Vec::new(alloc), Vec::new(alloc));
+    for _ in 0..masters {
+        let (socket, own) = socket(net, MASTER_WAIT).map_err(fault_of)?;
+        let mut peers = Vec::new(alloc);
+        peers.push(address).map_err(|_| NodeFault::Memory)?;
+        addresses.push(own).map_err(|_| NodeFault::Memory)?;
+        links
+            .push(UdpLink::new(socket, peers))
+            .map_err(|_| NodeFault::Memory)?;
+    }
+    Ok(Links {
+        daemon: UdpLink::new(daemon, addresses),
+        masters: links,
+    })
+}
+
+/// The two ends of a connection.
+#[derive(Drop)]
+pub(crate) struct Connection {
+    pub(crate) client: TcpStream,
+    pub(crate) worker: TcpStream,
+}
+
+/// A connection to the listener and from it.
+fn connect<R: Net<Listener = TcpListener, Stream = TcpStream>>(
+    net: &R,
+    listener: &TcpListener,
+) -> io::Result<Connection> {
+    let client = TcpStream::connect(net, listener.local_addr()?)?;
+    let own = client.local_addr()?;
+    client.set_nodelay(true)?;
+    for _ in 0..MAX_ACCEPTS {
+        let (worker, peer) = listener.accept()?;
+        if peer == own {
+            worker.set_nodelay(true)?;
+            return Ok(Connection { client, worker });
+        }
+    }
+    Err(io::Error::from(ErrorKind::ConnectionRefused))
+}
+
+/// The connections of a run: the ends of its clients, and the readers and writers of its workers, in one order.
+#[derive(Drop)]
+pub(crate) struct Sessions {
+    pub(crate) clients: Vec<TcpStream>,
+    pub(crate) workers: Vec<(Counted<TcpStream>, Counted<TcpStream>)>,
+}
+
+/// The connections of so many clients.
+pub(crate) fn connect_clients<R: Net<Listener = TcpListener, Stream = TcpStream>>(
+    net: &R,
+    alloc: Global,
+    count: usize,
+) -> Result<Sessions, NodeFault> {
+    let listener = TcpListener::bind(net, HERE).map_err(fault_of)?;
+    let (mut clients, mut workers) = (Vec::new(alloc), Vec::new(alloc));
+    for _ in 0..count {
+        let Connection { client, worker } = connect(net, &listener).map_err(fault_of)?;
+        let writer = worker.try_clone().map_err(fault_of)?;
+        clients.push(client).map_err(|_| NodeFault::Memory)?;
+        workers
+            .push((Counted::new(worker), Counted::new(writer)))
+            .map_err(|_| NodeFault::Memory)?;
+    }
+    Ok(Sessions { clients, workers })
+}

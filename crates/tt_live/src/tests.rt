@@ -1,0 +1,181 @@
+//! Runs on this computer, scripts that are not run, and which replies may be given to a line.
+
+use crate::replies::may_answer;
+use crate::{LiveFault, live};
+use std::alloc::{AllocError, Global};
+use std::test::Fail;
+use tt_audit::LiveReport;
+use tt_script::read;
+
+/// A machine of three sources, one of which may be false, and two workers.
+const TWO_SESSIONS: &str = r#"
+[[machine]]
+sources = 3
+faulty = 1
+workers = 2
+
+[live]
+base = 1000000000000
+rounds = 50
+turns = 20
+sessions = [["now"], ["now", "commit 1 0"]]
+
+[[live.masters]]
+uncertainty = 1000
+acts = ["honest"]
+
+[[live.masters]]
+uncertainty = 1000
+acts = ["honest"]
+
+[[live.masters]]
+uncertainty = 1000
+acts = ["ahead 1000000000"]
+"#;
+
+#[test]
+fn two_sessions_read_the_time(rt: HostRuntime) -> Result<(), Fail> {
+    let script = read(rt.alloc(), TWO_SESSIONS)?;
+    let report = live(&rt, rt.alloc(), &script)?;
+    let readings = LiveReport {
+        readings: 2,
+        wrong: 0,
+    };
+    assert_eq!(rt; report, readings);
+    Ok(())
+}
+
+/// The number of the refusal, or 0.
+fn refusal(ended: Result<LiveReport, LiveFault>) -> u16 {
+    match ended {
+        Ok(_) => 0,
+        Err(fault) => fault.number(),
+    }
+}
+
+#[test]
+fn a_script_needs_a_live_part(rt: HostRuntime) -> Result<(), Fail> {
+    let script = read(
+        rt.alloc(),
+        "[[machine]]\nsources = 1\nfaulty = 0\nworkers = 1\n",
+    )?;
+    assert_eq!(rt; refusal(live(&rt, rt.alloc(), &script)), 1302);
+    Ok(())
+}
+
+#[test]
+fn a_script_fits_its_machine(rt: HostRuntime) -> Result<(), Fail> {
+    let unfit = [
+        // Two machines.
+        (
+            "[[machine]]",
+            "[[machine]]\nsources = 1\nfaulty = 0\nworkers = 1\n[[machine]]",
+        ),
+        // One master more than sources, and one session fewer than workers.
+        ("sources = 3", "sources = 4"),
+        ("workers = 2", "workers = 3"),
+    ];
+    for (old, new) in unfit {
+        let text = TWO_SESSIONS.replacen(rt.alloc(), old, new, 1)?;
+        let script = read(rt.alloc(), text.as_str())?;
+        assert_eq!(rt; refusal(live(&rt, rt.alloc(), &script)), 1303);
+    }
+    Ok(())
+}
+
+/// What the seven false sources of the large machine do.
+const FALSE_ACTS: [&str; 7] = [
+    "silent",
+    "garbage",
+    "ahead 1000000000",
+    "behind 1000000000",
+    "honest\", \"repeat",
+    "ahead 5000000",
+    "behind 900000000000",
+];
+
+/// A machine of 16 sources, seven of which are false, and 32 workers, each with 50 lines `now` and 50 commits.
+fn large_script(alloc: Global) -> Result<String, AllocError> {
+    let mut text = String::from_str(
+        alloc,
+        "[[machine]]\nsources = 16\nfaulty = 7\nworkers = 32\n[live]\nbase = 1000000000000\nrounds = 40\nturns = 30\nsessions = [",
+    )?;
+    for _ in 0..32 {
+        text.push_str("[")?;
+        for commit in 1..=50 {
+            let lines = format!(in alloc; "\"now\", \"commit {commit} 0\",")?;
+            text.push_str(lines.as_str())?;
+        }
+        text.push_str("],")?;
+    }
+    text.push_str("]\n")?;
+    for source in 0..16 {
+        let act = FALSE_ACTS.get(source).copied().unwrap_or("honest");
+        let master = format!(in alloc;
+            "[[live.masters]]\nuncertainty = 1000\nacts = [\"{act}\"]\n"
+        )?;
+        text.push_str(master.as_str())?;
+    }
+    Ok(text)
+}
+
+#[test]
+fn many_sessions_read_the_time(rt: HostRuntime) -> Result<(), Fail> {
+    let text = large_script(rt.alloc())?;
+    let script = read(rt.alloc(), text.as_str())?;
+    let report = live(&rt, rt.alloc(), &script)?;
+    let readings = LiveReport {
+        readings: 1_600,
+        wrong: 0,
+    };
+    assert_eq!(rt; report, readings);
+    Ok(())
+}
+
+#[test]
+fn a_line_is_given_its_own_reply(rt: HostRuntime) {
+    let given: [(&[u8], &[u8]); 10] = [
+        (b"now\n", b"now 5 7\n"),
+        (b"now\n", b"refused 801\n"),
+        (b"after 5\n", b"yes\n"),
+        (b"after 5\n", b"no\n"),
+        (b"before 5\n", b"yes\n"),
+        (b"before 5\n", b"no\n"),
+        (b"commit 2 9\n", b"committed 2 9\n"),
+        (b"commit 2 9\n", b"waiting 2 14\n"),
+        (b"commit 2 9\n", b"refused 1104\n"),
+        (b"what\n", b"refused 1101\n"),
+    ];
+    for (line, reply) in given {
+        assert!(rt; may_answer(line, reply));
+    }
+}
+
+#[test]
+fn no_line_is_given_the_reply_to_another(rt: HostRuntime) {
+    let never: [(&[u8], &[u8]); 16] = [
+        // The reply to another kind of line.
+        (b"now\n", b"yes\n"),
+        (b"now\n", b"committed 2 9\n"),
+        (b"after 5\n", b"now 5 7\n"),
+        (b"before 5\n", b"waiting 2 9\n"),
+        (b"commit 2 9\n", b"now 5 7\n"),
+        (b"commit 2 9\n", b"yes\n"),
+        // The reply to another commit.
+        (b"commit 2 9\n", b"committed 1 9\n"),
+        (b"commit 2 9\n", b"waiting 3 9\n"),
+        // An answer to what is no request.
+        (b"now \n", b"now 5 7\n"),
+        (b"commit 2\n", b"committed 2 9\n"),
+        // No reply, half of one, and two.
+        (b"now\n", b"\n"),
+        (b"now\n", b"now 5\n"),
+        (b"now\n", b"now 5 7"),
+        (b"now\n", b"now 5 7\nnow 5 7\n"),
+        (b"now\n", b"refused\n"),
+        (b"after 5\n", b"yes\nno\n"),
+    ];
+    for (line, reply) in never {
+        assert!(rt; !may_answer(line, reply));
+    }
+}
