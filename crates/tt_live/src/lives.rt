@@ -238,6 +238,8 @@ fn run_threads<'s, E, R: Threads + Wait + SystemClock + Sync>(
             limits,
         )
     } else {
+        // The clients that were started wait for replies, until the other ends of their connections are gone.
+        drop(workers);
         Err(NodeFault::Memory)
     };
     shared.ended.store(true, Ordering::SeqCst);
