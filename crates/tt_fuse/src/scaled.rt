@@ -43,7 +43,7 @@ impl Model for Answered {
 /// A lower end that was received at a clock reading ages by the time since, less what the clock may be wrong by, and an
 /// upper end by the time since its poll was sent, and what the clock may be wrong by. So two lower ends stay in the
 /// order of their keys, which are what they would have been when the clock showed 0, and so do two upper ends. The keys
-/// are kept in ascending order: an accepted answer changes one of either kind, and a fusion goes over them once.
+/// are kept in ascending order: an accepted answer changes one of either kind, and a fusion compares a few and ages two.
 #[derive(Debug, Drop)]
 pub struct Ends {
     drift: Drift,
