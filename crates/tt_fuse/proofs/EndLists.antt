@@ -92,7 +92,7 @@ module _ (spans : List Interval) (f : ℕ) (lows highs : List ℕ) (ends : AreSw
   depth-sorted x = depth-ends_of spans (record { lows = lows; highs = highs }) ends.of x
 
   -- the lower end that is as far beyond the k-th as there are spans but f
-  abbrev start_at : ℕ → ℕ
+  abbrev pub start_at : ℕ → ℕ
   start_at k = get_or lows (length spans - f - 1 + k) 0
 
   -- between such a lower end and the upper end beside it each time is deep enough
@@ -136,18 +136,18 @@ module _ (spans : List Interval) (f : ℕ) (lows highs : List ℕ) (ends : AreSw
   highs-in_time k k_in = All-get_or (λ hi. hi ≤ max_time) highs k 0 k_in (highs_of-in_time spans (record { lows = lows; highs = highs }) ends.of)
 
   -- the lower ends that are looked at, beside the upper ends
-  abbrev starts : List ℕ
+  abbrev pub starts : List ℕ
   starts = drop (length spans - f - 1) lows
 
-  start-is : (k : ℕ) → get_or starts k 0 ≡ start_at k
+  pub start-is : (k : ℕ) → get_or starts k 0 ≡ start_at k
   start-is k = get_or-drop (length spans - f - 1) lows k 0
 
-  length-starts : length starts ≡ f + 1
+  pub length-starts : length starts ≡ f + 1
   length-starts =
       let few : f < length spans = ends.few in
       omega (arith, length-drop (length spans - f - 1) lows, length-lows)
 
-  fusion-found : (lo hi : ℕ) → AreFirstAndLast starts highs (length starts) lo hi → IsFusion spans f (record { lo = lo; hi = hi })
+  pub fusion-found : (lo hi : ℕ) → AreFirstAndLast starts highs (length starts) lo hi → IsFusion spans f (record { lo = lo; hi = hi })
   fusion-found lo hi found =
       let few : f < length spans = ends.few in
       let size : length starts ≡ f + 1 = length-starts in
@@ -179,7 +179,7 @@ module _ (spans : List Interval) (f : ℕ) (lows highs : List ℕ) (ends : AreSw
       none w.0 (omega (arith, w.1, length-starts)) (omega (arith, w.2, w.3, start-is w.0))
 
   -- what a look at the pairs finds is the fusion
-  fusion-from_found : (seen : List ℕ) (o : Option (ℕ × ℕ)) → seen ≡ starts → IsFound seen highs (length seen) o → MatchOption o (HasNoPossibleTime spans f) (λ r. IsFusion spans f (record { lo = r.0; hi = r.1 }))
+  pub fusion-from_found : (seen : List ℕ) (o : Option (ℕ × ℕ)) → seen ≡ starts → IsFound seen highs (length seen) o → MatchOption o (HasNoPossibleTime spans f) (λ r. IsFusion spans f (record { lo = r.0; hi = r.1 }))
   fusion-from_found seen None same h = none-found (subst (λ (xs : List ℕ). (k : ℕ) → k < length xs → IsOrderedAt xs highs k → ⊥) same h)
   fusion-from_found seen (Some r) same h = fusion-found r.0 r.1 (subst (λ (xs : List ℕ). AreFirstAndLast xs highs (length xs) r.0 r.1) same h)
 

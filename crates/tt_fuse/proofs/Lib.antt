@@ -11,3 +11,4 @@ pub mod Placing
 pub mod Tallies
 pub mod Kept
 pub mod Walking
+pub mod Pairing

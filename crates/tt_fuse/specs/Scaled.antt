@@ -1,5 +1,5 @@
 -- Scaled keys: the ends of statements, so that ageing does not change their order. They count millionths of a nanosecond.
-use Rattle.std.specs.Prelude.{◌≡◌, ℕ, ℤ, pos, negsuc, ◌+◌, ◌-◌, ◌*◌, ◌/◌, ◌+ℤ◌, ◌-ℤ◌, ◌≤ℤ◌, Bool, false, List, Option, Some, None, count_by, All}
+use Rattle.std.specs.Prelude.{◌≡◌, ℕ, ℤ, pos, negsuc, ◌+◌, ◌-◌, ◌*◌, ◌/◌, ◌≤◌, ◌+ℤ◌, ◌-ℤ◌, ◌≤ℤ◌, Bool, false, List, slice_index_or, Option, Some, None, count_by, All}
 use Rattle.std.specs.List.Sorted.{IsNonDecreasingBy}
 use Rattle.tt_span.specs.Time.{cut}
 use Rattle.tt_span.specs.Statement.{Statement}
@@ -38,6 +38,10 @@ low_end_of ppm clock key = cut ((key_number key + clock * (1000000 - ppm) - key_
 -- the upper end of a key at a clock reading, in nanoseconds: rounded up, and cut at the greatest time
 unfoldable pub high_end_of : ℕ → ℕ → ℤ → ℕ
 high_end_of ppm clock key = cut ((key_number key + clock * (1000000 + ppm) - key_bound + 999999) / 1000000)
+
+-- at a clock reading, the lower end of the k-th start is not above the upper end of the k-th end, both by their keys
+abbrev pub AreOrderedAt : ℕ → ℕ → List ℤ → List ℤ → ℕ → Type 0
+AreOrderedAt ppm clock starts ends k = low_end_of ppm clock (slice_index_or starts k (pos 0)) ≤ high_end_of ppm clock (slice_index_or ends k (pos 0))
 
 -- whether there is a statement that passes the test
 abbrev pub passes : (Statement → Bool) → Option Statement → Bool

@@ -1,6 +1,6 @@
 //! Scaled keys: the ends of a statement's span, so that ageing does not change their order.
 
-ghost use Rattle.std.specs.Prelude.{◌≡◌, ◌+◌, ◌-◌, ◌*◌, ◌/◌, ◌≤◌};
+ghost use Rattle.std.specs.Prelude.{◌≡◌, ◌+◌, ◌-◌, ◌*◌, ◌/◌, ◌≤◌, ◌↔◌, IsTrue};
 ghost use Rattle.tt_span.specs.Time.{max_time};
 ghost use Rattle.tt_span.specs.Drift.{max_drift};
 ghost use Rattle.tt_fuse.specs.Scaled.{key_bound, key_number, IsKey, low_key_of, high_key_of, low_end_of, high_end_of};
@@ -64,6 +64,28 @@ fn nanoseconds(scaled: u128) -> u64
     front / 15_625 * 4_294_967_296 + (front % 15_625 * 4_294_967_296 + back) / 15_625
 }
 
+/// The lower end of this key when the clock shows `clock`, in millionths of a nanosecond.
+fn scaled_low_end(drift: Drift, key: i128, clock: u64) -> u128
+    requires in_time { clock ≤ max_time }
+    requires in_range { IsKey key }
+    requires reached { key_bound ≤ key_number key + clock * (1000000 - drift) }
+    ensures value { result ≡ key_number key + clock * (1000000 - drift) - key_bound }
+    ensures bound { result ≤ 8400000000000000000000000 }
+{
+    (key + least_run(drift, clock) as i128) as u128
+}
+
+/// The upper end of this key when the clock shows `clock`, in millionths of a nanosecond.
+fn scaled_high_end(drift: Drift, key: i128, clock: u64) -> u128
+    requires in_time { clock ≤ max_time }
+    requires in_range { IsKey key }
+    requires reached { key_bound ≤ key_number key + clock * (1000000 + drift) }
+    ensures value { result ≡ key_number key + clock * (1000000 + drift) - key_bound }
+    ensures bound { result ≤ 8800000000000000000000000 }
+{
+    (key + greatest_run(drift, clock) as i128) as u128
+}
+
 /// The lower end of this key when the clock shows `clock`.
 #[tactic(auto, unfolding(crate::specs::Scaled::low_end_of))]
 pub(crate) fn low_end(drift: Drift, key: i128, clock: u64) -> u64
@@ -72,8 +94,7 @@ pub(crate) fn low_end(drift: Drift, key: i128, clock: u64) -> u64
     requires reached { key_bound ≤ key_number key + clock * (1000000 - drift) }
     ensures { result ≡ low_end_of drift clock key }
 {
-    let scaled = (key + least_run(drift, clock) as i128) as u128;
-    nanoseconds(scaled).min(MAX_TIME)
+    nanoseconds(scaled_low_end(drift, key, clock)).min(MAX_TIME)
 }
 
 /// The upper end of this key when the clock shows `clock`.
@@ -84,6 +105,26 @@ pub(crate) fn high_end(drift: Drift, key: i128, clock: u64) -> u64
     requires reached { key_bound ≤ key_number key + clock * (1000000 + drift) }
     ensures { result ≡ high_end_of drift clock key }
 {
-    let scaled = (key + greatest_run(drift, clock) as i128) as u128;
+    let scaled = scaled_high_end(drift, key, clock);
     nanoseconds(scaled + 999_999).min(MAX_TIME)
+}
+
+/// Whether the lower end of one key is not above the upper end of another when the clock shows `clock`.
+///
+/// Rounding moves them together by less than two nanoseconds, so that hardly ever a division is needed to tell.
+#[tactic(auto, unfolding(crate::specs::Scaled::low_end_of, crate::specs::Scaled::high_end_of))]
+pub(crate) fn are_in_order(drift: Drift, low: i128, high: i128, clock: u64) -> bool
+    requires in_time { clock ≤ max_time }
+    requires low_in_range { IsKey low }
+    requires high_in_range { IsKey high }
+    requires low_reached { key_bound ≤ key_number low + clock * (1000000 - drift) }
+    requires high_reached { key_bound ≤ key_number high + clock * (1000000 + drift) }
+    ensures { IsTrue result ↔ (low_end_of drift clock low ≤ high_end_of drift clock high) }
+{
+    let begins = scaled_low_end(drift, low, clock);
+    let ends = scaled_high_end(drift, high, clock);
+    if begins <= ends || u128::from(MAX_TIME - 1) * u128::from(MILLION) < ends {
+        return true;
+    }
+    begins < ends + 2_000_000 && nanoseconds(begins) <= nanoseconds(ends + 999_999)
 }

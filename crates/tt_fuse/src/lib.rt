@@ -9,7 +9,7 @@
 //!
 //! [`Ends`] is for a machine that fuses again and again what its sources stated, as the statements age. It keeps the
 //! ends by scaled keys, whose order ageing does not change, so that it need not sort: a new statement changes one
-//! key of either kind, and a fusion goes over the keys once.
+//! key of either kind, and a fusion compares a few keys and ages two.
 //!
 //! This is the interval function of Marzullo and Owicki, *Maintaining the time in a distributed system* (1983),
 //! as Spanner uses it (Corbett et al., OSDI 2012, section 3).

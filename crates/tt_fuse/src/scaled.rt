@@ -1,17 +1,18 @@
 //! Fusion over scaled keys, which never have to be sorted again.
 
-ghost use Rattle.std.specs.Prelude.{◌≡◌, ℕ, ◌+◌, ◌-◌, ◌*◌, ◌<◌, ◌≤◌, ◌↔◌, ◌++◌, length, map, replicate, All, IsSome, IsOk, IfOk, IsErrOf, None};
+ghost use Rattle.std.specs.Prelude.{◌≡◌, ℕ, ◌+◌, ◌-◌, ◌*◌, ◌<◌, ◌≤◌, ◌↔◌, ◌++◌, length, map, replicate, All, IsSome, IsOk, IfOk, IsErrOf, MatchOption, None};
 ghost use Rattle.std.specs.List.Sorted.{IsNonDecreasing};
 ghost use Rattle.tt_span.specs.Time.{max_time};
 ghost use Rattle.tt_span.specs.Statement.{Statement};
 ghost use Rattle.tt_fuse.specs.Fusion.{IsPossibleTime, IsFusion, HasNoPossibleTime, CanBeFused};
 ghost use Rattle.tt_fuse.specs.Ends.{AreEndsOf};
 ghost use Rattle.tt_fuse.specs.Stated.{IsStated, nothing_stated, statement_of, with_statement, AreGotBy, AreAmongFirst, spans_at};
-ghost use Rattle.tt_fuse.specs.Scaled.{key_bound, key_number, low_end_of, high_end_of};
+ghost use Rattle.tt_fuse.specs.Pairs.{IsFound};
+ghost use Rattle.tt_fuse.specs.Scaled.{key_bound, key_number, IsKey, AreOrderedAt, low_end_of, high_end_of};
 
 use crate::counts::{MAX_SOURCES, check_counts};
 use crate::fusion::FuseFault;
-use crate::keys::{high_end, high_key, low_end, low_key};
+use crate::keys::{are_in_order, high_end, high_key, low_end, low_key};
 use crate::ordered::SortedKeys;
 use crate::sorted::SortedEnds;
 use arrayvec::ArrayVec;
@@ -42,7 +43,7 @@ impl Model for Answered {
 /// A lower end that was received at a clock reading ages by the time since, less what the clock may be wrong by, and an
 /// upper end by the time since its poll was sent, and what the clock may be wrong by. So two lower ends stay in the
 /// order of their keys, which are what they would have been when the clock showed 0, and so do two upper ends. The keys
-/// are kept in ascending order: an accepted answer changes one of either kind, and a fusion goes over them once.
+/// are kept in ascending order: an accepted answer changes one of either kind, and a fusion compares a few and ages two.
 #[derive(Debug, Drop)]
 pub struct Ends {
     drift: Drift,
@@ -172,10 +173,91 @@ impl Ends {
         ensures fused { IfOk result (λ span. IsFusion (spans_at self.now clock sources) faulty span) }
     {
         check_counts(sources, faulty)?;
-        self.at(clock, sources)
-            .fused(faulty)
-            .ok_or(FuseFault::NoPoint)
+        self.fused(clock, faulty).ok_or(FuseFault::NoPoint)
     }
+
+    /// The fusion when the clock shows `clock` and at most `faulty` of the sources are wrong, or None where no time is
+    /// possible. A source that has made no statement speaks against no time, so it does not matter how many there are.
+    ///
+    /// It looks for the ends as [`SortedEnds::fused`] does, but among keys, and ages no more than the two that it finds.
+    fn fused(&self, clock: u64, faulty: usize) -> Option<Span>
+        requires in_time { clock ≤ max_time }
+        requires got { AreGotBy self.now clock }
+        ensures fused { (n : ℕ) → faulty < n → n ≤ 16 → AreAmongFirst self.now n →
+            MatchOption result (HasNoPossibleTime (spans_at self.now clock n) faulty) (λ span. IsFusion (spans_at self.now clock n) faulty span) }
+        ensures valid { IsStated self.now }
+    {
+        let lows = self.lows.as_slice();
+        let highs = self.highs.as_slice();
+        if lows.len() <= faulty {
+            return Some(Span::whole());
+        }
+        let starts = &lows[lows.len() - 1 - faulty..];
+        let (lo, hi) = first_and_last_at(self.drift, starts, highs, clock)?;
+        Span::new(lo, hi).ok()
+    }
+}
+
+/// Of the pairs of a start and the end beside it that are in order when the clock shows `clock`, the first start and
+/// the last end then, by their keys. There may be more ends than starts.
+fn first_and_last_at(drift: Drift, starts: &[i128], ends: &[i128], clock: u64) -> Option<(u64, u64)>
+    requires in_time { clock ≤ max_time }
+    requires enough { length starts.now ≤ length ends.now }
+    requires starts_in_range { All IsKey starts.now }
+    requires ends_in_range { All IsKey ends.now }
+    requires starts_reached { All (λ key. key_bound ≤ key_number key + clock * (1000000 - drift)) starts.now }
+    requires ends_reached { All (λ key. key_bound ≤ key_number key + clock * (1000000 + drift)) ends.now }
+    ensures { IsFound (map (low_end_of drift clock) starts.now) (map (high_end_of drift clock) ends.now) (length starts.now) result }
+{
+    let first = first_in_order(drift, starts, ends, clock);
+    if first == starts.len() {
+        return None;
+    }
+    let last = last_in_order(drift, starts, ends, clock, first);
+    Some((
+        low_end(drift, starts[first], clock),
+        high_end(drift, ends[last], clock),
+    ))
+}
+
+/// The place of the first pair that is in order when the clock shows `clock`, or how many starts there are.
+fn first_in_order(drift: Drift, starts: &[i128], ends: &[i128], clock: u64) -> usize
+    requires in_time { clock ≤ max_time }
+    requires enough { length starts.now ≤ length ends.now }
+    requires starts_in_range { All IsKey starts.now }
+    requires ends_in_range { All IsKey ends.now }
+    requires starts_reached { All (λ key. key_bound ≤ key_number key + clock * (1000000 - drift)) starts.now }
+    requires ends_reached { All (λ key. key_bound ≤ key_number key + clock * (1000000 + drift)) ends.now }
+    ensures within { result ≤ length starts.now }
+    ensures there { result < length starts.now → AreOrderedAt drift clock starts.now ends.now result }
+    ensures before { (k : ℕ) → k < result → AreOrderedAt drift clock starts.now ends.now k → ⊥ }
+{
+    let mut first = 0;
+    while first < starts.len() && !are_in_order(drift, starts[first], ends[first], clock) {
+        first += 1;
+    }
+    first
+}
+
+/// The place of the last pair that is in order when the clock shows `clock`, where the one at `first` is.
+fn last_in_order(drift: Drift, starts: &[i128], ends: &[i128], clock: u64, first: usize) -> usize
+    requires in_time { clock ≤ max_time }
+    requires enough { length starts.now ≤ length ends.now }
+    requires starts_in_range { All IsKey starts.now }
+    requires ends_in_range { All IsKey ends.now }
+    requires starts_reached { All (λ key. key_bound ≤ key_number key + clock * (1000000 - drift)) starts.now }
+    requires ends_reached { All (λ key. key_bound ≤ key_number key + clock * (1000000 + drift)) ends.now }
+    requires first_in { first < length starts.now }
+    requires first_ordered { AreOrderedAt drift clock starts.now ends.now first }
+    ensures within { result < length starts.now }
+    ensures there { AreOrderedAt drift clock starts.now ends.now result }
+    ensures after { (k : ℕ) → result < k → k < length starts.now → AreOrderedAt drift clock starts.now ends.now k → ⊥ }
+{
+    let mut last = starts.len() - 1;
+    while first < last && !are_in_order(drift, starts[last], ends[last], clock) {
+        last -= 1;
+    }
+    last
 }
 
 /// The lower ends of these keys when the clock shows `clock`, ascending, behind those of the sources of which nothing
