@@ -2,6 +2,7 @@
 
 ghost use Rattle.std.specs.Prelude.{◌≡◌, ◌≤◌, length};
 
+use crate::few::Few;
 use arrayvec::ArrayVec;
 use std::marker::Model;
 
@@ -18,10 +19,10 @@ pub struct Stretch {
 /// each side of it. Nothing is promised of them: `check` judges them.
 #[derive(Debug, Drop)]
 pub struct Certificate {
-    left: ArrayVec<u8, 16>,
-    right: ArrayVec<u8, 16>,
-    below: ArrayVec<Stretch, 33>,
-    above: ArrayVec<Stretch, 33>,
+    left: Few<u8, 16>,
+    right: Few<u8, 16>,
+    below: Few<Stretch, 33>,
+    above: Few<Stretch, 33>,
 }
 
 impl Model for Certificate {
@@ -29,7 +30,7 @@ impl Model for Certificate {
 
     ghost Value = { Proof };
 
-    ghost view = { λ c. record { left = c.left.items; right = c.right.items; below = c.below.items; above = c.above.items } };
+    ghost view = { λ c. record { left = c.left; right = c.right; below = c.below; above = c.above } };
 }
 
 impl Certificate {
@@ -41,6 +42,23 @@ impl Certificate {
         above: ArrayVec<Stretch, 33>,
     ) -> Certificate
         ensures { result ≡ record { left = left.items; right = right.items; below = below.items; above = above.items } }
+    {
+        Certificate {
+            left: Few::of(&left),
+            right: Few::of(&right),
+            below: Few::of(&below),
+            above: Few::of(&above),
+        }
+    }
+
+    /// The certificate of these parts, as they are.
+    pub(crate) fn of(
+        left: Few<u8, 16>,
+        right: Few<u8, 16>,
+        below: Few<Stretch, 33>,
+        above: Few<Stretch, 33>,
+    ) -> Certificate
+        ensures { result ≡ record { left = left; right = right; below = below; above = above } }
     {
         Certificate {
             left,
@@ -87,10 +105,10 @@ impl Certificate {
         ensures { result ≡ self.now }
     {
         Certificate {
-            left: ArrayVec::try_from(self.left()).unwrap(),
-            right: ArrayVec::try_from(self.right()).unwrap(),
-            below: ArrayVec::try_from(self.below()).unwrap(),
-            above: ArrayVec::try_from(self.above()).unwrap(),
+            left: self.left.copied(),
+            right: self.right.copied(),
+            below: self.below.copied(),
+            above: self.above.copied(),
         }
     }
 }

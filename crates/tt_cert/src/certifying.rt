@@ -1,14 +1,14 @@
 //! The canonical certificate of a fusion.
 
-ghost use Rattle.std.specs.Prelude.{◌≡◌, ◌≤◌, length, take};
+ghost use Rattle.std.specs.Prelude.{◌≡◌, ◌≤◌, [], length, take};
 ghost use Rattle.tt_fuse.specs.Fusion.{IsFusion, CanBeFused};
 ghost use Rattle.tt_fuse.specs.Ends.{AreEndsOf};
 ghost use Rattle.tt_cert.specs.Valid.{IsCertificate};
 ghost use Rattle.tt_cert.specs.Canonical.{IsCanonical, sources_at};
 
 use crate::certificate::Certificate;
-use crate::sweeping::stretches_between;
-use arrayvec::ArrayVec;
+use crate::few::Few;
+use crate::sweeping::cut_stretches;
 use tt_fuse::{SortedEnds, fusion_laws};
 use tt_span::{MAX_TIME, Span};
 
@@ -37,24 +37,28 @@ pub fn certify_by(spans: &[Span], ends: &SortedEnds, faulty: usize, claim: &Span
     let need = spans.len() - faulty;
     let lows = ends.lows();
     let highs = ends.highs();
-    Certificate::new(
-        least_sources_at(spans, need, claim.lo()),
-        least_sources_at(spans, need, claim.hi()),
-        stretches_between(lows, highs, 0, claim.lo()),
-        stretches_between(lows, highs, claim.hi() + 1, MAX_TIME + 1),
-    )
+    // The parts are written where they stand, since each is large.
+    let mut left = Few::new();
+    let mut right = Few::new();
+    let mut below = Few::new();
+    let mut above = Few::new();
+    name_least_sources(&mut left, spans, need, claim.lo());
+    name_least_sources(&mut right, spans, need, claim.hi());
+    cut_stretches(&mut below, lows, highs, 0, claim.lo());
+    cut_stretches(&mut above, lows, highs, claim.hi() + 1, MAX_TIME + 1);
+    Certificate::of(left, right, below, above)
 }
 
-/// The `need` least numbers of the sources that hold `time`, ascending, or all of them where they are fewer.
-fn least_sources_at(spans: &[Span], need: usize, time: u64) -> ArrayVec<u8, 16>
-    requires { length spans.now ≤ 16 }
-    ensures { result.items ≡ take need (sources_at spans.now time) }
+/// Puts into `found` the `need` least numbers of the sources that hold `time`, ascending, or all of them where they
+/// are fewer.
+fn name_least_sources(found: &mut Few<u8, 16>, spans: &[Span], need: usize, time: u64)
+    requires empty { found.old ≡ [] }
+    requires few { length spans.now ≤ 16 }
+    ensures { found.new ≡ take need (sources_at spans.now time) }
 {
-    let mut found = ArrayVec::new();
     for (source, span) in spans.iter().enumerate() {
         if found.len() < need && span.contains(time) {
             found.push(source as u8);
         }
     }
-    found
 }

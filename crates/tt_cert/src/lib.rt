@@ -12,6 +12,7 @@
 //! - `certifying`: `certify`, `certify_by`.
 //! - `sweeping`: stretches of time, cut where spans begin and end.
 //! - `reading`: `read_text`, `line_at`, and what a line says. `writing`: `write_text`.
+//! - `few`: a few values that are copied whole.
 //! - `faults`: why a certificate, or its text, is refused.
 //!
 //! Times are whole nanoseconds, as in `tt_span`, and a source's number is its place among the spans, from 0. Only
@@ -22,6 +23,7 @@ mod certificate;
 mod certifying;
 mod checking;
 mod faults;
+mod few;
 mod reading;
 mod sweeping;
 mod writing;

@@ -1,7 +1,6 @@
 -- What a fusion that refuses nothing but want of a possible time answers.
 use Rattle.std.proofs.Common.{◌≡◌, ℕ, List, length, refl, ap, subst, arith}
-use Rattle.std.specs.Prelude.{Option, Some, None, MatchOption, Result, Ok, Err, IsOk, IfOk, IfErr, IsErrOf, MatchResult, ◌↔◌}
-use Rattle.std.specs.Option.{ok_or}
+use Rattle.std.specs.Prelude.{Some, None, Result, Ok, Err, IsOk, IfOk, IfErr, IsErrOf, MatchResult, ◌↔◌}
 use Rattle.std.proofs.lemmas.Bool.{false≢true}
 use Rattle.tt_span.specs.Interval.{Interval}
 use Rattle.tt_fuse.specs.Fusion.{IsPossibleTime, IsFusion, HasNoPossibleTime, CanBeFused}
@@ -23,19 +22,21 @@ spans-can_be_fused d clock valid =
     }
 
 module _ (spans : List Interval) (f clock : ℕ) where
-  -- a fusion of these spans, made at this clock reading, or that there is none
-  abbrev pub IsMade : Option Publication → Type 0
-  IsMade o = MatchOption o (HasNoPossibleTime spans f) (λ p. (p.clock ≡ clock) × (p.spans ≡ spans) × (p.faulty ≡ f) × IsPublication p)
-
-  -- the same, where the refusal is that no time is possible
   module _ {E : Type 0} (no_point : E) where
+    -- a fusion of these spans, made at this clock reading, or the refusal, since no time is possible
+    abbrev pub IsMade : Result Publication E → Type 0
+    IsMade r =
+        MatchResult r (λ p. (p.clock ≡ clock) × (p.spans ≡ spans) × (p.faulty ≡ f) × IsPublication p)
+        (λ e. (e ≡ no_point) × HasNoPossibleTime spans f)
+
+    -- what its clauses say
     pub record IsAnswer (r : Result Publication E) : Type 0 where
       pub fused : IfOk r (λ p. IsFusion spans f p.span)
       pub none : IfErr r (λ e. (e ≡ no_point) × HasNoPossibleTime spans f)
 
-    pub made-answer : (o : Option Publication) → IsMade o → IsAnswer (ok_or o no_point)
-    made-answer None none = record { fused = tt; none = (refl, none) }
-    made-answer (Some p) m = record {
+    pub made-answer : (r : Result Publication E) → IsMade r → IsAnswer r
+    made-answer (Err e) none = record { fused = tt; none = none }
+    made-answer (Ok p) m = record {
       fused = subst (λ (g : ℕ). IsFusion spans g p.span) m.2 (subst (λ (ss : List Interval). IsFusion ss p.faulty p.span) m.1 m.3.fused);
       none = tt;
     }

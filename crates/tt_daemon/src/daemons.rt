@@ -200,7 +200,13 @@ impl Daemon {
         let all = self.spans_at(clock);
         let spans = &all[..self.table.sources()];
         let ends = self.ends.at(clock, self.table.sources());
-        Fused::of(clock, spans, &ends, self.config.faulty()).ok_or(DaemonFault::NoPoint)
+        Fused::of(
+            clock,
+            spans,
+            &ends,
+            self.config.faulty(),
+            DaemonFault::NoPoint,
+        )
     }
 
     /// The spans of all sources at a clock reading, in front.

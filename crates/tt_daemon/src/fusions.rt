@@ -1,6 +1,6 @@
 //! Fusions with all that they were made of.
 
-ghost use Rattle.std.specs.Prelude.{◌≡◌, ℕ, ◌+◌, ◌*◌, ◌<◌, ◌≤◌, ◌↔◌, length, take, All, IsOk, IfOk, IsErrOf, MatchOption};
+ghost use Rattle.std.specs.Prelude.{◌≡◌, ℕ, ◌+◌, ◌*◌, ◌<◌, ◌≤◌, ◌↔◌, length, take, All, IsOk, IfOk, IsErrOf, MatchResult};
 ghost use Rattle.tt_span.specs.Interval.{IsInterval};
 ghost use Rattle.tt_fuse.specs.Fusion.{IsPossibleTime, HasNoPossibleTime, CanBeFused};
 ghost use Rattle.tt_fuse.specs.Ends.{AreEndsOf};
@@ -59,18 +59,28 @@ impl Fused {
         ensures valid { IfOk result (λ p. IsPublication p) }
     {
         check_counts(spans.len(), faulty)?;
-        Fused::of(clock, spans, &SortedEnds::of(spans), faulty).ok_or(FuseFault::NoPoint)
+        let ends = SortedEnds::of(spans);
+        Fused::of(clock, spans, &ends, faulty, FuseFault::NoPoint)
     }
 
-    /// The same by the ends of the spans in their order, or None where no time is possible.
-    pub(crate) fn of(clock: u64, spans: &[Span], ends: &SortedEnds, faulty: usize) -> Option<Fused>
+    /// The same by the ends of the spans in their order. Refuses with `no_point` where no time is possible.
+    pub(crate) fn of<E: Drop>(
+        clock: u64,
+        spans: &[Span],
+        ends: &SortedEnds,
+        faulty: usize,
+        no_point: E,
+    ) -> Result<Fused, E>
         requires can { CanBeFused (length spans.now) faulty }
         requires ends { AreEndsOf spans.now ends.now }
-        ensures { MatchOption result (HasNoPossibleTime spans.now faulty)
-            (λ p. (p.clock ≡ clock) × (p.spans ≡ spans.now) × (p.faulty ≡ faulty) × IsPublication p) }
+        ensures { MatchResult result
+            (λ p. (p.clock ≡ clock) × (p.spans ≡ spans.now) × (p.faulty ≡ faulty) × IsPublication p)
+            (λ e. (e ≡ no_point) × HasNoPossibleTime spans.now faulty) }
     {
-        let span = ends.fused(faulty)?;
-        Some(Fused {
+        let Some(span) = ends.fused(faulty) else {
+            return Err(no_point);
+        };
+        Ok(Fused {
             clock,
             span,
             spans: in_front(spans),

@@ -13,41 +13,41 @@ use Rattle.tt_daemon.proofs.Fusing.{IsMade, IsAnswer, spans-can_be_fused, made-a
 use Rattle.tt_daemon.proofs.daemons.Daemon.fused_at.Goals as goal
 
 -- as many spans as can be fused
-can_be_fused : (c : goal.After-ok_or) → CanBeFused (length (spans_of c.args.self.now c.args.clock)) c.args.self.now.config.faulty
+can_be_fused : (c : goal.After-of) → CanBeFused (length (spans_of c.args.self.now c.args.clock)) c.args.self.now.config.faulty
 can_be_fused c = spans-can_be_fused c.args.self.now c.args.clock (subst IsDaemon c.self.view_is c.self.invariant.0)
 
 -- the spans that are fused are the daemon's
-same_spans : (c : goal.After-ok_or) → take c.sources.result c.spans_at-all.result ≡ spans_of c.args.self.now c.args.clock
+same_spans : (c : goal.After-of) → take c.sources.result c.spans_at-all.result ≡ spans_of c.args.self.now c.args.clock
 same_spans c =
     let count : c.sources.result ≡ length c.args.self.now.table.sources = c.sources.ensures.value ∙ ap (λ (d : DaemonState). length d.table.sources) c.self.view_is in
     ap (λ (k : ℕ). take k c.spans_at-all.result) count ∙ c.spans_at-all.ensures.value
 
 -- a fusion of the daemon's spans, or there is none
-answer : (c : goal.After-ok_or) → IsAnswer (spans_of c.args.self.now c.args.clock) c.args.self.now.config.faulty c.args.clock NoPoint c.ok_or.result
+answer : (c : goal.After-of) → IsAnswer (spans_of c.args.self.now c.args.clock) c.args.self.now.config.faulty c.args.clock NoPoint c.of.result
 answer c =
     let same_faulty : c.faulty.result ≡ c.args.self.now.config.faulty = c.faulty.ensures.value ∙ ap (λ (d : DaemonState). d.config.faulty) c.self.view_is in
-    let of_daemon : IsMade (spans_of c.args.self.now c.args.clock) c.args.self.now.config.faulty c.args.clock c.of.result =
-    subst (λ (f : ℕ). IsMade (spans_of c.args.self.now c.args.clock) f c.args.clock c.of.result) same_faulty
-    (subst (λ (ss : List Interval). IsMade ss c.faulty.result c.args.clock c.of.result) (same_spans c) c.of.ensures) in
-    rw c.ok_or.ensures.value (made-answer _ _ c.args.clock NoPoint c.of.result of_daemon)
+    let of_daemon : IsMade (spans_of c.args.self.now c.args.clock) c.args.self.now.config.faulty c.args.clock NoPoint c.of.result =
+    subst (λ (f : ℕ). IsMade (spans_of c.args.self.now c.args.clock) f c.args.clock NoPoint c.of.result) same_faulty
+    (subst (λ (ss : List Interval). IsMade ss c.faulty.result c.args.clock NoPoint c.of.result) (same_spans c) c.of.ensures) in
+    made-answer _ _ c.args.clock NoPoint c.of.result of_daemon
 
 -- the daemon's spans are intervals
-intervals : (c : goal.After-ok_or) → All IsInterval (spans_of c.args.self.now c.args.clock)
+intervals : (c : goal.After-of) → All IsInterval (spans_of c.args.self.now c.args.clock)
 intervals c = subst (λ (ss : List Interval). All IsInterval ss) (same_spans c) (All-take IsInterval c.sources.result c.spans_at-all.result c.spans_at-all.ensures.valid)
 
 -- fewer sources may lie than there are
-fewer : (c : goal.After-ok_or) → c.args.self.now.config.faulty < length (spans_of c.args.self.now c.args.clock)
+fewer : (c : goal.After-of) → c.args.self.now.config.faulty < length (spans_of c.args.self.now c.args.clock)
 fewer c = let can = can_be_fused c in omega (arith, can.enough)
 
 pub returns-clause-no_point : goal.returns-clause-no_point
-returns-clause-no_point c = refused-none _ _ c.args.clock NoPoint c.ok_or.result (answer c)
+returns-clause-no_point c = refused-none _ _ c.args.clock NoPoint c.of.result (answer c)
 
 pub returns-clause-answered : goal.returns-clause-answered
-returns-clause-answered c = answered-some _ _ c.args.clock NoPoint c.ok_or.result (answer c)
+returns-clause-answered c = answered-some _ _ c.args.clock NoPoint c.of.result (answer c)
 
 pub returns-clause-found_slowly : goal.returns-clause-found_slowly
 returns-clause-found_slowly c =
-    match-slowly _ _ c.args.clock NoPoint c.ok_or.result (answer c)
+    match-slowly _ _ c.args.clock NoPoint c.of.result (answer c)
     (λ i. c.fusion_laws.ensures.found_slowly _ _ i (intervals c) (fewer c))
     (c.fusion_laws.ensures.none_slowly _ _ (intervals c) (fewer c))
 

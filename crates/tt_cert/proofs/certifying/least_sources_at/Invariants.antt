@@ -1,6 +1,0 @@
-use Rattle.std.proofs.Common.{◌≡◌, ◌≤◌, length, take}
-use Rattle.tt_cert.specs.Canonical.{sources_at}
-use Rattle.tt_cert.proofs.certifying.least_sources_at.Given as goal
-
-abbrev pub invariant-loop-source : goal.invariant-loop-source
-invariant-loop-source l = (length l.found.items ≤ l.source) × (l.found.items ≡ take l.need (sources_at (take l.source l.spans) l.time))
