@@ -1,15 +1,16 @@
 -- What a book keeps beside its history, step by step.
-use Rattle.std.proofs.Common.{◌≡◌, ℕ, ◌+◌, ◌<◌, ◌≤◌, ◌==◌, ◌||◌, cond, not, Bool, true, false, List, [], ◌∷◌, ◌++◌, length, reverse, get_or, All, Contains, Option, Some, None, is_some, IfNone, Result, Ok, Err, is_err, OnOk, OnErr, vec_len, vec_capacity, refl, sym, ap, ◌∙◌, subst, arith}
-use Rattle.std.proofs.lemmas.Bool.{true≢false, false≢true, eqb-true}
+use Rattle.std.proofs.Common.{◌≡◌, ℕ, ◌+◌, ◌<◌, ◌≤◌, ◌==◌, ◌||◌, cond, Bool, true, false, List, [], ◌∷◌, ◌++◌, length, reverse, get_or, All, Contains, Option, Some, None, is_some, IfNone, Result, Ok, Err, is_err, OnOk, OnErr, vec_len, vec_capacity, refl, sym, ap, ◌∙◌, subst, arith}
+use Rattle.std.proofs.lemmas.Bool.{true≢false, false≢true}
 use Rattle.std.proofs.lemmas.List.{reverse-append, reverse-reverse, length-reverse}
 use Rattle.std.specs.BTreeMap as tree
 use Rattle.std.specs.BTreeMap.{is_at, insert_entry}
-use Rattle.std.specs.BTreeSet as sorted
+use Rattle.std.specs.List.{insert}
+use Rattle.std.specs.List.Sorted.{IsNonDecreasing}
 use Rattle.std.specs.Map.{remove_entry}
 use Rattle.std.specs.Ordering.{nat_cmp}
 use Rattle.tt_stamp.specs.Ids.{id_cmp, same_id}
 use Rattle.tt_stamp.specs.History.{waiting_of, has_id, has_stamp, IsLegalHistory, IsNextReceipt, MayQueue, receipt_of}
-use Rattle.tt_stamp.specs.Book.{standing_of, history_of, IsBook}
+use Rattle.tt_stamp.specs.Book.{standing_of, history_of, is_among, IsPlaceOf, IsBook}
 use Rattle.tt_stamp.specs.declared.books.Book.TheInside.{Inside}
 use Rattle.tt_stamp.specs.declared.commits.Id.{Id}
 use Rattle.tt_stamp.specs.declared.commits.Receipt.{Receipt}
@@ -17,10 +18,11 @@ use Rattle.tt_stamp.specs.declared.commits.Entry.{Entry}
 use Rattle.tt_stamp.specs.declared.commits.Entry.TheVariants.{Queued, Passed}
 use Rattle.tt_stamp.specs.declared.commits.Standing.{Standing}
 use Rattle.tt_stamp.specs.declared.commits.Standing.TheVariants.{Waits, Released}
-use Rattle.tt_stamp.proofs.Ids.{same_id-true, is_at-id_cmp, is_eq-nat_cmp}
+use Rattle.tt_stamp.proofs.Ids.{same_id-true, is_at-id_cmp}
 use Rattle.tt_stamp.proofs.Waiting.{Ascends}
 use Rattle.tt_stamp.proofs.Histories.{standing_of-new, is_some-standing_of, HasNoReceipt, receipt_of-none, IsReceiptAt-standing_of, Ascends-waiting_of}
 use Rattle.tt_stamp.proofs.Releases.{head_is_least, remove_entry-head}
+use Rattle.tt_stamp.proofs.Places.{is_among-insert}
 
 -- an id that was put in and taken out again
 taken_out : (b : Bool) (o : Option Standing) → (b ≡ true → o ≡ None) → cond b None (cond b (Some Waits) o) ≡ o
@@ -35,49 +37,34 @@ pub standing_of-queued : (past : List Entry) (id q : Id) (x : Standing) → cond
 standing_of-queued past id q x =
     ap (λ b. cond b (Some x) (standing_of past q)) (is_at-id_cmp id q)
 
--- a stamp that was put in and taken out again
-stamp_out : (b there : Bool) → (b ≡ true → there ≡ false) → cond b false (cond b true there) ≡ there
-stamp_out true there f = sym (f refl)
-stamp_out false there f = refl
-
-pub has_stamp-undone : (past : List Entry) (stamp q : ℕ) → has_stamp past stamp ≡ false → cond (is_at (nat_cmp stamp) q) false (cond (is_at (nat_cmp stamp) q) true (has_stamp past q)) ≡ has_stamp past q
-has_stamp-undone past stamp q new =
-    stamp_out (is_at (nat_cmp stamp) q) (has_stamp past q) (λ e. ap (λ s. has_stamp past s) (sym (eqb-true stamp q (sym (is_eq-nat_cmp stamp q) ∙ e))) ∙ new)
-
-either_way : (b there : Bool) → cond b true there ≡ (b || there)
-either_way true there = refl
-either_way false there = refl
-
-has_stamp-queued : (past : List Entry) (stamp q : ℕ) → cond (is_at (nat_cmp stamp) q) true (has_stamp past q) ≡ ((stamp == q) || has_stamp past q)
-has_stamp-queued past stamp q =
-    ap (λ b. cond b true (has_stamp past q)) (is_eq-nat_cmp stamp q) ∙ either_way (stamp == q) (has_stamp past q)
-
 -- ---- a book that is kept, after each kind of change
 pub reverse-push : (xs : List Entry) (e : Entry) → reverse (xs ++ e ∷ []) ≡ e ∷ reverse xs
 reverse-push xs e = reverse-append xs (e ∷ [])
 
 -- nothing that counts has changed
-pub IsBook-refused : (b n : Inside) → IsBook b → n.history.items ≡ b.history.items → n.waiting.entries ≡ b.waiting.entries → ((q : Id) → tree.get id_cmp n.standings q ≡ standing_of (history_of b) q) → ((q : ℕ) → sorted.contains nat_cmp n.stamps q ≡ has_stamp (history_of b) q) → vec_len n.history + tree.btree_map_len n.waiting ≤ vec_capacity n.history → IsBook n
+pub IsBook-refused : (b n : Inside) → IsBook b → n.history.items ≡ b.history.items → n.waiting.entries ≡ b.waiting.entries → ((q : Id) → tree.get id_cmp n.standings q ≡ standing_of (history_of b) q) → n.stamps.items ≡ b.stamps.items → vec_len n.history + tree.btree_map_len n.waiting ≤ vec_capacity n.history → IsBook n
 IsBook-refused b n kept history waiting stands stamps room =
     let same : history_of b ≡ history_of n = sym (ap reverse history) in
     record {
       legal = subst IsLegalHistory same kept.legal;
       waits = waiting ∙ kept.waits ∙ ap waiting_of same;
       stands = λ q. stands q ∙ ap (λ h. standing_of h q) same;
-      stamps = λ q. stamps q ∙ ap (λ h. has_stamp h q) same;
+      stamps = λ q. ap (λ ss. is_among ss q) stamps ∙ kept.stamps q ∙ ap (λ h. has_stamp h q) same;
+      in_order = subst IsNonDecreasing (sym stamps) kept.in_order;
       room = room;
     }
 
 -- a commit was queued
-pub IsBook-queued : (b n : Inside) (id : Id) (stamp : ℕ) → IsBook b → MayQueue (history_of b) id stamp → n.history.items ≡ b.history.items ++ Queued id stamp ∷ [] → n.waiting.entries ≡ insert_entry nat_cmp b.waiting.entries stamp id → ((q : Id) → tree.get id_cmp n.standings q ≡ cond (is_at (id_cmp id) q) (Some Waits) (tree.get id_cmp b.standings q)) → ((q : ℕ) → sorted.contains nat_cmp n.stamps q ≡ cond (is_at (nat_cmp stamp) q) true (sorted.contains nat_cmp b.stamps q)) → vec_len n.history + tree.btree_map_len n.waiting ≤ vec_capacity n.history → IsBook n
-IsBook-queued b n id stamp kept may history waiting stands stamps room =
+pub IsBook-queued : (b n : Inside) (id : Id) (stamp place : ℕ) → IsBook b → MayQueue (history_of b) id stamp → n.history.items ≡ b.history.items ++ Queued id stamp ∷ [] → n.waiting.entries ≡ insert_entry nat_cmp b.waiting.entries stamp id → ((q : Id) → tree.get id_cmp n.standings q ≡ cond (is_at (id_cmp id) q) (Some Waits) (tree.get id_cmp b.standings q)) → IsPlaceOf b.stamps.items stamp place → n.stamps.items ≡ insert b.stamps.items place stamp → vec_len n.history + tree.btree_map_len n.waiting ≤ vec_capacity n.history → IsBook n
+IsBook-queued b n id stamp place kept may history waiting stands goes stamps room =
     let past : List Entry = history_of b in
     let now : Queued id stamp ∷ past ≡ history_of n = sym (ap reverse history ∙ reverse-push b.history.items (Queued id stamp)) in
     record {
       legal = subst IsLegalHistory now (may, kept.legal);
       waits = waiting ∙ ap (λ (w : List (ℕ × Id)). insert_entry nat_cmp w stamp id) kept.waits ∙ ap waiting_of now;
       stands = λ q. stands q ∙ ap (cond (is_at (id_cmp id) q) (Some Waits)) (kept.stands q) ∙ standing_of-queued past id q Waits ∙ ap (λ h. standing_of h q) now;
-      stamps = λ q. stamps q ∙ ap (cond (is_at (nat_cmp stamp) q) true) (kept.stamps q) ∙ has_stamp-queued past stamp q ∙ ap (λ h. has_stamp h q) now;
+      stamps = λ q. ap (λ ss. is_among ss q) stamps ∙ is_among-insert b.stamps.items place stamp q ∙ ap (λ b. (stamp == q) || b) (kept.stamps q) ∙ ap (λ h. has_stamp h q) now;
+      in_order = subst IsNonDecreasing (sym stamps) goes.in_order;
       room = room;
     }
 
@@ -92,7 +79,8 @@ IsBook-passed b n r first place kept next history waiting stands last stamps roo
       legal = subst IsLegalHistory now (next, kept.legal);
       waits = sym (remove_entry-head first n.waiting.entries r.stamp r.id is) ∙ ap (remove_entry (λ s. r.stamp == s)) waits ∙ ap waiting_of now;
       stands = λ q. stands q ∙ ap (cond (is_at (id_cmp r.id) q) (Some (Released place))) (kept.stands q) ∙ ap (λ (n : ℕ). cond (is_at (id_cmp r.id) q) (Some (Released n)) (standing_of (history_of b) q)) as_long ∙ standing_of-queued (history_of b) r.id q (Released (length (history_of b))) ∙ ap (λ h. standing_of h q) now;
-      stamps = λ q. ap (λ s. sorted.contains nat_cmp s q) stamps ∙ kept.stamps q ∙ ap (λ h. has_stamp h q) now;
+      stamps = λ q. ap (λ ss. is_among ss.items q) stamps ∙ kept.stamps q ∙ ap (λ h. has_stamp h q) now;
+      in_order = subst (λ ss. IsNonDecreasing ss.items) (sym stamps) kept.in_order;
       room = room;
     }
 
@@ -105,23 +93,14 @@ pub on_ok : {T E : Type 0} (r : Result T E) (P : Type 0) → is_err r ≡ false 
 on_ok (Ok x) P e h = h
 on_ok (Err x) P e h = absurd (true≢false e)
 
-not_not : (b : Bool) → not (not b) ≡ b
-not_not true = refl
-not_not false = refl
-
 -- ---- what a look-up says of the history
 pub has_id-looked_up : (b : Inside) (now : List Entry) (id : Id) (result answer : Bool) → IsBook b → history_of b ≡ now → result ≡ is_some (tree.get id_cmp b.standings id) → result ≡ answer → has_id now id ≡ answer
 has_id-looked_up b now id result answer kept is looked e =
     ap (λ h. has_id h id) (sym is) ∙ sym (is_some-standing_of (history_of b) kept.legal id) ∙ ap is_some (sym (kept.stands id)) ∙ sym looked ∙ e
 
-pub has_stamp-looked_up : (b : Inside) (now : List Entry) (stamp : ℕ) (result answer : Bool) → IsBook b → history_of b ≡ now → result ≡ sorted.contains nat_cmp b.stamps stamp → result ≡ answer → has_stamp now stamp ≡ answer
-has_stamp-looked_up b now stamp result answer kept is looked e =
-    ap (λ h. has_stamp h stamp) (sym is) ∙ sym (kept.stamps stamp) ∙ sym looked ∙ e
-
--- an answer whether a stamp is new
-pub has_stamp-answered : (b : Inside) (now : List Entry) (stamp : ℕ) (new : Bool) → IsBook b → history_of b ≡ now → new ≡ not (sorted.contains nat_cmp b.stamps stamp) → has_stamp now stamp ≡ not new
-has_stamp-answered b now stamp new kept is answered =
-    has_stamp-looked_up b now stamp _ _ kept is refl (sym (not_not (sorted.contains nat_cmp b.stamps stamp)) ∙ ap not (sym answered))
+pub has_stamp-looked_up : (b : Inside) (now : List Entry) (stamp : ℕ) (stamps : List ℕ) (answer : Bool) → IsBook b → history_of b ≡ now → stamps ≡ b.stamps.items → is_among stamps stamp ≡ answer → has_stamp now stamp ≡ answer
+has_stamp-looked_up b now stamp stamps answer kept is looked e =
+    ap (λ h. has_stamp h stamp) (sym is) ∙ sym (kept.stamps stamp) ∙ ap (λ ss. is_among ss stamp) (sym looked) ∙ e
 
 -- what a standing that was looked up says of the receipt
 pub receipt_of-looked_up : (b : Inside) (now : List Entry) (id : Id) (found : Option Standing) → IsBook b → history_of b ≡ now → found ≡ tree.get id_cmp b.standings id → HasNoReceipt found → receipt_of now id ≡ None

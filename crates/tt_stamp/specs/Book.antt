@@ -1,8 +1,8 @@
 -- What a book keeps beside its history, so that each question takes a look-up.
-use Rattle.std.specs.Prelude.{ℕ, ◌≡◌, ◌+◌, ◌≤◌, if◌then◌else◌, List, [], ◌∷◌, length, reverse, Option, Some, None, vec_len, vec_capacity}
-use Rattle.std.specs.Ordering.{nat_cmp}
+use Rattle.std.specs.Prelude.{ℕ, ◌≡◌, ◌+◌, ◌≤◌, ◌==◌, Bool, false, if◌then◌else◌, List, [], ◌∷◌, length, reverse, Option, Some, None, vec_len, vec_capacity}
 use Rattle.std.specs.BTreeMap as tree
-use Rattle.std.specs.BTreeSet as sorted
+use Rattle.std.specs.List.{list_any, insert}
+use Rattle.std.specs.List.Sorted.{IsNonDecreasing}
 use Rattle.tt_stamp.specs.Ids.{same_id, id_cmp}
 use Rattle.tt_stamp.specs.History.{waiting_of, release_of, with_receipts, has_stamp, IsLegalHistory}
 use Rattle.tt_stamp.specs.declared.commits.Id.{Id}
@@ -22,12 +22,23 @@ standing_of (Passed receipt ∷ past) id = if same_id receipt.id id then Some (R
 abbrev pub history_of : Inside → List Entry
 history_of b = reverse b.history.items
 
+-- whether a stamp is one of these
+abbrev pub is_among : List ℕ → ℕ → Bool
+is_among stamps stamp = list_any (λ s. s == stamp) stamps
+
+-- a new stamp goes to this place among stamps in order
+pub record IsPlaceOf (stamps : List ℕ) (stamp place : ℕ) : Type 0 where
+  pub within : place ≤ length stamps
+  pub new : is_among stamps stamp ≡ false
+  pub in_order : IsNonDecreasing (insert stamps place stamp)
+
 -- the history is legal, what is kept beside it is what it leaves, and there is room for the receipts of all that wait
 pub record IsBook (b : Inside) : Type 0 where
   pub legal : IsLegalHistory (history_of b)
   pub waits : b.waiting.entries ≡ waiting_of (history_of b)
   pub stands : (id : Id) → tree.get id_cmp b.standings id ≡ standing_of (history_of b) id
-  pub stamps : (stamp : ℕ) → sorted.contains nat_cmp b.stamps stamp ≡ has_stamp (history_of b) stamp
+  pub stamps : (stamp : ℕ) → is_among b.stamps.items stamp ≡ has_stamp (history_of b) stamp
+  pub in_order : IsNonDecreasing b.stamps.items
   pub room : vec_len b.history + tree.btree_map_len b.waiting ≤ vec_capacity b.history
 
 -- one turn of a release: one receipt fewer is to come, and with those that are to come the history ends alike

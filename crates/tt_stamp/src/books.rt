@@ -1,13 +1,11 @@
 //! The commits that wait until their stamps have surely passed.
 
-ghost use Rattle.std.specs.Prelude.{◌≡◌, ◌≢◌, ℕ, ◌+◌, ◌<◌, ◌≤◌, ◌↔◌, List, [], ◌∷◌, ◌++◌, length, reverse, map, Contains, Some, None, Ok, Err, IsOk, OnOk, OnErr, IfSome, IfNone, MatchOption, IsOkUnless, IsSome, if◌then◌else◌};
-ghost use Rattle.std.specs.List.Sorted.{IsStrictlyIncreasing};
+ghost use Rattle.std.specs.Prelude.{◌≡◌, ◌≢◌, ℕ, ◌+◌, ◌^◌, ◌<◌, ◌≤◌, ◌↔◌, true, List, [], ◌∷◌, ◌++◌, length, reverse, map, Contains, Some, None, Ok, Err, IsOk, OnOk, OnErr, IfSome, IfNone, MatchOption, IsOkUnless, IsSome, vec_len, vec_capacity, if◌then◌else◌};
+ghost use Rattle.std.specs.List.Sorted.{IsStrictlyIncreasing, IsNonDecreasing};
 ghost use Rattle.std.specs.BTreeMap as tree;
 ghost use Rattle.std.specs.BTreeMap.{is_at};
-ghost use Rattle.std.specs.BTreeSet as sorted;
-ghost use Rattle.std.specs.Ordering.{nat_cmp};
 ghost use Rattle.tt_stamp.specs.History.{MayQueue, Waits, IsLegalHistory, IsRelease, IsIdThere, IsStampThere, waiting_of, released_of, release_of, with_receipts, first_queue_fault, receipt_of, max_waiting};
-ghost use Rattle.tt_stamp.specs.Book.{IsReleaseTurn};
+ghost use Rattle.tt_stamp.specs.Book.{IsReleaseTurn, IsPlaceOf, is_among};
 ghost use Rattle.tt_stamp.specs.Ids.{id_cmp};
 ghost use Rattle.tt_stamp.specs.declared.commits.Id.{Id};
 ghost use Rattle.tt_stamp.specs.declared.commits.Entry.{Entry};
@@ -16,7 +14,7 @@ ghost use Rattle.tt_stamp.specs.declared.commits.Receipt.{Receipt};
 use crate::commits::{Entry, Id, Receipt, Standing};
 use crate::faults::BookFault;
 use std::alloc::{AllocError, Global};
-use std::collections::{BTreeMap, BTreeSet};
+use std::collections::BTreeMap;
 use std::marker::Model;
 use tt_publish::Reading;
 
@@ -31,7 +29,8 @@ pub struct Book {
     history: Vec<Entry>,
     waiting: BTreeMap<u64, Id>,
     standings: BTreeMap<Id, Standing>,
-    stamps: BTreeSet<u64>,
+    // All that were queued, in order: a new one is mostly the greatest, and then goes to the end.
+    stamps: Vec<u64>,
 }
 
 impl Model for Book {
@@ -56,7 +55,7 @@ impl Book {
             history: Vec::new(alloc),
             waiting: BTreeMap::new(alloc),
             standings: BTreeMap::new(alloc),
-            stamps: BTreeSet::new(alloc),
+            stamps: Vec::new(alloc),
         }
     }
 
@@ -84,23 +83,19 @@ impl Book {
             }
             Err(_) => return Err(no_memory_for(&self.stamps, stamp)),
         }
-        match self.stamps.insert(stamp) {
-            Ok(true) => {}
-            Ok(false) => {
+        let place = match place_of(&self.stamps, stamp) {
+            Some(place) => place,
+            None => {
                 let _ = self.standings.remove(&id);
                 return Err(BookFault::StampThere);
             }
-            Err(_) => {
-                let _ = self.standings.remove(&id);
-                return Err(BookFault::Memory);
-            }
-        }
-        let room = self.history.reserve(self.waiting.len() + 2);
+        };
+        let room = make_room(&mut self.history, self.waiting.len() + 1, &mut self.stamps);
         if room.is_err() || self.waiting.insert(stamp, id).is_err() {
             let _ = self.standings.remove(&id);
-            let _ = self.stamps.remove(&stamp);
             return Err(BookFault::Memory);
         }
+        let _ = self.stamps.insert(place, stamp);
         self.history.push_reserved(Entry::Queued { id, stamp });
         Ok(())
     }
@@ -216,13 +211,45 @@ fn set_standing(standings: &mut BTreeMap<Id, Standing>, id: Id, standing: Standi
     *standings.get_mut(&id).unwrap() = standing;
 }
 
-// Why a commit with a new id is not queued, where there is no memory for the id.
-fn no_memory_for(stamps: &BTreeSet<u64>, stamp: u64) -> BookFault
-    ensures { result ≡ (if sorted.contains nat_cmp stamps.now stamp then BookFault.StampThere else BookFault.Memory) }
+// Where a new stamp goes among stamps in order. None where it is among them.
+fn place_of(stamps: &[u64], stamp: u64) -> Option<usize>
+    requires { IsNonDecreasing stamps.now }
+    ensures new { IfSome result (λ place. IsPlaceOf stamps.now stamp place) }
+    ensures there { IfNone result (is_among stamps.now stamp ≡ true) }
 {
-    if stamps.contains(&stamp) {
-        BookFault::StampThere
-    } else {
-        BookFault::Memory
+    let end = stamps.len();
+    if end == 0 {
+        return Some(0);
+    }
+    if stamps[end - 1] < stamp {
+        return Some(end);
+    }
+    stamps.binary_search(&stamp).err()
+}
+
+// Takes the room for an entry with so many receipts, and for a stamp.
+fn make_room(
+    history: &mut Vec<Entry>,
+    receipts: usize,
+    stamps: &mut Vec<u64>,
+) -> Result<(), AllocError>
+    requires { receipts ≤ 2 ^ 63 }
+    ensures same { (history.new.items ≡ history.old.items) × (stamps.new.items ≡ stamps.old.items) }
+    ensures len { (vec_len history.new ≡ vec_len history.old) × (vec_len stamps.new ≡ vec_len stamps.old) }
+    ensures capacity { vec_capacity history.old ≤ vec_capacity history.new }
+    ensures ok { OnOk result ((vec_len history.new + receipts + 1 ≤ vec_capacity history.new) × (vec_len stamps.new < vec_capacity stamps.new)) }
+{
+    history.reserve(receipts + 1)?;
+    stamps.reserve(1)
+}
+
+// Why a commit with a new id is not queued, where there is no memory for the id.
+fn no_memory_for(stamps: &[u64], stamp: u64) -> BookFault
+    requires { IsNonDecreasing stamps.now }
+    ensures { result ≡ (if is_among stamps.now stamp then BookFault.StampThere else BookFault.Memory) }
+{
+    match place_of(stamps, stamp) {
+        None => BookFault::StampThere,
+        Some(_) => BookFault::Memory,
     }
 }

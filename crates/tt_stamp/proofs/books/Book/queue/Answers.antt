@@ -1,24 +1,24 @@
-use Rattle.std.proofs.Common.{◌≡◌, ◌+◌, ◌≤◌, vec_len, vec_capacity, Bool, [], ◌∷◌, ◌++◌, subst, true, false, cond, Some, None, is_some, length, refl, sym, ap, ◌∙◌, arith}
-use Rattle.std.specs.Bool.{OnFalse}
+use Rattle.std.proofs.Common.{◌≡◌, ◌+◌, ◌≤◌, vec_len, vec_capacity, [], ◌∷◌, ◌++◌, subst, true, false, cond, Some, None, is_some, length, refl, sym, ap, ◌∙◌, arith}
 use Rattle.std.specs.BTreeMap as tree
 use Rattle.std.specs.BTreeMap.{is_at}
-use Rattle.std.specs.BTreeSet as sorted
-use Rattle.std.specs.Ordering.{nat_cmp}
+use Rattle.std.specs.List.{insert}
+use Rattle.std.specs.List.Sorted.{IsNonDecreasing}
 use Rattle.tt_stamp.specs.Ids.{id_cmp}
 use Rattle.tt_stamp.specs.History.{waiting_of}
-use Rattle.tt_stamp.specs.Book.{history_of}
+use Rattle.tt_stamp.specs.Book.{history_of, IsPlaceOf}
 use Rattle.tt_stamp.specs.declared.books.Book.TheInside.{Inside}
 use Rattle.tt_stamp.specs.declared.commits.Entry.TheVariants.{Queued}
 use Rattle.tt_stamp.specs.declared.commits.Standing.TheVariants.{Waits}
 use Rattle.tt_stamp.proofs.Waiting.{length-insert_entry-le}
+use Rattle.tt_stamp.proofs.Places.{if_ok}
 use Rattle.tt_stamp.proofs.Histories.{MayQueue-from_tests, first_queue_fault-id, first_queue_fault-stamp, first_queue_fault-none, first_queue_fault-no_memory}
-use Rattle.tt_stamp.proofs.Standings.{has_id-looked_up, has_stamp-looked_up, has_stamp-answered, standing_of-undone, has_stamp-undone, IsBook-refused, IsBook-queued, on_err, on_ok}
+use Rattle.tt_stamp.proofs.Standings.{has_id-looked_up, has_stamp-looked_up, standing_of-undone, IsBook-refused, IsBook-queued, on_err, on_ok}
 use Rattle.tt_stamp.proofs.books.Book.queue.Goals as goal
 use Rattle.tt_stamp.proofs.books.Book.queue.Goals.{then-is_err-via-then-is_err, then-is_err-via-else-is_err+then-is_err-2}
 
 -- nothing of a book has changed but for its room
 abbrev IsKept : Inside → Inside → Type 0
-IsKept b n = (n.history.items ≡ b.history.items) × (n.waiting.entries ≡ b.waiting.entries) × (n.standings ≡ b.standings) × (n.stamps ≡ b.stamps) × (vec_len n.history + tree.btree_map_len n.waiting ≤ vec_capacity n.history)
+IsKept b n = (n.history.items ≡ b.history.items) × (n.waiting.entries ≡ b.waiting.entries) × (n.standings ≡ b.standings) × (n.stamps.items ≡ b.stamps.items) × (vec_len n.history + tree.btree_map_len n.waiting ≤ vec_capacity n.history)
 
 pub returns-in-Ok-Some-clause-fault : goal.returns-in-Ok-Some-clause-fault
 returns-in-Ok-Some-clause-fault c =
@@ -28,68 +28,74 @@ returns-in-Ok-Some-clause-fault c =
 pub returns-in-Err-clause-fault : goal.returns-in-Err-clause-fault
 returns-in-Err-clause-fault c =
     let new_id = has_id-looked_up c.self.inside c.args.self.now c.args.id _ false c.self.invariant c.self.view_is refl (ap is_some c.in-Err.ensures.absent) in
-    let stamped = has_stamp-looked_up c.self.inside c.args.self.now c.args.stamp _ _ c.self.invariant c.self.view_is refl refl in
+    let stamped = has_stamp-looked_up c.self.inside c.args.self.now c.args.stamp _ _ c.self.invariant c.self.view_is c.deref.ensures.value refl in
     first_queue_fault-no_memory c.args.self.now c.args.id c.args.stamp _ _ (omega arith) new_id stamped c.no_memory_for.ensures
 
-pub invariant_of-self-in-Ok-false : goal.invariant_of-self-in-Ok-false
-invariant_of-self-in-Ok-false c =
-    let new_id = has_id-looked_up c.self.inside (history_of c.self.inside) c.args.id _ false c.self.invariant refl refl (ap is_some (sym c.in-Ok-None.ensures.old ∙ c.in-Ok-None.field-0-is)) in
-    IsBook-refused c.self.inside _ c.self.invariant refl refl (λ q. c.remove.ensures.updates.0 q ∙ ap (cond (is_at (id_cmp c.args.id) q) None) (c.in-Ok-None.ensures.updates.0 q ∙ ap (cond (is_at (id_cmp c.args.id) q) (Some Waits)) (c.self.invariant.stands q)) ∙ standing_of-undone (history_of c.self.inside) c.args.id q c.self.invariant.legal new_id) (λ q. ap (λ ks. sorted.contains nat_cmp (record { keys = ks }) q) (subst (λ (b : Bool). OnFalse b (c.insert-2.new.self.keys ≡ c.self.inside.stamps.keys)) c.in-Ok-false.field-0-test c.in-Ok-false.ensures.unchanged) ∙ c.self.invariant.stamps q) c.self.invariant.room
+pub no_memory_for-requires : goal.no_memory_for-requires
+no_memory_for-requires c = subst IsNonDecreasing (sym c.deref.ensures.value) c.self.invariant.in_order
 
-pub returns-in-Ok-false-clause-fault : goal.returns-in-Ok-false-clause-fault
-returns-in-Ok-false-clause-fault c =
+pub place_of-requires : goal.place_of-requires
+place_of-requires c = subst IsNonDecreasing (sym c.deref-2.ensures.value) c.self.invariant.in_order
+
+pub insert-requires-2 : goal.insert-requires-2
+insert-requires-2 c =
+    omega (arith, c.in-Some.ensures.new.within, c.deref-2.ensures.len, c.make_room-room.ensures.len.1)
+
+pub push_reserved-requires : goal.push_reserved-requires
+push_reserved-requires c =
+    let room = on_ok c.make_room-room.result _ (sym c.is_err.ensures.value ∙ c.if-is_err.false) c.make_room-room.ensures.ok in
+    omega (arith, room.0)
+
+pub invariant_of-self-in-None : goal.invariant_of-self-in-None
+invariant_of-self-in-None c =
+    let new_id = has_id-looked_up c.self.inside (history_of c.self.inside) c.args.id _ false c.self.invariant refl refl (ap is_some (sym c.in-Ok-None.ensures.old ∙ c.in-Ok-None.field-0-is)) in
+    IsBook-refused c.self.inside _ c.self.invariant refl refl (λ q. c.remove.ensures.updates.0 q ∙ ap (cond (is_at (id_cmp c.args.id) q) None) (c.in-Ok-None.ensures.updates.0 q ∙ ap (cond (is_at (id_cmp c.args.id) q) (Some Waits)) (c.self.invariant.stands q)) ∙ standing_of-undone (history_of c.self.inside) c.args.id q c.self.invariant.legal new_id) refl c.self.invariant.room
+
+pub returns-in-None-clause-fault : goal.returns-in-None-clause-fault
+returns-in-None-clause-fault c =
     let new_id = has_id-looked_up c.self.inside c.args.self.now c.args.id _ false c.self.invariant c.self.view_is refl (ap is_some (sym c.in-Ok-None.ensures.old ∙ c.in-Ok-None.field-0-is)) in
-    let there = has_stamp-answered c.self.inside c.args.self.now c.args.stamp false c.self.invariant c.self.view_is (sym c.in-Ok-false.field-0-test ∙ c.in-Ok-false.ensures.added) in
+    let there = has_stamp-looked_up c.self.inside c.args.self.now c.args.stamp _ true c.self.invariant c.self.view_is c.deref-2.ensures.value c.in-None.ensures.there in
     rw (first_queue_fault-stamp c.args.self.now c.args.id c.args.stamp (omega arith) new_id there) refl
-
-pub invariant_of-self-in-Err-insert : goal.invariant_of-self-in-Err-insert
-invariant_of-self-in-Err-insert c =
-    let new_id = has_id-looked_up c.self.inside (history_of c.self.inside) c.args.id _ false c.self.invariant refl refl (ap is_some (sym c.in-Ok-None.ensures.old ∙ c.in-Ok-None.field-0-is)) in
-    IsBook-refused c.self.inside _ c.self.invariant refl refl (λ q. c.remove-in-Err-insert.ensures.updates.0 q ∙ ap (cond (is_at (id_cmp c.args.id) q) None) (c.in-Ok-None.ensures.updates.0 q ∙ ap (cond (is_at (id_cmp c.args.id) q) (Some Waits)) (c.self.invariant.stands q)) ∙ standing_of-undone (history_of c.self.inside) c.args.id q c.self.invariant.legal new_id) (λ q. ap (λ ks. sorted.contains nat_cmp (record { keys = ks }) q) c.in-Err-insert.ensures.err ∙ c.self.invariant.stamps q) c.self.invariant.room
-
-pub returns-in-Err-insert-clause-fault : goal.returns-in-Err-insert-clause-fault
-returns-in-Err-insert-clause-fault c =
-    let new_id = has_id-looked_up c.self.inside c.args.self.now c.args.id _ false c.self.invariant c.self.view_is refl (ap is_some (sym c.in-Ok-None.ensures.old ∙ c.in-Ok-None.field-0-is)) in
-    let new_stamp = has_stamp-looked_up c.self.inside c.args.self.now c.args.stamp _ false c.self.invariant c.self.view_is refl c.in-Err-insert.ensures.absent in
-    rw (first_queue_fault-none c.args.self.now c.args.id c.args.stamp (omega arith) new_id new_stamp) refl
 
 pub invariant_of-self-then-is_err : goal.invariant_of-self-then-is_err
 invariant_of-self-then-is_err c =
     let new_id = has_id-looked_up c.self.inside (history_of c.self.inside) c.args.id _ false c.self.invariant refl refl (ap is_some (sym c.in-Ok-None.ensures.old ∙ c.in-Ok-None.field-0-is)) in
-    let new_stamp = has_stamp-answered c.self.inside (history_of c.self.inside) c.args.stamp true c.self.invariant refl (sym c.in-Ok-true.field-0-test ∙ c.in-Ok-true.ensures.added) in
-    let before : Inside = record c.self.inside { standings = c.insert.new.self; stamps = c.insert-2.new.self } in
+    let new_stamp = has_stamp-looked_up c.self.inside (history_of c.self.inside) c.args.stamp _ false c.self.invariant refl c.deref-2.ensures.value c.in-Some.ensures.new.new in
+    let before : Inside = record c.self.inside { standings = c.insert.new.self } in
     let kept : IsKept before c.then-is_err.self-inside = elim c.then-is_err.branch [
-      | then-is_err-via-then-is_err w ↦ subst (IsKept before) (sym w.self-inside-is) (c.reserve-room.ensures.items, refl, refl, refl, omega (arith, c.reserve-room.ensures.len, c.reserve-room.ensures.capacity, c.self.invariant.room))
+      | then-is_err-via-then-is_err w ↦ subst (IsKept before) (sym w.self-inside-is) (c.make_room-room.ensures.same.0, refl, refl, c.make_room-room.ensures.same.1, omega (arith, c.make_room-room.ensures.len.0, c.make_room-room.ensures.capacity, c.self.invariant.room))
       | then-is_err-via-else-is_err+then-is_err-2 w ↦
           let waiting = on_err w.insert-else-is_err.result _ (sym w.is_err-else-is_err.ensures.value ∙ w.if-is_err-2.true) w.insert-else-is_err.ensures.err in
-          subst (IsKept before) (sym w.self-inside-is) (c.reserve-room.ensures.items, waiting, refl, refl, omega (arith, c.reserve-room.ensures.len, c.reserve-room.ensures.capacity, c.self.invariant.room, ap length waiting))
+          subst (IsKept before) (sym w.self-inside-is) (c.make_room-room.ensures.same.0, waiting, refl, c.make_room-room.ensures.same.1, omega (arith, c.make_room-room.ensures.len.0, c.make_room-room.ensures.capacity, c.self.invariant.room, ap length waiting))
     ] in
-    IsBook-refused c.self.inside _ c.self.invariant kept.0 kept.1 (λ q. c.remove-then-is_err.ensures.updates.0 q ∙ ap (cond (is_at (id_cmp c.args.id) q) None) (ap (λ m. tree.get id_cmp m q) kept.2 ∙ c.in-Ok-None.ensures.updates.0 q ∙ ap (cond (is_at (id_cmp c.args.id) q) (Some Waits)) (c.self.invariant.stands q)) ∙ standing_of-undone (history_of c.self.inside) c.args.id q c.self.invariant.legal new_id) (λ q. c.remove-then-is_err-2.ensures.updates.0 q ∙ ap (cond (is_at (nat_cmp c.args.stamp) q) false) (ap (λ m. sorted.contains nat_cmp m q) kept.3 ∙ c.in-Ok-true.ensures.updates.0 q ∙ ap (cond (is_at (nat_cmp c.args.stamp) q) true) (c.self.invariant.stamps q)) ∙ has_stamp-undone (history_of c.self.inside) c.args.stamp q new_stamp) kept.4
+    IsBook-refused c.self.inside _ c.self.invariant kept.0 kept.1 (λ q. c.remove-then-is_err.ensures.updates.0 q ∙ ap (cond (is_at (id_cmp c.args.id) q) None) (ap (λ m. tree.get id_cmp m q) kept.2 ∙ c.in-Ok-None.ensures.updates.0 q ∙ ap (cond (is_at (id_cmp c.args.id) q) (Some Waits)) (c.self.invariant.stands q)) ∙ standing_of-undone (history_of c.self.inside) c.args.id q c.self.invariant.legal new_id) kept.3 kept.4
 
 pub returns-then-is_err-clause-fault : goal.returns-then-is_err-clause-fault
 returns-then-is_err-clause-fault c =
     let new_id = has_id-looked_up c.self.inside c.args.self.now c.args.id _ false c.self.invariant c.self.view_is refl (ap is_some (sym c.in-Ok-None.ensures.old ∙ c.in-Ok-None.field-0-is)) in
-    let new_stamp = has_stamp-answered c.self.inside c.args.self.now c.args.stamp true c.self.invariant c.self.view_is (sym c.in-Ok-true.field-0-test ∙ c.in-Ok-true.ensures.added) in
+    let new_stamp = has_stamp-looked_up c.self.inside c.args.self.now c.args.stamp _ false c.self.invariant c.self.view_is c.deref-2.ensures.value c.in-Some.ensures.new.new in
     rw (first_queue_fault-none c.args.self.now c.args.id c.args.stamp (omega arith) new_id new_stamp) refl
 
 pub invariant_of-self-2 : goal.invariant_of-self-2
 invariant_of-self-2 c =
     let new_id = has_id-looked_up c.self.inside (history_of c.self.inside) c.args.id _ false c.self.invariant refl refl (ap is_some (sym c.in-Ok-None.ensures.old ∙ c.in-Ok-None.field-0-is)) in
-    let new_stamp = has_stamp-answered c.self.inside (history_of c.self.inside) c.args.stamp true c.self.invariant refl (sym c.in-Ok-true.field-0-test ∙ c.in-Ok-true.ensures.added) in
-    let room = on_ok c.reserve-room.result _ (sym c.is_err.ensures.value ∙ c.if-is_err.false) c.reserve-room.ensures.ok in
+    let new_stamp = has_stamp-looked_up c.self.inside (history_of c.self.inside) c.args.stamp _ false c.self.invariant refl c.deref-2.ensures.value c.in-Some.ensures.new.new in
+    let room = on_ok c.make_room-room.result _ (sym c.is_err.ensures.value ∙ c.if-is_err.false) c.make_room-room.ensures.ok in
     let waiting = on_ok c.insert-else-is_err.result _ (sym c.is_err-else-is_err.ensures.value ∙ c.if-is_err-2.false) c.insert-else-is_err.ensures.entries in
     let may = MayQueue-from_tests (history_of c.self.inside) c.args.id c.args.stamp (omega (arith, ap (λ h. length (waiting_of h)) c.self.view_is)) new_id new_stamp in
-    let items = c.push_reserved.ensures.items ∙ ap (λ xs. xs ++ Queued c.args.id c.args.stamp ∷ []) c.reserve-room.ensures.items in
-    IsBook-queued c.self.inside _ c.args.id c.args.stamp c.self.invariant may items waiting (c.in-Ok-None.ensures.updates.0) (c.in-Ok-true.ensures.updates.0) (omega (arith, c.push_reserved.ensures.len, c.push_reserved.ensures.capacity, room, c.len.ensures.len, ap length waiting, length-insert_entry-le c.args.stamp c.args.id c.self.inside.waiting.entries))
+    let items = c.push_reserved.ensures.items ∙ ap (λ xs. xs ++ Queued c.args.id c.args.stamp ∷ []) c.make_room-room.ensures.same.0 in
+    let stamps = if_ok c.insert-2.result _ _ _ (c.insert-2.ensures.succeeds room.1) c.insert-2.ensures.items ∙ ap (λ ss. insert ss c.in-Some.place c.args.stamp) c.make_room-room.ensures.same.1 in
+    let goes = subst (λ ss. IsPlaceOf ss c.args.stamp c.in-Some.place) c.deref-2.ensures.value c.in-Some.ensures.new in
+    IsBook-queued c.self.inside _ c.args.id c.args.stamp c.in-Some.place c.self.invariant may items waiting (c.in-Ok-None.ensures.updates.0) goes stamps (omega (arith, c.push_reserved.ensures.len, c.push_reserved.ensures.capacity, room.0, c.len.ensures.len, ap length waiting, length-insert_entry-le c.args.stamp c.args.id c.self.inside.waiting.entries))
 
 pub returns-clause-fault : goal.returns-clause-fault
 returns-clause-fault c =
     let new_id = has_id-looked_up c.self.inside c.args.self.now c.args.id _ false c.self.invariant c.self.view_is refl (ap is_some (sym c.in-Ok-None.ensures.old ∙ c.in-Ok-None.field-0-is)) in
-    let new_stamp = has_stamp-answered c.self.inside c.args.self.now c.args.stamp true c.self.invariant c.self.view_is (sym c.in-Ok-true.field-0-test ∙ c.in-Ok-true.ensures.added) in
+    let new_stamp = has_stamp-looked_up c.self.inside c.args.self.now c.args.stamp _ false c.self.invariant c.self.view_is c.deref-2.ensures.value c.in-Some.ensures.new.new in
     rw (first_queue_fault-none c.args.self.now c.args.id c.args.stamp (omega arith) new_id new_stamp) tt
 
 pub returns-clause-may : goal.returns-clause-may
 returns-clause-may c = λ _.
     let new_id = has_id-looked_up c.self.inside c.args.self.now c.args.id _ false c.self.invariant c.self.view_is refl (ap is_some (sym c.in-Ok-None.ensures.old ∙ c.in-Ok-None.field-0-is)) in
-    let new_stamp = has_stamp-answered c.self.inside c.args.self.now c.args.stamp true c.self.invariant c.self.view_is (sym c.in-Ok-true.field-0-test ∙ c.in-Ok-true.ensures.added) in
+    let new_stamp = has_stamp-looked_up c.self.inside c.args.self.now c.args.stamp _ false c.self.invariant c.self.view_is c.deref-2.ensures.value c.in-Some.ensures.new.new in
     MayQueue-from_tests c.args.self.now c.args.id c.args.stamp (omega arith) new_id new_stamp
