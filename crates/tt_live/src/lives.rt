@@ -20,7 +20,7 @@ use std::thread::{JoinHandle, Scope, Threads};
 use std::time::{Clock as SystemClock, Instant};
 use tt_audit::LiveReport;
 use tt_daemon::{Config, Daemon};
-use tt_node::{Clocks, Gate, Limits, NodeEnd, NodeFault, UdpLink, run_node};
+use tt_node::{Clocks, Limits, NodeEnd, NodeFault, OpenGate, UdpLink, run_node};
 use tt_script::{Live, Script, Session};
 use tt_session::Turns;
 use tt_stream::Counted;
@@ -35,18 +35,6 @@ pub const MAX_WAITS: u32 = 10_000;
 const MACHINE: u8 = 0;
 
 const EPOCH: u64 = 1;
-
-/// A gate that lets every call pass.
-#[derive(Drop)]
-struct OpenGate;
-
-impl Gate for OpenGate {
-    fn may_pass(&self, _worker: u32, _call: u64) -> bool {
-        true
-    }
-
-    fn answered(&self, _worker: u32, _call: u64) {}
-}
 
 /// What the threads of a run share.
 struct Shared<'a, R> {

@@ -1,6 +1,7 @@
 -- The service of one worker.
-use Rattle.std.specs.Prelude.{◌≡◌, ◌≢◌, ℕ, ◌⊎◌, List, [], ◌∷◌, ◌++◌, Bool, Option, Some, None, Result, Ok, Err, IfOk, IfErr, IsOk, OnErr}
+use Rattle.std.specs.Prelude.{◌≡◌, ◌≢◌, ℕ, ◌⊎◌, List, [], ◌∷◌, ◌++◌, Bool, true, false, Option, Some, None, Result, Ok, Err, IfOk, IfErr, IsOk, OnErr}
 use mathlib.Core.List.{IsPrefix}
+use Rattle.tt_stream.specs.Counts.{count_after}
 use Rattle.tt_span.specs.Interval.{Interval, Holds}
 use Rattle.tt_publish.specs.Fault.{read_number_of}
 use Rattle.tt_publish.specs.Known.{WatchState}
@@ -16,22 +17,32 @@ use Rattle.tt_audit.specs.declared.live.LiveNote.{LiveNote}
 use Rattle.tt_session.specs.declared.calls.Call.{Call}
 use Rattle.tt_session.specs.declared.calls.Call.TheVariants.{Now, Begin, Pass}
 
--- a worker: its watch and its clock, its seat, the lease that it stamps in, and its notes, oldest first
-pub record WorkerState (C : Type 0) : Type 0 where
+-- a worker: its session, its gate and how many calls it was asked about, its watch and its clock, its seat, the lease that it stamps in, and its notes, oldest first
+pub record WorkerState (C G : Type 0) : Type 0 where
+  pub session : ℕ
+  pub gate : G
+  pub calls : ℕ
   pub watch : WatchState
   pub clock : C
   pub seat : SeatState
   pub lease : Interval
   pub notes : List LiveNote
 
--- a call leaves the source and the drift of the watch, and what it has seen never shrinks
-pub record Works {C : Type 0} (before after : WorkerState C) : Type 0 where
+-- the worker once its gate was asked about a call: the count stays at 2^64 - 1
+abbrev pub counted : {C G : Type 0} → WorkerState C G → WorkerState C G
+counted w = record w { calls = count_after w.calls 1 }
+
+-- a call leaves the session and the gate, the source and the drift of the watch, and what it has seen never shrinks
+pub record Works {C G : Type 0} (before after : WorkerState C G) : Type 0 where
+  pub session : after.session ≡ before.session
+  pub gate : after.gate ≡ before.gate
+  pub calls : after.calls ≡ before.calls
   pub same : (after.watch.source ≡ before.watch.source) × (after.watch.drift ≡ before.watch.drift)
   pub seen : IsPrefix before.watch.items after.watch.items
   pub lease : after.lease ≡ before.lease
 
 -- a reading was given: it is one `now` on the watch, between two readings of the clock, and these three are noted
-pub record HasRead {C : Type 0} (gives : C → Option ℕ → C → Type 0) (failed : C → ℕ) (before : WorkerState C) (reading : Interval) (after : WorkerState C) : Type 0 where
+pub record HasRead {C G : Type 0} (gives : C → Option ℕ → C → Type 0) (failed : C → ℕ) (before : WorkerState C G) (reading : Interval) (after : WorkerState C G) : Type 0 where
   pub first : ℕ
   pub last : ℕ
   pub clock : C
@@ -42,7 +53,7 @@ pub record HasRead {C : Type 0} (gives : C → Option ℕ → C → Type 0) (fai
   pub noted : after.notes ≡ before.notes ++ record { before = first; after = last; reading = reading } ∷ []
 
 -- why no reading was given, by the number of the refusal
-pub data GivesNone {C : Type 0} (gives : C → Option ℕ → C → Type 0) (failed : C → ℕ) (before : WorkerState C) (number : ℕ) (after : WorkerState C) : Type 0 where
+pub data GivesNone {C G : Type 0} (gives : C → Option ℕ → C → Type 0) (failed : C → ℕ) (before : WorkerState C G) (number : ℕ) (after : WorkerState C G) : Type 0 where
   -- there was no room for the note, and nothing was done
   NoRoom : number ≡ 1 → after ≡ before → GivesNone gives failed before number after
   -- the clock failed just before the `now` on the watch, which was not called
@@ -78,29 +89,32 @@ PassesAt (Ok reading) answer = IsOk answer
 PassesAt (Err fault) answer = answer ≡ Err (read_number_of fault)
 
 -- a call that begins with one `now` on the watch, and then does this with what it answered
-abbrev pub LooksThen : {C : Type 0} → (C → Option ℕ → C → Type 0) → (C → ℕ) → WorkerState C → (Result Interval ReadFault → Type 0) → WorkerState C → Type 0
+abbrev pub LooksThen : {C G : Type 0} → (C → Option ℕ → C → Type 0) → (C → ℕ) → WorkerState C G → (Result Interval ReadFault → Type 0) → WorkerState C G → Type 0
 LooksThen gives failed before Then after = (looked : Result Interval ReadFault) × Looks gives failed before.watch before.clock looked after.watch after.clock × Then looked
 
--- what a worker promises of each call of its service: where its gate never lets the call pass, it does nothing
-abbrev pub Allows : {C : Type 0} → (C → Option ℕ → C → Type 0) → (C → ℕ) → WorkerState C → Call → WorkerState C → Type 0
-Allows gives failed before (Now answer) after = record {
-  works : Works before after;
-  closed : answer ≡ Err 1504 → after ≡ before;
+-- what a worker promises of each call of its service: its gate is asked, where that says no the call is refused by 1504 and does nothing, and where it says yes this is done
+abbrev pub Allows : {C G : Type 0} → (C → Option ℕ → C → Type 0) → (C → ℕ) → (G → ℕ → ℕ → Bool → Type 0) → WorkerState C G → Call → WorkerState C G → Type 0
+Allows gives failed says before (Now answer) after = record {
+  works : Works (counted before) after;
+  closed : answer ≡ Err 1504 → says before.gate before.session before.calls false × (after ≡ counted before);
+  passed : answer ≢ Err 1504 → says before.gate before.session before.calls true;
   seat : after.seat ≡ before.seat;
-  read : IfOk answer (λ reading. HasRead gives failed before reading after);
+  read : IfOk answer (λ reading. HasRead gives failed (counted before) reading after);
   unread : OnErr answer (after.notes ≡ before.notes);
-  refused : answer ≢ Err 1504 → IfErr answer (λ number. GivesNone gives failed before number after);
+  refused : answer ≢ Err 1504 → IfErr answer (λ number. GivesNone gives failed (counted before) number after);
 }
-Allows gives failed before (Begin number floor answer) after = record {
-  works : Works before after;
-  closed : answer ≡ Err 1504 → after ≡ before;
+Allows gives failed says before (Begin number floor answer) after = record {
+  works : Works (counted before) after;
+  closed : answer ≡ Err 1504 → says before.gate before.session before.calls false × (after ≡ counted before);
+  passed : answer ≢ Err 1504 → says before.gate before.session before.calls true;
   notes : after.notes ≡ before.notes;
-  begins : answer ≢ Err 1504 → LooksThen gives failed before (λ looked. BeginsAt before.seat floor before.lease looked answer after.seat) after;
+  begins : answer ≢ Err 1504 → LooksThen gives failed (counted before) (λ looked. BeginsAt before.seat floor before.lease looked answer after.seat) after;
 }
-Allows gives failed before (Pass number answer) after = record {
-  works : Works before after;
-  closed : answer ≡ Err 1504 → after ≡ before;
+Allows gives failed says before (Pass number answer) after = record {
+  works : Works (counted before) after;
+  closed : answer ≡ Err 1504 → says before.gate before.session before.calls false × (after ≡ counted before);
+  passed : answer ≢ Err 1504 → says before.gate before.session before.calls true;
   seat : after.seat ≡ before.seat;
   notes : after.notes ≡ before.notes;
-  passes : answer ≢ Err 1504 → LooksThen gives failed before (λ looked. PassesAt looked answer) after;
+  passes : answer ≢ Err 1504 → LooksThen gives failed (counted before) (λ looked. PassesAt looked answer) after;
 }

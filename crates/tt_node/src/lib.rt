@@ -7,7 +7,7 @@
 //!
 //! - `links`: the trait `Link`, by which packets are sent and received. `datagrams`: a link over UDP.
 //! - `rounds`: `daemon_rounds`, and what one call of it did. `masters`: `master_rounds`.
-//! - `gates`: the trait `Gate`, which may hold the calls of a worker. `workers`: `Worker`.
+//! - `gates`: the trait `Gate`, which may hold the calls of a worker, and one that holds none. `workers`: `Worker`.
 //! - `nodes`: `run_node`, with its clocks, its limits and its end.
 //! - `faults`: what is answered where a call refuses.
 #![tactic(auto)]
@@ -23,7 +23,7 @@ mod workers;
 
 pub use datagrams::UdpLink;
 pub use faults::{LinkFault, NodeFault};
-pub use gates::Gate;
+pub use gates::{Gate, OpenGate};
 pub use links::{Link, PACKET_LEN};
 pub use masters::master_rounds;
 pub use nodes::{Clocks, Limits, NodeEnd, WorkerEnd, run_node};

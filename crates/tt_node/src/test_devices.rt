@@ -165,6 +165,8 @@ pub(crate) struct PlannedGate<'a, R> {
 }
 
 impl<'a, R: std::time::Clock> Gate for PlannedGate<'a, R> {
+    ghost says = { λ _ _ _ _. Unit {0} };
+
     fn may_pass(&self, worker: u32, call: u64) -> bool {
         let sent = self.marks.sent.load(Ordering::SeqCst);
         let first = self.marks.first.load(Ordering::SeqCst);

@@ -1,7 +1,7 @@
 //! The service of one worker of a running node.
 
 ghost use Rattle.std.specs.Prelude.{◌≡◌, [], Some, None, IfOk, IfErr, IsErrOf, OnErr};
-ghost use Rattle.tt_node.specs.Working.{Works, HasRead, GivesNone, LooksThen, BeginsAt, PassesAt, Allows};
+ghost use Rattle.tt_node.specs.Working.{Works, HasRead, GivesNone, LooksThen, BeginsAt, PassesAt, Allows, counted};
 
 use crate::faults::NodeFault;
 use crate::gates::Gate;
@@ -46,9 +46,9 @@ impl<'a, R, C, G> Model for Worker<'a, R, C, G> {
     ghost use Rattle.std.specs.Prelude.{◌≡◌};
     ghost use Rattle.tt_node.specs.Working.{WorkerState};
 
-    ghost Value = { WorkerState C };
+    ghost Value = { WorkerState C G };
 
-    ghost view = { λ w. record { watch = w.watch; clock = w.clock; seat = w.seat; lease = w.lease; notes = w.notes.items } };
+    ghost view = { λ w. record { session = w.session; gate = w.gate.now; calls = w.calls; watch = w.watch; clock = w.clock; seat = w.seat; lease = w.lease; notes = w.notes.items } };
 
     ghost invariant = { λ w. w.seat.table ≡ w.sequencer.now };
 }
@@ -68,7 +68,7 @@ impl<'a, R: Wait, C: Clock, G: Gate> Worker<'a, R, C, G> {
         lease: Span,
     ) -> Self
         requires of_it { seat.table ≡ sequencer.now }
-        ensures made { result ≡ record { watch = watch; clock = clock; seat = seat; lease = lease; notes = [] } }
+        ensures made { result ≡ record { session = session; gate = gate.now; calls = 0; watch = watch; clock = clock; seat = seat; lease = lease; notes = [] } }
     {
         Worker {
             rt,
@@ -106,16 +106,19 @@ impl<'a, R, C: Drop, G> Worker<'a, R, C, G> {
 impl<'a, R: Wait, C: Clock, G: Gate> Worker<'a, R, C, G> {
     /// Whether the gate lets the next call pass, and the number of that call.
     fn passes(&mut self) -> (bool, u64)
-        ensures { self.new ≡ self.old }
+        ensures counted { self.new ≡ counted self.old }
+        ensures said { G.says self.old.gate self.old.session self.old.calls result.0 }
     {
         let call = self.calls;
         self.calls = self.calls.saturating_add(1);
-        for _ in 0..MAX_TURNS {
-            if self.gate.may_pass(self.session, call) {
-                return (true, call);
+        let mut passes = self.gate.may_pass(self.session, call);
+        for _ in 1..MAX_TURNS {
+            if passes {
+                break;
             }
+            passes = self.gate.may_pass(self.session, call);
         }
-        (false, call)
+        (passes, call)
     }
 
     /// A reading, of which a note is kept.
@@ -197,7 +200,7 @@ impl<'a, R: Wait, C: Clock, G: Gate> Worker<'a, R, C, G> {
 }
 
 impl<'a, R: Wait, C: Clock, G: Gate> Service for Worker<'a, R, C, G> {
-    ghost allows = { Allows C.gives C.failed };
+    ghost allows = { Allows C.gives C.failed G.says };
 
     /// One [`Watch::now`] between two readings of the clock, of which a note is kept.
     ///

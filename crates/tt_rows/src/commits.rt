@@ -1,11 +1,10 @@
 //! Stamps, books, and the services that begin commits.
 
-use crate::devices::OpenGate;
 use crate::outcomes::{MEMORY, Outcome};
 use crate::scenes;
 use std::alloc::Global;
 use std::sync::{Mutex, Wait};
-use tt_node::Worker;
+use tt_node::{OpenGate, Worker};
 use tt_publish::{MemoryClock, Reading, Watch, open};
 use tt_session::{Desk, Service};
 use tt_span::{Drift, Span};
