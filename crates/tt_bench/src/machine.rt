@@ -107,26 +107,34 @@ pub fn make_fusion(alloc: Global) -> Result<Fused> {
     Ok(Fused::make(0, &spans, FAULTY)?)
 }
 
-/// Copies of a fusion.
+/// Copies of fusions, each into the place of the next, so that no copy can be left out.
 #[derive(Drop)]
 pub struct Copying {
-    fused: Fused,
+    fusions: Vec<Fused>,
 }
 
 impl Copying {
     pub fn new(alloc: Global) -> Result<Copying> {
-        Ok(Copying {
-            fused: make_fusion(alloc)?,
-        })
+        let mut fusions = Vec::new(alloc);
+        fusions.push(make_fusion(alloc)?)?;
+        fusions.push(make_fusion(alloc)?)?;
+        fusions.push(make_fusion(alloc)?)?;
+        Ok(Copying { fusions })
     }
 }
 
 impl Work for Copying {
     fn batch(&mut self, calls: u32) -> u64 {
         let mut sum = 0u64;
-        for _ in 0..calls {
-            self.fused = self.fused.copied();
-            sum = sum.wrapping_add(self.fused.span().lo());
+        for call in 0..calls {
+            let Some(fused) = self.fusions.get(call as usize % 3) else {
+                continue;
+            };
+            let copy = fused.copied();
+            sum = sum.wrapping_add(copy.span().lo());
+            if let Some(place) = self.fusions.get_mut((call as usize + 1) % 3) {
+                *place = copy;
+            }
         }
         sum
     }

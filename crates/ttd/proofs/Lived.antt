@@ -12,7 +12,7 @@ use Rattle.ttd.specs.declared.faults.Fault.TheVariants.{BadInput, ReadFailed}
 use Rattle.ttd.specs.Answer.{Answer, answer_of, fine}
 use Rattle.ttd.specs.Input.{IsInputFault, most_input}
 use Rattle.ttd.specs.Living.{IsLiveAnswer, ReadsLive, TellsLive, TellsLiveScript, UnlessMemory}
-use Rattle.ttd.specs.Run.{Gives, GivesUnlessMemory, Input, Output, memory_answer}
+use Rattle.ttd.specs.Run.{GivesUnlessMemory, Input, Output, memory_answer}
 use Rattle.ttd.proofs.Replies.{longer_input}
 
 -- what is answered to a text that is a script

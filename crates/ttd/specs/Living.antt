@@ -16,7 +16,6 @@ use Rattle.ttd.specs.Running.{script_fault_of}
 use Rattle.ttd.specs.declared.ending.Reply.{Reply}
 use Rattle.ttd.specs.declared.ending.Status.{Status}
 use Rattle.ttd.specs.declared.ending.Status.TheVariants.{Fine, Memory, Bad, Broken, Device}
-use Rattle.ttd.specs.declared.faults.Fault.{Fault}
 use Rattle.ttd.specs.declared.faults.Fault.TheVariants.{BadInput, ReadFailed}
 use Rattle.ttd.specs.declared.living.LiveRefusal.{LiveRefusal}
 use Rattle.ttd.specs.declared.living.LiveRefusal.TheVariants.{Program, Live}
@@ -73,6 +72,10 @@ AnswersLive input answer =
 -- It is such an answer, or memory ran out.
 abbrev pub UnlessMemory : (Answer → Type 0) → Answer → Type 0
 UnlessMemory IsSuch answer = IsSuch answer ⊎ (answer ≡ memory_answer)
+
+-- Nothing was read, and the answer is such, or memory ran out.
+abbrev pub Unread : Input → Input → (Answer → Type 0) → Answer → Type 0
+Unread old new IsSuch answer = (new ≡ old) × UnlessMemory IsSuch answer
 
 -- The answer is that to the bytes of the input, which was read; or reading failed; or memory ran out.
 abbrev pub ReadsLive : Input → Input → Answer → Type 0

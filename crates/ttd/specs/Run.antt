@@ -2,11 +2,13 @@
 use Rattle.std.specs.Prelude.{◌≡◌, ◌⊎◌, ◌<◌, ℕ, Bool, true, List, length, take, Option, IfSome, Result, Err}
 use Rattle.std.specs.Io.KnownBytes.{Appends, IsAtEnd}
 use Rattle.tt_stream.specs.Counts.{HasFailed}
+use Rattle.tt_stream.specs.declared.device.ByteReader as reader
+use Rattle.tt_stream.specs.declared.device.ByteWriter as writer
 use Rattle.ttd.specs.declared.ending.Status.{Status}
 use Rattle.ttd.specs.declared.ending.Status.TheVariants.{Device}
 use Rattle.ttd.specs.declared.faults.Fault.{Fault}
-use Rattle.ttd.specs.declared.faults.Fault.TheVariants.{ReadFailed, Memory}
-use Rattle.ttd.specs.Answer.{Answer, answer_of}
+use Rattle.ttd.specs.declared.faults.Fault.TheVariants.{BadWords, ReadFailed, Memory}
+use Rattle.ttd.specs.Answer.{Answer, answer_of, fine}
 use Rattle.ttd.specs.Input.{most_input}
 
 -- What the input shows: the bytes that are still to come, where the device keeps them, and its failures and reads so far.
@@ -22,13 +24,13 @@ pub record Output : Type 0 where
   pub failed : ℕ
   pub flushed : Bool
 
--- The same by its parts.
-abbrev pub input_at : Option (List ℕ) → ℕ → ℕ → Input
-input_at left failed asked = record { left = left; failed = failed; asked = asked }
+-- What a reader shows.
+abbrev pub input_of : {R : Type 0} → reader.Ghosts R → R → Input
+input_of shows device = record { left = shows.left device; failed = shows.failed device; asked = shows.asked device }
 
--- The same by its parts.
-abbrev pub output_at : Option (List ℕ) → ℕ → Bool → Output
-output_at taken failed flushed = record { taken = taken; failed = failed; flushed = flushed }
+-- What a writer shows.
+abbrev pub output_of : {W : Type 0} → writer.Ghosts W → W → Output
+output_of shows device = record { taken = shows.taken device; failed = shows.failed device; flushed = shows.flushed device }
 
 -- The output gained exactly the answer's text and was flushed, no write failed, and the program ends with the answer's status.
 pub record IsWritten (answer : Answer) (old new : Output) (status : Status) : Type 0 where
@@ -54,6 +56,14 @@ memory_answer = answer_of (Err Memory)
 -- The same, or memory ran out, and that is the answer.
 abbrev pub GivesUnlessMemory : Answer → Output → Output → Status → Type 0
 GivesUnlessMemory answer old new status = Gives answer old new status ⊎ Gives memory_answer old new status
+
+-- Nothing was read, and it was written that the words are bad, or that memory ran out.
+abbrev pub RefusesWords : Input → Input → Output → Output → Status → Type 0
+RefusesWords old_in new_in old_out new_out status = (new_in ≡ old_in) × GivesUnlessMemory (answer_of (Err BadWords)) old_out new_out status
+
+-- Nothing was read, and some help was written, or that memory ran out.
+abbrev pub GivesHelp : Input → Input → Output → Output → Status → Type 0
+GivesHelp old_in new_in old_out new_out status = (new_in ≡ old_in) × ((text : List ℕ) × GivesUnlessMemory (fine text) old_out new_out status)
 
 -- These are the bytes that the input still had, and it is read to its end, unless they are too many; no read failed.
 pub record IsRead (bytes : List ℕ) (old new : Input) : Type 0 where

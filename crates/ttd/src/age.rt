@@ -3,7 +3,7 @@
 ghost use Rattle.std.specs.Prelude.{◌≡◌, ◌≢◌, Err, string_bytes};
 ghost use Rattle.hex.specs.Hex.{decode_of};
 ghost use Rattle.ttd_words.specs.Reading.{IsUnlessMemory};
-ghost use Rattle.ttd.specs.Age.{age_of, aged_hex, aged_line, aged_of, answered as answered_of, without_line_feed as without_line_feed_of};
+ghost use Rattle.ttd.specs.Age.{age_of, aged_hex, aged_of, answered as answered_of, without_line_feed as without_line_feed_of};
 ghost use Rattle.ttd.specs.Command.{HasReply};
 
 use crate::faults::Fault;

@@ -1,10 +1,10 @@
 //! The words that the program was started with.
 
-ghost use Rattle.std.specs.Prelude.{◌≡◌, ◌≢◌, ◌⊎◌, IfOk, map, string_bytes};
+ghost use Rattle.std.specs.Prelude.{◌≡◌, ◌≢◌, ◌⊎◌, ◌↔◌, IfOk, IsTrue, Some, codes, map, option_map, slice_get, string_bytes};
 ghost use Rattle.clap.specs.Walk.{texts};
 ghost use Rattle.tt_stream.specs.Counts.{HasFailed};
 ghost use Rattle.tt_stream.specs.DeviceBytes.{ReadsOn};
-ghost use Rattle.ttd.specs.Run.{IsWritten, memory_answer, output_at};
+ghost use Rattle.ttd.specs.Run.{IsWritten, memory_answer, output_of};
 
 use crate::ending::{Ended, Status};
 use crate::faults::Fault;
@@ -47,8 +47,7 @@ pub(crate) fn main_from<R: ByteReader, W: ByteWriter>(
         ⊎ HasFailed (W.failed output.old) (W.failed output.new) }
     ensures sound { (result.status ≢ Status.Device) → (result.status ≢ Status.Memory) → (R.failed input.new ≡ R.failed input.old)
         × (W.failed output.new ≡ W.failed output.old) }
-    ensures memory { result.status ≡ Status.Memory → IsWritten memory_answer (output_at (W.taken output.old) (W.failed output.old) (W.flushed output.old))
-        (output_at (W.taken output.new) (W.failed output.new) (W.flushed output.new)) result.status }
+    ensures memory { result.status ≡ Status.Memory → IsWritten memory_answer (output_of W.ByteWriter output.old) (output_of W.ByteWriter output.new) result.status }
     ensures rest { ReadsOn (R.left input.old) (R.left input.new) }
 {
     match words_given(rt) {
@@ -63,11 +62,19 @@ pub(crate) fn main_from<R: ByteReader, W: ByteWriter>(
     }
 }
 
-/// Whether the first word that the program was started with asks for `live`.
-pub(crate) fn asks_live(rt: &(impl Env + AllocGlobal)) -> bool {
+/// Whether the first of the words is `live`.
+fn begins_with_live(words: &[String]) -> bool
+    ensures { IsTrue result ↔ (option_map string_bytes (slice_get words.now 0) ≡ Some (codes "live")) }
+{
+    words.first().is_some_and(|word| word.as_str() == LIVE)
+}
+
+/// Whether the first word that the program was started with asks for `live`. Words that are no text do not.
+pub(crate) fn asks_live(rt: &(impl Env + AllocGlobal)) -> Result<bool, AllocError> {
     match words_given(rt) {
-        Ok(words) => words.first().is_some_and(|word| word.as_str() == LIVE),
-        Err(_) => false,
+        Ok(words) => Ok(begins_with_live(words.as_slice())),
+        Err(error) if error.kind() == ErrorKind::OutOfMemory => Err(AllocError),
+        Err(_) => Ok(false),
     }
 }
 

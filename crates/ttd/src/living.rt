@@ -1,14 +1,14 @@
 //! The command `live`: the machine of a script, run in threads.
 
-ghost use Rattle.std.specs.Prelude.{◌≡◌, ◌≢◌, [], ◌∷◌, ℕ, List, codes, Ok, Err, IfOk, IfErr, None, string_bytes};
+ghost use Rattle.std.specs.Prelude.{◌≡◌, ◌≢◌, [], ◌∷◌, ℕ, List, codes, Ok, Err, IfOk, string_bytes};
 ghost use Rattle.clap.specs.Walk.{texts};
 ghost use Rattle.tt_audit.specs.declared.live.LiveReport.{LiveReport};
 ghost use Rattle.tt_live.specs.Plan.{refusal_of};
 ghost use Rattle.tt_stream.specs.DeviceBytes.{ReadsOn};
 ghost use Rattle.ttd_words.specs.Reading.{AreForHelp, AreMistaken, AreTaken, asked_of};
-ghost use Rattle.ttd.specs.Answer.{answer_in, answer_of, fine};
-ghost use Rattle.ttd.specs.Living.{IsLiveAnswer, Lives, ReadsLive, TellsLive, UnlessMemory, live_answer, report_answer, status_at};
-ghost use Rattle.ttd.specs.Run.{GivesUnlessMemory, input_at, memory_answer, output_at};
+ghost use Rattle.ttd.specs.Answer.{answer_of, fine};
+ghost use Rattle.ttd.specs.Living.{IsLiveAnswer, Lives, ReadsLive, TellsLive, UnlessMemory, Unread, live_answer, report_answer, status_at};
+ghost use Rattle.ttd.specs.Run.{GivesHelp, GivesUnlessMemory, RefusesWords, input_of, output_of};
 
 use crate::ending::{Ended, Reply, Status};
 use crate::faults::Fault;
@@ -117,8 +117,7 @@ fn input_reply<
     H: Threads + Wait + Clock + Sync + Net<Listener = TcpListener, Stream = TcpStream>,
     R: ByteReader,
 >(rt: &H, alloc: Global, input: &mut R) -> Result<Reply, LiveRefusal>
-    ensures value { ReadsLive (input_at (R.left input.old) (R.failed input.old) (R.asked input.old))
-        (input_at (R.left input.new) (R.failed input.new) (R.asked input.new)) (live_answer result) }
+    ensures value { ReadsLive (input_of R.ByteReader input.old) (input_of R.ByteReader input.new) (live_answer result) }
     ensures rest { ReadsOn (R.left input.old) (R.left input.new) }
 {
     match read_input(alloc, input) {
@@ -133,10 +132,8 @@ fn command_reply<
     R: ByteReader,
 >(rt: &H, alloc: Global, command: Command, input: &mut R) -> Result<Reply, LiveRefusal>
     ensures lives { command ≡ Command.Live →
-        ReadsLive (input_at (R.left input.old) (R.failed input.old) (R.asked input.old))
-        (input_at (R.left input.new) (R.failed input.new) (R.asked input.new)) (live_answer result) }
-    ensures other { (command ≢ Command.Live) → (input_at (R.left input.new) (R.failed input.new) (R.asked input.new)
-        ≡ input_at (R.left input.old) (R.failed input.old) (R.asked input.old))
+        ReadsLive (input_of R.ByteReader input.old) (input_of R.ByteReader input.new) (live_answer result) }
+    ensures other { (command ≢ Command.Live) → (input_of R.ByteReader input.new ≡ input_of R.ByteReader input.old)
         × (live_answer result ≡ answer_of (Err Fault.BadWords)) }
     ensures rest { ReadsOn (R.left input.old) (R.left input.new) }
 {
@@ -153,18 +150,14 @@ fn words_reply<
     R: ByteReader,
 >(rt: &H, alloc: Global, words: &[&str], input: &mut R) -> Result<Reply, LiveRefusal>
     ensures lives { AreTaken (texts words.now) → asked_of (texts words.now) ≡ Ok (Asked.Run Command.Live) →
-        ReadsLive (input_at (R.left input.old) (R.failed input.old) (R.asked input.old))
-        (input_at (R.left input.new) (R.failed input.new) (R.asked input.new)) (live_answer result) }
+        ReadsLive (input_of R.ByteReader input.old) (input_of R.ByteReader input.new) (live_answer result) }
     ensures other { AreTaken (texts words.now) → asked_of (texts words.now) ≢ Ok (Asked.Run Command.Live) →
-        (input_at (R.left input.new) (R.failed input.new) (R.asked input.new)
-        ≡ input_at (R.left input.old) (R.failed input.old) (R.asked input.old))
-        × UnlessMemory (λ answer. answer ≡ answer_of (Err Fault.BadWords)) (live_answer result) }
-    ensures mistaken { AreMistaken (texts words.now) → (input_at (R.left input.new) (R.failed input.new) (R.asked input.new)
-        ≡ input_at (R.left input.old) (R.failed input.old) (R.asked input.old))
-        × UnlessMemory (λ answer. answer ≡ answer_of (Err Fault.BadWords)) (live_answer result) }
-    ensures helped { AreForHelp (texts words.now) → (input_at (R.left input.new) (R.failed input.new) (R.asked input.new)
-        ≡ input_at (R.left input.old) (R.failed input.old) (R.asked input.old))
-        × UnlessMemory (λ answer. (text : List ℕ) × (answer ≡ fine text)) (live_answer result) }
+        Unread (input_of R.ByteReader input.old) (input_of R.ByteReader input.new)
+        (λ answer. answer ≡ answer_of (Err Fault.BadWords)) (live_answer result) }
+    ensures mistaken { AreMistaken (texts words.now) → Unread (input_of R.ByteReader input.old) (input_of R.ByteReader input.new)
+        (λ answer. answer ≡ answer_of (Err Fault.BadWords)) (live_answer result) }
+    ensures helped { AreForHelp (texts words.now) → Unread (input_of R.ByteReader input.old) (input_of R.ByteReader input.new)
+        (λ answer. (text : List ℕ) × (answer ≡ fine text)) (live_answer result) }
     ensures rest { ReadsOn (R.left input.old) (R.left input.new) }
 {
     match read_words(alloc, words) {
@@ -179,8 +172,7 @@ fn words_reply<
 
 /// Writes the one line of a run that was refused. That of out of memory takes no memory.
 fn refuse_run<W: ByteWriter>(alloc: Global, output: &mut W, fault: LiveFault) -> LiveEnded
-    ensures { GivesUnlessMemory (live_answer (Err (LiveRefusal.Live fault))) (output_at (W.taken output.old) (W.failed output.old) (W.flushed output.old))
-        (output_at (W.taken output.new) (W.failed output.new) (W.flushed output.new)) result.status }
+    ensures { GivesUnlessMemory (live_answer (Err (LiveRefusal.Live fault))) (output_of W.ByteWriter output.old) (output_of W.ByteWriter output.new) result.status }
 {
     let number = fault.number();
     match format!(in alloc; "refused {number}\n") {
@@ -211,8 +203,7 @@ pub(crate) fn give_live<W: ByteWriter>(
     output: &mut W,
     reply: Result<Reply, LiveRefusal>,
 ) -> LiveEnded
-    ensures { GivesUnlessMemory (live_answer reply) (output_at (W.taken output.old) (W.failed output.old) (W.flushed output.old))
-        (output_at (W.taken output.new) (W.failed output.new) (W.flushed output.new)) result.status }
+    ensures { GivesUnlessMemory (live_answer reply) (output_of W.ByteWriter output.old) (output_of W.ByteWriter output.new) result.status }
 {
     match reply {
         Ok(reply) => ended_so(give(alloc, output, Ok(reply))),
@@ -240,23 +231,18 @@ pub(crate) fn answer_live<
     W: ByteWriter,
 >(rt: &H, alloc: Global, words: &[&str], input: &mut R, output: &mut W) -> LiveEnded
     ensures lives { AreTaken (texts words.now) → asked_of (texts words.now) ≡ Ok (Asked.Run Command.Live) → Lives
-        (input_at (R.left input.old) (R.failed input.old) (R.asked input.old))
-        (input_at (R.left input.new) (R.failed input.new) (R.asked input.new))
-        (output_at (W.taken output.old) (W.failed output.old) (W.flushed output.old))
-        (output_at (W.taken output.new) (W.failed output.new) (W.flushed output.new)) result.status }
+        (input_of R.ByteReader input.old) (input_of R.ByteReader input.new)
+        (output_of W.ByteWriter output.old) (output_of W.ByteWriter output.new) result.status }
     ensures other { AreTaken (texts words.now) → asked_of (texts words.now) ≢ Ok (Asked.Run Command.Live) →
-        (input_at (R.left input.new) (R.failed input.new) (R.asked input.new)
-        ≡ input_at (R.left input.old) (R.failed input.old) (R.asked input.old))
-        × GivesUnlessMemory (answer_of (Err Fault.BadWords)) (output_at (W.taken output.old) (W.failed output.old) (W.flushed output.old))
-        (output_at (W.taken output.new) (W.failed output.new) (W.flushed output.new)) result.status }
-    ensures mistaken { AreMistaken (texts words.now) → (input_at (R.left input.new) (R.failed input.new) (R.asked input.new)
-        ≡ input_at (R.left input.old) (R.failed input.old) (R.asked input.old))
-        × GivesUnlessMemory (answer_of (Err Fault.BadWords)) (output_at (W.taken output.old) (W.failed output.old) (W.flushed output.old))
-        (output_at (W.taken output.new) (W.failed output.new) (W.flushed output.new)) result.status }
-    ensures helped { AreForHelp (texts words.now) → (input_at (R.left input.new) (R.failed input.new) (R.asked input.new)
-        ≡ input_at (R.left input.old) (R.failed input.old) (R.asked input.old))
-        × ((text : List ℕ) × GivesUnlessMemory (fine text) (output_at (W.taken output.old) (W.failed output.old) (W.flushed output.old))
-        (output_at (W.taken output.new) (W.failed output.new) (W.flushed output.new)) result.status) }
+        RefusesWords
+        (input_of R.ByteReader input.old) (input_of R.ByteReader input.new)
+        (output_of W.ByteWriter output.old) (output_of W.ByteWriter output.new) result.status }
+    ensures mistaken { AreMistaken (texts words.now) → RefusesWords
+        (input_of R.ByteReader input.old) (input_of R.ByteReader input.new)
+        (output_of W.ByteWriter output.old) (output_of W.ByteWriter output.new) result.status }
+    ensures helped { AreForHelp (texts words.now) → GivesHelp
+        (input_of R.ByteReader input.old) (input_of R.ByteReader input.new)
+        (output_of W.ByteWriter output.old) (output_of W.ByteWriter output.new) result.status }
     ensures rest { ReadsOn (R.left input.old) (R.left input.new) }
 {
     let reply = words_reply(rt, alloc, words, input);
@@ -281,23 +267,18 @@ pub fn live_with<
     W: ByteWriter,
 >(rt: &H, alloc: Global, words: &[&str], input: &mut R, output: &mut W) -> Status
     ensures lives { AreTaken (texts words.now) → asked_of (texts words.now) ≡ Ok (Asked.Run Command.Live) → Lives
-        (input_at (R.left input.old) (R.failed input.old) (R.asked input.old))
-        (input_at (R.left input.new) (R.failed input.new) (R.asked input.new))
-        (output_at (W.taken output.old) (W.failed output.old) (W.flushed output.old))
-        (output_at (W.taken output.new) (W.failed output.new) (W.flushed output.new)) result }
+        (input_of R.ByteReader input.old) (input_of R.ByteReader input.new)
+        (output_of W.ByteWriter output.old) (output_of W.ByteWriter output.new) result }
     ensures other { AreTaken (texts words.now) → asked_of (texts words.now) ≢ Ok (Asked.Run Command.Live) →
-        (input_at (R.left input.new) (R.failed input.new) (R.asked input.new)
-        ≡ input_at (R.left input.old) (R.failed input.old) (R.asked input.old))
-        × GivesUnlessMemory (answer_of (Err Fault.BadWords)) (output_at (W.taken output.old) (W.failed output.old) (W.flushed output.old))
-        (output_at (W.taken output.new) (W.failed output.new) (W.flushed output.new)) result }
-    ensures mistaken { AreMistaken (texts words.now) → (input_at (R.left input.new) (R.failed input.new) (R.asked input.new)
-        ≡ input_at (R.left input.old) (R.failed input.old) (R.asked input.old))
-        × GivesUnlessMemory (answer_of (Err Fault.BadWords)) (output_at (W.taken output.old) (W.failed output.old) (W.flushed output.old))
-        (output_at (W.taken output.new) (W.failed output.new) (W.flushed output.new)) result }
-    ensures helped { AreForHelp (texts words.now) → (input_at (R.left input.new) (R.failed input.new) (R.asked input.new)
-        ≡ input_at (R.left input.old) (R.failed input.old) (R.asked input.old))
-        × ((text : List ℕ) × GivesUnlessMemory (fine text) (output_at (W.taken output.old) (W.failed output.old) (W.flushed output.old))
-        (output_at (W.taken output.new) (W.failed output.new) (W.flushed output.new)) result) }
+        RefusesWords
+        (input_of R.ByteReader input.old) (input_of R.ByteReader input.new)
+        (output_of W.ByteWriter output.old) (output_of W.ByteWriter output.new) result }
+    ensures mistaken { AreMistaken (texts words.now) → RefusesWords
+        (input_of R.ByteReader input.old) (input_of R.ByteReader input.new)
+        (output_of W.ByteWriter output.old) (output_of W.ByteWriter output.new) result }
+    ensures helped { AreForHelp (texts words.now) → GivesHelp
+        (input_of R.ByteReader input.old) (input_of R.ByteReader input.new)
+        (output_of W.ByteWriter output.old) (output_of W.ByteWriter output.new) result }
     ensures rest { ReadsOn (R.left input.old) (R.left input.new) }
 {
     answer_live(rt, alloc, words, input, output).status

@@ -42,27 +42,34 @@ mod spans_text;
 mod twinning;
 
 use arguments::{asks_live, live_from, main_from};
+use faults::Fault;
 use living::explain_live;
-use output::explain;
+use output::{explain, give};
+use std::alloc::AllocError;
 use std::process::ExitCode;
 use tt_stream::Counted;
 
 fn main(rt: HostRuntime) -> ExitCode {
     let mut input = Counted::new(rt.stdin());
     let mut output = Counted::new(rt.stdout());
-    if asks_live(&rt) {
-        let ended = live_from(&rt, &mut input, &mut output);
-        if let Some(refusal) = ended.refusal {
-            explain_live(rt.alloc(), &mut rt.stderr(), &refusal);
+    let ended = match asks_live(&rt) {
+        Ok(true) => {
+            let ended = live_from(&rt, &mut input, &mut output);
+            if let Some(refusal) = ended.refusal {
+                explain_live(rt.alloc(), &mut rt.stderr(), &refusal);
+            }
+            return ExitCode::from(ended.status);
         }
-        return ExitCode::from(ended.status);
-    }
-    let ended = main_from(&rt, &mut input, &mut output);
+        Ok(false) => main_from(&rt, &mut input, &mut output),
+        Err(AllocError) => give(rt.alloc(), &mut output, Err(Fault::Memory)),
+    };
     if let Some(refusal) = ended.refusal {
         explain(rt.alloc(), &mut rt.stderr(), &refusal);
     }
     ExitCode::from(ended.status)
 }
 
+#[cfg(test)]
+mod live_tests;
 #[cfg(test)]
 mod tests;

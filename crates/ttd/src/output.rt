@@ -5,7 +5,7 @@ ghost use Rattle.std.specs.Result.{result_map_both};
 ghost use Rattle.std.specs.Io.KnownBytes.{Appends};
 ghost use Rattle.tt_stream.specs.Counts.{HasFailed};
 ghost use Rattle.ttd.specs.Answer.{answer_in, answer_of};
-ghost use Rattle.ttd.specs.Run.{Gives, GivesUnlessMemory, IsWritten, memory_answer, output_at};
+ghost use Rattle.ttd.specs.Run.{Gives, GivesUnlessMemory, IsWritten, memory_answer, output_of};
 
 use crate::ending::{Ended, Reply, Status};
 use crate::faults::Fault;
@@ -27,8 +27,7 @@ fn write<W: ByteWriter>(output: &mut W, bytes: &[u8]) -> Result<(), DeviceFault>
 
 /// Writes a text, after which the program ends with `status`, unless the writer fails.
 pub(crate) fn end_with<W: ByteWriter>(output: &mut W, text: &str, status: Status) -> Status
-    ensures { Gives (record { text = text.now; status = status }) (output_at (W.taken output.old) (W.failed output.old) (W.flushed output.old))
-        (output_at (W.taken output.new) (W.failed output.new) (W.flushed output.new)) result }
+    ensures { Gives (record { text = text.now; status = status }) (output_of W.ByteWriter output.old) (output_of W.ByteWriter output.new) result }
 {
     match write(output, text.as_bytes()) {
         Ok(()) => status,
@@ -38,10 +37,8 @@ pub(crate) fn end_with<W: ByteWriter>(output: &mut W, text: &str, status: Status
 
 /// Writes the one line of a refusal. That of out of memory takes no memory.
 fn refuse<W: ByteWriter>(alloc: Global, output: &mut W, fault: Fault) -> Ended
-    ensures gives { GivesUnlessMemory (answer_of (Err fault)) (output_at (W.taken output.old) (W.failed output.old) (W.flushed output.old))
-        (output_at (W.taken output.new) (W.failed output.new) (W.flushed output.new)) result.status }
-    ensures refused { IfSome result.refusal (λ told. Gives (answer_of (Err told)) (output_at (W.taken output.old) (W.failed output.old) (W.flushed output.old))
-        (output_at (W.taken output.new) (W.failed output.new) (W.flushed output.new)) result.status) }
+    ensures gives { GivesUnlessMemory (answer_of (Err fault)) (output_of W.ByteWriter output.old) (output_of W.ByteWriter output.new) result.status }
+    ensures refused { IfSome result.refusal (λ told. Gives (answer_of (Err told)) (output_of W.ByteWriter output.old) (output_of W.ByteWriter output.new) result.status) }
     ensures some { IsSome result.refusal }
 {
     let number = fault.number();
@@ -70,12 +67,9 @@ pub(crate) fn give<W: ByteWriter>(
     output: &mut W,
     reply: Result<Reply, Fault>,
 ) -> Ended
-    ensures gives { GivesUnlessMemory (answer_of (result_map_both answer_in (λ fault. fault) reply)) (output_at (W.taken output.old) (W.failed output.old) (W.flushed output.old))
-        (output_at (W.taken output.new) (W.failed output.new) (W.flushed output.new)) result.status }
-    ensures memory { result.status ≡ Status.Memory → IsWritten memory_answer (output_at (W.taken output.old) (W.failed output.old) (W.flushed output.old))
-        (output_at (W.taken output.new) (W.failed output.new) (W.flushed output.new)) result.status }
-    ensures refused { IfSome result.refusal (λ told. Gives (answer_of (Err told)) (output_at (W.taken output.old) (W.failed output.old) (W.flushed output.old))
-        (output_at (W.taken output.new) (W.failed output.new) (W.flushed output.new)) result.status) }
+    ensures gives { GivesUnlessMemory (answer_of (result_map_both answer_in (λ fault. fault) reply)) (output_of W.ByteWriter output.old) (output_of W.ByteWriter output.new) result.status }
+    ensures memory { result.status ≡ Status.Memory → IsWritten memory_answer (output_of W.ByteWriter output.old) (output_of W.ByteWriter output.new) result.status }
+    ensures refused { IfSome result.refusal (λ told. Gives (answer_of (Err told)) (output_of W.ByteWriter output.old) (output_of W.ByteWriter output.new) result.status) }
     ensures none { result.refusal ≡ None → IsOk reply }
 {
     match reply {

@@ -1,6 +1,6 @@
 //! The whole program, over any devices.
 
-ghost use Rattle.std.specs.Prelude.{◌≡◌, ◌≢◌, ◌≤◌, ◌⊎◌, ℕ, List, Ok, Err, IfSome, IsErrOf};
+ghost use Rattle.std.specs.Prelude.{◌≡◌, ◌≢◌, ◌⊎◌, ℕ, List, Ok, Err, IfSome, IsErrOf};
 ghost use Rattle.std.specs.Result.{result_map_both};
 ghost use Rattle.clap.specs.Walk.{texts};
 ghost use Rattle.tt_stream.specs.Counts.{HasFailed};
@@ -8,7 +8,7 @@ ghost use Rattle.tt_stream.specs.DeviceBytes.{ReadsOn};
 ghost use Rattle.ttd_words.specs.Reading.{AreForHelp, AreMistaken, AreTaken, asked_of};
 ghost use Rattle.ttd.specs.Answer.{answer_in, answer_of, fine};
 ghost use Rattle.ttd.specs.Command.{HasReply, IsCommandReply, IsReply, IsReplyRead, IsReplyTo, words_fault_of};
-ghost use Rattle.ttd.specs.Run.{Answers, Gives, GivesUnlessMemory, IsWritten, input_at, memory_answer, output_at};
+ghost use Rattle.ttd.specs.Run.{Answers, Gives, GivesHelp, IsWritten, RefusesWords, input_of, memory_answer, output_of};
 
 use crate::age::{Ageing, age_text};
 use crate::check::check_text;
@@ -70,8 +70,7 @@ fn command_reply<R: ByteReader>(
     command: Command,
     input: &mut R,
 ) -> Result<Reply, Fault>
-    ensures value { IsReplyRead answer_in (IsReply command) (input_at (R.left input.old) (R.failed input.old) (R.asked input.old))
-        (input_at (R.left input.new) (R.failed input.new) (R.asked input.new)) result }
+    ensures value { IsReplyRead answer_in (IsReply command) (input_of R.ByteReader input.old) (input_of R.ByteReader input.new) result }
     ensures failed { IsErrOf result Fault.ReadFailed → HasFailed (R.failed input.old) (R.failed input.new) }
     ensures sound { (result ≢ Err Fault.ReadFailed) → R.failed input.new ≡ R.failed input.old }
     ensures rest { ReadsOn (R.left input.old) (R.left input.new) }
@@ -83,13 +82,10 @@ fn command_reply<R: ByteReader>(
 /// What the program has to write: the text that the words ask for, or a refusal. The words are tested before the input is read.
 fn reply<R: ByteReader>(alloc: Global, words: &[&str], input: &mut R) -> Result<Reply, Fault>
     ensures taken { AreTaken (texts words.now) → IsReplyRead answer_in (IsReplyTo (asked_of (texts words.now)))
-        (input_at (R.left input.old) (R.failed input.old) (R.asked input.old))
-        (input_at (R.left input.new) (R.failed input.new) (R.asked input.new)) result }
-    ensures mistaken { AreMistaken (texts words.now) → (input_at (R.left input.new) (R.failed input.new) (R.asked input.new)
-        ≡ input_at (R.left input.old) (R.failed input.old) (R.asked input.old))
+        (input_of R.ByteReader input.old) (input_of R.ByteReader input.new) result }
+    ensures mistaken { AreMistaken (texts words.now) → (input_of R.ByteReader input.new ≡ input_of R.ByteReader input.old)
         × ((result ≡ Err Fault.BadWords) ⊎ (result ≡ Err Fault.Memory)) }
-    ensures helped { AreForHelp (texts words.now) → (input_at (R.left input.new) (R.failed input.new) (R.asked input.new)
-        ≡ input_at (R.left input.old) (R.failed input.old) (R.asked input.old))
+    ensures helped { AreForHelp (texts words.now) → (input_of R.ByteReader input.new ≡ input_of R.ByteReader input.old)
         × (((text : List ℕ) × (result_map_both answer_in (λ fault. fault) result ≡ Ok (fine text))) ⊎ (result ≡ Err Fault.Memory)) }
     ensures failed { IsErrOf result Fault.ReadFailed → HasFailed (R.failed input.old) (R.failed input.new) }
     ensures sound { (result ≢ Err Fault.ReadFailed) → R.failed input.new ≡ R.failed input.old }
@@ -109,29 +105,23 @@ pub(crate) fn answer_with<R: ByteReader, W: ByteWriter>(
     output: &mut W,
 ) -> Ended
     ensures taken { AreTaken (texts words.now) → Answers (IsReplyTo (asked_of (texts words.now)))
-        (input_at (R.left input.old) (R.failed input.old) (R.asked input.old))
-        (input_at (R.left input.new) (R.failed input.new) (R.asked input.new))
-        (output_at (W.taken output.old) (W.failed output.old) (W.flushed output.old))
-        (output_at (W.taken output.new) (W.failed output.new) (W.flushed output.new)) result.status }
-    ensures mistaken { AreMistaken (texts words.now) → (input_at (R.left input.new) (R.failed input.new) (R.asked input.new)
-        ≡ input_at (R.left input.old) (R.failed input.old) (R.asked input.old))
-        × GivesUnlessMemory (answer_of (Err Fault.BadWords)) (output_at (W.taken output.old) (W.failed output.old) (W.flushed output.old))
-        (output_at (W.taken output.new) (W.failed output.new) (W.flushed output.new)) result.status }
-    ensures helped { AreForHelp (texts words.now) → (input_at (R.left input.new) (R.failed input.new) (R.asked input.new)
-        ≡ input_at (R.left input.old) (R.failed input.old) (R.asked input.old))
-        × ((text : List ℕ) × GivesUnlessMemory (fine text) (output_at (W.taken output.old) (W.failed output.old) (W.flushed output.old))
-        (output_at (W.taken output.new) (W.failed output.new) (W.flushed output.new)) result.status) }
+        (input_of R.ByteReader input.old) (input_of R.ByteReader input.new)
+        (output_of W.ByteWriter output.old) (output_of W.ByteWriter output.new) result.status }
+    ensures mistaken { AreMistaken (texts words.now) → RefusesWords
+        (input_of R.ByteReader input.old) (input_of R.ByteReader input.new)
+        (output_of W.ByteWriter output.old) (output_of W.ByteWriter output.new) result.status }
+    ensures helped { AreForHelp (texts words.now) → GivesHelp
+        (input_of R.ByteReader input.old) (input_of R.ByteReader input.new)
+        (output_of W.ByteWriter output.old) (output_of W.ByteWriter output.new) result.status }
 
     // Whatever the words are.
     ensures device { result.status ≡ Status.Device → HasFailed (R.failed input.old) (R.failed input.new)
         ⊎ HasFailed (W.failed output.old) (W.failed output.new) }
     ensures sound { (result.status ≢ Status.Device) → (result.status ≢ Status.Memory) → (R.failed input.new ≡ R.failed input.old)
         × (W.failed output.new ≡ W.failed output.old) }
-    ensures memory { result.status ≡ Status.Memory → IsWritten memory_answer (output_at (W.taken output.old) (W.failed output.old) (W.flushed output.old))
-        (output_at (W.taken output.new) (W.failed output.new) (W.flushed output.new)) result.status }
+    ensures memory { result.status ≡ Status.Memory → IsWritten memory_answer (output_of W.ByteWriter output.old) (output_of W.ByteWriter output.new) result.status }
     ensures rest { ReadsOn (R.left input.old) (R.left input.new) }
-    ensures refused { IfSome result.refusal (λ told. Gives (answer_of (Err told)) (output_at (W.taken output.old) (W.failed output.old) (W.flushed output.old))
-        (output_at (W.taken output.new) (W.failed output.new) (W.flushed output.new)) result.status) }
+    ensures refused { IfSome result.refusal (λ told. Gives (answer_of (Err told)) (output_of W.ByteWriter output.old) (output_of W.ByteWriter output.new) result.status) }
 {
     let reply = reply(alloc, words, input);
     give(alloc, output, reply)
@@ -169,26 +159,21 @@ pub fn main_with<R: ByteReader, W: ByteWriter>(
     output: &mut W,
 ) -> Status
     ensures taken { AreTaken (texts words.now) → Answers (IsReplyTo (asked_of (texts words.now)))
-        (input_at (R.left input.old) (R.failed input.old) (R.asked input.old))
-        (input_at (R.left input.new) (R.failed input.new) (R.asked input.new))
-        (output_at (W.taken output.old) (W.failed output.old) (W.flushed output.old))
-        (output_at (W.taken output.new) (W.failed output.new) (W.flushed output.new)) result }
-    ensures mistaken { AreMistaken (texts words.now) → (input_at (R.left input.new) (R.failed input.new) (R.asked input.new)
-        ≡ input_at (R.left input.old) (R.failed input.old) (R.asked input.old))
-        × GivesUnlessMemory (answer_of (Err Fault.BadWords)) (output_at (W.taken output.old) (W.failed output.old) (W.flushed output.old))
-        (output_at (W.taken output.new) (W.failed output.new) (W.flushed output.new)) result }
-    ensures helped { AreForHelp (texts words.now) → (input_at (R.left input.new) (R.failed input.new) (R.asked input.new)
-        ≡ input_at (R.left input.old) (R.failed input.old) (R.asked input.old))
-        × ((text : List ℕ) × GivesUnlessMemory (fine text) (output_at (W.taken output.old) (W.failed output.old) (W.flushed output.old))
-        (output_at (W.taken output.new) (W.failed output.new) (W.flushed output.new)) result) }
+        (input_of R.ByteReader input.old) (input_of R.ByteReader input.new)
+        (output_of W.ByteWriter output.old) (output_of W.ByteWriter output.new) result }
+    ensures mistaken { AreMistaken (texts words.now) → RefusesWords
+        (input_of R.ByteReader input.old) (input_of R.ByteReader input.new)
+        (output_of W.ByteWriter output.old) (output_of W.ByteWriter output.new) result }
+    ensures helped { AreForHelp (texts words.now) → GivesHelp
+        (input_of R.ByteReader input.old) (input_of R.ByteReader input.new)
+        (output_of W.ByteWriter output.old) (output_of W.ByteWriter output.new) result }
 
     // Whatever the words are.
     ensures device { result ≡ Status.Device → HasFailed (R.failed input.old) (R.failed input.new)
         ⊎ HasFailed (W.failed output.old) (W.failed output.new) }
     ensures sound { (result ≢ Status.Device) → (result ≢ Status.Memory) → (R.failed input.new ≡ R.failed input.old)
         × (W.failed output.new ≡ W.failed output.old) }
-    ensures memory { result ≡ Status.Memory → IsWritten memory_answer (output_at (W.taken output.old) (W.failed output.old) (W.flushed output.old))
-        (output_at (W.taken output.new) (W.failed output.new) (W.flushed output.new)) result }
+    ensures memory { result ≡ Status.Memory → IsWritten memory_answer (output_of W.ByteWriter output.old) (output_of W.ByteWriter output.new) result }
     ensures rest { ReadsOn (R.left input.old) (R.left input.new) }
 {
     answer_with(alloc, words, input, output).status

@@ -1,16 +1,15 @@
 //! The command `twin`: the twin of a reading in a script's run.
 
-ghost use Rattle.std.specs.Prelude.{◌≡◌, ◌≢◌, ◌++◌, ◌≤◌, ◌<◌, ℕ, List, [], reverse, Err, IfOk, OnOk, Some, length, slice_get, string_bytes};
+ghost use Rattle.std.specs.Prelude.{◌≡◌, ◌≢◌, ◌++◌, ◌<◌, reverse, Err, IfOk, OnOk, Some, slice_get, string_bytes};
 ghost use Rattle.std.specs.List.{flat_map};
 ghost use Rattle.tt_cert.specs.Text.{line_of, spaced};
 ghost use Rattle.tt_span.specs.Interval.{Interval};
 ghost use Rattle.tt_twin.specs.Twin.{twin_of};
 ghost use Rattle.tt_world.specs.declared.events.Reply.TheVariants as replies;
 ghost use Rattle.tt_world.specs.Past.{time_of};
-ghost use Rattle.tt_world.specs.Reply.{replies_from};
-ghost use Rattle.ttd.specs.Answer.{answer_in, EndsFine};
+ghost use Rattle.ttd.specs.Answer.{answer_in};
 ghost use Rattle.ttd.specs.Command.{HasReply};
-ghost use Rattle.ttd.specs.Twinning.{IsTwinReply, TellsFound, action_line, event_line, forged_line, truth_line, twin_fault_of, twin_side, twin_text};
+ghost use Rattle.ttd.specs.Twinning.{IsTwinReply, TellsFound, event_line, forged_line, truth_line, twin_fault_of, twin_side, twin_text};
 
 use crate::ending::Reply;
 use crate::faults::Fault;
