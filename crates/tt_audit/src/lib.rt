@@ -37,8 +37,3 @@ pub use faults::AuditFault;
 pub use live::{LiveNote, LiveReport, audit_live, live_laws};
 pub use reports::{Broken, Report, Suspect};
 pub use writing::report_text;
-
-#[cfg(test)]
-mod scripts;
-#[cfg(test)]
-mod tests;

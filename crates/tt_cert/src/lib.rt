@@ -34,6 +34,3 @@ pub use checking::{certificate_laws, check};
 pub use faults::CertFault;
 pub use reading::{line_at, read_text, text_laws};
 pub use writing::write_text;
-
-#[cfg(test)]
-mod tests;

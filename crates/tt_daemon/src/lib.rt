@@ -30,6 +30,3 @@ pub use daemons::Daemon;
 pub use faults::DaemonFault;
 pub use fusions::Fused;
 pub use tt_fuse::MAX_SOURCES;
-
-#[cfg(test)]
-mod tests;

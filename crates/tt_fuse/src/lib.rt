@@ -40,6 +40,4 @@ pub use sorted::SortedEnds;
 pub use suspecting::{suspect_laws, suspects};
 
 #[cfg(test)]
-mod scaled_tests;
-#[cfg(test)]
 mod tests;

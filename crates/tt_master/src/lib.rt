@@ -27,6 +27,3 @@ pub use masters::Master;
 pub use memory::MemoryReference;
 pub use references::Reference;
 pub use spans::act_laws;
-
-#[cfg(test)]
-mod tests;

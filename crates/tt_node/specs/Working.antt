@@ -1,7 +1,7 @@
 -- The service of one worker.
 use Rattle.std.specs.Prelude.{◌≡◌, ◌≢◌, ℕ, ◌⊎◌, List, [], ◌∷◌, ◌++◌, Bool, true, false, Option, Some, None, Result, Ok, Err, IfOk, IfErr, IsOk, OnErr}
 use mathlib.Core.List.{IsPrefix}
-use Rattle.tt_stream.specs.Counts.{count_after}
+use Rattle.tt_stream.specs.Counts.{HasFailed, count_after}
 use Rattle.tt_span.specs.Interval.{Interval, Holds}
 use Rattle.tt_publish.specs.Fault.{read_number_of}
 use Rattle.tt_publish.specs.Known.{WatchState}
@@ -57,13 +57,13 @@ pub data GivesNone {C G : Type 0} (gives : C → Option ℕ → C → Type 0) (f
   -- there was no room for the note, and nothing was done
   NoRoom : number ≡ 1 → after ≡ before → GivesNone gives failed before number after
   -- the clock failed just before the `now` on the watch, which was not called
-  FailedBefore : number ≡ 803 → gives before.clock None after.clock → after.watch ≡ before.watch → GivesNone gives failed before number after
+  FailedBefore : number ≡ 803 → gives before.clock None after.clock → HasFailed (failed before.clock) (failed after.clock) → after.watch ≡ before.watch → GivesNone gives failed before number after
   -- the watch gave no reading
   NotRead : (first : ℕ) (clock : C) (fault : ReadFault) → number ≡ read_number_of fault → gives before.clock (Some first) clock
       → Looks gives failed before.watch clock (Err fault) after.watch after.clock → GivesNone gives failed before number after
   -- the clock failed just after the watch gave its reading
   FailedAfter : (first : ℕ) (clock later : C) (reading : Interval) → number ≡ 803 → gives before.clock (Some first) clock
-      → Looks gives failed before.watch clock (Ok reading) after.watch later → gives later None after.clock → GivesNone gives failed before number after
+      → Looks gives failed before.watch clock (Ok reading) after.watch later → gives later None after.clock → HasFailed (failed later) (failed after.clock) → GivesNone gives failed before number after
 
 -- one stamp of a seat, after a reading with this latest: it made of the seat `old` the seat `new`, and answered this
 abbrev pub Stamps : SeatState → ℕ → ℕ → Interval → Result ℕ StampFault → SeatState → Type 0

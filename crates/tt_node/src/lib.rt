@@ -29,12 +29,3 @@ pub use masters::master_rounds;
 pub use nodes::{Clocks, Limits, NodeEnd, WorkerEnd, run_node};
 pub use rounds::{Rounds, course_laws, daemon_rounds};
 pub use workers::{MAX_TURNS, Worker};
-
-#[cfg(test)]
-mod datagram_tests;
-#[cfg(test)]
-mod node_tests;
-#[cfg(test)]
-mod round_tests;
-#[cfg(test)]
-mod test_devices;

@@ -1,6 +1,7 @@
 //! The service of one worker of a running node.
 
 ghost use Rattle.std.specs.Prelude.{◌≡◌, [], Some, None, IfOk, IfErr, IsErrOf, OnErr};
+ghost use Rattle.tt_stream.specs.Counts.{HasFailed};
 ghost use Rattle.tt_node.specs.Working.{Works, HasRead, GivesNone, LooksThen, BeginsAt, PassesAt, Allows, counted};
 
 use crate::faults::NodeFault;
@@ -251,7 +252,7 @@ impl<'a, R: Wait, C: Clock, G: Gate> Service for Worker<'a, R, C, G> {
 /// What the clock shows.
 fn show<C: Clock>(clock: &mut C) -> Result<u64, u16>
     ensures gave { IfOk result (λ reading. C.gives clock.old (Some reading) clock.new) }
-    ensures failed { IfErr result (λ number. (number ≡ 803) × C.gives clock.old None clock.new) }
+    ensures failed { IfErr result (λ number. (number ≡ 803) × C.gives clock.old None clock.new × HasFailed (C.failed clock.old) (C.failed clock.new)) }
 {
     match clock.read() {
         Ok(reading) => Ok(reading),

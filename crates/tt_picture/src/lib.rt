@@ -27,8 +27,3 @@ pub use faults::PictureFault;
 pub use marks::{Band, Course, Flag, Mark};
 pub use pictures::{picture, picture_laws};
 pub use sheets::Sheet;
-
-#[cfg(test)]
-mod scripts;
-#[cfg(test)]
-mod tests;

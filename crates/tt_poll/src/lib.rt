@@ -52,6 +52,3 @@ pub use format::{ANSWER_LEN, ANSWER2_LEN, REQUEST_LEN, REQUEST2_LEN};
 pub use messages::{Message, Message2};
 pub use requests::{MAX_MACHINE, MAX_SOURCE, Request};
 pub use requests2::Request2;
-
-#[cfg(test)]
-mod tests;

@@ -34,6 +34,3 @@ pub use memory::MemoryClock;
 pub use readings::{FusedSpan, ReadAt, Reading};
 pub use teller::{MAX_WATCHES, Teller, Told, open};
 pub use watch::Watch;
-
-#[cfg(test)]
-mod tests;

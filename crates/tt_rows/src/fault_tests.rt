@@ -48,29 +48,24 @@ fn an_answer_is_taken_whole_or_not_at_all(rt: HostRuntime) -> Result<(), Fail> {
     let mut daemon = polled()?;
     for length in 0..40 {
         let cut = ANSWER.get(..length).ok_or("a front")?;
-        assert_eq!(rt;
-            daemon.take(0, 0, cut),
-            Err(SourceFault::BadMessage),
+        assert!(rt;
+            daemon.take(0, 0, cut) == Err(SourceFault::BadMessage),
             "of {length} bytes"
         );
     }
     for length in 41..65 {
         let long = in_front(&ANSWER);
         let long = long.get(..length).ok_or("a front")?;
-        assert_eq!(rt;
-            daemon.take(0, 0, long),
-            Err(SourceFault::BadMessage),
+        assert!(rt;
+            daemon.take(0, 0, long) == Err(SourceFault::BadMessage),
             "of {length} bytes"
         );
     }
-    assert_eq!(rt; fused(&mut daemon), None);
-    assert_eq!(rt; daemon.take(0, 0, &ANSWER), Ok(()));
-    assert_eq!(rt; fused(&mut daemon), Some((1000, 2000)));
-    assert_eq!(rt;
-        daemon.take(0, 0, &ANSWER),
-        Err(SourceFault::NotOutstanding)
-    );
-    assert_eq!(rt; fused(&mut daemon), Some((1000, 2000)));
+    assert!(rt; fused(&mut daemon) == None);
+    assert!(rt; daemon.take(0, 0, &ANSWER) == Ok(()));
+    assert!(rt; fused(&mut daemon) == Some((1000, 2000)));
+    assert!(rt; daemon.take(0, 0, &ANSWER) == Err(SourceFault::NotOutstanding));
+    assert!(rt; fused(&mut daemon) == Some((1000, 2000)));
     Ok(())
 }
 
@@ -103,7 +98,7 @@ fn no_answer_with_a_changed_head_is_taken(rt: HostRuntime) -> Result<(), Fail> {
             let bytes = changed(place, value);
             if bytes != ANSWER {
                 let fault = daemon.take(0, 0, &bytes).err();
-                assert_eq!(rt; fault, Some(refusal_of(place, value)), "byte {place}");
+                assert!(rt; fault == Some(refusal_of(place, value)), "byte {place}");
             }
         }
     }
@@ -111,9 +106,9 @@ fn no_answer_with_a_changed_head_is_taken(rt: HostRuntime) -> Result<(), Fail> {
     for _ in 0..1000 {
         assert!(rt; daemon.take(0, 0, &[0xFF; 40]) == Err(SourceFault::BadMessage));
     }
-    assert_eq!(rt; fused(&mut daemon), None);
-    assert_eq!(rt; daemon.take(0, 0, &ANSWER), Ok(()));
-    assert_eq!(rt; fused(&mut daemon), Some((1000, 2000)));
+    assert!(rt; fused(&mut daemon) == None);
+    assert!(rt; daemon.take(0, 0, &ANSWER) == Ok(()));
+    assert!(rt; fused(&mut daemon) == Some((1000, 2000)));
     Ok(())
 }
 
@@ -135,11 +130,11 @@ fn an_answer_with_a_changed_span_is_the_answer_of_that_span(rt: HostRuntime) -> 
             let (lo, hi) = (number_at(&bytes, 24), number_at(&bytes, 32));
             let taken = daemon.take(0, 0, &bytes);
             if lo <= hi && hi <= 4_000_000_000_000_000_000 {
-                assert_eq!(rt; taken, Ok(()));
-                assert_eq!(rt; fused(&mut daemon), Some((lo, hi)));
+                assert!(rt; taken == Ok(()));
+                assert!(rt; fused(&mut daemon) == Some((lo, hi)));
             } else {
-                assert_eq!(rt; taken, Err(SourceFault::BadMessage));
-                assert_eq!(rt; fused(&mut daemon), None);
+                assert!(rt; taken == Err(SourceFault::BadMessage));
+                assert!(rt; fused(&mut daemon) == None);
             }
         }
     }
@@ -179,19 +174,17 @@ fn rounds_end_where_a_device_fails_and_may_be_done_again(rt: HostRuntime) -> Res
     // A round sends once and receives twice; it reads the clock when it polls, when it takes and when it fuses.
     for call in 1..4 {
         let came = two_rounds(&rt, rt.alloc(), Some(call), None)?;
-        assert_eq!(rt;
-            came,
-            [(Some(NodeFault::LinkFailed), Err(801)), good],
+        assert!(rt;
+            came == [(Some(NodeFault::LinkFailed), Err(801)), good],
             "call {call}"
         );
         let came = two_rounds(&rt, rt.alloc(), None, Some(call))?;
-        assert_eq!(rt;
-            came,
-            [(Some(NodeFault::ClockFailed), Err(801)), good],
+        assert!(rt;
+            came == [(Some(NodeFault::ClockFailed), Err(801)), good],
             "call {call}"
         );
     }
-    assert_eq!(rt; two_rounds(&rt, rt.alloc(), None, None)?, [good, good]);
+    assert!(rt; two_rounds(&rt, rt.alloc(), None, None)? == [good, good]);
     Ok(())
 }
 
@@ -268,13 +261,12 @@ fn a_master_ends_where_a_device_fails_and_goes_on_when_it_is_called_again(rt: Ho
         } else {
             Ok(3)
         };
-        assert_eq!(rt;
-            (played, link.sent),
-            (wanted, (call - 1) / 2),
+        assert!(rt;
+            (played, link.sent) == (wanted, (call - 1) / 2),
             "call {call}"
         );
         let again = master_rounds(&mut link, &mut master, &[Act::Honest], 1);
-        assert_eq!(rt; again.is_ok(), call != 7);
+        assert!(rt; again.is_ok() == (call != 7));
     }
     for call in 1..5 {
         let mut link = asking(0);
@@ -285,8 +277,8 @@ fn a_master_ends_where_a_device_fails_and_goes_on_when_it_is_called_again(rt: Ho
         } else {
             Ok(3)
         };
-        assert_eq!(rt; (played, link.sent), (wanted, call - 1), "call {call}");
+        assert!(rt; (played, link.sent) == (wanted, call - 1), "call {call}");
         let again = master_rounds(&mut link, &mut master, &[Act::Honest], 3);
-        assert_eq!(rt; again.is_ok(), call < 4);
+        assert!(rt; again.is_ok() == (call < 4));
     }
 }

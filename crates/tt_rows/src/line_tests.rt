@@ -56,8 +56,8 @@ fn each_changed_line_is_refused_by_a_number(rt: HostRuntime) -> Result<(), Fail>
     // A line feed makes two lines of one. Requests are the line itself, ten times, the numbers 0 and 2 to 9, and the
     // floors 1 to 9: these are refused by 801, and all others by 1101.
     let (lines, refused) = (2570, 2570);
-    assert_eq!(rt; served, Ok(Served { lines, refused }));
-    assert_eq!(rt; writer.taken().len(), 28 * 12 + 2542 * 13);
+    assert!(rt; served == Ok(Served { lines, refused }));
+    assert!(rt; writer.taken().len() == 28 * 12 + 2542 * 13);
     Ok(())
 }
 
@@ -67,7 +67,7 @@ fn a_line_of_a_megabyte_is_refused_once(rt: HostRuntime) -> Result<(), Fail> {
     input.extend_from_slice(b"\nnow\n")?;
     let (served, writer) = talk(rt.alloc(), &input);
     let (lines, refused) = (2, 2);
-    assert_eq!(rt; served, Ok(Served { lines, refused }));
-    assert_eq!(rt; writer.taken(), b"refused 1102\nrefused 801\n".as_slice());
+    assert!(rt; served == Ok(Served { lines, refused }));
+    assert!(rt; writer.taken() == b"refused 1102\nrefused 801\n".as_slice());
     Ok(())
 }

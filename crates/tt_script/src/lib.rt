@@ -29,6 +29,3 @@ pub use faults::ScriptFault;
 pub use lives::{Line, Live, LiveMaster, MAX_LIMIT, Session};
 pub use machines::DEFAULT_DRIFT;
 pub use scripts::{Script, read};
-
-#[cfg(test)]
-mod tests;

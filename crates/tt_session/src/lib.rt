@@ -33,8 +33,3 @@ pub use replies::Reply;
 pub use requests::{Request, request_laws};
 pub use services::Service;
 pub use serving::{Served, Turns, line_laws, serve};
-
-#[cfg(test)]
-mod desk_tests;
-#[cfg(test)]
-mod tests;

@@ -21,6 +21,3 @@ mod tables;
 pub use faults::SourceFault;
 pub use statements::Statement;
 pub use tables::Table;
-
-#[cfg(test)]
-mod tests;

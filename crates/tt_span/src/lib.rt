@@ -12,6 +12,3 @@ mod spans;
 
 pub use drifts::{Drift, MAX_DRIFT, drift_laws};
 pub use spans::{MAX_TIME, Span, SpanFault};
-
-#[cfg(test)]
-mod tests;

@@ -1,5 +1,5 @@
 -- Where a new stamp goes among stamps in order.
-use Rattle.std.proofs.Common.{◌≡◌, ℕ, ◌-◌, ◌<◌, ◌≤◌, ◌==◌, ◌||◌, true, false, cond, List, [], ◌∷◌, length, get_or, Result, Ok, Err, IsOk, is_ok, IfSome, IfNone, ⊎_elim, sym, arith}
+use Rattle.std.proofs.Common.{◌≡◌, ℕ, ◌-◌, ◌<◌, ◌≤◌, ◌==◌, ◌||◌, true, false, cond, List, ◌∷◌, length, get_or, Result, Ok, Err, IsOk, is_ok, IfSome, IfNone, ⊎_elim, sym, arith}
 use Rattle.std.specs.List.{insert}
 use Rattle.std.specs.List.Sorted.{IsNonDecreasing, IsBinarySearchResult}
 use Rattle.std.specs.Ordering.{nat_cmp}

@@ -1,17 +1,14 @@
 -- What a release takes from the commits that wait.
-use Rattle.std.proofs.Common.{◌++◌, reverse, append-nil, append_assoc, ◌≡◌, ℕ, zero, suc, ◌<◌, ◌≤◌, ◌==◌, nat_lt, cond, not, Bool, List, [], ◌∷◌, length, map, filter, slice_get, All, Contains, Some, ⊎_elim, refl, sym, ap, ◌∙◌, subst, arith}
+use Rattle.std.proofs.Common.{◌++◌, reverse, append-nil, append_assoc, ◌≡◌, ℕ, zero, suc, ◌<◌, ◌≤◌, ◌==◌, nat_lt, cond, Bool, List, [], ◌∷◌, length, map, filter, slice_get, All, Contains, Some, ⊎_elim, refl, sym, ap, ◌∙◌, subst, arith}
 use Rattle.std.specs.declared.cmp.Ordering.TheVariants.{Less, Equal, Greater}
-use Rattle.std.specs.Ordering.{nat_cmp, is_le}
-use Rattle.std.specs.declared.ops.Bound.TheVariants.{Unbounded, Excluded}
-use Rattle.std.specs.BTreeMap.Range.{range_contains, entries_between}
+use Rattle.std.specs.Ordering.{nat_cmp}
 use Rattle.std.specs.List.{AllByRecursion}
 use Rattle.std.specs.List.Sorted.{IsStrictlyIncreasing, IsStrictlySortedBy}
 use Rattle.std.specs.Map.{remove_entry}
 use Rattle.std.proofs.lemmas.Bool.{eq-eqb, le-ltb, lt-ltb, cases_lt}
-use Rattle.std.proofs.Math.ListN.{length-map}
 use Rattle.std.proofs.lemmas.List.{reverse-append}
 use Rattle.std.proofs.lemmas.Option.{same_Some, none-some}
-use Rattle.std.proofs.lemmas.List.Elements.{filter_agree, All-contains, All-from_recursion, All-head}
+use Rattle.std.proofs.lemmas.List.Elements.{All-contains, All-from_recursion, All-head}
 use Rattle.std.proofs.lemmas.Map.Keys.{IsStrictlyIncreasing-from_sorted}
 use Rattle.tt_stamp.specs.History.{waiting_of, stamp_on, IsNextReceipt, IsLegalHistory, IsRelease, release_of, with_receipts}
 use Rattle.tt_stamp.specs.Book.{IsReleaseTurn}
@@ -40,15 +37,6 @@ pub release_of-later : (commit : Commit) (waiting : List Commit) (earliest : ℕ
 release_of-later commit waiting earliest h =
     let kept : List Commit = filter (λ (c : Commit). nat_lt (c.0) earliest) waiting in
     ap (λ (b : Bool). map (receipt_for earliest) (cond b (commit ∷ kept) kept)) (le-ltb _ _ h)
-
-below_bound : (earliest stamp : ℕ) → not (is_le (nat_cmp earliest stamp)) ≡ nat_lt stamp earliest
-below_bound earliest stamp = grind (arith, eq-eqb)
-
--- the commits up to a bound of the map are those that are released
-pub entries_between-release_of : (waiting : List Commit) (earliest : ℕ) → length (entries_between nat_cmp Unbounded (Excluded earliest) waiting) ≡ length (release_of waiting earliest)
-entries_between-release_of waiting earliest =
-    ap length (filter_agree (λ (c : Commit). range_contains nat_cmp Unbounded (Excluded earliest) (c.0)) (λ (c : Commit). nat_lt (c.0) earliest) (λ c. below_bound earliest (c.0)) waiting)
-    ∙ sym (length-map (filter (λ (c : Commit). nat_lt (c.0) earliest) waiting) (receipt_for earliest))
 
 release_of-none : (waiting : List Commit) (earliest : ℕ) → AllByRecursion (λ (c : Commit). earliest ≤ c.0) waiting → release_of waiting earliest ≡ []
 release_of-none [] earliest all = refl

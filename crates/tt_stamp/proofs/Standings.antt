@@ -3,6 +3,7 @@ use Rattle.std.proofs.Common.{◌≡◌, ℕ, ◌+◌, ◌<◌, ◌≤◌, ◌==
 use Rattle.std.proofs.lemmas.Bool.{true≢false, false≢true}
 use Rattle.std.proofs.lemmas.List.{reverse-append, reverse-reverse, length-reverse}
 use Rattle.std.specs.BTreeMap as tree
+use Rattle.std.specs.VecDeque.{deque_len}
 use Rattle.std.specs.BTreeMap.{is_at, insert_entry}
 use Rattle.std.specs.List.{insert}
 use Rattle.std.specs.List.Sorted.{IsNonDecreasing}
@@ -42,7 +43,7 @@ pub reverse-push : (xs : List Entry) (e : Entry) → reverse (xs ++ e ∷ []) �
 reverse-push xs e = reverse-append xs (e ∷ [])
 
 -- nothing that counts has changed
-pub IsBook-refused : (b n : Inside) → IsBook b → n.history.items ≡ b.history.items → n.waiting.entries ≡ b.waiting.entries → ((q : Id) → tree.get id_cmp n.standings q ≡ standing_of (history_of b) q) → n.stamps.items ≡ b.stamps.items → vec_len n.history + tree.btree_map_len n.waiting ≤ vec_capacity n.history → IsBook n
+pub IsBook-refused : (b n : Inside) → IsBook b → n.history.items ≡ b.history.items → n.waiting.items ≡ b.waiting.items → ((q : Id) → tree.get id_cmp n.standings q ≡ standing_of (history_of b) q) → n.stamps.items ≡ b.stamps.items → vec_len n.history + deque_len n.waiting ≤ vec_capacity n.history → IsBook n
 IsBook-refused b n kept history waiting stands stamps room =
     let same : history_of b ≡ history_of n = sym (ap reverse history) in
     record {
@@ -55,7 +56,7 @@ IsBook-refused b n kept history waiting stands stamps room =
     }
 
 -- a commit was queued
-pub IsBook-queued : (b n : Inside) (id : Id) (stamp place : ℕ) → IsBook b → MayQueue (history_of b) id stamp → n.history.items ≡ b.history.items ++ Queued id stamp ∷ [] → n.waiting.entries ≡ insert_entry nat_cmp b.waiting.entries stamp id → ((q : Id) → tree.get id_cmp n.standings q ≡ cond (is_at (id_cmp id) q) (Some Waits) (tree.get id_cmp b.standings q)) → IsPlaceOf b.stamps.items stamp place → n.stamps.items ≡ insert b.stamps.items place stamp → vec_len n.history + tree.btree_map_len n.waiting ≤ vec_capacity n.history → IsBook n
+pub IsBook-queued : (b n : Inside) (id : Id) (stamp place : ℕ) → IsBook b → MayQueue (history_of b) id stamp → n.history.items ≡ b.history.items ++ Queued id stamp ∷ [] → n.waiting.items ≡ insert_entry nat_cmp b.waiting.items stamp id → ((q : Id) → tree.get id_cmp n.standings q ≡ cond (is_at (id_cmp id) q) (Some Waits) (tree.get id_cmp b.standings q)) → IsPlaceOf b.stamps.items stamp place → n.stamps.items ≡ insert b.stamps.items place stamp → vec_len n.history + deque_len n.waiting ≤ vec_capacity n.history → IsBook n
 IsBook-queued b n id stamp place kept may history waiting stands goes stamps room =
     let past : List Entry = history_of b in
     let now : Queued id stamp ∷ past ≡ history_of n = sym (ap reverse history ∙ reverse-push b.history.items (Queued id stamp)) in
@@ -69,15 +70,15 @@ IsBook-queued b n id stamp place kept may history waiting stands goes stamps roo
     }
 
 -- a commit was released
-pub IsBook-passed : (b n : Inside) (r : Receipt) (first : ℕ × Id) (place : ℕ) → IsBook b → IsNextReceipt (history_of b) r → n.history.items ≡ b.history.items ++ Passed r ∷ [] → b.waiting.entries ≡ first ∷ n.waiting.entries → ((q : Id) → tree.get id_cmp n.standings q ≡ cond (is_at (id_cmp r.id) q) (Some (Released place)) (tree.get id_cmp b.standings q)) → place ≡ vec_len b.history → n.stamps ≡ b.stamps → vec_len n.history + tree.btree_map_len n.waiting ≤ vec_capacity n.history → IsBook n
+pub IsBook-passed : (b n : Inside) (r : Receipt) (first : ℕ × Id) (place : ℕ) → IsBook b → IsNextReceipt (history_of b) r → n.history.items ≡ b.history.items ++ Passed r ∷ [] → b.waiting.items ≡ first ∷ n.waiting.items → ((q : Id) → tree.get id_cmp n.standings q ≡ cond (is_at (id_cmp r.id) q) (Some (Released place)) (tree.get id_cmp b.standings q)) → place ≡ vec_len b.history → n.stamps ≡ b.stamps → vec_len n.history + deque_len n.waiting ≤ vec_capacity n.history → IsBook n
 IsBook-passed b n r first place kept next history waiting stands last stamps room =
     let now : Passed r ∷ history_of b ≡ history_of n = sym (ap reverse history ∙ reverse-push b.history.items (Passed r)) in
-    let waits : first ∷ n.waiting.entries ≡ waiting_of (history_of b) = sym waiting ∙ kept.waits in
+    let waits : first ∷ n.waiting.items ≡ waiting_of (history_of b) = sym waiting ∙ kept.waits in
     let as_long : place ≡ length (history_of b) = omega (arith, last, length-reverse b.history.items) in
-    let is = head_is_least first n.waiting.entries r.stamp r.id (subst Ascends (sym waits) (Ascends-waiting_of (history_of b))) (subst (λ (w : List (ℕ × Id)). Contains w (r.stamp, r.id)) (sym waits) next.waits) (subst (λ (w : List (ℕ × Id)). All (λ (c : ℕ × Id). r.stamp ≤ c.0) w) (sym waits) next.least) in
+    let is = head_is_least first n.waiting.items r.stamp r.id (subst Ascends (sym waits) (Ascends-waiting_of (history_of b))) (subst (λ (w : List (ℕ × Id)). Contains w (r.stamp, r.id)) (sym waits) next.waits) (subst (λ (w : List (ℕ × Id)). All (λ (c : ℕ × Id). r.stamp ≤ c.0) w) (sym waits) next.least) in
     record {
       legal = subst IsLegalHistory now (next, kept.legal);
-      waits = sym (remove_entry-head first n.waiting.entries r.stamp r.id is) ∙ ap (remove_entry (λ s. r.stamp == s)) waits ∙ ap waiting_of now;
+      waits = sym (remove_entry-head first n.waiting.items r.stamp r.id is) ∙ ap (remove_entry (λ s. r.stamp == s)) waits ∙ ap waiting_of now;
       stands = λ q. stands q ∙ ap (cond (is_at (id_cmp r.id) q) (Some (Released place))) (kept.stands q) ∙ ap (λ (n : ℕ). cond (is_at (id_cmp r.id) q) (Some (Released n)) (standing_of (history_of b) q)) as_long ∙ standing_of-queued (history_of b) r.id q (Released (length (history_of b))) ∙ ap (λ h. standing_of h q) now;
       stamps = λ q. ap (λ ss. is_among ss.items q) stamps ∙ kept.stamps q ∙ ap (λ h. has_stamp h q) now;
       in_order = subst (λ ss. IsNonDecreasing ss.items) (sym stamps) kept.in_order;
@@ -92,6 +93,11 @@ on_err (Err x) P e h = h
 pub on_ok : {T E : Type 0} (r : Result T E) (P : Type 0) → is_err r ≡ false → OnOk r P → P
 on_ok (Ok x) P e h = h
 on_ok (Err x) P e h = absurd (true≢false e)
+
+-- what fails only where there is no room, where there is room
+pub on_succeeded : {T E : Type 0} (r : Result T E) (P : Type 0) {len capacity : ℕ} → OnErr r (capacity ≤ len) → len < capacity → OnOk r P → P
+on_succeeded (Ok x) P full room h = h
+on_succeeded (Err x) P full room h = absurd (omega (arith, full, room))
 
 -- ---- what a look-up says of the history
 pub has_id-looked_up : (b : Inside) (now : List Entry) (id : Id) (result answer : Bool) → IsBook b → history_of b ≡ now → result ≡ is_some (tree.get id_cmp b.standings id) → result ≡ answer → has_id now id ≡ answer

@@ -122,7 +122,7 @@ one_for_id (Passed r ∷ past) legal id s t a b =
     one_for_id past legal.1 id s t (Contains-remove_entry_apart r.stamp (s, id) (waiting_of past) asc a).0 (Contains-remove_entry_apart r.stamp (t, id) (waiting_of past) asc b).0
 
 -- ---- a stamp that waits is there
-stamped : (past : List Entry) → AllByRecursion (λ (commit : Commit). has_stamp past (commit.0) ≡ true) (waiting_of past)
+pub stamped : (past : List Entry) → AllByRecursion (λ (commit : Commit). has_stamp past (commit.0) ≡ true) (waiting_of past)
 stamped [] = tt
 stamped (Queued id stamp ∷ past) =
     AllByRecursion-insert_entry (λ (commit : Commit). has_stamp (Queued id stamp ∷ past) (commit.0) ≡ true) stamp id (or_left (stamp == stamp) (has_stamp past stamp) (eq-eqb stamp stamp refl)) (waiting_of past) (AllByRecursion-weaker (λ (commit : Commit). has_stamp past (commit.0) ≡ true) (λ (commit : Commit). has_stamp (Queued id stamp ∷ past) (commit.0) ≡ true) (λ commit h. or_right (stamp == commit.0) (has_stamp past (commit.0)) h) (waiting_of past) (stamped past))

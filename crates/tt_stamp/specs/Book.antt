@@ -1,6 +1,7 @@
 -- What a book keeps beside its history, so that each question takes a look-up.
 use Rattle.std.specs.Prelude.{ℕ, ◌≡◌, ◌+◌, ◌≤◌, ◌==◌, Bool, false, if◌then◌else◌, List, [], ◌∷◌, length, reverse, Option, Some, None, vec_len, vec_capacity}
 use Rattle.std.specs.BTreeMap as tree
+use Rattle.std.specs.VecDeque.{deque_len}
 use Rattle.std.specs.List.{list_any, insert}
 use Rattle.std.specs.List.Sorted.{IsNonDecreasing}
 use Rattle.tt_stamp.specs.Ids.{same_id, id_cmp}
@@ -35,11 +36,11 @@ pub record IsPlaceOf (stamps : List ℕ) (stamp place : ℕ) : Type 0 where
 -- the history is legal, what is kept beside it is what it leaves, and there is room for the receipts of all that wait
 pub record IsBook (b : Inside) : Type 0 where
   pub legal : IsLegalHistory (history_of b)
-  pub waits : b.waiting.entries ≡ waiting_of (history_of b)
+  pub waits : b.waiting.items ≡ waiting_of (history_of b)
   pub stands : (id : Id) → tree.get id_cmp b.standings id ≡ standing_of (history_of b) id
   pub stamps : (stamp : ℕ) → is_among b.stamps.items stamp ≡ has_stamp (history_of b) stamp
   pub in_order : IsNonDecreasing b.stamps.items
-  pub room : vec_len b.history + tree.btree_map_len b.waiting ≤ vec_capacity b.history
+  pub room : vec_len b.history + deque_len b.waiting ≤ vec_capacity b.history
 
 -- one turn of a release: one receipt fewer is to come, and with those that are to come the history ends alike
 pub record IsReleaseTurn (past now : List Entry) (earliest : ℕ) : Type 0 where

@@ -1,10 +1,12 @@
 //! The commits that wait until their stamps have surely passed.
 
-ghost use Rattle.std.specs.Prelude.{◌≡◌, ◌≢◌, ℕ, ◌+◌, ◌^◌, ◌<◌, ◌≤◌, ◌↔◌, true, List, [], ◌∷◌, ◌++◌, length, reverse, map, Contains, Some, None, Ok, Err, IsOk, OnOk, OnErr, IfSome, IfNone, MatchOption, IsOkUnless, IsSome, vec_len, vec_capacity, if◌then◌else◌};
-ghost use Rattle.std.specs.List.Sorted.{IsStrictlyIncreasing, IsNonDecreasing};
+ghost use Rattle.std.specs.Prelude.{◌≡◌, ◌≢◌, ℕ, ◌+◌, ◌^◌, ◌<◌, ◌≤◌, ◌↔◌, true, false, List, [], ◌∷◌, ◌++◌, length, reverse, map, Contains, Some, None, Ok, Err, IsOk, OnOk, OnErr, IfSome, IfNone, MatchOption, IsOkUnless, IsSome, vec_len, vec_capacity, nat_lt, if◌then◌else◌};
+ghost use Rattle.std.specs.List.Sorted.{IsStrictlyIncreasing, IsNonDecreasing, IsNonDecreasingBy, IsPartitionPoint};
 ghost use Rattle.std.specs.BTreeMap as tree;
-ghost use Rattle.std.specs.BTreeMap.{is_at};
-ghost use Rattle.tt_stamp.specs.History.{MayQueue, Waits, IsLegalHistory, IsRelease, IsIdThere, IsStampThere, waiting_of, released_of, release_of, with_receipts, first_queue_fault, receipt_of, max_waiting};
+ghost use Rattle.std.specs.BTreeMap.{is_at, insert_entry};
+ghost use Rattle.std.specs.VecDeque.{deque_len, deque_capacity};
+ghost use Rattle.std.specs.Ordering.{nat_cmp};
+ghost use Rattle.tt_stamp.specs.History.{MayQueue, Waits, IsLegalHistory, IsRelease, IsIdThere, IsStampThere, waiting_of, released_of, release_of, with_receipts, first_queue_fault, receipt_of, has_stamp, max_waiting};
 ghost use Rattle.tt_stamp.specs.Book.{IsReleaseTurn, IsPlaceOf, is_among};
 ghost use Rattle.tt_stamp.specs.Ids.{id_cmp};
 ghost use Rattle.tt_stamp.specs.declared.commits.Id.{Id};
@@ -14,7 +16,7 @@ ghost use Rattle.tt_stamp.specs.declared.commits.Receipt.{Receipt};
 use crate::commits::{Entry, Id, Receipt, Standing};
 use crate::faults::BookFault;
 use std::alloc::{AllocError, Global};
-use std::collections::BTreeMap;
+use std::collections::{BTreeMap, VecDeque};
 use std::marker::Model;
 use tt_publish::Reading;
 
@@ -27,7 +29,8 @@ pub const MAX_WAITING: usize = 65_536;
 #[derive(Debug, Drop)]
 pub struct Book {
     history: Vec<Entry>,
-    waiting: BTreeMap<u64, Id>,
+    // The commits that wait, least stamp first.
+    waiting: VecDeque<(u64, Id)>,
     standings: BTreeMap<Id, Standing>,
     // All that were queued, in order: a new one is mostly the greatest, and then goes to the end.
     stamps: Vec<u64>,
@@ -53,7 +56,7 @@ impl Book {
     {
         Book {
             history: Vec::new(alloc),
-            waiting: BTreeMap::new(alloc),
+            waiting: VecDeque::new(alloc),
             standings: BTreeMap::new(alloc),
             stamps: Vec::new(alloc),
         }
@@ -90,12 +93,12 @@ impl Book {
                 return Err(BookFault::StampThere);
             }
         };
-        let room = make_room(&mut self.history, self.waiting.len() + 1, &mut self.stamps);
-        if room.is_err() || self.waiting.insert(stamp, id).is_err() {
+        if make_room(&mut self.history, &mut self.waiting, &mut self.stamps).is_err() {
             let _ = self.standings.remove(&id);
             return Err(BookFault::Memory);
         }
         let _ = self.stamps.insert(place, stamp);
+        put_in_order(&mut self.waiting, stamp, id);
         self.history.push_reserved(Entry::Queued { id, stamp });
         Ok(())
     }
@@ -121,7 +124,7 @@ impl Book {
     pub fn releasable(&self, reading: &Reading) -> usize
         ensures value { result ≡ length (release_of (waiting_of self.now) reading.now.lo) }
     {
-        self.waiting.range(..reading.earliest()).count()
+        count_below(&self.waiting, reading.earliest())
     }
 
     // Releases the waiting commit with the least stamp, which is below the earliest.
@@ -129,7 +132,7 @@ impl Book {
         requires { 0 < length (release_of (waiting_of self.old) earliest) }
         ensures { IsReleaseTurn self.old self.new earliest }
     {
-        let Some((stamp, id)) = self.waiting.pop_first() else {
+        let Some((stamp, id)) = self.waiting.pop_front() else {
             unreachable!()
         };
         let place = self.history.len();
@@ -227,20 +230,45 @@ fn place_of(stamps: &[u64], stamp: u64) -> Option<usize>
     stamps.binary_search(&stamp).err()
 }
 
-// Takes the room for an entry with so many receipts, and for a stamp.
+// Takes the room for one commit more: its entry, the receipts of all that wait then, its place among them, its stamp.
 fn make_room(
     history: &mut Vec<Entry>,
-    receipts: usize,
+    waiting: &mut VecDeque<(u64, Id)>,
     stamps: &mut Vec<u64>,
 ) -> Result<(), AllocError>
-    requires { receipts ≤ 2 ^ 63 }
-    ensures same { (history.new.items ≡ history.old.items) × (stamps.new.items ≡ stamps.old.items) }
-    ensures len { (vec_len history.new ≡ vec_len history.old) × (vec_len stamps.new ≡ vec_len stamps.old) }
+    ensures same { (history.new.items ≡ history.old.items) × (waiting.new.items ≡ waiting.old.items) × (stamps.new.items ≡ stamps.old.items) }
+    ensures len { (vec_len history.new ≡ vec_len history.old) × (deque_len waiting.new ≡ deque_len waiting.old) × (vec_len stamps.new ≡ vec_len stamps.old) }
     ensures capacity { vec_capacity history.old ≤ vec_capacity history.new }
-    ensures ok { OnOk result ((vec_len history.new + receipts + 1 ≤ vec_capacity history.new) × (vec_len stamps.new < vec_capacity stamps.new)) }
+    ensures ok { OnOk result ((vec_len history.new + deque_len waiting.new + 2 ≤ vec_capacity history.new) × (deque_len waiting.new < deque_capacity waiting.new) × (vec_len stamps.new < vec_capacity stamps.new)) }
 {
-    history.reserve(receipts + 1)?;
+    history.reserve(waiting.len() + 2)?;
+    waiting.reserve(1)?;
     stamps.reserve(1)
+}
+
+// How many of these commits, which are in order, have a stamp below this one. Mostly all have.
+fn count_below(waiting: &VecDeque<(u64, Id)>, stamp: u64) -> usize
+    requires { IsNonDecreasingBy (λ commit. commit.0) waiting.now.items }
+    ensures within { result ≤ length waiting.now.items }
+    ensures divided { IsPartitionPoint (λ commit. nat_lt commit.0 stamp ≡ true) (λ commit. nat_lt commit.0 stamp ≡ false) waiting.now.items result }
+{
+    if let Some(last) = waiting.back() {
+        if last.0 < stamp {
+            return waiting.len();
+        }
+    }
+    waiting.partition_point(|commit| commit.0 < stamp)
+}
+
+// Puts a commit with a new stamp in its place among those that wait, for which there is room.
+fn put_in_order(waiting: &mut VecDeque<(u64, Id)>, stamp: u64, id: Id)
+    requires room { deque_len waiting.old < deque_capacity waiting.old }
+    requires order { (past : List Entry) × (waiting.old.items ≡ waiting_of past) × (has_stamp past stamp ≡ false) }
+    ensures items { waiting.new.items ≡ insert_entry nat_cmp waiting.old.items stamp id }
+    ensures len { deque_len waiting.new ≡ deque_len waiting.old + 1 }
+{
+    let place = count_below(waiting, stamp);
+    let _ = waiting.insert(place, (stamp, id));
 }
 
 // Why a commit with a new id is not queued, where there is no memory for the id.

@@ -33,10 +33,3 @@ pub use rows::{MAX_AHEAD, Row, stamp_laws};
 pub use sequencers::{MAX_SEATS, Seat, Sequencer, seat_laws};
 pub use stampings::Stamping;
 pub use steps::{begin_step, release_step};
-
-#[cfg(test)]
-mod races;
-#[cfg(test)]
-mod step_tests;
-#[cfg(test)]
-mod tests;

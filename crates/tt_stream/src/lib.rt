@@ -25,6 +25,3 @@ pub use device::{ByteReader, ByteWriter};
 pub use fault::{DeviceFault, ReadFault};
 pub use memory::{MemoryReader, MemoryWriter};
 pub use whole::{read_to_end, write_all};
-
-#[cfg(test)]
-mod tests;

@@ -16,6 +16,3 @@ mod watches;
 
 pub use twin_faults::TwinFault;
 pub use twins::{Side, twin, twin_laws};
-
-#[cfg(test)]
-mod twin_tests;

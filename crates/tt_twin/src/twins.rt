@@ -288,8 +288,8 @@ pub fn twin(
     ensures value { IfOk result (λ twin. twin_of configs.now events.now k side ≡ Ok twin.items) }
     ensures refused { IfErr result (λ e. (e ≡ TwinFault.Memory) ⊎ (twin_of configs.now events.now k side ≡ Err e)) }
 
-    // Memory is taken only where there are as many machines as may be, and event k is there and reads.
-    ensures memory_only { IfErr result (λ e. e ≡ TwinFault.Memory → AsksToRead events.now k × (length configs.now ≤ 8)) }
+    // Memory is taken only where there is a machine and no more than eight, and event k is there and reads.
+    ensures memory_only { IfErr result (λ e. e ≡ TwinFault.Memory → AsksToRead events.now k × (0 < length configs.now) × (length configs.now ≤ 8)) }
 
     // In the twin no event is refused and the assumptions are kept; the machine sees the same spans, the same number of
     // sources that may lie, the same clock readings and the same readings up to this one; and the true time is then at

@@ -176,8 +176,8 @@ impl PartialEq for Receipts {
 }
 
 impl Receipts {
-    /// These receipts.
-    pub(crate) fn of(items: Vec<Receipt>) -> Receipts
+    /// These receipts, in this order, as a reply to compare with has them.
+    pub fn of(items: Vec<Receipt>) -> Receipts
         ensures { result ≡ items.items }
     {
         Receipts { items }

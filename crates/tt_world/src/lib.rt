@@ -53,10 +53,3 @@ pub use faults::WorldFault;
 pub use publications::Shown;
 pub use runs::{Trace, run, run_laws};
 pub use world::{MAX_MACHINES, World};
-
-#[cfg(test)]
-mod commit_tests;
-#[cfg(test)]
-mod life_tests;
-#[cfg(test)]
-mod tests;

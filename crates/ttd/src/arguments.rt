@@ -4,13 +4,8 @@ ghost use Rattle.std.specs.Prelude.{◌≡◌, ◌≢◌, ◌⊎◌, ◌↔◌, 
 ghost use Rattle.clap.specs.Walk.{texts};
 ghost use Rattle.tt_stream.specs.Counts.{HasFailed};
 ghost use Rattle.tt_stream.specs.DeviceBytes.{ReadsOn};
-ghost use Rattle.ttd.specs.Run.{IsWritten, memory_answer, output_of};
+ghost use Rattle.ttd_commands.specs.Run.{IsWritten, memory_answer, output_of};
 
-use crate::ending::{Ended, Status};
-use crate::faults::Fault;
-use crate::living::{LIVE, LiveEnded, LiveRefusal, answer_live, give_live};
-use crate::output::give;
-use crate::program::answer_with;
 use std::alloc::{AllocError, Global};
 use std::env;
 use std::io::{self, ErrorKind};
@@ -20,6 +15,9 @@ use std::sync::Wait;
 use std::thread::Threads;
 use std::time::Clock;
 use tt_stream::{ByteReader, ByteWriter};
+use ttd_commands::{
+    Ended, Fault, LiveEnded, LiveRefusal, Status, answer_live, answer_with, give, give_live,
+};
 
 /// The words after the program's name.
 fn words_given(rt: &(impl Env + AllocGlobal)) -> io::Result<Vec<String>> {
@@ -66,7 +64,7 @@ pub(crate) fn main_from<R: ByteReader, W: ByteWriter>(
 fn begins_with_live(words: &[String]) -> bool
     ensures { IsTrue result ↔ (option_map string_bytes (slice_get words.now 0) ≡ Some (codes "live")) }
 {
-    words.first().is_some_and(|word| word.as_str() == LIVE)
+    words.first().is_some_and(|word| word.as_str() == "live")
 }
 
 /// Whether the first word that the program was started with asks for `live`. Words that are no text do not.

@@ -30,7 +30,7 @@ Prints `aged LO HI`, the interval that holds the true time when the clock shows 
 Example: printf 54545031020001000000000000000001000000003b9aca00000000003b9acde8 | ttd age --sent 500 --got 900 --clock 30000000900
 prints `aged 30994000000 31006001401`.
 
-Refused: 1602 not hex; 201 to 207 not a poll message; 405 a request; 402 clock readings out of order.";
+Refused: 1602 not hex; 201 to 208 not a poll message; 405 a request; 402 clock readings out of order.";
 
 /// What `fuse` reads and prints.
 const ABOUT_FUSE: &str = "\

@@ -225,6 +225,3 @@ pub fn word_laws()
     ensures age { asked_of (codes "age" ∷ codes "--sent" ∷ codes "500" ∷ codes "--got" ∷ codes "900" ∷ codes "--clock"
         ∷ codes "30000000900" ∷ []) ≡ Ok (Asked.Run (Command.Age 200 500 900 30000000900)) }
 {}
-
-#[cfg(test)]
-mod tests;

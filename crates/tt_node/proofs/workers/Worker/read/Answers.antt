@@ -19,4 +19,4 @@ returns-in-Err-clause-refused g c = rw (← c.self.view_is) (NotRead c.in_ok-bef
 
 pub returns-in-Err-show-clause-refused : goal.returns-in-Err-show-clause-refused
 returns-in-Err-show-clause-refused g c =
-    rw (← c.self.view_is) (FailedAfter c.in_ok-before.before c.show.new.clock c.now.new.clock c.in-Ok.reading c.in-Err-show.ensures.failed.0 c.in_ok-before.ensures.gave c.in-Ok.ensures.looks c.in-Err-show.ensures.failed.1)
+    rw (← c.self.view_is) (FailedAfter c.in_ok-before.before c.show.new.clock c.now.new.clock c.in-Ok.reading c.in-Err-show.ensures.failed.0 c.in_ok-before.ensures.gave c.in-Ok.ensures.looks c.in-Err-show.ensures.failed.1 c.in-Err-show.ensures.failed.2)

@@ -12,7 +12,7 @@ use Rattle.tt_stamp.proofs.books.Book.pass.Goals as goal
 pub set_standing-requires : goal.set_standing-requires
 set_standing-requires c =
     let past = history_of c.self.inside in
-    let first = ap (λ es. slice_get es 0) (sym c.self.invariant.waits ∙ c.in-Some.ensures.removal) in
+    let first = ap (λ es. slice_get es 0) (sym c.self.invariant.waits ∙ c.in-Some.ensures.items) in
     let some = subst (λ (h : List Entry). 0 < length (release_of (waiting_of h) c.args.earliest)) (sym c.self.view_is) c.requires in
     let sure = sure-first (waiting_of past) c.args.earliest _ (Ascends-waiting_of past) first some in
     let next = IsNextReceipt-first past _ c.args.earliest first sure in
@@ -21,16 +21,16 @@ set_standing-requires c =
 pub invariant_of-self : goal.invariant_of-self
 invariant_of-self c =
     let past = history_of c.self.inside in
-    let first = ap (λ es. slice_get es 0) (sym c.self.invariant.waits ∙ c.in-Some.ensures.removal) in
+    let first = ap (λ es. slice_get es 0) (sym c.self.invariant.waits ∙ c.in-Some.ensures.items) in
     let some = subst (λ (h : List Entry). 0 < length (release_of (waiting_of h) c.args.earliest)) (sym c.self.view_is) c.requires in
     let sure = sure-first (waiting_of past) c.args.earliest _ (Ascends-waiting_of past) first some in
     let next = IsNextReceipt-first past _ c.args.earliest first sure in
-    IsBook-passed c.self.inside _ (receipt_for c.args.earliest (c.in-Some.stamp, c.in-Some.id)) (c.in-Some.stamp, c.in-Some.id) c.len-place.result c.self.invariant next c.push_reserved.ensures.items c.in-Some.ensures.removal c.set_standing.ensures c.len-place.ensures refl (omega (arith, c.push_reserved.ensures.len, c.push_reserved.ensures.capacity, c.self.invariant.room, ap length c.in-Some.ensures.removal))
+    IsBook-passed c.self.inside _ (receipt_for c.args.earliest (c.in-Some.stamp, c.in-Some.id)) (c.in-Some.stamp, c.in-Some.id) c.len-place.result c.self.invariant next c.push_reserved.ensures.items c.in-Some.ensures.items c.set_standing.ensures c.len-place.ensures refl (omega (arith, c.push_reserved.ensures.len, c.push_reserved.ensures.capacity, c.self.invariant.room, ap length c.in-Some.ensures.items))
 
 pub returns : goal.returns
 returns c =
     let past = c.args.self.now in
-    let first = ap (λ es. slice_get es 0) (sym (c.self.invariant.waits ∙ ap waiting_of c.self.view_is) ∙ c.in-Some.ensures.removal) in
+    let first = ap (λ es. slice_get es 0) (sym (c.self.invariant.waits ∙ ap waiting_of c.self.view_is) ∙ c.in-Some.ensures.items) in
     let sure = sure-first (waiting_of past) c.args.earliest _ (Ascends-waiting_of past) first c.requires in
     let next = IsNextReceipt-first past _ c.args.earliest first sure in
     let receipt : Receipt = receipt_for c.args.earliest (c.in-Some.stamp, c.in-Some.id) in

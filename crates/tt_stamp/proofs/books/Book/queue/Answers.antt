@@ -1,24 +1,17 @@
-use Rattle.std.proofs.Common.{◌≡◌, ◌+◌, ◌≤◌, vec_len, vec_capacity, [], ◌∷◌, ◌++◌, subst, true, false, cond, Some, None, is_some, length, refl, sym, ap, ◌∙◌, arith}
-use Rattle.std.specs.BTreeMap as tree
-use Rattle.std.specs.BTreeMap.{is_at}
+use Rattle.std.proofs.Common.{[], ◌∷◌, ◌++◌, subst, true, false, cond, Some, None, is_some, length, refl, sym, ap, ◌∙◌, arith}
+use Rattle.std.specs.BTreeMap.{is_at, insert_entry}
+use Rattle.std.specs.Ordering.{nat_cmp}
 use Rattle.std.specs.List.{insert}
 use Rattle.std.specs.List.Sorted.{IsNonDecreasing}
 use Rattle.tt_stamp.specs.Ids.{id_cmp}
 use Rattle.tt_stamp.specs.History.{waiting_of}
 use Rattle.tt_stamp.specs.Book.{history_of, IsPlaceOf}
-use Rattle.tt_stamp.specs.declared.books.Book.TheInside.{Inside}
 use Rattle.tt_stamp.specs.declared.commits.Entry.TheVariants.{Queued}
 use Rattle.tt_stamp.specs.declared.commits.Standing.TheVariants.{Waits}
-use Rattle.tt_stamp.proofs.Waiting.{length-insert_entry-le}
 use Rattle.tt_stamp.proofs.Places.{if_ok}
 use Rattle.tt_stamp.proofs.Histories.{MayQueue-from_tests, first_queue_fault-id, first_queue_fault-stamp, first_queue_fault-none, first_queue_fault-no_memory}
-use Rattle.tt_stamp.proofs.Standings.{has_id-looked_up, has_stamp-looked_up, standing_of-undone, IsBook-refused, IsBook-queued, on_err, on_ok}
+use Rattle.tt_stamp.proofs.Standings.{has_id-looked_up, has_stamp-looked_up, standing_of-undone, IsBook-refused, IsBook-queued, on_ok}
 use Rattle.tt_stamp.proofs.books.Book.queue.Goals as goal
-use Rattle.tt_stamp.proofs.books.Book.queue.Goals.{then-is_err-via-then-is_err, then-is_err-via-else-is_err+then-is_err-2}
-
--- nothing of a book has changed but for its room
-abbrev IsKept : Inside → Inside → Type 0
-IsKept b n = (n.history.items ≡ b.history.items) × (n.waiting.entries ≡ b.waiting.entries) × (n.standings ≡ b.standings) × (n.stamps.items ≡ b.stamps.items) × (vec_len n.history + tree.btree_map_len n.waiting ≤ vec_capacity n.history)
 
 pub returns-in-Ok-Some-clause-fault : goal.returns-in-Ok-Some-clause-fault
 returns-in-Ok-Some-clause-fault c =
@@ -39,11 +32,21 @@ place_of-requires c = subst IsNonDecreasing (sym c.deref-2.ensures.value) c.self
 
 pub insert-requires-2 : goal.insert-requires-2
 insert-requires-2 c =
-    omega (arith, c.in-Some.ensures.new.within, c.deref-2.ensures.len, c.make_room-room.ensures.len.1)
+    omega (arith, c.in-Some.ensures.new.within, c.deref-2.ensures.len, c.make_room.ensures.len.2)
+
+pub put_in_order-requires-clause-room : goal.put_in_order-requires-clause-room
+put_in_order-requires-clause-room c =
+    let room = on_ok c.make_room.result _ (sym c.is_err.ensures.value ∙ c.if-is_err.false) c.make_room.ensures.ok in
+    room.1
+
+pub put_in_order-requires-clause-order : goal.put_in_order-requires-clause-order
+put_in_order-requires-clause-order c =
+    let new_stamp = has_stamp-looked_up c.self.inside (history_of c.self.inside) c.args.stamp _ false c.self.invariant refl c.deref-2.ensures.value c.in-Some.ensures.new.new in
+    (history_of c.self.inside, c.make_room.ensures.same.1 ∙ c.self.invariant.waits, new_stamp)
 
 pub push_reserved-requires : goal.push_reserved-requires
 push_reserved-requires c =
-    let room = on_ok c.make_room-room.result _ (sym c.is_err.ensures.value ∙ c.if-is_err.false) c.make_room-room.ensures.ok in
+    let room = on_ok c.make_room.result _ (sym c.is_err.ensures.value ∙ c.if-is_err.false) c.make_room.ensures.ok in
     omega (arith, room.0)
 
 pub invariant_of-self-in-None : goal.invariant_of-self-in-None
@@ -60,15 +63,7 @@ returns-in-None-clause-fault c =
 pub invariant_of-self-then-is_err : goal.invariant_of-self-then-is_err
 invariant_of-self-then-is_err c =
     let new_id = has_id-looked_up c.self.inside (history_of c.self.inside) c.args.id _ false c.self.invariant refl refl (ap is_some (sym c.in-Ok-None.ensures.old ∙ c.in-Ok-None.field-0-is)) in
-    let new_stamp = has_stamp-looked_up c.self.inside (history_of c.self.inside) c.args.stamp _ false c.self.invariant refl c.deref-2.ensures.value c.in-Some.ensures.new.new in
-    let before : Inside = record c.self.inside { standings = c.insert.new.self } in
-    let kept : IsKept before c.then-is_err.self-inside = elim c.then-is_err.branch [
-      | then-is_err-via-then-is_err w ↦ subst (IsKept before) (sym w.self-inside-is) (c.make_room-room.ensures.same.0, refl, refl, c.make_room-room.ensures.same.1, omega (arith, c.make_room-room.ensures.len.0, c.make_room-room.ensures.capacity, c.self.invariant.room))
-      | then-is_err-via-else-is_err+then-is_err-2 w ↦
-          let waiting = on_err w.insert-else-is_err.result _ (sym w.is_err-else-is_err.ensures.value ∙ w.if-is_err-2.true) w.insert-else-is_err.ensures.err in
-          subst (IsKept before) (sym w.self-inside-is) (c.make_room-room.ensures.same.0, waiting, refl, c.make_room-room.ensures.same.1, omega (arith, c.make_room-room.ensures.len.0, c.make_room-room.ensures.capacity, c.self.invariant.room, ap length waiting))
-    ] in
-    IsBook-refused c.self.inside _ c.self.invariant kept.0 kept.1 (λ q. c.remove-then-is_err.ensures.updates.0 q ∙ ap (cond (is_at (id_cmp c.args.id) q) None) (ap (λ m. tree.get id_cmp m q) kept.2 ∙ c.in-Ok-None.ensures.updates.0 q ∙ ap (cond (is_at (id_cmp c.args.id) q) (Some Waits)) (c.self.invariant.stands q)) ∙ standing_of-undone (history_of c.self.inside) c.args.id q c.self.invariant.legal new_id) kept.3 kept.4
+    IsBook-refused c.self.inside _ c.self.invariant c.make_room.ensures.same.0 c.make_room.ensures.same.1 (λ q. c.remove-then-is_err.ensures.updates.0 q ∙ ap (cond (is_at (id_cmp c.args.id) q) None) (c.in-Ok-None.ensures.updates.0 q ∙ ap (cond (is_at (id_cmp c.args.id) q) (Some Waits)) (c.self.invariant.stands q)) ∙ standing_of-undone (history_of c.self.inside) c.args.id q c.self.invariant.legal new_id) c.make_room.ensures.same.2 (omega (arith, c.make_room.ensures.len.0, c.make_room.ensures.len.1, c.make_room.ensures.capacity, c.self.invariant.room))
 
 pub returns-then-is_err-clause-fault : goal.returns-then-is_err-clause-fault
 returns-then-is_err-clause-fault c =
@@ -80,13 +75,13 @@ pub invariant_of-self-2 : goal.invariant_of-self-2
 invariant_of-self-2 c =
     let new_id = has_id-looked_up c.self.inside (history_of c.self.inside) c.args.id _ false c.self.invariant refl refl (ap is_some (sym c.in-Ok-None.ensures.old ∙ c.in-Ok-None.field-0-is)) in
     let new_stamp = has_stamp-looked_up c.self.inside (history_of c.self.inside) c.args.stamp _ false c.self.invariant refl c.deref-2.ensures.value c.in-Some.ensures.new.new in
-    let room = on_ok c.make_room-room.result _ (sym c.is_err.ensures.value ∙ c.if-is_err.false) c.make_room-room.ensures.ok in
-    let waiting = on_ok c.insert-else-is_err.result _ (sym c.is_err-else-is_err.ensures.value ∙ c.if-is_err-2.false) c.insert-else-is_err.ensures.entries in
+    let room = on_ok c.make_room.result _ (sym c.is_err.ensures.value ∙ c.if-is_err.false) c.make_room.ensures.ok in
+    let waiting = c.put_in_order.ensures.items ∙ ap (λ ws. insert_entry nat_cmp ws c.args.stamp c.args.id) c.make_room.ensures.same.1 in
     let may = MayQueue-from_tests (history_of c.self.inside) c.args.id c.args.stamp (omega (arith, ap (λ h. length (waiting_of h)) c.self.view_is)) new_id new_stamp in
-    let items = c.push_reserved.ensures.items ∙ ap (λ xs. xs ++ Queued c.args.id c.args.stamp ∷ []) c.make_room-room.ensures.same.0 in
-    let stamps = if_ok c.insert-2.result _ _ _ (c.insert-2.ensures.succeeds room.1) c.insert-2.ensures.items ∙ ap (λ ss. insert ss c.in-Some.place c.args.stamp) c.make_room-room.ensures.same.1 in
+    let items = c.push_reserved.ensures.items ∙ ap (λ xs. xs ++ Queued c.args.id c.args.stamp ∷ []) c.make_room.ensures.same.0 in
+    let stamps = if_ok c.insert-2.result _ _ _ (c.insert-2.ensures.succeeds room.2) c.insert-2.ensures.items ∙ ap (λ ss. insert ss c.in-Some.place c.args.stamp) c.make_room.ensures.same.2 in
     let goes = subst (λ ss. IsPlaceOf ss c.args.stamp c.in-Some.place) c.deref-2.ensures.value c.in-Some.ensures.new in
-    IsBook-queued c.self.inside _ c.args.id c.args.stamp c.in-Some.place c.self.invariant may items waiting (c.in-Ok-None.ensures.updates.0) goes stamps (omega (arith, c.push_reserved.ensures.len, c.push_reserved.ensures.capacity, room.0, c.len.ensures.len, ap length waiting, length-insert_entry-le c.args.stamp c.args.id c.self.inside.waiting.entries))
+    IsBook-queued c.self.inside _ c.args.id c.args.stamp c.in-Some.place c.self.invariant may items waiting (c.in-Ok-None.ensures.updates.0) goes stamps (omega (arith, c.push_reserved.ensures.len, c.push_reserved.ensures.capacity, room.0, c.put_in_order.ensures.len))
 
 pub returns-clause-fault : goal.returns-clause-fault
 returns-clause-fault c =
@@ -95,7 +90,7 @@ returns-clause-fault c =
     rw (first_queue_fault-none c.args.self.now c.args.id c.args.stamp (omega arith) new_id new_stamp) tt
 
 pub returns-clause-may : goal.returns-clause-may
-returns-clause-may c = λ _.
+returns-clause-may c = λ ok.
     let new_id = has_id-looked_up c.self.inside c.args.self.now c.args.id _ false c.self.invariant c.self.view_is refl (ap is_some (sym c.in-Ok-None.ensures.old ∙ c.in-Ok-None.field-0-is)) in
     let new_stamp = has_stamp-looked_up c.self.inside c.args.self.now c.args.stamp _ false c.self.invariant c.self.view_is c.deref-2.ensures.value c.in-Some.ensures.new.new in
     MayQueue-from_tests c.args.self.now c.args.id c.args.stamp (omega arith) new_id new_stamp

@@ -1,0 +1,219 @@
+//! Rounds of a daemon, and turns of a master, worked out by hand.
+
+ghost use Rattle.std.specs.Prelude.{◌≤◌};
+
+use crate::devices::{ListLink, MasterLink};
+use hex::decode_to_slice;
+use std::test::Fail;
+use tt_daemon::{Config, Daemon};
+use tt_master::{Act, Master, MemoryReference};
+use tt_node::{NodeFault, PACKET_LEN, Rounds, daemon_rounds, master_rounds};
+use tt_publish::{MemoryClock, ReadFault, Reading, open};
+use tt_span::Drift;
+
+/// A machine of one source, in its first life.
+fn one_source(ppm: u32) -> Result<(Daemon, Drift), Fail> {
+    let drift = Drift::new(ppm).ok_or("a drift")?;
+    Ok((Daemon::new(0, &Config::new(1, 0, drift, 1)?, 1), drift))
+}
+
+fn ends(answer: Result<Reading, ReadFault>) -> Result<(u64, u64), u16> {
+    match answer {
+        Ok(reading) => Ok((reading.earliest(), reading.latest())),
+        Err(fault) => Err(fault.number()),
+    }
+}
+
+#[test]
+fn each_packet_is_taken_at_a_reading_of_its_own(rt: HostRuntime) -> Result<(), Fail> {
+    let (mut daemon, drift) = one_source(200)?;
+    let mut link = MasterLink::new(rt.alloc(), 500, &[1_000_000_500], None);
+    let mut clock = MemoryClock::new(&[1000, 2000, 3000], None);
+    let (mut teller, mut watches) = open(&rt, rt.alloc(), drift, 1)?;
+    let did = daemon_rounds(&rt, &mut daemon, &mut link, &mut clock, &mut teller, 1, 4);
+    let read = match watches.pop() {
+        Some(mut watch) => ends(watch.now(&mut MemoryClock::new(&[3000], None))),
+        None => Err(0),
+    };
+    teller.close(&rt);
+    let done = Rounds {
+        done: 1,
+        published: 1,
+        refused: 0,
+    };
+    assert!(rt; did == Ok(done));
+    assert!(rt; read == Ok((1_000_000_999, 1_000_003_001)));
+    Ok(())
+}
+
+#[test]
+fn a_link_that_fails_ends_the_rounds_and_they_may_be_done_again(
+    rt: HostRuntime,
+) -> Result<(), Fail> {
+    let (mut daemon, drift) = one_source(200)?;
+    let times = [1_000_000_500; 2];
+    let mut link = MasterLink::new(rt.alloc(), 500, &times, Some(2));
+    let mut clock = MemoryClock::new(&[0; 16], None);
+    let (mut teller, mut watches) = open(&rt, rt.alloc(), drift, 1)?;
+    let broken = daemon_rounds(&rt, &mut daemon, &mut link, &mut clock, &mut teller, 1, 4);
+    let mut page = [Err(0), Err(0)];
+    let watch = watches.pop();
+    let mut still = MemoryClock::new(&[0; 2], None);
+    let mended = match watch {
+        Some(mut watch) => {
+            page[0] = ends(watch.now(&mut still));
+            let mended = daemon_rounds(&rt, &mut daemon, &mut link, &mut clock, &mut teller, 1, 4);
+            page[1] = ends(watch.now(&mut still));
+            mended
+        }
+        None => Err(NodeFault::Memory),
+    };
+    teller.close(&rt);
+    assert!(rt; broken == Err(NodeFault::LinkFailed));
+    assert!(rt; NodeFault::LinkFailed.number() == 1501);
+    assert!(rt; page[0] == Err(801));
+    assert!(rt; mended.map(|did| (did.done, did.published)) == Ok((1, 1)));
+    assert!(rt; page[1].is_ok() == true);
+    Ok(())
+}
+
+#[test]
+fn what_is_refused_is_counted(rt: HostRuntime) -> Result<(), Fail> {
+    let (mut daemon, drift) = one_source(200)?;
+    let mut link = MasterLink::new(rt.alloc(), 0, &[1000, 1000], None);
+    for _ in 0..4 {
+        assert!(rt; link.forge(&[0xFF; 32]), "no memory");
+    }
+    let mut clock = MemoryClock::new(&[0; 32], None);
+    let (mut teller, _watches) = open(&rt, rt.alloc(), drift, 1)?;
+    let did = daemon_rounds(&rt, &mut daemon, &mut link, &mut clock, &mut teller, 2, 4);
+    teller.close(&rt);
+    let done = Rounds {
+        done: 2,
+        published: 1,
+        refused: 6,
+    };
+    assert!(rt; did == Ok(done));
+    Ok(())
+}
+
+#[test]
+fn a_clock_that_fails_ends_the_rounds(rt: HostRuntime) -> Result<(), Fail> {
+    let (mut daemon, drift) = one_source(0)?;
+    let (mut teller, _watches) = open(&rt, rt.alloc(), drift, 1)?;
+    let mut went_on = [false; 8];
+    for k in 1..8 {
+        let mut link = MasterLink::new(rt.alloc(), 0, &[1000, 1000], None);
+        let mut clock = MemoryClock::new(&[0; 32], Some(k as u64));
+        went_on[k] = match daemon_rounds(
+            &rt,
+            &mut daemon,
+            &mut link,
+            &mut clock,
+            &mut teller,
+            2,
+            2,
+        ) {
+            Ok(did) => did.done == 2,
+            Err(fault) => fault.number() != 1502,
+        };
+    }
+    teller.close(&rt);
+    // Each round reads the clock three times.
+    let last_alone = [false, false, false, false, false, false, false, true];
+    assert!(rt; went_on == last_alone);
+    Ok(())
+}
+
+#[test]
+fn a_clock_that_goes_back_behind_a_publication_ends_the_rounds(
+    rt: HostRuntime,
+) -> Result<(), Fail> {
+    let (mut daemon, drift) = one_source(0)?;
+    let mut link = MasterLink::new(rt.alloc(), 0, &[1000; 2], None);
+    let mut clock = MemoryClock::new(&[5, 5, 9, 5, 5, 8], None);
+    let (mut teller, _watches) = open(&rt, rt.alloc(), drift, 1)?;
+    let did = daemon_rounds(&rt, &mut daemon, &mut link, &mut clock, &mut teller, 2, 1);
+    teller.close(&rt);
+    assert!(rt; did.map_err(|fault| fault.number()).err() == Some(802));
+    Ok(())
+}
+
+/// The request of machine 0 to source 1 with the nonce 1, of TTP1.
+const REQUEST: &str = "54545031010001000000000000000001";
+/// The same of TTP2, in life 1.
+const REQUEST2: &str = "545450320100010000000000000000010000000000000001";
+/// The answer to it of TTP1: [1000000000, 1000001000].
+const ANSWER: &str = "54545031020001000000000000000001000000003b9aca00000000003b9acde8";
+/// The same of TTP2.
+const ANSWER2: &str =
+    "545450320200010000000000000000010000000000000001000000003b9aca00000000003b9acde8";
+
+/// The bytes of a hex text, in front.
+fn bytes_of(text: &str) -> ([u8; PACKET_LEN], usize)
+    ensures { result.1 ≤ 64 }
+{
+    let mut bytes = [0; PACKET_LEN];
+    let length = text.len() / 2;
+    match bytes.get_mut(..length) {
+        Some(front) => {
+            let _ = decode_to_slice(text, front);
+        }
+        None => {}
+    }
+    (bytes, length.min(PACKET_LEN))
+}
+
+#[test]
+fn a_master_answers_each_in_its_own_form(rt: HostRuntime) -> Result<(), Fail> {
+    let (request, length) = bytes_of(REQUEST);
+    let (request2, length2) = bytes_of(REQUEST2);
+    let mut link = ListLink::new(rt.alloc(), None);
+    assert!(rt; link.come(3, &request[..length]), "no memory");
+    assert!(rt; link.come(5, b"not a message"), "no memory");
+    assert!(rt; link.come(4, &request2[..length2]), "no memory");
+    let mut master = Master::new(1, 500, MemoryReference::new(&[1_000_000_500; 4], None));
+    let played = master_rounds(&mut link, &mut master, &[Act::Honest], 5);
+    assert!(rt; played == Ok(2));
+    assert!(rt; link.sent().len() == 2);
+    let (answer, _) = bytes_of(ANSWER);
+    let (answer2, _) = bytes_of(ANSWER2);
+    assert!(rt; link.sent() == [(3, answer), (4, answer2)].as_slice());
+    Ok(())
+}
+
+#[test]
+fn a_master_repeats_its_last_act(rt: HostRuntime) -> Result<(), Fail> {
+    let (request, length) = bytes_of(REQUEST);
+    let mut link = ListLink::new(rt.alloc(), None);
+    for _ in 0..4 {
+        assert!(rt; link.come(0, &request[..length]), "no memory");
+    }
+    let mut master = Master::new(1, 500, MemoryReference::new(&[1_000_000_500; 4], None));
+    let acts = [Act::Honest, Act::Silent, Act::Garbage];
+    let played = master_rounds(&mut link, &mut master, &acts, 4);
+    assert!(rt; played == Ok(4));
+    assert!(rt; link.sent().len() == 3);
+    let (answer, _) = bytes_of(ANSWER);
+    let mut garbage = [0; PACKET_LEN];
+    for place in 0..32 {
+        garbage[place] = 0xFF;
+    }
+    assert!(rt; link.sent() == [(0, answer), (0, garbage), (0, garbage)].as_slice());
+    Ok(())
+}
+
+#[test]
+fn a_master_ends_where_its_reference_or_its_link_fails(rt: HostRuntime) -> Result<(), Fail> {
+    let (request, length) = bytes_of(REQUEST);
+    let mut link = ListLink::new(rt.alloc(), Some(3));
+    assert!(rt; link.come(0, &request[..length]), "no memory");
+    assert!(rt; link.come(0, &request[..length]), "no memory");
+    let mut master = Master::new(1, 500, MemoryReference::new(&[1_000_000_500; 4], Some(1)));
+    let failed = master_rounds(&mut link, &mut master, &[Act::Honest], 5);
+    assert!(rt; failed == Err(NodeFault::ReferenceFailed));
+    assert!(rt; NodeFault::ReferenceFailed.number() == 304);
+    let broken = master_rounds(&mut link, &mut master, &[Act::Honest], 5);
+    assert!(rt; broken == Err(NodeFault::LinkFailed));
+    Ok(())
+}

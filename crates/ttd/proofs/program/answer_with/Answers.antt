@@ -1,6 +1,0 @@
-use Rattle.ttd.specs.Answer.{answer_in}
-use Rattle.ttd.proofs.Replies.{answered}
-use Rattle.ttd.proofs.program.answer_with.Goals as goal
-
-pub returns-clause-taken : goal.returns-clause-taken
-returns-clause-taken g c = λ taken. answered answer_in _ _ _ c.reply-reply.result _ _ _ (c.reply-reply.ensures.taken taken) c.give.ensures.gives

@@ -1,0 +1,61 @@
+-- What is replied to an input, and answered.
+use Rattle.std.proofs.Common.{◌≡◌, ◌≢◌, ◌<◌, ◌≤◌, ◌+◌, ℕ, List, Option, None, Some, Result, Err, IfSome, length, replicate, inl, inr, refl, arith}
+use Rattle.std.specs.Io.KnownBytes.{IsAtEnd}
+use Rattle.std.proofs.lemmas.List.{length-replicate}
+use Rattle.tt_stream.specs.Counts.{HasFailed}
+use Rattle.ttd_words.specs.declared.words.Command.{Command}
+use Rattle.ttd_commands.specs.declared.faults.Fault.{Fault}
+use Rattle.ttd_commands.specs.declared.faults.Fault.TheVariants.{BadInput, ReadFailed}
+use Rattle.std.specs.Result.{result_map_both}
+use Rattle.ttd_commands.specs.declared.ending.Status.{Status}
+use Rattle.ttd_commands.specs.Answer.{Answer, answer_of}
+use Rattle.ttd_commands.specs.Command.{HasReply, IsCommandReply, IsReply, IsReplyRead}
+use Rattle.ttd_commands.specs.Input.{IsInputFault, most_input}
+use Rattle.ttd_commands.specs.Run.{Answers, GivesUnlessMemory, Input, Output}
+
+-- an input that has more bytes than some number has some bytes that are more
+pub longer_input : (left : Option (List ℕ)) (most : ℕ) → IfSome left (λ all. most < length all)
+    → (bytes : List ℕ) × IfSome left (λ all. all ≡ bytes) × (most < length bytes)
+longer_input (Some all) most long = (all, refl, long)
+longer_input None most long = (replicate {A = ℕ} (most + 1) 0, tt, (let zero : ℕ = 0 in omega (arith, length-replicate (most + 1) zero)))
+
+-- what is replied where reading gave a fault
+pub fault_replied : {T : Type 0} (shows : T → Answer) (command : Command) (old new : Input) (fault : Fault) (result : Result T Fault)
+    → result ≡ Err fault → IsInputFault fault
+    → (fault ≡ ReadFailed → HasFailed old.failed new.failed)
+    → (fault ≡ BadInput → IfSome old.left (λ all. most_input < length all))
+    → (fault ≢ ReadFailed → new.failed ≡ old.failed)
+    → IsReplyRead shows (IsReply command) old new result
+fault_replied shows command old new fault result is (inl failed) cause long sound = inr (inl (cc, cause failed))
+fault_replied shows command old new fault result is (inr (inl too_long)) cause long sound =
+    let more = longer_input old.left most_input (long too_long) in
+    let refused : result ≡ Err BadInput = cc in
+    inl (
+      more.0,
+      record {
+        whole = more.1;
+        end = inr more.2;
+        sound = sound (λ e. cc);
+      },
+      rw refused (inl (more.2, refl)),
+    )
+fault_replied shows command old new fault result is (inr (inr memory)) cause long sound = inr (inr cc)
+
+-- what is replied where it was read
+pub command_replied : {T : Type 0} (shows : T → Answer) (command : Command) (bytes : List ℕ) (old new : Input) (result : Result T Fault)
+    → IfSome old.left (λ all. all ≡ bytes) → length bytes ≤ most_input → IsAtEnd new.left → new.failed ≡ old.failed
+    → HasReply shows (IsCommandReply command bytes) result
+    → IsReplyRead shows (IsReply command) old new result
+command_replied shows command bytes old new result whole short end sound (inl is) =
+    inl (bytes, record { whole = whole; end = inl end; sound = sound }, inr (short, is))
+command_replied shows command bytes old new result whole short end sound (inr memory) = inr (inr memory)
+
+-- what is written of it
+pub answered : {T : Type 0} (shows : T → Answer) (IsReplyOf : List ℕ → Result Answer Fault → Type 0) (old new : Input) (result : Result T Fault)
+    (before after : Output) (status : Status) → IsReplyRead shows IsReplyOf old new result
+    → GivesUnlessMemory (answer_of (result_map_both shows (λ fault. fault) result)) before after status
+    → Answers IsReplyOf old new before after status
+answered shows IsReplyOf old new result before after status read (inr memory) = inr (inr memory)
+answered shows IsReplyOf old new result before after status (inl read) (inl gives) = inl (read.0, result_map_both shows (λ fault. fault) result, read.1, read.2, gives)
+answered shows IsReplyOf old new result before after status (inr (inl failed)) (inl gives) = inr (inl (failed.1, rw failed.0 at gives))
+answered shows IsReplyOf old new result before after status (inr (inr memory)) (inl gives) = inr (inr (rw memory at gives))

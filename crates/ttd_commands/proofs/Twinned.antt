@@ -1,0 +1,41 @@
+-- What is replied to a script of which a twin is asked.
+use Rattle.std.proofs.Common.{◌≡◌, ◌≤◌, ℕ, List, [], Result, Ok, Some, inl, inr, refl, sym, subst, slice_get}
+use Rattle.std.specs.Prelude.{IsUtf8}
+use Rattle.std.specs.Result.{result_map_both}
+use Rattle.tt_daemon.specs.Config.{Configuration}
+use Rattle.tt_span.specs.Interval.{Interval}
+use Rattle.tt_span.specs.Time.{max_time}
+use Rattle.tt_script.specs.declared.faults.ScriptFault.{ScriptFault}
+use Rattle.tt_script.specs.Script.{Scenario, script_in}
+use Rattle.tt_twin.specs.declared.twins.Side.{Side as TwinSide}
+use Rattle.tt_twin.specs.declared.twin_faults.TwinFault.{TwinFault}
+use Rattle.tt_twin.specs.Alike.{HasReading}
+use Rattle.tt_twin.specs.Twin.{twin_of}
+use Rattle.tt_world.specs.declared.events.Event.{Event}
+use Rattle.tt_world.specs.declared.events.Reply.TheVariants as replies
+use Rattle.tt_world.specs.Reply.{replies_from}
+use Rattle.ttd_words.specs.declared.words.Side.{Side}
+use Rattle.ttd_commands.specs.declared.faults.Fault.{Fault}
+use Rattle.ttd_commands.specs.Answer.{Answer, fine}
+use Rattle.ttd_commands.specs.Command.{HasReply}
+use Rattle.ttd_commands.specs.Twinning.{IsTwinReply, TellsFound, TellsTwinOf, twin_side, twin_text}
+
+-- a reading that has a twin is the reply to its event
+pub reading_there : (configs : List Configuration) (events : List Event) (k : ℕ) (side : TwinSide) → (x : ℕ) × (x ≤ max_time) × HasReading configs events k side x
+    → (reading : Interval) × (slice_get (replies_from configs [] events) k ≡ Some (replies.Read reading))
+reading_there configs events k side found = (found.2.reading, found.2.reads.replied)
+
+pub twin_told : (script : Scenario) (k : ℕ) (found : Result (List Event) TwinFault) (twin : List Event) (reading : Interval) (text : List ℕ)
+    → found ≡ Ok twin → slice_get (replies_from script.configs [] script.events) k ≡ Some (replies.Read reading) → text ≡ twin_text twin reading
+    → TellsFound script k found (Ok (fine text))
+twin_told script k found twin reading text is replied same =
+    subst (λ (r : Result (List Event) TwinFault). TellsFound script k r (Ok (fine text))) (sym is) (record { reading = reading; replied = replied; is = rw same refl })
+
+pub twin_replied : {T : Type 0} (shows : T → Answer) (k : ℕ) (side : Side) (input text : List ℕ) (script : Scenario) (result : Result T Fault)
+    → text ≡ input → IsUtf8 input → script_in text ≡ Ok script
+    → HasReply shows (TellsFound script k (twin_of script.configs script.events k (twin_side side))) result
+    → HasReply shows (IsTwinReply k side input) result
+twin_replied shows k side input text script result same utf8 is (inr memory) = inr memory
+twin_replied shows k side input text script result same utf8 is (inl told) =
+    let found : script_in input ≡ Ok script = rw same at is in
+    inl (record { bad = λ no. absurd (no utf8); read = λ yes. subst (λ (s : Result Scenario ScriptFault). TellsTwinOf k side s (result_map_both shows (λ fault. fault) result)) (sym found) told })

@@ -1,0 +1,42 @@
+-- The numbers of the refusals, and how the program ends.
+use Rattle.std.specs.Prelude.{ℕ}
+use Rattle.tt_poll.specs.Fault.{number_of as poll_number}
+use Rattle.tt_source.specs.Fault.{number_of as source_number}
+use Rattle.tt_fuse.specs.Fault.{number_of as fusion_number}
+use Rattle.tt_cert.specs.Fault.{number_of as certificate_number}
+use Rattle.tt_script.specs.Fault.{number_of as script_number}
+use Rattle.tt_twin.specs.TwinFault.{number_of as twin_number}
+use Rattle.tt_world.specs.Fault.{number_of as world_number}
+use Rattle.ttd_commands.specs.declared.ending.Status.{Status}
+use Rattle.ttd_commands.specs.declared.ending.Status.TheVariants.{Fine, Memory as NoMemory, Bad, Broken, Device}
+use Rattle.ttd_commands.specs.declared.faults.Fault.{Fault}
+use Rattle.ttd_commands.specs.declared.faults.Fault.TheVariants.{BadWords, BadHex, BadInput, ReadFailed, Poll, Source, Fusion, Certificate, Script, Twin, World, Memory}
+
+-- The number of each refusal.
+abbrev pub number_of : Fault → ℕ
+number_of BadWords = 1601
+number_of BadHex = 1602
+number_of BadInput = 1603
+number_of ReadFailed = 1604
+number_of (Poll fault) = poll_number fault
+number_of (Source fault) = source_number fault
+number_of (Fusion fault) = fusion_number fault
+number_of (Certificate fault) = certificate_number fault
+number_of (Script fault) = script_number fault
+number_of (Twin fault) = twin_number fault
+number_of (World fault) = world_number fault
+number_of Memory = 1
+
+-- How the program ends after each refusal: as at a device fault where reading failed, as out of memory, and else as at what was rejected.
+abbrev pub status_of : Fault → Status
+status_of ReadFailed = Device
+status_of Memory = NoMemory
+status_of _ = Bad
+
+-- The status as a number.
+abbrev pub code_of : Status → ℕ
+code_of Fine = 0
+code_of NoMemory = 1
+code_of Bad = 2
+code_of Broken = 3
+code_of Device = 4

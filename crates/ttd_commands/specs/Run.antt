@@ -1,0 +1,81 @@
+-- What a run does to its input and its output.
+use Rattle.std.specs.Prelude.{◌≡◌, ◌⊎◌, ◌<◌, ℕ, Bool, true, List, length, take, Option, IfSome, Result, Err}
+use Rattle.std.specs.Io.KnownBytes.{Appends, IsAtEnd}
+use Rattle.tt_stream.specs.Counts.{HasFailed}
+use Rattle.tt_stream.specs.declared.device.ByteReader as reader
+use Rattle.tt_stream.specs.declared.device.ByteWriter as writer
+use Rattle.ttd_commands.specs.declared.ending.Status.{Status}
+use Rattle.ttd_commands.specs.declared.ending.Status.TheVariants.{Device}
+use Rattle.ttd_commands.specs.declared.faults.Fault.{Fault}
+use Rattle.ttd_commands.specs.declared.faults.Fault.TheVariants.{BadWords, ReadFailed, Memory}
+use Rattle.ttd_commands.specs.Answer.{Answer, answer_of, fine}
+use Rattle.ttd_commands.specs.Input.{most_input}
+
+-- What the input shows: the bytes that are still to come, where the device keeps them, and its failures and reads so far.
+pub record Input : Type 0 where
+  pub left : Option (List ℕ)
+  pub failed : ℕ
+  pub asked : ℕ
+
+-- What the output shows: the bytes that were written, where the device keeps them, its failures so far, and whether it holds none of the
+-- bytes back.
+pub record Output : Type 0 where
+  pub taken : Option (List ℕ)
+  pub failed : ℕ
+  pub flushed : Bool
+
+-- What a reader shows.
+abbrev pub input_of : {R : Type 0} → reader.Ghosts R → R → Input
+input_of shows device = record { left = shows.left device; failed = shows.failed device; asked = shows.asked device }
+
+-- What a writer shows.
+abbrev pub output_of : {W : Type 0} → writer.Ghosts W → W → Output
+output_of shows device = record { taken = shows.taken device; failed = shows.failed device; flushed = shows.flushed device }
+
+-- The output gained exactly the answer's text and was flushed, no write failed, and the program ends with the answer's status.
+pub record IsWritten (answer : Answer) (old new : Output) (status : Status) : Type 0 where
+  pub status_is : status ≡ answer.status
+  pub text : Appends old.taken new.taken answer.text
+  pub flushed : new.flushed ≡ true
+  pub sound : new.failed ≡ old.failed
+
+-- A write or the flush failed: the output gained a front of the answer's text, and the program ends with a device fault.
+pub record IsCutShort (answer : Answer) (old new : Output) (status : Status) : Type 0 where
+  pub status_is : status ≡ Device
+  pub front : (n : ℕ) × Appends old.taken new.taken (take n answer.text)
+  pub failed : HasFailed old.failed new.failed
+
+-- The answer was written, unless the output failed.
+abbrev pub Gives : Answer → Output → Output → Status → Type 0
+Gives answer old new status = IsWritten answer old new status ⊎ IsCutShort answer old new status
+
+-- The refusal of out of memory.
+abbrev pub memory_answer : Answer
+memory_answer = answer_of (Err Memory)
+
+-- The same, or memory ran out, and that is the answer.
+abbrev pub GivesUnlessMemory : Answer → Output → Output → Status → Type 0
+GivesUnlessMemory answer old new status = Gives answer old new status ⊎ Gives memory_answer old new status
+
+-- Nothing was read, and it was written that the words are bad, or that memory ran out.
+abbrev pub RefusesWords : Input → Input → Output → Output → Status → Type 0
+RefusesWords old_in new_in old_out new_out status = (new_in ≡ old_in) × GivesUnlessMemory (answer_of (Err BadWords)) old_out new_out status
+
+-- Nothing was read, and some help was written, or that memory ran out.
+abbrev pub GivesHelp : Input → Input → Output → Output → Status → Type 0
+GivesHelp old_in new_in old_out new_out status = (new_in ≡ old_in) × ((text : List ℕ) × GivesUnlessMemory (fine text) old_out new_out status)
+
+-- These are the bytes that the input still had, and it is read to its end, unless they are too many; no read failed.
+pub record IsRead (bytes : List ℕ) (old new : Input) : Type 0 where
+  pub whole : IfSome old.left (λ all. all ≡ bytes)
+  pub end : IsAtEnd new.left ⊎ (most_input < length bytes)
+  pub sound : new.failed ≡ old.failed
+
+-- The input was read, and the answer is the one for a reply to its bytes; or reading failed, and that is the answer; or memory ran out,
+-- and that is the answer.
+abbrev pub Answers : (List ℕ → Result Answer Fault → Type 0) → Input → Input → Output → Output → Status → Type 0
+Answers IsReplyOf old_in new_in old_out new_out status =
+    ((bytes : List ℕ) × (reply : Result Answer Fault) × IsRead bytes old_in new_in × IsReplyOf bytes reply
+    × Gives (answer_of reply) old_out new_out status)
+    ⊎ ((HasFailed old_in.failed new_in.failed × Gives (answer_of (Err ReadFailed)) old_out new_out status)
+    ⊎ Gives memory_answer old_out new_out status)

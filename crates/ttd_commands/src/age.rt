@@ -1,0 +1,96 @@
+//! The command `age`: the answer to a poll, aged.
+
+ghost use Rattle.std.specs.Prelude.{◌≡◌, ◌≢◌, Err, string_bytes};
+ghost use Rattle.hex.specs.Hex.{decode_of};
+ghost use Rattle.ttd_words.specs.Reading.{IsUnlessMemory};
+ghost use Rattle.ttd_commands.specs.Age.{age_of, aged_hex, aged_of, answered as answered_of, without_line_feed as without_line_feed_of};
+ghost use Rattle.ttd_commands.specs.Command.{HasReply};
+
+use crate::faults::Fault;
+use hex::FromHexError;
+use std::alloc::Global;
+use tt_poll::{Message, Message2, decode, decode2};
+use tt_source::{SourceFault, Statement};
+use tt_span::{Drift, Span};
+
+/// The options of `age`.
+#[derive(Clone, Copy, Debug, PartialEq, Eq)]
+pub(crate) struct Ageing {
+    /// What the clock may be wrong by.
+    pub(crate) drift: Drift,
+    /// The clock when the poll was sent, in nanoseconds.
+    pub(crate) sent: u64,
+    /// The clock when the answer came, in nanoseconds.
+    pub(crate) got: u64,
+    /// The clock now, in nanoseconds.
+    pub(crate) clock: u64,
+}
+
+/// A text without the line feed at its end, if there is one.
+fn without_line_feed(text: &[u8]) -> &[u8]
+    ensures { result.now ≡ without_line_feed_of text.now }
+{
+    if text.ends_with(b"\n") {
+        text.split_at(text.len() - 1).0
+    } else {
+        text
+    }
+}
+
+/// The span of the answer that the bytes spell: in TTP2 where they begin with its name, else in TTP1. What is not a
+/// message is refused with the decoder's number, a request with 405.
+fn answered(bytes: &[u8]) -> Result<Span, Fault>
+    ensures value { result ≡ answered_of bytes.now }
+    ensures no_device { result ≢ Err Fault.ReadFailed }
+{
+    if bytes.starts_with(b"TTP2") {
+        return match decode2(bytes).map_err(Fault::Poll)? {
+            Message2::Answer(answer) => Ok(answer.span()),
+            Message2::Request(_) => Err(Fault::Source(SourceFault::NotMine)),
+        };
+    }
+    match decode(bytes).map_err(Fault::Poll)? {
+        Message::Answer(answer) => Ok(answer.span()),
+        Message::Request(_) => Err(Fault::Source(SourceFault::NotMine)),
+    }
+}
+
+/// The aged span of an answer. Clock readings that are out of order are refused with 402.
+fn aged(ageing: &Ageing, span: Span) -> Result<Span, Fault>
+    ensures value { result ≡ aged_of ageing.now span }
+    ensures no_device { result ≢ Err Fault.ReadFailed }
+{
+    let statement = Statement::new(span, ageing.sent, ageing.got).map_err(Fault::Source)?;
+    statement
+        .aged(ageing.drift, ageing.clock)
+        .map_err(Fault::Source)
+}
+
+/// The aged span of the message that the text writes in hex.
+fn aged_from_hex(alloc: Global, ageing: &Ageing, text: &[u8]) -> Result<Span, Fault>
+    ensures value { IsUnlessMemory Fault.Memory (aged_hex ageing.now (decode_of text.now)) result }
+    ensures no_device { result ≢ Err Fault.ReadFailed }
+{
+    let bytes = match hex::decode(alloc, text) {
+        Ok(bytes) => bytes,
+        Err(FromHexError::OutOfMemory) => return Err(Fault::Memory),
+        Err(_) => return Err(Fault::BadHex),
+    };
+    let span = answered(bytes.as_slice())?;
+    aged(ageing, span)
+}
+
+/// What `age` answers to its input: one poll answer of either format in hex, of either case, with one line feed allowed
+/// after it.
+///
+/// Rejects, in this order, with 1602 `BadHex` what is not hex; with the decoder's number what is not a valid poll message; with 405
+/// a request; with 402 clock readings that are out of order or past the greatest time; and with 1 `Memory`.
+pub(crate) fn age_text(alloc: Global, ageing: &Ageing, input: &[u8]) -> Result<String, Fault>
+    ensures value { HasReply string_bytes (λ reply. reply ≡ age_of ageing.now input.now) result }
+    ensures no_device { result ≢ Err Fault.ReadFailed }
+{
+    let span = aged_from_hex(alloc, ageing, without_line_feed(input))?;
+    let low = span.lo();
+    let high = span.hi();
+    format!(in alloc; "aged {low} {high}\n").map_err(|_| Fault::Memory)
+}

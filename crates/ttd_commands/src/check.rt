@@ -1,0 +1,75 @@
+//! The command `check`: whether a certificate proves its claim for the spans that are read.
+
+ghost use Rattle.std.specs.Prelude.{◌≡◌, ◌≢◌, ◌≤◌, ◌<◌, ◌↔◌, length, Err, IfErr, IfOk, IsTrue, string_bytes};
+ghost use Rattle.std.specs.Result.{result_map_both};
+ghost use Rattle.tt_cert.specs.Valid.{IsVerdict};
+ghost use Rattle.ttd_commands.specs.Command.{HasReply};
+ghost use Rattle.ttd_commands.specs.Check.{IsCheckReply, IsClaimLine, IsClaimPlace, JudgesText, valid_line};
+
+use crate::faults::Fault;
+use crate::spans_text::{SpansText, read_spans};
+use std::alloc::Global;
+use tt_cert::{CertFault, Certificate, check, read_text};
+use tt_span::Span;
+
+/// What `check` answers to its input, a spans text and behind it a certificate text, which begins at the first line that begins with
+/// `claim`: the line `valid` where the certificate proves that the claim is the fusion of the spans.
+///
+/// Refuses, in this order, with 1603 `BadInput` what stands before that line, or the whole where there is none, if it is no spans text;
+/// with 606 what is no certificate text; with 501 to 503 spans that have no fusion whatever they are; with 601 to 605 a certificate
+/// that proves nothing; and with 1 `Memory`.
+pub(crate) fn check_text(alloc: Global, input: &[u8]) -> Result<String, Fault>
+    ensures value { HasReply string_bytes (IsCheckReply input.now) result }
+    ensures no_device { result ≢ Err Fault.ReadFailed }
+{
+    let (front, rest) = input.split_at(claim_place(input));
+    let read = read_spans(alloc, front)?;
+    judge(&read, rest)?;
+    valid_text(alloc)
+}
+
+/// The line that says that a certificate proves its claim.
+fn valid_text(alloc: Global) -> Result<String, Fault>
+    ensures ok { IfOk result (λ text. string_bytes text ≡ valid_line) }
+    ensures memory { IfErr result (λ fault. fault ≡ Fault.Memory) }
+{
+    format!(in alloc; "valid\n").map_err(|_| Fault::Memory)
+}
+
+/// The place of the first line that begins with `claim`, or the end of the text where there is none.
+fn claim_place(text: &[u8]) -> usize
+    ensures place { IsClaimPlace text.now result }
+    ensures within { result ≤ length text.now }
+{
+    for at in 0..text.len() {
+        if is_claim_line(text, at) {
+            return at;
+        }
+    }
+    text.len()
+}
+
+/// Whether a line that begins with `claim` begins at that place.
+fn is_claim_line(text: &[u8], at: usize) -> bool
+    requires { at < length text.now }
+    ensures { IsTrue result ↔ IsClaimLine text.now at }
+{
+    (at == 0 || text[at - 1] == b'\n') && text[at..].starts_with(b"claim")
+}
+
+/// Whether the text is that of a certificate which proves its claim for the spans.
+fn judge(read: &SpansText, text: &[u8]) -> Result<(), Fault>
+    ensures judged { JudgesText read.now.spans.items read.now.faulty text.now (result_map_both (λ _. valid_line) (λ fault. fault) result) }
+    ensures refused { IfErr result (λ fault. (fault ≢ Fault.ReadFailed) × (fault ≢ Fault.Memory)) }
+{
+    let (claim, certificate) = read_text(text)?;
+    verdict_on(read, &claim, &certificate)?;
+    Ok(())
+}
+
+/// What a look at the certificate answers.
+fn verdict_on(read: &SpansText, claim: &Span, certificate: &Certificate) -> Result<(), CertFault>
+    ensures { IsVerdict read.now.spans.items read.now.faulty claim.now certificate.now result }
+{
+    check(read.spans.as_slice(), read.faulty, claim, certificate)
+}

@@ -1,0 +1,82 @@
+//! What is written, and how the program ends.
+
+ghost use Rattle.std.specs.Prelude.{◌≡◌, ℕ, Err, None, true, take, IfSome, IsOk, IsSome, OnOk, OnErr};
+ghost use Rattle.std.specs.Result.{result_map_both};
+ghost use Rattle.std.specs.Io.KnownBytes.{Appends};
+ghost use Rattle.tt_stream.specs.Counts.{HasFailed};
+ghost use Rattle.ttd_commands.specs.Answer.{answer_in, answer_of};
+ghost use Rattle.ttd_commands.specs.Run.{Gives, GivesUnlessMemory, IsWritten, memory_answer, output_of};
+
+use crate::ending::{Ended, Reply, Status};
+use crate::faults::Fault;
+use std::alloc::Global;
+use std::io::Write;
+use tt_stream::{ByteWriter, DeviceFault, write_all};
+
+/// Writes all bytes, and passes them on.
+fn write<W: ByteWriter>(output: &mut W, bytes: &[u8]) -> Result<(), DeviceFault>
+    ensures ok { OnOk result (Appends (W.taken output.old) (W.taken output.new) bytes.now) }
+    ensures flushed { OnOk result (W.flushed output.new ≡ true) }
+    ensures err { OnErr result ((n : ℕ) × Appends (W.taken output.old) (W.taken output.new) (take n bytes.now)) }
+    ensures sound { OnOk result (W.failed output.new ≡ W.failed output.old) }
+    ensures cause { OnErr result (HasFailed (W.failed output.old) (W.failed output.new)) }
+{
+    write_all(output, bytes)?;
+    output.flush()
+}
+
+/// Writes a text, after which the program ends with `status`, unless the writer fails.
+pub(crate) fn end_with<W: ByteWriter>(output: &mut W, text: &str, status: Status) -> Status
+    ensures { Gives (record { text = text.now; status = status }) (output_of W.ByteWriter output.old) (output_of W.ByteWriter output.new) result }
+{
+    match write(output, text.as_bytes()) {
+        Ok(()) => status,
+        Err(_) => Status::Device,
+    }
+}
+
+/// Writes the one line of a refusal. That of out of memory takes no memory.
+fn refuse<W: ByteWriter>(alloc: Global, output: &mut W, fault: Fault) -> Ended
+    ensures gives { GivesUnlessMemory (answer_of (Err fault)) (output_of W.ByteWriter output.old) (output_of W.ByteWriter output.new) result.status }
+    ensures refused { IfSome result.refusal (λ told. Gives (answer_of (Err told)) (output_of W.ByteWriter output.old) (output_of W.ByteWriter output.new) result.status) }
+    ensures some { IsSome result.refusal }
+{
+    let number = fault.number();
+    match format!(in alloc; "refused {number}\n") {
+        Ok(line) => Ended {
+            status: end_with(output, line.as_str(), fault.status()),
+            refusal: Some(fault),
+        },
+        Err(_) => Ended {
+            status: end_with(output, "refused 1\n", Status::Memory),
+            refusal: Some(Fault::Memory),
+        },
+    }
+}
+
+/// Says a refusal in a sentence: its number, and what it means. Where that can't be written, nothing more is done.
+pub fn explain<W: Write>(alloc: Global, errors: &mut W, refusal: &Fault) {
+    if let Ok(line) = format!(in alloc; "ttd: refused {}: {refusal}\n", refusal.number()) {
+        let _ = errors.write_all(line.as_bytes());
+    }
+}
+
+/// Writes a reply: its text as it is, after which the program ends as the reply says, or the one line of a refusal.
+pub fn give<W: ByteWriter>(alloc: Global, output: &mut W, reply: Result<Reply, Fault>) -> Ended
+    ensures gives { GivesUnlessMemory (answer_of (result_map_both answer_in (λ fault. fault) reply)) (output_of W.ByteWriter output.old) (output_of W.ByteWriter output.new) result.status }
+    ensures memory { result.status ≡ Status.Memory → IsWritten memory_answer (output_of W.ByteWriter output.old) (output_of W.ByteWriter output.new) result.status }
+    ensures refused { IfSome result.refusal (λ told. Gives (answer_of (Err told)) (output_of W.ByteWriter output.old) (output_of W.ByteWriter output.new) result.status) }
+    ensures none { result.refusal ≡ None → IsOk reply }
+{
+    match reply {
+        Ok(Reply::Fine(text)) => Ended {
+            status: end_with(output, text.as_str(), Status::Fine),
+            refusal: None,
+        },
+        Ok(Reply::Broken(text)) => Ended {
+            status: end_with(output, text.as_str(), Status::Broken),
+            refusal: None,
+        },
+        Err(fault) => refuse(alloc, output, fault),
+    }
+}

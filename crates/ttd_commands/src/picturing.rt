@@ -1,0 +1,49 @@
+//! The command `picture`: a script's run, drawn.
+
+ghost use Rattle.std.specs.Prelude.{◌≡◌, ◌≢◌, Err};
+ghost use Rattle.ttd_commands.specs.Answer.{answer_in};
+ghost use Rattle.ttd_commands.specs.Command.{HasReply};
+ghost use Rattle.ttd_commands.specs.Picturing.{IsPictureReply, ShowsRun, picture_fault_of};
+
+use crate::ending::Reply;
+use crate::faults::Fault;
+use std::alloc::Global;
+use std::str;
+use tt_picture::{PictureFault, picture};
+use tt_script::{Script, read};
+use tt_world::run;
+
+impl From<PictureFault> for Fault {
+    ghost from_gives = { λ picture fault. fault ≡ picture_fault_of picture };
+
+    fn from(picture: PictureFault) -> Fault {
+        match picture {
+            PictureFault::Memory => Fault::Memory,
+        }
+    }
+}
+
+/// What `picture` answers to its input, a script: its run as a document in SVG, after which the program ends as fine. It
+/// does so also where the run does not keep the assumptions: the lies and the wrong readings are marked in the picture.
+///
+/// Refuses, in this order, with 1603 `BadInput` what is not UTF-8; with 1301 to 1305 what is no script; and with 1 `Memory`.
+pub(crate) fn picture_reply(alloc: Global, input: &[u8]) -> Result<Reply, Fault>
+    ensures value { HasReply answer_in (IsPictureReply input.now) result }
+    ensures no_device { result ≢ Err Fault.ReadFailed }
+{
+    let Ok(text) = str::from_utf8(input) else {
+        return Err(Fault::BadInput);
+    };
+    let script = read(alloc, text)?;
+    shown(alloc, &script)
+}
+
+/// The picture of a script's run.
+fn shown(alloc: Global, script: &Script) -> Result<Reply, Fault>
+    ensures value { HasReply answer_in (ShowsRun script.now) result }
+    ensures no_device { result ≢ Err Fault.ReadFailed }
+{
+    let trace = run(alloc, script.configs(), script.to_events())?;
+    let text = picture(alloc, script.configs(), script.to_events(), &trace)?;
+    Ok(Reply::Fine(text))
+}

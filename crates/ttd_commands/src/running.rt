@@ -1,0 +1,75 @@
+//! The command `run`: what a script's run did, and whether it kept the assumptions.
+
+ghost use Rattle.std.specs.Prelude.{◌≡◌, ◌≢◌, Err};
+ghost use Rattle.ttd_commands.specs.Answer.{answer_in};
+ghost use Rattle.ttd_commands.specs.Command.{HasReply};
+ghost use Rattle.ttd_commands.specs.Running.{IsRunReply, TellsRun, audit_fault_of, script_fault_of, world_fault_of};
+
+use crate::ending::Reply;
+use crate::faults::Fault;
+use std::alloc::Global;
+use std::str;
+use tt_audit::{AuditFault, Report, audit, report_text};
+use tt_script::{Script, ScriptFault, read};
+use tt_world::{WorldFault, run};
+
+impl From<ScriptFault> for Fault {
+    ghost from_gives = { λ script fault. fault ≡ script_fault_of script };
+
+    fn from(script: ScriptFault) -> Fault {
+        match script {
+            ScriptFault::Memory => Fault::Memory,
+            _ => Fault::Script(script),
+        }
+    }
+}
+
+impl From<WorldFault> for Fault {
+    ghost from_gives = { λ world fault. fault ≡ world_fault_of world };
+
+    fn from(world: WorldFault) -> Fault {
+        match world {
+            WorldFault::Memory => Fault::Memory,
+            _ => Fault::World(world),
+        }
+    }
+}
+
+impl From<AuditFault> for Fault {
+    ghost from_gives = { λ audit fault. fault ≡ audit_fault_of audit };
+
+    fn from(audit: AuditFault) -> Fault {
+        match audit {
+            AuditFault::Memory => Fault::Memory,
+        }
+    }
+}
+
+/// What `run` answers to its input, a script: the report of its run, after which the program ends as fine where the run kept the
+/// assumptions, and as broken where it did not.
+///
+/// Refuses, in this order, with 1603 `BadInput` what is not UTF-8; with 1301 to 1305 what is no script; and with 1 `Memory`.
+pub(crate) fn run_reply(alloc: Global, input: &[u8]) -> Result<Reply, Fault>
+    ensures value { HasReply answer_in (IsRunReply input.now) result }
+    ensures no_device { result ≢ Err Fault.ReadFailed }
+{
+    let Ok(text) = str::from_utf8(input) else {
+        return Err(Fault::BadInput);
+    };
+    let script = read(alloc, text)?;
+    told(alloc, &script)
+}
+
+/// The report of a script's run, and how the program ends after it.
+fn told(alloc: Global, script: &Script) -> Result<Reply, Fault>
+    ensures value { HasReply answer_in (TellsRun script.now) result }
+    ensures no_device { result ≢ Err Fault.ReadFailed }
+{
+    let trace = run(alloc, script.configs(), script.to_events())?;
+    let report = audit(alloc, script.configs(), script.to_events(), &trace)?;
+    let text = report_text(alloc, &report)?;
+    Ok(match report.broken {
+        None => Reply::Fine(text),
+        Some(_) => Reply::Broken(text),
+    })
+}

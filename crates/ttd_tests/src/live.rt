@@ -1,0 +1,193 @@
+//! The command `live` over devices in memory, with runs on this computer.
+
+use std::alloc::Global;
+use std::net::{Net, TcpListener, TcpStream};
+use std::sync::Wait;
+use std::test::Fail;
+use std::thread::Threads;
+use std::time::Clock;
+use tt_live::LiveFault;
+use tt_stream::{MemoryReader, MemoryWriter};
+use ttd_commands::{LiveRefusal, Status, explain_live, live_with, main_with};
+
+/// A machine of three sources, one of which may be false and is, and two workers.
+const TWO_SESSIONS: &str = r#"
+[[machine]]
+sources = 3
+faulty = 1
+workers = 2
+
+[live]
+base = 1000000000000
+rounds = 50
+turns = 20
+sessions = [["now"], ["now", "commit 1 0"]]
+
+[[live.masters]]
+uncertainty = 1000
+acts = ["honest"]
+
+[[live.masters]]
+uncertainty = 1000
+acts = ["honest"]
+
+[[live.masters]]
+uncertainty = 1000
+acts = ["ahead 1000000000"]
+"#;
+
+/// A machine whose one source may not be false, and is: it is a hundred seconds ahead.
+const LIAR: &str = r#"
+[[machine]]
+sources = 1
+faulty = 0
+workers = 1
+
+[live]
+base = 1000000000000
+rounds = 50
+turns = 20
+sessions = [["now"]]
+
+[[live.masters]]
+uncertainty = 1000
+acts = ["ahead 100000000000"]
+"#;
+
+/// Runs the command, and says whether this is how it ends and what it writes.
+fn writes<H: Threads + Wait + Clock + Sync + Net<Listener = TcpListener, Stream = TcpStream>>(
+    rt: &H,
+    alloc: Global,
+    words: &[&str],
+    input: &[u8],
+    status: Status,
+    text: &str,
+) -> bool {
+    let mut reader = MemoryReader::new(input, 4096, None);
+    let mut writer = MemoryWriter::new(alloc, 5, None);
+    live_with(rt, alloc, words, &mut reader, &mut writer) == status
+        && writer.taken() == text.as_bytes()
+}
+
+#[test]
+fn two_sessions_read_the_time(rt: HostRuntime) {
+    let told = "readings 2\nwrong 0\n";
+    let input = TWO_SESSIONS.as_bytes();
+    assert!(rt; writes(&rt, rt.alloc(), &["live"], input, Status::Fine, told));
+}
+
+#[test]
+fn a_wrong_reading_is_a_status_of_its_own(rt: HostRuntime) {
+    let told = "readings 1\nwrong 1\n";
+    assert!(rt;
+        writes(
+            &rt,
+            rt.alloc(),
+            &["live"],
+            LIAR.as_bytes(),
+            Status::Broken,
+            told
+        )
+    );
+}
+
+#[test]
+fn words_are_judged_before_the_input(rt: HostRuntime) {
+    let alloc = rt.alloc();
+    let words: [&[&str]; 5] = [
+        &[],
+        &["live", "now"],
+        &["live", "--drift", "1"],
+        &["run"],
+        &["twin", "--event", "9", "--side", "low"],
+    ];
+    for words in words {
+        // A reader that would fail is not asked.
+        let mut reader = MemoryReader::new(b"zz", 7, Some(1));
+        let mut writer = MemoryWriter::new(alloc, 4096, None);
+        let status = live_with(&rt, alloc, words, &mut reader, &mut writer);
+        assert!(rt; status == Status::Bad);
+        assert!(rt; writer.taken() == b"refused 1601\n".as_slice());
+    }
+}
+
+#[test]
+fn other_commands_are_not_live(rt: HostRuntime) {
+    let alloc = rt.alloc();
+    let mut reader = MemoryReader::new(TWO_SESSIONS.as_bytes(), 4096, None);
+    let mut writer = MemoryWriter::new(alloc, 4096, None);
+    assert!(rt; main_with(alloc, &["live"], &mut reader, &mut writer) == Status::Bad);
+    assert!(rt; writer.taken() == b"refused 1601\n".as_slice());
+}
+
+#[test]
+fn gives_help(rt: HostRuntime) {
+    let alloc = rt.alloc();
+    let mut reader = MemoryReader::new(b"", 7, Some(1));
+    let mut writer = MemoryWriter::new(alloc, 4096, None);
+    let status = live_with(&rt, alloc, &["live", "--help"], &mut reader, &mut writer);
+    assert!(rt; status == Status::Fine);
+    assert!(rt; writer.taken().len() > 20);
+}
+
+#[test]
+fn refuses_what_is_no_live_script(rt: HostRuntime) -> Result<(), Fail> {
+    let alloc = rt.alloc();
+    let refused: [(&[u8], &str); 5] = [
+        (b"machine = \xff", "refused 1603\n"),
+        (b"machine", "refused 1301\n"),
+        (b"", "refused 1302\n"),
+        (
+            b"live = 1\n[[machine]]\nsources = 1\nfaulty = 0\nworkers = 1\n",
+            "refused 1303\n",
+        ),
+        (
+            b"[[machine]]\nsources = 1\nfaulty = 0\nworkers = 1\n",
+            "refused 1302\n",
+        ),
+    ];
+    for (input, text) in refused {
+        assert!(rt; writes(&rt, alloc, &["live"], input, Status::Bad, text));
+    }
+    let two = TWO_SESSIONS.replacen(
+        alloc,
+        "[live]",
+        "[[machine]]\nsources = 3\nfaulty = 1\nworkers = 2\n[live]",
+        1,
+    )?;
+    assert!(rt;
+        writes(
+            &rt,
+            alloc,
+            &["live"],
+            two.as_bytes(),
+            Status::Bad,
+            "refused 1303\n"
+        )
+    );
+    Ok(())
+}
+
+#[test]
+fn a_reader_and_a_writer_fail(rt: HostRuntime) {
+    let alloc = rt.alloc();
+    let mut reader = MemoryReader::new(TWO_SESSIONS.as_bytes(), 7, Some(3));
+    let mut writer = MemoryWriter::new(alloc, 5, None);
+    let status = live_with(&rt, alloc, &["live"], &mut reader, &mut writer);
+    assert!(rt; status == Status::Device);
+    assert!(rt; writer.taken() == b"refused 1604\n".as_slice());
+    let mut reader = MemoryReader::new(TWO_SESSIONS.as_bytes(), 4096, None);
+    let mut writer = MemoryWriter::new(alloc, 5, Some(3));
+    let status = live_with(&rt, alloc, &["live"], &mut reader, &mut writer);
+    assert!(rt; status == Status::Device);
+    assert!(rt; writer.taken() == b"readings 2".as_slice());
+}
+
+#[test]
+fn says_refusals_in_a_sentence(rt: HostRuntime) {
+    let alloc = rt.alloc();
+    let mut errors = Vec::new(alloc);
+    explain_live(alloc, &mut errors, &LiveRefusal::Live(LiveFault::NoLive));
+    assert!(rt; errors.as_slice().starts_with(b"ttd: refused 1302: "));
+    assert!(rt; errors.as_slice().ends_with(b"\n"));
+}
