@@ -32,13 +32,13 @@ abbrev pub age_app : App
 age_app = with_rule (with_rule (with_rule (with_rule (new_app (codes "age")) drift_rule)
     (given_rule (codes "sent"))) (given_rule (codes "got"))) (given_rule (codes "clock"))
 
--- The option `--side SIDE` with any text, which has to be given.
-abbrev pub side_rule : Rule
-side_rule = record (new_rule (codes "side")) { long = Some (codes "side"); value_names = 1; required = true }
+-- An option `--NAME TEXT` with any text, which has to be given.
+abbrev pub text_rule : Text → Rule
+text_rule name = record (new_rule name) { long = Some name; value_names = 1; required = true }
 
 -- The command `twin` with its two options.
 abbrev pub twin_app : App
-twin_app = with_rule (with_rule (new_app (codes "twin")) (given_rule (codes "event"))) side_rule
+twin_app = with_rule (with_rule (new_app (codes "twin")) (given_rule (codes "event"))) (text_rule (codes "side"))
 
 -- The program with no command yet: its words begin with no name of the program, and one command has to be named.
 abbrev pub bare_app : App

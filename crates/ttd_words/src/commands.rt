@@ -4,7 +4,7 @@ ghost use Rattle.std.specs.Prelude.{◌≡◌, IfOk, false};
 ghost use Rattle.clap.specs.Simple.{new_app};
 ghost use Rattle.clap.specs.Words.{app_of, rule_of};
 ghost use Rattle.clap.specs.declared.builder.command.Command.TheViews.{out-Command};
-ghost use Rattle.ttd_words.specs.CommandLine.{age_app, bare_app, drift_rule, given_rule, side_rule, ttd_app, twin_app};
+ghost use Rattle.ttd_words.specs.CommandLine.{age_app, bare_app, drift_rule, given_rule, text_rule, ttd_app, twin_app};
 
 use clap::{Arg, Command, value_parser};
 use std::alloc::{AllocError, Global};
@@ -137,16 +137,16 @@ fn age_command<'a>(alloc: Global) -> Result<Command<'a>, AllocError>
     with_got.arg(clock)
 }
 
-/// The option `--side SIDE`, which has to be given.
-fn side_option<'a>(alloc: Global) -> Arg<'a>
-    ensures rule { rule_of result ≡ side_rule }
+/// An option `--NAME TEXT` with any text, which has to be given.
+fn text_option<'a>(alloc: Global, name: &'a str, value: &'a str, help: &'a str) -> Arg<'a>
+    ensures rule { rule_of result ≡ text_rule name.entry.now }
     ensures local { result.global ≡ false }
 {
-    Arg::new(alloc, "side")
-        .long("side")
-        .value_name("SIDE")
+    Arg::new(alloc, name)
+        .long(name)
+        .value_name(value)
         .required(true)
-        .help("The end of the reading at which the true time lies: low or high")
+        .help(help)
 }
 
 /// The command `twin`.
@@ -161,8 +161,14 @@ fn twin_command<'a>(alloc: Global) -> Result<Command<'a>, AllocError>
         ABOUT_TWIN,
     );
     let event = given_option(alloc, "event", "The reading's event, counted from 0");
+    let side = text_option(
+        alloc,
+        "side",
+        "SIDE",
+        "The end of the reading at which the true time lies: low or high",
+    );
     let with_event = twin.arg(event)?;
-    with_event.arg(side_option(alloc))
+    with_event.arg(side)
 }
 
 /// A command without options, with what its help says of it before and after its usage.
