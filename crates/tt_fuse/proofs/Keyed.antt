@@ -7,6 +7,20 @@ use Rattle.tt_span.specs.Time.{max_time, cut}
 use Rattle.tt_span.specs.Drift.{widening, aged_low, aged_high, max_drift}
 use Rattle.tt_fuse.specs.Scaled.{key_bound, key_number, low_key_of, high_key_of, low_end_of, high_end_of}
 
+-- The keys of three statements at a drift of 200, worked by hand: of [1000, 1000] that was asked for and received at 0, of [6000, 6000] at
+-- 5000, and of [1000000000, 1000001000] that was asked for at 500 and received at 900.
+first_worked_keys : (low_key_of 200 1000 0 ≡ pos 1000000000) × (high_key_of 200 1000 0 ≡ pos 1000000000)
+unfolding low_key_of high_key_of
+first_worked_keys = (refl, refl)
+
+second_worked_keys : (low_key_of 200 6000 5000 ≡ pos 1001000000) × (high_key_of 200 6000 5000 ≡ pos 999000000)
+unfolding low_key_of high_key_of
+second_worked_keys = (refl, refl)
+
+third_worked_keys : (low_key_of 200 1000000000 900 ≡ pos 999999100180000) × (high_key_of 200 1000001000 500 ≡ pos 1000000499900000)
+unfolding low_key_of high_key_of
+third_worked_keys = (refl, refl)
+
 -- a product in two parts
 parted : (a b k : ℕ) → a ≤ b → b * k ≡ a * k + (b - a) * k
 parted a b k h =

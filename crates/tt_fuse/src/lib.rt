@@ -38,6 +38,3 @@ pub use fusion::{FuseFault, fuse, fusion_laws};
 pub use scaled::Ends;
 pub use sorted::SortedEnds;
 pub use suspecting::{suspect_laws, suspects};
-
-#[cfg(test)]
-mod tests;

@@ -25,7 +25,7 @@ fn numbers_behind(word: &[u8], line: &[u8]) -> Option<ArrayVec<u64, 16>>
 /// Whether a session may give this reply to this line, whatever it was asked before: it may refuse any line, it answers
 /// `now` with a reading, `after` and `before` with `yes` or `no`, and `commit` with the number of that commit. Both
 /// with their line feed.
-pub(crate) fn may_answer(line: &[u8], reply: &[u8]) -> bool
+pub fn may_answer(line: &[u8], reply: &[u8]) -> bool
     ensures { IsTrue result → MayAnswer line.now reply.now }
 {
     has_one_number(b"refused", reply)

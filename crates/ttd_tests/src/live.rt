@@ -11,7 +11,7 @@ use tt_stream::{MemoryReader, MemoryWriter};
 use ttd_commands::{LiveRefusal, Status, explain_live, live_with, main_with};
 
 /// A machine of three sources, one of which may be false and is, and two workers.
-const TWO_SESSIONS: &str = r#"
+pub(crate) const TWO_SESSIONS: &str = r#"
 [[machine]]
 sources = 3
 faulty = 1

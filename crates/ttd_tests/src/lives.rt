@@ -1,49 +1,11 @@
 //! Runs on this computer, scripts that are not run, and which replies may be given to a line.
 
-use crate::replies::may_answer;
-use crate::{LiveFault, live};
+use crate::live::TWO_SESSIONS;
 use std::alloc::{AllocError, Global};
 use std::test::Fail;
 use tt_audit::LiveReport;
+use tt_live::{LiveFault, live, may_answer};
 use tt_script::read;
-
-/// A machine of three sources, one of which may be false, and two workers.
-const TWO_SESSIONS: &str = r#"
-[[machine]]
-sources = 3
-faulty = 1
-workers = 2
-
-[live]
-base = 1000000000000
-rounds = 50
-turns = 20
-sessions = [["now"], ["now", "commit 1 0"]]
-
-[[live.masters]]
-uncertainty = 1000
-acts = ["honest"]
-
-[[live.masters]]
-uncertainty = 1000
-acts = ["honest"]
-
-[[live.masters]]
-uncertainty = 1000
-acts = ["ahead 1000000000"]
-"#;
-
-#[test]
-fn two_sessions_read_the_time(rt: HostRuntime) -> Result<(), Fail> {
-    let script = read(rt.alloc(), TWO_SESSIONS)?;
-    let report = live(&rt, rt.alloc(), &script)?;
-    let readings = LiveReport {
-        readings: 2,
-        wrong: 0,
-    };
-    assert!(rt; report == readings);
-    Ok(())
-}
 
 /// The number of the refusal, or 0.
 fn refusal(ended: Result<LiveReport, LiveFault>) -> u16 {
@@ -51,16 +13,6 @@ fn refusal(ended: Result<LiveReport, LiveFault>) -> u16 {
         Ok(_) => 0,
         Err(fault) => fault.number(),
     }
-}
-
-#[test]
-fn a_script_needs_a_live_part(rt: HostRuntime) -> Result<(), Fail> {
-    let script = read(
-        rt.alloc(),
-        "[[machine]]\nsources = 1\nfaulty = 0\nworkers = 1\n",
-    )?;
-    assert!(rt; refusal(live(&rt, rt.alloc(), &script)) == 1302);
-    Ok(())
 }
 
 #[test]
