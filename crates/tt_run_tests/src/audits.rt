@@ -1,14 +1,23 @@
 //! Runs whose reports were worked out by hand.
 
-use crate::audited::{
-    answer, arrive, deliver, forge, fuse, lease, machine, queue, read, release, report, restart,
-    send, stamp,
+use crate::events::{
+    answer, arrive, deliver, forge, fuse, lease, machine, queue, read, release, restart, send,
+    stamp,
 };
+use std::alloc::Global;
 use std::test::Fail;
-use tt_audit::{LiveNote, LiveReport, audit_live};
+use tt_audit::{LiveNote, LiveReport, audit, audit_live, report_text};
+use tt_daemon::Config;
 use tt_publish::Reading;
 use tt_span::Span;
-use tt_world::Event;
+use tt_world::{Event, run};
+
+/// The text of the report of a run.
+fn report(alloc: Global, configs: &[Config], events: &[Event]) -> Result<String, Fail> {
+    let trace = run(alloc, configs, events)?;
+    let report = audit(alloc, configs, events, &trace)?;
+    Ok(report_text(alloc, &report)?)
+}
 
 #[test]
 fn commits_in_order(rt: HostRuntime) -> Result<(), Fail> {

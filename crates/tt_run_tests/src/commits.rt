@@ -1,39 +1,13 @@
 //! Commits, from their arrival to their release, in scripts whose replies were worked out by hand.
 
-use crate::worlds::{
-    answer, deliver, fuse, machine, published, read, reading, refused, replies, send, span,
-};
+use crate::events::{answer, arrive, deliver, fuse, queue, read, release, send, span, stamp};
+use crate::worlds::{machine, published, reading, refused, replies};
 use std::alloc::Global;
 use std::test::Fail;
 use tt_daemon::Config;
 use tt_span::{Drift, MAX_TIME};
 use tt_stamp::{Id, Receipt};
-use tt_world::{Action, Event, Receipts, Reply, World, run};
-
-pub(crate) fn arrive(at: u64, machine: u8, worker: u8, number: u64, floor: u64) -> Event {
-    let action = Action::Arrive {
-        machine,
-        worker,
-        id: Id { session: 0, number },
-        floor,
-    };
-    Event { at, action }
-}
-
-pub(crate) fn stamp(at: u64, machine: u8, worker: u8) -> Event {
-    let action = Action::Stamp { machine, worker };
-    Event { at, action }
-}
-
-pub(crate) fn queue(at: u64, machine: u8, worker: u8) -> Event {
-    let action = Action::Queue { machine, worker };
-    Event { at, action }
-}
-
-pub(crate) fn release(at: u64, machine: u8, worker: u8) -> Event {
-    let action = Action::Release { machine, worker };
-    Event { at, action }
-}
+use tt_world::{Event, Receipts, Reply, World, run};
 
 pub(crate) fn nothing_released(alloc: Global) -> Reply {
     Reply::Released(Receipts::of(Vec::new(alloc)))

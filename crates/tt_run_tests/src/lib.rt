@@ -5,22 +5,21 @@
 //!
 //! Modules:
 //!
+//! - `events`: machines and events, in few words.
 //! - `worlds`, `commits`, `lives`: replies of a world (`tt_world`).
 //! - `twins`: twins of readings (`tt_twin`).
-//! - `audits`, with the runs of `audited`: what an audit counts (`tt_audit`).
-//! - `pictures`, with the runs of `pictured`: how a run is drawn (`tt_picture`).
+//! - `audits`: what an audit counts (`tt_audit`).
+//! - `pictures`: how a run is drawn (`tt_picture`).
 #![tactic(auto)]
 
-#[cfg(test)]
-mod audited;
 #[cfg(test)]
 mod audits;
 #[cfg(test)]
 mod commits;
 #[cfg(test)]
-mod lives;
+mod events;
 #[cfg(test)]
-mod pictured;
+mod lives;
 #[cfg(test)]
 mod pictures;
 #[cfg(test)]

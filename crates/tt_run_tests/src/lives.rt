@@ -1,23 +1,13 @@
 //! Restarts and leases, in scripts whose replies were worked out by hand.
 
-use crate::commits::{arrive, exact_machines, nothing_released, queue, release, released, stamp};
-use crate::worlds::{
-    answer, deliver, fuse, machine, published, read, reading, refused, replies, send, span,
+use crate::commits::{exact_machines, nothing_released, released};
+use crate::events::{
+    answer, arrive, deliver, fuse, lease, queue, read, release, restart, send, span, stamp,
 };
+use crate::worlds::{machine, published, reading, refused, replies};
 use std::test::Fail;
 use tt_span::MAX_TIME;
-use tt_world::{Action, Event, Reply, run};
-
-fn restart(at: u64, machine: u8, clock: u64) -> Event {
-    let action = Action::Restart { machine, clock };
-    Event { at, action }
-}
-
-fn lease(at: u64, machine: u8, lo: u64, hi: u64) -> Event {
-    let lease = span(lo, hi);
-    let action = Action::Lease { machine, lease };
-    Event { at, action }
-}
+use tt_world::{Event, Reply, run};
 
 /// One machine, whose commits are released, given up and queued again over a restart.
 fn two_lives() -> [Event; 25] {

@@ -1,9 +1,17 @@
 //! Runs that are drawn, with parts of their pictures worked out by hand.
 
-use crate::pictured::{
-    answer, arrive, deliver, drawn, fuse, machine, queue, read, release, send, stamp,
-};
+use crate::events::{answer, arrive, deliver, fuse, machine, queue, read, release, send, stamp};
+use std::alloc::Global;
 use std::test::Fail;
+use tt_daemon::Config;
+use tt_picture::picture;
+use tt_world::{Event, run};
+
+/// The picture of a run.
+fn drawn(alloc: Global, configs: &[Config], events: &[Event]) -> Result<String, Fail> {
+    let trace = run(alloc, configs, events)?;
+    Ok(picture(alloc, configs, events, &trace)?)
+}
 
 #[test]
 fn a_run_is_drawn(rt: HostRuntime) -> Result<(), Fail> {

@@ -1,88 +1,14 @@
 //! Twins that were worked out by hand.
 
+use crate::events::{
+    answer, arrive, deliver, fuse, machine, queue, read, release, restart, send, span, stamp,
+};
 use std::alloc::Global;
 use std::test::Fail;
 use tt_daemon::Config;
-use tt_span::{Drift, MAX_TIME, Span};
-use tt_stamp::Id;
+use tt_span::MAX_TIME;
 use tt_twin::{Side, TwinFault, twin, twin_laws};
 use tt_world::{Action, Event, Reply, run};
-
-/// A span of these ends, which are in their order.
-fn span(lo: u64, hi: u64) -> Span {
-    Span::new(lo, hi).unwrap_or(Span::whole())
-}
-
-fn machine(sources: usize, faulty: usize, drift: u32) -> Result<Config, Fail> {
-    Ok(Config::new(sources, faulty, Drift::new(drift).ok_or("a drift")?, 1)?)
-}
-
-fn send(at: u64, machine: u8, source: u8, clock: u64) -> Event {
-    let action = Action::Send {
-        machine,
-        source,
-        clock,
-    };
-    Event { at, action }
-}
-
-fn answer(at: u64, packet: u64, lo: u64, hi: u64) -> Event {
-    let action = Action::Answer {
-        packet,
-        span: span(lo, hi),
-    };
-    Event { at, action }
-}
-
-fn deliver(at: u64, packet: u64, clock: u64) -> Event {
-    let action = Action::Deliver { packet, clock };
-    Event { at, action }
-}
-
-fn fuse(at: u64, machine: u8, clock: u64) -> Event {
-    let action = Action::Fuse { machine, clock };
-    Event { at, action }
-}
-
-fn read(at: u64, machine: u8, worker: u8, clock: u64, publication: u64) -> Event {
-    let action = Action::Read {
-        machine,
-        worker,
-        clock,
-        publication,
-    };
-    Event { at, action }
-}
-
-fn arrive(at: u64, machine: u8, number: u64, floor: u64) -> Event {
-    let action = Action::Arrive {
-        machine,
-        worker: 0,
-        id: Id { session: 0, number },
-        floor,
-    };
-    Event { at, action }
-}
-
-fn stamp(at: u64, machine: u8) -> Event {
-    let action = Action::Stamp { machine, worker: 0 };
-    Event { at, action }
-}
-
-fn queue(at: u64, machine: u8) -> Event {
-    let action = Action::Queue { machine, worker: 0 };
-    Event { at, action }
-}
-
-fn release(at: u64, machine: u8) -> Event {
-    let action = Action::Release { machine, worker: 0 };
-    Event { at, action }
-}
-
-fn restart(at: u64, machine: u8, clock: u64) -> Event {
-    let action = Action::Restart { machine, clock };
-    Event { at, action }
-}
 
 /// The event as a line.
 fn line(alloc: Global, event: &Event) -> Result<String, Fail> {
@@ -312,21 +238,21 @@ fn two_machines(rt: HostRuntime) -> Result<(), Fail> {
         answer(150, 0, 100, 200),
         deliver(150, 1, 0),
         fuse(150, 0, 0),
-        arrive(150, 0, 1, 0),
+        arrive(150, 0, 0, 1, 0),
         read(150, 0, 0, 0, 1),
-        stamp(150, 0),
-        queue(150, 0),
+        stamp(150, 0, 0),
+        queue(150, 0, 0),
         read(250, 0, 0, 100, 1),
-        release(250, 0),
+        release(250, 0, 0),
         read(251, 0, 0, 101, 1),
-        release(251, 0),
+        release(251, 0, 0),
         send(251, 1, 0, 0),
         answer(251, 2, 251, 251),
         deliver(251, 3, 0),
         fuse(251, 1, 0),
-        arrive(251, 1, 1, 0),
+        arrive(251, 1, 0, 1, 0),
         read(251, 1, 0, 0, 1),
-        stamp(251, 1),
+        stamp(251, 1, 0),
     ];
     let low = [
         "send 100 0 0 0",
@@ -392,15 +318,15 @@ fn after_a_restart(rt: HostRuntime) -> Result<(), Fail> {
         answer(100, 0, 100, 100),
         deliver(100, 1, 0),
         fuse(100, 0, 0),
-        arrive(100, 0, 1, 0),
+        arrive(100, 0, 0, 1, 0),
         read(100, 0, 0, 0, 1),
-        stamp(100, 0),
-        queue(100, 0),
+        stamp(100, 0, 0),
+        queue(100, 0, 0),
         read(101, 0, 0, 1, 1),
-        release(101, 0),
-        arrive(101, 0, 2, 500),
+        release(101, 0, 0),
+        arrive(101, 0, 0, 2, 500),
         read(101, 0, 0, 1, 1),
-        stamp(101, 0),
+        stamp(101, 0, 0),
         restart(200, 0, 0),
         read(200, 0, 0, 0, 1),
         deliver(200, 1, 0),
@@ -409,10 +335,10 @@ fn after_a_restart(rt: HostRuntime) -> Result<(), Fail> {
         answer(200, 2, 200, 200),
         deliver(200, 3, 0),
         fuse(200, 0, 0),
-        arrive(200, 0, 1, 0),
+        arrive(200, 0, 0, 1, 0),
         read(200, 0, 0, 0, 1),
-        stamp(200, 0),
-        queue(200, 0),
+        stamp(200, 0, 0),
+        queue(200, 0, 0),
     ];
     // The twin is one life of its machine, the first.
     let both = [

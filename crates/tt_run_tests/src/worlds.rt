@@ -1,5 +1,6 @@
 //! Scripts whose replies were worked out by hand.
 
+use crate::events::{answer, deliver, forge, fuse, read, send, span};
 use std::alloc::Global;
 use std::test::Fail;
 use tt_daemon::Config;
@@ -7,61 +8,9 @@ use tt_publish::Reading;
 use tt_span::{Drift, MAX_TIME, Span};
 use tt_world::{Action, Event, Payload, Reply, World, WorldFault, run};
 
-/// A span of these ends, which are in their order.
-pub(crate) fn span(lo: u64, hi: u64) -> Span {
-    Span::new(lo, hi).unwrap_or(Span::whole())
-}
-
 /// A machine with two workers.
 pub(crate) fn machine(sources: usize, faulty: usize, drift: u32) -> Result<Config, Fail> {
     Ok(Config::new(sources, faulty, Drift::new(drift).ok_or("a drift")?, 2)?)
-}
-
-pub(crate) fn send(at: u64, machine: u8, source: u8, clock: u64) -> Event {
-    let action = Action::Send {
-        machine,
-        source,
-        clock,
-    };
-    Event { at, action }
-}
-
-pub(crate) fn answer(at: u64, packet: u64, lo: u64, hi: u64) -> Event {
-    let action = Action::Answer {
-        packet,
-        span: span(lo, hi),
-    };
-    Event { at, action }
-}
-
-fn forge(at: u64, machine: u8, source: u8, bytes: &[u8]) -> Result<Event, Fail> {
-    let payload = Payload::new(bytes).ok_or("a payload")?;
-    let action = Action::Forge {
-        machine,
-        source,
-        payload,
-    };
-    Ok(Event { at, action })
-}
-
-pub(crate) fn deliver(at: u64, packet: u64, clock: u64) -> Event {
-    let action = Action::Deliver { packet, clock };
-    Event { at, action }
-}
-
-pub(crate) fn fuse(at: u64, machine: u8, clock: u64) -> Event {
-    let action = Action::Fuse { machine, clock };
-    Event { at, action }
-}
-
-pub(crate) fn read(at: u64, machine: u8, worker: u8, clock: u64, publication: u64) -> Event {
-    let action = Action::Read {
-        machine,
-        worker,
-        clock,
-        publication,
-    };
-    Event { at, action }
 }
 
 pub(crate) fn published(number: u64, lo: u64, hi: u64) -> Reply {

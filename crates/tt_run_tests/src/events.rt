@@ -1,26 +1,18 @@
-//! Events of tests, in few words.
+//! Machines and events, in few words.
 
-use std::alloc::Global;
 use std::test::Fail;
-use tt_audit::{audit, report_text};
 use tt_daemon::Config;
 use tt_span::{Drift, Span};
 use tt_stamp::Id;
-use tt_world::{Action, Event, Payload, run};
+use tt_world::{Action, Event, Payload};
 
 /// A machine of so many sources, of which so many may lie, of this drift, with one worker.
 pub(crate) fn machine(sources: usize, faulty: usize, drift: u32) -> Result<Config, Fail> {
     Ok(Config::new(sources, faulty, Drift::new(drift).ok_or("a drift")?, 1)?)
 }
 
-/// The text of the report of a run.
-pub(crate) fn report(alloc: Global, configs: &[Config], events: &[Event]) -> Result<String, Fail> {
-    let trace = run(alloc, configs, events)?;
-    let report = audit(alloc, configs, events, &trace)?;
-    Ok(report_text(alloc, &report)?)
-}
-
-fn span(lo: u64, hi: u64) -> Span {
+/// A span of these ends, which are in their order.
+pub(crate) fn span(lo: u64, hi: u64) -> Span {
     Span::new(lo, hi).unwrap_or(Span::whole())
 }
 
