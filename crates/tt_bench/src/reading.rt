@@ -247,6 +247,19 @@ fn publish_until<R: Wait>(rt: &R, teller: &mut Teller, fused: &Fused, ended: &At
     published
 }
 
+/// Publishes until it is told to end, and says what a publication took.
+fn publish_timed<R: Wait + SystemClock>(
+    rt: &R,
+    teller: &mut Teller,
+    fused: &Fused,
+    ended: &AtomicBool,
+) -> io::Result<Measured> {
+    let start = Instant::now(rt)?;
+    let published = publish_until(rt, teller, fused, ended);
+    let calls = u32::try_from(published).unwrap_or(u32::MAX);
+    Ok(Measured::of(start.elapsed(rt)?, calls, published))
+}
+
 /// Reads, and then says that it has ended.
 fn read_and_end<R: Threads + Wait + SystemClock + Sync>(
     rt: &R,
@@ -258,24 +271,55 @@ fn read_and_end<R: Threads + Wait + SystemClock + Sync>(
     measured
 }
 
+/// What a reading took, and what a publication took meanwhile.
+#[derive(Clone, Copy)]
+struct Together {
+    reading: Measured,
+    publishing: Measured,
+}
+
 /// Readings in so many threads, one or two, while another thread publishes as fast as it can.
+fn read_and_publish<R: Threads + Wait + SystemClock + Sync>(
+    rt: &R,
+    alloc: Global,
+    readers: usize,
+) -> Result<Together> {
+    let fused = make_fusion(alloc)?;
+    let mut least = Together {
+        reading: Measured::longest(),
+        publishing: Measured::longest(),
+    };
+    for _ in 0..10 {
+        let (mut teller, watches) = published(rt, alloc, readers)?;
+        let ended = AtomicBool::new(false);
+        let (publishing, reading) = join(
+            rt,
+            || publish_timed(rt, &mut teller, &fused, &ended),
+            || read_and_end(rt, watches, &ended),
+        );
+        teller.close(rt);
+        least = Together {
+            reading: least.reading.and(reading?),
+            publishing: least.publishing.and(publishing?),
+        };
+    }
+    Ok(least)
+}
+
+/// What a reading takes in each of so many threads, one or two, while another thread publishes.
 pub fn read_while_published<R: Threads + Wait + SystemClock + Sync>(
     rt: &R,
     alloc: Global,
     readers: usize,
 ) -> Result<Measured> {
-    let fused = make_fusion(alloc)?;
-    let mut least = Measured::longest();
-    for _ in 0..10 {
-        let (mut teller, watches) = published(rt, alloc, readers)?;
-        let ended = AtomicBool::new(false);
-        let (_published, measured) = join(
-            rt,
-            || publish_until(rt, &mut teller, &fused, &ended),
-            || read_and_end(rt, watches, &ended),
-        );
-        teller.close(rt);
-        least = least.and(measured?);
-    }
-    Ok(least)
+    Ok(read_and_publish(rt, alloc, readers)?.reading)
+}
+
+/// What a publication takes while so many threads read, one or two.
+pub fn publish_while_read<R: Threads + Wait + SystemClock + Sync>(
+    rt: &R,
+    alloc: Global,
+    readers: usize,
+) -> Result<Measured> {
+    Ok(read_and_publish(rt, alloc, readers)?.publishing)
 }

@@ -5,8 +5,8 @@ use crate::fusing::{Certifying, Checking, EndsFusing, Fusing};
 use crate::machine::{Copying, DaemonFusing, Polling};
 use crate::measuring::{Measured, Work, least_of};
 use crate::reading::{
-    publish, publish_and_read, read_clock, read_same, read_same_by_system, read_together,
-    read_while_published,
+    publish, publish_and_read, publish_while_read, read_clock, read_same, read_same_by_system,
+    read_together, read_while_published,
 };
 use crate::running::{Part, script, steps_after};
 use crate::serving::line;
@@ -19,7 +19,7 @@ use std::thread::Threads;
 use std::time::Clock;
 
 /// The rows, each with what a call of it is.
-const ROWS: [(&str, &str); 40] = [
+const ROWS: [(&str, &str); 42] = [
     ("age", "Drift::age"),
     ("decode", "decode of an answer"),
     ("decode2", "decode2 of an answer"),
@@ -62,6 +62,11 @@ const ROWS: [(&str, &str); 40] = [
         "Watch::now in a thread while another one publishes",
     ),
     ("now_in_2_and_writer", "the same in each of 2 threads"),
+    (
+        "writer_and_now",
+        "Fused::copied and Teller::publish while another thread reads",
+    ),
+    ("writer_and_now_in_2", "the same while 2 threads read"),
     ("row_stamp", "Row::stamp"),
     ("stamp", "Sequencer::stamp"),
     ("stamp_in_2", "the same in each of 2 threads"),
@@ -180,6 +185,8 @@ fn measured_between_threads<R: Threads + Wait + Clock + Sync>(
         "now_in_4" => read_together(rt, alloc, 4),
         "now_and_writer" => read_while_published(rt, alloc, 1),
         "now_in_2_and_writer" => read_while_published(rt, alloc, 2),
+        "writer_and_now" => publish_while_read(rt, alloc, 1),
+        "writer_and_now_in_2" => publish_while_read(rt, alloc, 2),
         "stamp" => stamp_in(rt, alloc, 1),
         "stamp_in_2" => stamp_in(rt, alloc, 2),
         "stamp_in_4" => stamp_in(rt, alloc, 4),
