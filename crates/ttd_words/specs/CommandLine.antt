@@ -44,11 +44,17 @@ twin_app = with_rule (with_rule (new_app (codes "twin")) (given_rule (codes "eve
 abbrev pub bare_app : App
 bare_app = on_top (λ s. record s { has_version = true; no_binary_name = true; subcommand_required = true }) (new_app (codes "ttd"))
 
+-- The program with the commands that read what sources answered.
+abbrev pub sources_app : App
+sources_app = with_subcommand (with_subcommand (with_subcommand bare_app age_app.top) (new_app (codes "fuse")).top) (new_app (codes "check")).top
+
+-- The program with these and the commands that judge a script's run.
+abbrev pub runs_app : App
+runs_app = with_subcommand (with_subcommand sources_app (new_app (codes "run")).top) twin_app.top
+
 -- The program with all its commands.
 unfoldable pub ttd_app : App
-ttd_app = with_subcommand (with_subcommand (with_subcommand (with_subcommand (with_subcommand (with_subcommand (with_subcommand bare_app
-    age_app.top) (new_app (codes "fuse")).top) (new_app (codes "check")).top) (new_app (codes "run")).top) twin_app.top)
-    (new_app (codes "picture")).top) (new_app (codes "live")).top
+ttd_app = with_subcommand (with_subcommand runs_app (new_app (codes "picture")).top) (new_app (codes "live")).top
 
 -- What clap finds wrong with the words: nothing where it takes them, and else the kinds of error that it may answer.
 unfoldable pub faults_of : List Text → Kinds

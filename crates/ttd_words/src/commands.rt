@@ -4,7 +4,7 @@ ghost use Rattle.std.specs.Prelude.{◌≡◌, IfOk, false};
 ghost use Rattle.clap.specs.Simple.{new_app};
 ghost use Rattle.clap.specs.Words.{app_of, rule_of};
 ghost use Rattle.clap.specs.declared.builder.command.Command.TheViews.{out-Command};
-ghost use Rattle.ttd_words.specs.CommandLine.{age_app, bare_app, drift_rule, given_rule, text_rule, ttd_app, twin_app};
+ghost use Rattle.ttd_words.specs.CommandLine.{age_app, bare_app, drift_rule, given_rule, runs_app, sources_app, text_rule, ttd_app, twin_app};
 
 use clap::{Arg, Command, value_parser};
 use std::alloc::{AllocError, Global};
@@ -114,17 +114,6 @@ fn age_command<'a>(alloc: Global) -> Result<Command<'a>, AllocError>
     ensures app { IfOk result (λ c. app_of c ≡ age_app) }
     ensures local { IfOk result (λ c. (out-Command c).has_globals ≡ false) }
 {
-    let sent = given_option(
-        alloc,
-        "sent",
-        "The clock when the poll was sent, in nanoseconds",
-    );
-    let got = given_option(
-        alloc,
-        "got",
-        "The clock when the answer came, in nanoseconds",
-    );
-    let clock = given_option(alloc, "clock", "The clock now, in nanoseconds");
     let age = plain_command(
         alloc,
         "age",
@@ -132,8 +121,19 @@ fn age_command<'a>(alloc: Global) -> Result<Command<'a>, AllocError>
         ABOUT_AGE,
     );
     let with_drift = age.arg(drift_option(alloc))?;
+    let sent = given_option(
+        alloc,
+        "sent",
+        "The clock when the poll was sent, in nanoseconds",
+    );
     let with_sent = with_drift.arg(sent)?;
+    let got = given_option(
+        alloc,
+        "got",
+        "The clock when the answer came, in nanoseconds",
+    );
     let with_got = with_sent.arg(got)?;
+    let clock = given_option(alloc, "clock", "The clock now, in nanoseconds");
     with_got.arg(clock)
 }
 
@@ -161,13 +161,13 @@ fn twin_command<'a>(alloc: Global) -> Result<Command<'a>, AllocError>
         ABOUT_TWIN,
     );
     let event = given_option(alloc, "event", "The reading's event, counted from 0");
+    let with_event = twin.arg(event)?;
     let side = text_option(
         alloc,
         "side",
         "SIDE",
         "The end of the reading at which the true time lies: low or high",
     );
-    let with_event = twin.arg(event)?;
     with_event.arg(side)
 }
 
@@ -192,45 +192,62 @@ fn bare_command<'a>(alloc: Global) -> Result<Command<'a>, AllocError>
         .bin_name("ttd")
 }
 
-/// The whole command line.
-pub(crate) fn ttd_command<'a>(alloc: Global) -> Result<Command<'a>, AllocError>
-    ensures app { IfOk result (λ c. app_of c ≡ ttd_app) }
+/// The program with the commands that read what sources answered: `age`, `fuse` and `check`.
+fn sources_command<'a>(alloc: Global) -> Result<Command<'a>, AllocError>
+    ensures app { IfOk result (λ c. app_of c ≡ sources_app) }
 {
+    let bare = bare_command(alloc)?;
+    let age = age_command(alloc)?;
+    let with_age = bare.subcommand(age)?;
     let fuse = plain_command(
         alloc,
         "fuse",
         "Fuses the spans that are read, and prints a certificate",
         ABOUT_FUSE,
     );
+    let with_fuse = with_age.subcommand(fuse)?;
     let check = plain_command(
         alloc,
         "check",
         "Checks a certificate for the spans that are read",
         ABOUT_CHECK,
     );
+    with_fuse.subcommand(check)
+}
+
+/// The program with these commands and those that judge a script's run: `run` and `twin`.
+fn runs_command<'a>(alloc: Global) -> Result<Command<'a>, AllocError>
+    ensures app { IfOk result (λ c. app_of c ≡ runs_app) }
+{
+    let with_sources = sources_command(alloc)?;
     let run = plain_command(
         alloc,
         "run",
         "Runs the script that is read, and reports on the run",
         ABOUT_RUN,
     );
-    let with_age = bare_command(alloc)?.subcommand(age_command(alloc)?)?;
-    let with_fuse = with_age.subcommand(fuse)?;
-    let with_check = with_fuse.subcommand(check)?;
+    let with_run = with_sources.subcommand(run)?;
+    let twin = twin_command(alloc)?;
+    with_run.subcommand(twin)
+}
+
+/// The whole command line: these commands, `picture` and `live`.
+pub(crate) fn ttd_command<'a>(alloc: Global) -> Result<Command<'a>, AllocError>
+    ensures app { IfOk result (λ c. app_of c ≡ ttd_app) }
+{
+    let with_runs = runs_command(alloc)?;
     let picture = plain_command(
         alloc,
         "picture",
         "Draws the run of the script that is read",
         ABOUT_PICTURE,
     );
+    let with_picture = with_runs.subcommand(picture)?;
     let live = plain_command(
         alloc,
         "live",
         "Runs a machine live on this host, by the script that is read",
         ABOUT_LIVE,
     );
-    let with_run = with_check.subcommand(run)?;
-    let with_twin = with_run.subcommand(twin_command(alloc)?)?;
-    let with_picture = with_twin.subcommand(picture)?;
     with_picture.subcommand(live)
 }
