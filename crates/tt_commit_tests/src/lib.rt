@@ -7,11 +7,13 @@
 //!
 //! - `publications`: tellers and watches, also in threads (`tt_publish`).
 //! - `stamps`, `steps`, `races`: books and rows, a commit from its arrival to its release, seats in threads (`tt_stamp`).
-//! - `sessions`, `desks`: sessions over devices that fail, and what a desk answers (`tt_session`).
+//! - `sessions`, `lines`, `desks`: sessions over devices that fail, hostile lines, and what a desk answers (`tt_session`).
 #![tactic(auto)]
 
 #[cfg(test)]
 mod desks;
+#[cfg(test)]
+mod lines;
 #[cfg(test)]
 mod publications;
 #[cfg(test)]

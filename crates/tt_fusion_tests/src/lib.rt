@@ -12,7 +12,7 @@
 //! - `sources`: what sources stated (`tt_source`).
 //! - `fusions`, `scaled_fusions`: fusions of spans, and of scaled ends (`tt_fuse`).
 //! - `certificates`: certificates and their text (`tt_cert`).
-//! - `daemons`: a machine's daemon (`tt_daemon`).
+//! - `daemons`, `packets`: a machine's daemon, and what it makes of hostile packets (`tt_daemon`).
 #![tactic(auto)]
 
 #[cfg(test)]
@@ -23,6 +23,8 @@ mod daemons;
 mod fusions;
 #[cfg(test)]
 mod masters;
+#[cfg(test)]
+mod packets;
 #[cfg(test)]
 mod polls;
 #[cfg(test)]

@@ -140,24 +140,36 @@ fn fuses_what_was_stated(rt: HostRuntime) -> Result<(), Fail> {
 }
 
 #[test]
-fn fuses_at_the_bounds_of_time(rt: HostRuntime) -> Result<(), Fail> {
+fn fuses_up_to_the_greatest_time(rt: HostRuntime) -> Result<(), Fail> {
     let mut late = Asked::new(0)?;
     late.state(0, span(MAX_TIME - 10, MAX_TIME)?, 0, 0)?;
     assert!(rt; late.fused(0, 1, 0)? == Ok((MAX_TIME - 10, MAX_TIME)));
     assert!(rt; late.fused(100, 1, 0)? == Ok((MAX_TIME, MAX_TIME)));
+    Ok(())
+}
 
+#[test]
+fn a_statement_of_now_is_not_aged(rt: HostRuntime) -> Result<(), Fail> {
     for ppm in [0, 200, 100_000] {
         let mut least = Asked::new(ppm)?;
         least.state(0, span(0, 0)?, MAX_TIME, MAX_TIME)?;
         assert!(rt; least.fused(MAX_TIME, 1, 0)? == Ok((0, 0)), "drift {ppm}");
     }
+    Ok(())
+}
 
+#[test]
+fn ages_by_the_greatest_drift(rt: HostRuntime) -> Result<(), Fail> {
     let mut fast = Asked::new(100_000)?;
     fast.state(0, span(0, 0)?, 0, 0)?;
     assert!(rt; fast.fused(10, 1, 0)? == Ok((9, 11)));
     assert!(rt; fast.fused(11, 1, 0)? == Ok((9, 13)));
     assert!(rt; fast.fused(MAX_TIME, 1, 0)? == Ok((3_600_000_000_000_000_000, MAX_TIME)));
+    Ok(())
+}
 
+#[test]
+fn fuses_where_nothing_was_stated(rt: HostRuntime) -> Result<(), Fail> {
     let none = Asked::new(100_000)?;
     assert!(rt; none.fused(MAX_TIME, 16, 7)? == Ok((0, MAX_TIME)));
     Ok(())

@@ -6,8 +6,8 @@
 //! Modules:
 //!
 //! - `scripts`, with the texts of `texts`: what a script says, and why it is refused (`tt_script`).
-//! - `rounds`, `nodes`, `datagrams`, with the devices of `devices`: rounds of a daemon and of a master, a node and its workers,
-//!   packets over UDP (`tt_node`).
+//! - `rounds`, `failures`, `nodes`, `datagrams`, with the devices of `devices`: rounds of a daemon and of a master, what they do where
+//!   a device fails, a node and its workers, packets over UDP (`tt_node`).
 //! - `words`: command lines (`ttd_words`).
 #![tactic(auto)]
 
@@ -15,6 +15,8 @@
 mod datagrams;
 #[cfg(test)]
 mod devices;
+#[cfg(test)]
+mod failures;
 #[cfg(test)]
 mod nodes;
 #[cfg(test)]

@@ -1,6 +1,6 @@
 //! Links, gates and writers in memory, which take no memory of their own.
 
-ghost use Rattle.std.specs.Prelude.{◌≡◌, true, None};
+ghost use Rattle.std.specs.Prelude.{true, None};
 
 use arrayvec::ArrayVec;
 use std::sync::atomic::{AtomicU64, Ordering};
@@ -16,7 +16,7 @@ use tt_stream::{ByteWriter, DeviceFault};
 const PAUSE: u64 = 200;
 
 /// A packet's bytes in front of zeros.
-pub(crate) fn in_front(packet: &[u8]) -> [u8; PACKET_LEN] {
+fn in_front(packet: &[u8]) -> [u8; PACKET_LEN] {
     let mut bytes = [0; PACKET_LEN];
     for (place, byte) in packet.iter().enumerate() {
         if place < PACKET_LEN {
@@ -26,48 +26,29 @@ pub(crate) fn in_front(packet: &[u8]) -> [u8; PACKET_LEN] {
     bytes
 }
 
-/// A link with one honest master on its other side, that is source 0. Its call number `fails_at`, counted from 1,
-/// fails.
+/// A link with one honest master on its other side, that is source 0. It never fails.
 #[derive(Drop)]
 pub(crate) struct MasterLink<'a> {
     master: Master<MemoryReference<'a>>,
     answers: ArrayVec<[u8; PACKET_LEN], 8>,
-    fails_at: Option<u64>,
-    calls: u64,
-    failures: u64,
 }
 
 impl<'a> MasterLink<'a> {
     /// The link to a master of no uncertainty, whose reference gives these times.
-    pub(crate) fn new(times: &'a [u64], fails_at: Option<u64>) -> Self {
+    pub(crate) fn new(times: &'a [u64]) -> Self {
         MasterLink {
             master: Master::new(0, 0, MemoryReference::new(times, None)),
             answers: ArrayVec::new(),
-            fails_at,
-            calls: 0,
-            failures: 0,
         }
-    }
-
-    /// Counts a call: whether it is the one that fails.
-    fn fails(&mut self) -> bool
-        ensures { self.new.failures ≡ self.old.failures }
-    {
-        self.calls = self.calls.saturating_add(1);
-        self.fails_at == Some(self.calls)
     }
 }
 
 impl<'a> Link for MasterLink<'a> {
     ghost does = { λ _ _ _ _. Unit {0} };
 
-    ghost failed = { λ link. link.failures };
+    ghost failed = { λ _. 0 };
 
     fn send(&mut self, _peer: u8, bytes: &[u8]) -> Result<(), LinkFault> {
-        if self.fails() {
-            self.failures = self.failures.saturating_add(1);
-            return Err(LinkFault::Failed);
-        }
         if let Ok(Some(packet)) = self.master.play2(Act::Honest, bytes) {
             if !self.answers.is_full() {
                 self.answers.push(in_front(&packet));
@@ -77,10 +58,6 @@ impl<'a> Link for MasterLink<'a> {
     }
 
     fn receive(&mut self, buffer: &mut [u8; PACKET_LEN]) -> Result<Option<(u8, usize)>, LinkFault> {
-        if self.fails() {
-            self.failures = self.failures.saturating_add(1);
-            return Err(LinkFault::Failed);
-        }
         let Some(packet) = self.answers.pop() else {
             return Ok(None);
         };
@@ -89,7 +66,7 @@ impl<'a> Link for MasterLink<'a> {
     }
 
     fn failures(&self) -> u64 {
-        self.failures
+        0
     }
 }
 
@@ -103,7 +80,7 @@ pub(crate) struct CountedLink<'a> {
 impl<'a> Link for CountedLink<'a> {
     ghost does = { λ _ _ _ _. Unit {0} };
 
-    ghost failed = { λ link. link.link.failures };
+    ghost failed = { λ _. 0 };
 
     fn send(&mut self, peer: u8, bytes: &[u8]) -> Result<(), LinkFault> {
         let sent = self.link.send(peer, bytes);

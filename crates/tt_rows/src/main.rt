@@ -1,5 +1,4 @@
-//! The program `tt_rows`: it makes each call that takes memory, in a setting of its own, and says what came of it. Its
-//! tests make devices fail at each of their calls, and give every hostile packet and line.
+//! The program `tt_rows`: it makes each call that takes memory, in a setting of its own, and says what came of it.
 //!
 //! Before each call it writes `CALL begins`. Then it writes `CALL done` where the answer is the one that was worked out
 //! by hand. Where the call is refused by number 1, the program looks that everything is as it was before the call, makes
@@ -77,8 +76,3 @@ fn say<W: ByteWriter>(output: &mut W, call: Call, text: &str) -> Result<(), Devi
     write_all(output, b"\n")?;
     output.flush()
 }
-
-#[cfg(test)]
-mod fault_tests;
-#[cfg(test)]
-mod line_tests;

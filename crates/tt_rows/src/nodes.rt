@@ -74,7 +74,7 @@ fn run_one<R: Threads + Wait + std::time::Clock + Sync>(
     let sent = AtomicU64::new(0);
     let link = CountedLink {
         sent: &sent,
-        link: MasterLink::new(&[1000; 8], None),
+        link: MasterLink::new(&[1000; 8]),
     };
     let gate = SecondRoundGate { rt, sent: &sent };
     let limits = Limits {

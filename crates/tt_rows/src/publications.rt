@@ -116,7 +116,7 @@ fn do_rounds<R: Wait>(
     teller: &mut Teller,
     watch: &mut Watch,
 ) -> Outcome {
-    let mut link = MasterLink::new(&[1000; 8], None);
+    let mut link = MasterLink::new(&[1000; 8]);
     let mut clock = MemoryClock::new(&[0; 32], None);
     for was_refused in [false, true] {
         match daemon_rounds(rt, daemon, &mut link, &mut clock, teller, 1, 2) {
