@@ -17,12 +17,20 @@ fn id(number: u32) -> Id {
     }
 }
 
+/// A call of a book.
+#[derive(Clone, Copy)]
+pub enum BookCall {
+    Queue,
+    Release,
+    IsReleased,
+}
+
 /// What is measured of a book.
 #[derive(Clone, Copy)]
-pub struct Booked {
-    pub queue: Measured,
-    pub release: Measured,
-    pub is_released: Measured,
+struct Booked {
+    queue: Measured,
+    release: Measured,
+    is_released: Measured,
 }
 
 /// Queues the commits from one number up to another, with their numbers as stamps.
@@ -95,7 +103,7 @@ fn booked_once<R: Clock>(rt: &R, alloc: Global, commits: u32) -> Result<Booked> 
 }
 
 /// The least of so many books.
-pub fn measure_books<R: Clock>(rt: &R, alloc: Global, commits: u32, books: u32) -> Result<Booked> {
+fn measure_books<R: Clock>(rt: &R, alloc: Global, commits: u32, books: u32) -> Result<Booked> {
     let mut least = booked_once(rt, alloc, commits)?;
     for _ in 1..books {
         let next = booked_once(rt, alloc, commits)?;
@@ -106,4 +114,20 @@ pub fn measure_books<R: Clock>(rt: &R, alloc: Global, commits: u32, books: u32) 
         };
     }
     Ok(least)
+}
+
+/// What a call takes in a book in which so many commits were released: the least of so many books.
+pub fn measure_book<R: Clock>(
+    rt: &R,
+    alloc: Global,
+    call: BookCall,
+    commits: u32,
+    books: u32,
+) -> Result<Measured> {
+    let least = measure_books(rt, alloc, commits, books)?;
+    Ok(match call {
+        BookCall::Queue => least.queue,
+        BookCall::Release => least.release,
+        BookCall::IsReleased => least.is_released,
+    })
 }

@@ -1,6 +1,6 @@
 //! The rows that can be measured.
 
-use crate::booking::measure_books;
+use crate::booking::{BookCall, measure_book};
 use crate::fusing::{Certifying, Checking, EndsFusing, Fusing};
 use crate::machine::{Copying, DaemonFusing, Polling};
 use crate::measuring::{Measured, Work, least_of};
@@ -108,7 +108,7 @@ pub fn list<R: Print>(rt: &R) -> Result<()> {
     println!(rt;
         "tt_bench all, or tt_bench ROW..: the nanoseconds that a call takes, and a number that is made of what calls answer"
     )?;
-    for (name, meaning) in ROWS {
+    for (name, meaning) in &ROWS {
         println!(rt; "{name}: {meaning}")?;
     }
     Ok(())
@@ -147,26 +147,27 @@ fn measured<R: Threads + Wait + Clock + Sync>(
     name: &str,
 ) -> Result<Measured> {
     match name {
-        "age" => short(rt, &mut Ageing::new()?),
-        "decode" => short(rt, &mut Decoding::new(alloc)?),
-        "decode2" => short(rt, &mut Decoding2::new(alloc)?),
-        "fuse_4" => short(rt, &mut Fusing::new(alloc, 4, 1)?),
-        "fuse_16" => short(rt, &mut Fusing::new(alloc, 16, 5)?),
-        "certified_4" => short(rt, &mut Certifying::new(alloc, 4, 1)?),
-        "certified_16" => short(rt, &mut Certifying::new(alloc, 16, 5)?),
-        "ends_16" => short(rt, &mut EndsFusing::new(alloc, 16, 5)?),
-        "check_16" => short(rt, &mut Checking::new(alloc, 16, 5)?),
-        "poll_take" => short(rt, &mut Polling::new(alloc)?),
-        "daemon_fuse" => short(rt, &mut DaemonFusing::new(alloc)?),
-        "copy" => short(rt, &mut Copying::new(alloc)?),
-        "row_stamp" => short(rt, &mut RowStamping::new()?),
+        "age" => short(rt, Ageing::new()),
+        "decode" => short(rt, Decoding::new(alloc)),
+        "decode2" => short(rt, Decoding2::new(alloc)),
+        "fuse_4" => short(rt, Fusing::new(alloc, 4, 1)),
+        "fuse_16" => short(rt, Fusing::new(alloc, 16, 5)),
+        "certified_4" => short(rt, Certifying::new(alloc, 4, 1)),
+        "certified_16" => short(rt, Certifying::new(alloc, 16, 5)),
+        "ends_16" => short(rt, EndsFusing::new(alloc, 16, 5)),
+        "check_16" => short(rt, Checking::new(alloc, 16, 5)),
+        "poll_take" => short(rt, Polling::new(alloc)),
+        "daemon_fuse" => short(rt, DaemonFusing::new(alloc)),
+        "copy" => short(rt, Copying::new(alloc)),
+        "row_stamp" => short(rt, RowStamping::new()),
         _ => measured_between_threads(rt, alloc, name),
     }
 }
 
-/// The least of many batches.
-fn short<R: Clock, W: Work>(rt: &R, work: &mut W) -> Result<Measured> {
-    Ok(least_of(rt, work, 500, 1_000)?)
+/// The least of many batches of this work, once it is made.
+fn short<R: Clock, W: Work + Drop>(rt: &R, made: Result<W>) -> Result<Measured> {
+    let mut work = made?;
+    Ok(least_of(rt, &mut work, 500, 1_000)?)
 }
 
 /// What the row of this name takes, of those whose work threads share.
@@ -198,15 +199,15 @@ fn measured_between_threads<R: Threads + Wait + Clock + Sync>(
 /// What the row of this name takes, of those whose work has a past.
 fn measured_over_time<R: Clock>(rt: &R, alloc: Global, name: &str) -> Result<Measured> {
     match name {
-        "queue_1000" => Ok(measure_books(rt, alloc, 1_000, 50)?.queue),
-        "release_1000" => Ok(measure_books(rt, alloc, 1_000, 50)?.release),
-        "is_released_1000" => Ok(measure_books(rt, alloc, 1_000, 50)?.is_released),
-        "queue_50000" => Ok(measure_books(rt, alloc, 50_000, 5)?.queue),
-        "release_50000" => Ok(measure_books(rt, alloc, 50_000, 5)?.release),
-        "is_released_50000" => Ok(measure_books(rt, alloc, 50_000, 5)?.is_released),
-        "queue_1000000" => Ok(measure_books(rt, alloc, 1_000_000, 1)?.queue),
-        "release_1000000" => Ok(measure_books(rt, alloc, 1_000_000, 1)?.release),
-        "is_released_1000000" => Ok(measure_books(rt, alloc, 1_000_000, 1)?.is_released),
+        "queue_1000" => measure_book(rt, alloc, BookCall::Queue, 1_000, 50),
+        "release_1000" => measure_book(rt, alloc, BookCall::Release, 1_000, 50),
+        "is_released_1000" => measure_book(rt, alloc, BookCall::IsReleased, 1_000, 50),
+        "queue_50000" => measure_book(rt, alloc, BookCall::Queue, 50_000, 5),
+        "release_50000" => measure_book(rt, alloc, BookCall::Release, 50_000, 5),
+        "is_released_50000" => measure_book(rt, alloc, BookCall::IsReleased, 50_000, 5),
+        "queue_1000000" => measure_book(rt, alloc, BookCall::Queue, 1_000_000, 1),
+        "release_1000000" => measure_book(rt, alloc, BookCall::Release, 1_000_000, 1),
+        "is_released_1000000" => measure_book(rt, alloc, BookCall::IsReleased, 1_000_000, 1),
         "step_1000" => steps_after(rt, alloc, 1_000),
         "step_10000" => steps_after(rt, alloc, 10_000),
         "step_100000" => steps_after(rt, alloc, 100_000),
