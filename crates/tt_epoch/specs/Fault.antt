@@ -1,0 +1,13 @@
+-- The numbers of the refusals.
+use Rattle.std.specs.Prelude.{ℕ}
+use Rattle.tt_epoch.specs.declared.faults.EpochFault.{EpochFault}
+use Rattle.tt_epoch.specs.declared.faults.EpochFault.TheVariants.{ReadFailed, WriteFailed, NotAnEpochFile, UsedUp, Locked, Memory}
+
+-- the number of a fault
+abbrev pub number_of : EpochFault → ℕ
+number_of ReadFailed = 1811
+number_of WriteFailed = 1812
+number_of NotAnEpochFile = 1813
+number_of UsedUp = 1814
+number_of Locked = 1815
+number_of Memory = 1

@@ -1,0 +1,84 @@
+//! The next epoch.
+
+ghost use Rattle.std.specs.Prelude.{◌≡◌, ℕ, List, MatchOption, Err};
+ghost use Rattle.tt_epoch.specs.Disk.{Disk, Gift, Bound, number_of, gave_as};
+ghost use Rattle.tt_epoch.specs.Course.{Reads, Writes, Over, next_of, step_of, Takes};
+ghost use Rattle.tt_epoch.specs.Lives.{Lives, answers_of, Rises};
+
+use crate::faults::EpochFault;
+use crate::stores::{ReadFault, Store};
+
+/// The number of a file: 0 where there is none.
+fn last_of(file: Option<u64>) -> u64
+    ensures { result ≡ number_of file }
+{
+    match file {
+        Some(number) => number,
+        None => 0,
+    }
+}
+
+/// One more, if there is such a number.
+fn after(last: u64) -> Option<u64>
+    ensures { MatchOption result (next_of last ≡ Over EpochFault.UsedUp) (λ next. next_of last ≡ Writes next) }
+{
+    if last == u64::MAX {
+        None
+    } else {
+        Some(last + 1)
+    }
+}
+
+/// What a start that could not read is refused with.
+fn unread(fault: &ReadFault) -> EpochFault
+    ensures { step_of Reads (gave_as (Err fault.now)) ≡ Over result }
+{
+    match fault {
+        ReadFault::Failed => EpochFault::ReadFailed,
+        ReadFault::Foreign => EpochFault::NotAnEpochFile,
+    }
+}
+
+/// Takes the next epoch: one more than the last one that the store has, 1 where it has none. It is answered only once
+/// the store has it for good.
+///
+/// Refuses with 1811 `ReadFailed` where the store can't be read, with 1813 `NotAnEpochFile` where what it holds is
+/// not its own, and with 1814 `UsedUp` after the epoch 2^64 - 1: then nothing was written. Refuses with 1812
+/// `WriteFailed` where the store failed later: then no later start is given this epoch by way of this one, and
+/// whether the next is one or two greater is not known.
+pub fn next_epoch<S: Store>(store: &mut S) -> Result<u64, EpochFault>
+    ensures course { Takes S.does Reads store.old store.new result }
+{
+    match store.read() {
+        Err(fault) => Err(unread(&fault)),
+        Ok(file) => match after(last_of(file)) {
+            None => Err(EpochFault::UsedUp),
+            Some(next) => keep(store, next),
+        },
+    }
+}
+
+/// Makes the store keep this epoch.
+fn keep<S: Store>(store: &mut S, next: u64) -> Result<u64, EpochFault>
+    ensures course { Takes S.does (Writes next) store.old store.new result }
+{
+    let Ok(()) = store.write(next) else {
+        return Err(EpochFault::WriteFailed);
+    };
+    let Ok(()) = store.sync_draft() else {
+        return Err(EpochFault::WriteFailed);
+    };
+    let Ok(()) = store.install() else {
+        return Err(EpochFault::WriteFailed);
+    };
+    let Ok(()) = store.sync_folder() else {
+        return Err(EpochFault::WriteFailed);
+    };
+    Ok(next)
+}
+
+/// A law of all lives of a machine: where the store keeps what it has synced, each epoch that is answered is greater
+/// than all that were answered before, whatever ended each life, at whatever moment.
+pub fn epoch_laws()
+    ensures rises { (disk : Disk) (lives : List (List Gift)) (k : ℕ) → Bound k disk → Lives disk lives → Rises k (answers_of lives) }
+{}

@@ -1,0 +1,164 @@
+//! The store in a folder of files, which one process holds at a time.
+
+use crate::faults::EpochFault;
+use crate::stores::{ReadFault, Store, WriteFault};
+use crate::text::{epoch_of, epoch_text};
+use std::alloc::Global;
+use std::fs::{self, DirBuilder, File, Files, OpenFile, OpenOptions};
+use std::io::{self, ErrorKind, Read, Write};
+use std::os::unix::fs::{DirBuilderExt, OpenOptionsExt};
+
+/// No epoch file is longer, in bytes.
+const MAX_LEN: usize = 32;
+
+/// A folder with the file `epoch`, its draft `epoch.new`, and the file `lock`, which is locked as long as the store
+/// lives: so no other process takes an epoch from this folder. Of what the system's calls do nothing is claimed.
+#[derive(Drop)]
+pub struct FolderStore<'a, R> {
+    rt: &'a R,
+    folder: &'a str,
+    path: String,
+    draft: String,
+    lock: File,
+}
+
+impl<'a, R: Files<File = File>> FolderStore<'a, R> {
+    /// The store in this folder, which is made where it is missing, for its owner alone (mode 0700), as its files are
+    /// (mode 0600).
+    ///
+    /// Refuses with 1 `Memory` where memory runs out, with 1812 `WriteFailed` where the folder or the lock file can't
+    /// be made, and with 1815 `Locked` where another process holds the folder. No epoch has been read or taken then.
+    pub fn open(rt: &'a R, alloc: Global, folder: &'a str) -> Result<Self, EpochFault> {
+        let path = path_in(alloc, folder, "epoch")?;
+        let draft = path_in(alloc, folder, "epoch.new")?;
+        let lock_path = path_in(alloc, folder, "lock")?;
+        make_folder(rt, folder)?;
+        let lock = lock_at(rt, lock_path.as_str())?;
+        Ok(FolderStore {
+            rt,
+            folder,
+            path,
+            draft,
+            lock,
+        })
+    }
+
+    /// The number in the file; None where there is no file.
+    fn load(&self) -> Result<Option<u64>, ReadFault> {
+        match File::open(self.rt, self.path.as_str()) {
+            Ok(mut file) => number_in(&mut file),
+            Err(error) => {
+                if error.kind() == ErrorKind::NotFound {
+                    Ok(None)
+                } else {
+                    Err(ReadFault::Failed)
+                }
+            }
+        }
+    }
+
+    /// Writes the draft.
+    fn save(&self, number: u64) -> io::Result<()> {
+        let mut file = OpenOptions::new()
+            .write(true)
+            .create(true)
+            .truncate(true)
+            .mode(0o600)
+            .open(self.rt, self.draft.as_str())?;
+        let text = epoch_text(number);
+        file.write_all(text.as_str().as_bytes())
+    }
+
+    /// Syncs the file or folder at this path.
+    fn sync(&self, path: &str) -> io::Result<()> {
+        let file = File::open(self.rt, path)?;
+        file.sync_all()
+    }
+}
+
+/// The path of a file in the folder.
+fn path_in(alloc: Global, folder: &str, name: &str) -> Result<String, EpochFault> {
+    match format!(in alloc; "{folder}/{name}") {
+        Ok(path) => Ok(path),
+        Err(_) => Err(EpochFault::Memory),
+    }
+}
+
+/// Makes the folder where it is missing, for its owner alone.
+fn make_folder<R: Files>(rt: &R, folder: &str) -> Result<(), EpochFault> {
+    let mut builder = DirBuilder::new();
+    builder.recursive(true);
+    builder.mode(0o700);
+    match builder.create(rt, folder) {
+        Ok(()) => Ok(()),
+        Err(_) => Err(EpochFault::WriteFailed),
+    }
+}
+
+/// The lock file at this path, locked as long as it is open.
+fn lock_at<R: Files<File = File>>(rt: &R, path: &str) -> Result<File, EpochFault> {
+    let Ok(file) = OpenOptions::new()
+        .write(true)
+        .create(true)
+        .mode(0o600)
+        .open(rt, path)
+    else {
+        return Err(EpochFault::WriteFailed);
+    };
+    match file.try_lock() {
+        Ok(()) => Ok(file),
+        Err(fs::TryLockError::WouldBlock) => Err(EpochFault::Locked),
+        Err(fs::TryLockError::Error(_)) => Err(EpochFault::WriteFailed),
+    }
+}
+
+/// The number of an epoch file, whole.
+fn number_in(file: &mut File) -> Result<Option<u64>, ReadFault> {
+    let Ok(metadata) = file.metadata() else {
+        return Err(ReadFault::Failed);
+    };
+    if metadata.len() > MAX_LEN as u64 {
+        return Err(ReadFault::Foreign);
+    }
+    let mut bytes = [0; MAX_LEN];
+    let text = &mut bytes[..metadata.len() as usize];
+    if file.read_exact(text).is_err() {
+        return Err(ReadFault::Failed);
+    }
+    match epoch_of(text) {
+        Some(number) => Ok(Some(number)),
+        None => Err(ReadFault::Foreign),
+    }
+}
+
+/// The answer of a store.
+fn answer_of(done: io::Result<()>) -> Result<(), WriteFault> {
+    match done {
+        Ok(()) => Ok(()),
+        Err(_) => Err(WriteFault::Failed),
+    }
+}
+
+impl<'a, R: Files<File = File>> Store for FolderStore<'a, R> {
+    ghost does = { λ _ _ _ _. Unit {0} };
+
+    fn read(&mut self) -> Result<Option<u64>, ReadFault> {
+        self.load()
+    }
+
+    fn write(&mut self, number: u64) -> Result<(), WriteFault> {
+        answer_of(self.save(number))
+    }
+
+    fn sync_draft(&mut self) -> Result<(), WriteFault> {
+        answer_of(self.sync(self.draft.as_str()))
+    }
+
+    fn install(&mut self) -> Result<(), WriteFault> {
+        answer_of(fs::rename(self.rt, self.draft.as_str(), self.path.as_str()))
+    }
+
+    fn sync_folder(&mut self) -> Result<(), WriteFault> {
+        answer_of(self.sync(self.folder))
+    }
+}
