@@ -1,0 +1,4 @@
+pub mod Consistency
+pub mod Order
+pub mod Sweep
+pub mod Text
