@@ -1,0 +1,6 @@
+pub mod Numbers
+pub mod Spelling
+pub mod Counting
+pub mod Copying
+pub mod Crashing
+pub mod Resuming

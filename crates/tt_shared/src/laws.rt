@@ -1,0 +1,25 @@
+//! Why readers need no lock: laws of the file's format, and not calls to make.
+
+ghost use Rattle.std.specs.Prelude.{◌≡◌, ◌+◌, ◌≤◌, ◌<◌, ◌%◌, ◌^◌, ◌⊎◌, ℕ, List, length, slice_index};
+ghost use Rattle.tt_shared.specs.Index.{index_at};
+ghost use Rattle.tt_shared.specs.Slot.{slot_of};
+ghost use Rattle.tt_shared.specs.declared.slots.SharedSpan.{SharedSpan};
+ghost use Rattle.tt_shared.specs.Writing.{index_word};
+ghost use Rattle.tt_shared.specs.Seeing.{MaySee, Shows, DiesWriting};
+
+/// A reader that finds the same index before and after it has copied a slot has copied it as it was written: the index
+/// has been that of one count all the while. Each byte may have been seen at a moment of its own.
+pub fn copy_laws()
+    ensures whole { (published : ℕ → SharedSpan) (first last slot : ℕ) (then bytes : ℕ → ℕ) → first < 2 ^ 64 → last < 2 ^ 64 →
+        ((i : ℕ) → (first ≤ then i) × (then i ≤ last) × MaySee published (then i) slot i (bytes i)) →
+        first % 2 ≡ slot → index_at first ≡ index_at last →
+        (i : ℕ) → bytes i ≡ slice_index (slot_of (index_word first) (published first)) i }
+{}
+
+/// Where a writer dies at any moment of a publication, a file that showed its readers some slot still shows them that
+/// one, byte for byte, or shows them the new publication whole.
+pub fn crash_laws()
+    ensures old_or_new { (n : ℕ) (p : SharedSpan) (before after bytes : List ℕ) → length before ≡ 192 →
+        Shows before n bytes → DiesWriting n p before after →
+        Shows after n bytes ⊎ Shows after (n + 1) (slot_of (index_word (n + 1)) p) }
+{}

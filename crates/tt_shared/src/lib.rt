@@ -1,0 +1,57 @@
+//! The last publication of a machine in a file of 192 bytes, which any process of the machine can map and read, without
+//! a lock, a system call or a wait.
+//!
+//! All numbers are little endian and have 8 bytes, but where said.
+//!
+//! | bytes | content | changes |
+//! |---|---|---|
+//! | 0..4 | `TTS1` | never |
+//! | 4..8 | the length of the file, 192, in 4 bytes | never |
+//! | 8..16 | the clock: 1 is `CLOCK_MONOTONIC` of Linux, raw nanoseconds | never |
+//! | 16..24 | the index: eight counters of one byte | one byte a publication |
+//! | 24..60 | the boot: the text of `/proc/sys/kernel/random/boot_id` | never |
+//! | 60..64 | 0 | never |
+//! | 64..128 | slot 0, of the publications whose count is even | while it is not current |
+//! | 128..192 | slot 1, of those whose count is odd | while it is not current |
+//!
+//! | in a slot | content | range |
+//! |---|---|---|
+//! | 0..8 | the index at which the slot is current | not 0 |
+//! | 8..16 | the clock of the fusion, in nanoseconds | at most `MAX_TIME` |
+//! | 16..24, 24..32 | the earliest and the latest of its span | earliest at most latest, latest at most `MAX_TIME` |
+//! | 32..40 | the last clock reading at which it is fresh | any |
+//! | 40..48 | the epoch, the life of the daemon | any |
+//! | 48..56 | the number of the publication in that life | any |
+//! | 56..64 | the drift in parts per million | at most `MAX_DRIFT` |
+//!
+//! The count goes on through all lives of the daemon. Counter i of the index is byte i of the count less byte i + 1,
+//! modulo 256, so a publication moves exactly one counter by one, and no index comes twice below 2^64.
+//!
+//! A publication is two writes: the slot that is not current, and then the one byte of the index. A reader loads the
+//! index, the slot that it names, and the index again; where both are the same, no byte of the slot changed between
+//! them ([`copy_laws`]). A writer that dies at any moment leaves the publication before or the new one ([`crash_laws`]).
+//!
+//! - `heads`: the head as bytes.
+//! - `slots`: a publication as the bytes of a slot, and back; a reading of it.
+//! - `indexes`: the index of each count, and the count of each index.
+//! - `places`: where a writer puts the bytes.
+//! - `teller`: the writer, and the two writes of a publication in their order.
+//! - `laws`: why readers need no lock.
+//! - `faults`: what is answered where a call refuses.
+#![tactic(auto)]
+
+mod faults;
+mod heads;
+mod indexes;
+mod laws;
+mod places;
+mod slots;
+mod teller;
+
+pub use faults::{PlaceFault, SharedFault, WriteFault};
+pub use heads::{BOOT_LEN, FILE_LEN, HEAD_LEN, encode_head};
+pub use indexes::{count_of, index_laws, index_of, turn_of};
+pub use laws::{copy_laws, crash_laws};
+pub use places::Place;
+pub use slots::{SLOT_LEN, SharedSpan, decode, encode, one_spelling, read};
+pub use teller::SharedTeller;

@@ -1,0 +1,27 @@
+//! Where a writer puts the bytes of a shared file.
+
+ghost use Rattle.std.specs.Prelude.{◌≡◌, ℕ, Bool, OnOk, OnErr, is_ok};
+ghost use Rattle.tt_stream.specs.Counts.{HasFailed};
+ghost use Rattle.tt_shared.specs.Writing.{Write};
+
+use crate::faults::PlaceFault;
+
+/// A file, or memory in tests. It counts its failures.
+pub trait Place {
+    /// What a write does to the place, and whether it was done whole. A file of the world claims nothing.
+    ghost does: { Self → Write → Bool → Self → Type 0 };
+
+    /// Its failures so far; the count stays at 2^64 - 1 once it is there.
+    ghost failed: { Self → ℕ };
+
+    /// Writes all the bytes from `offset` on. A fault is answered only where the place failed; some of the bytes may
+    /// have been written then.
+    fn write_all_at(&mut self, offset: u64, bytes: &[u8]) -> Result<(), PlaceFault>
+        ensures did { does self.old (record { offset = offset; bytes = bytes.now }) (is_ok result) self.new }
+        ensures sound { OnOk result (failed self.new ≡ failed self.old) }
+        ensures cause { OnErr result (HasFailed (failed self.old) (failed self.new)) };
+
+    /// Its failures so far, at most 2^64 - 1.
+    fn failures(&self) -> u64
+        ensures { result ≡ failed self.now };
+}
