@@ -1,5 +1,5 @@
 -- A writer that dies leaves its readers the publication before or the new one.
-use Rattle.std.proofs.Common.{◌≡◌, ℕ, zero, suc, min, ◌+◌, ◌-◌, ◌*◌, ◌/◌, ◌%◌, ◌<◌, ◌≤◌, ◌⊎◌, inl, inr, Bool, true, false, eqb, List, [], ◌∷◌, length, get_or, take, drop, refl, sym, ap, ◌∙◌, arith}
+use Rattle.std.proofs.Common.{◌≡◌, ℕ, zero, suc, min, ◌+◌, ◌-◌, ◌/◌, ◌%◌, ◌<◌, ◌≤◌, ◌⊎◌, inl, inr, Bool, true, false, eqb, List, [], ◌∷◌, length, get_or, take, drop, refl, sym, ap, ◌∙◌, arith}
 use Rattle.std.specs.Prelude.{slice_index, slice_range}
 use Rattle.std.proofs.lemmas.Bool.{cases_lt, cases_eq}
 use Rattle.std.proofs.lemmas.List.{length-take, length-drop, get_or-drop, get_or-take}
@@ -8,7 +8,7 @@ use Rattle.tt_shared.specs.declared.slots.SharedSpan.{SharedSpan}
 use Rattle.tt_shared.specs.Slot.{slot_of}
 use Rattle.tt_shared.specs.Index.{digits, index_at, turn, turn_at, next_counters}
 use Rattle.tt_shared.specs.Writing.{Write, index_word, slot_place, slot_write, index_write}
-use Rattle.tt_shared.specs.Seeing.{Shows, IsOf, PartWritten, Written, DiesWriting}
+use Rattle.tt_shared.specs.Seeing.{Shows, PartWritten, Written, DiesWriting}
 use Rattle.tt_shared.proofs.Counting.{index_more}
 
 -- ---- parts of a file
