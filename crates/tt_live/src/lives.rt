@@ -192,7 +192,7 @@ fn run_threads<'s, E, R: Threads + Wait + SystemClock + Sync>(
     shared: Shared<'s, R>,
     config: Config,
     live: &'s Live,
-    links: Links,
+    links: Links<'s, R>,
     sessions: Sessions,
 ) -> Result<NodeEnd, NodeFault> {
     let Links {

@@ -3,15 +3,15 @@
 use std::alloc::Global;
 use std::io::{self, ErrorKind};
 use std::net::{Net, SocketAddr, TcpListener, TcpStream, UdpSocket};
-use std::time::Duration;
-use tt_node::{NodeFault, UdpLink};
+use std::time::{Clock as SystemClock, Duration};
+use tt_node::{NodeFault, RoundLink, UdpLink};
 use tt_stream::Counted;
 
 /// Where sockets are bound: on this computer, at a port that is free.
 const HERE: &str = "127.0.0.1:0";
 
-/// How long the daemon waits for a packet, in milliseconds.
-const DAEMON_WAIT: u64 = 1;
+/// How long the daemon waits for the packets of a round, all together, in milliseconds.
+const ROUND_WAIT: u64 = 20;
 
 /// How long a master waits for a packet, in milliseconds.
 const MASTER_WAIT: u64 = 10;
@@ -28,32 +28,38 @@ fn fault_of(error: io::Error) -> NodeFault {
     }
 }
 
-/// A socket for packets, which waits so many milliseconds for one, and its address.
-fn socket<R: Net>(net: &R, wait: u64) -> io::Result<(UdpSocket, SocketAddr)> {
+/// A socket for packets, and its address.
+fn socket<R: Net>(net: &R) -> io::Result<(UdpSocket, SocketAddr)> {
     let socket = UdpSocket::bind(net, HERE)?;
-    socket.set_read_timeout(Some(Duration::from_millis(wait)))?;
     let address = socket.local_addr()?;
+    Ok((socket, address))
+}
+
+/// A socket for packets of a master, which waits a while for one, and its address.
+fn master_socket<R: Net>(net: &R) -> io::Result<(UdpSocket, SocketAddr)> {
+    let (socket, address) = socket(net)?;
+    socket.set_read_timeout(Some(Duration::from_millis(MASTER_WAIT)))?;
     Ok((socket, address))
 }
 
 /// The links of a run: that of the daemon, whose peers are the masters, and that of each master, whose peer is the
 /// daemon.
 #[derive(Drop)]
-pub(crate) struct Links {
-    pub(crate) daemon: UdpLink,
+pub(crate) struct Links<'a, R> {
+    pub(crate) daemon: RoundLink<'a, R>,
     pub(crate) masters: Vec<UdpLink>,
 }
 
 /// The links between a daemon and so many masters.
-pub(crate) fn connect_masters<R: Net>(
-    net: &R,
+pub(crate) fn connect_masters<'a, R: Net + SystemClock>(
+    rt: &'a R,
     alloc: Global,
     masters: usize,
-) -> Result<Links, NodeFault> {
-    let (daemon, address) = socket(net, DAEMON_WAIT).map_err(fault_of)?;
+) -> Result<Links<'a, R>, NodeFault> {
+    let (daemon, address) = socket(rt).map_err(fault_of)?;
     let (mut links, mut addresses) = (Vec::new(alloc), Vec::new(alloc));
     for _ in 0..masters {
-        let (socket, own) = socket(net, MASTER_WAIT).map_err(fault_of)?;
+        let (socket, own) = master_socket(rt).map_err(fault_of)?;
         let mut peers = Vec::new(alloc);
         peers.push(address).map_err(|_| NodeFault::Memory)?;
         addresses.push(own).map_err(|_| NodeFault::Memory)?;
@@ -61,8 +67,9 @@ pub(crate) fn connect_masters<R: Net>(
             .push(UdpLink::new(socket, peers))
             .map_err(|_| NodeFault::Memory)?;
     }
+    let wait = Duration::from_millis(ROUND_WAIT);
     Ok(Links {
-        daemon: UdpLink::new(daemon, addresses),
+        daemon: RoundLink::new(rt, daemon, addresses, wait).map_err(fault_of)?,
         masters: links,
     })
 }

@@ -1,5 +1,6 @@
 pub mod Fault
 pub mod Link
+pub mod Datagrams
 pub mod Counting
 pub mod Fusing
 pub mod Course

@@ -34,7 +34,7 @@ pub enum NodeFault {
     /// The clock could not be read.
     #[error("the clock could not be read")]
     ClockFailed,
-    /// There is no stream, there are too many, or the clocks are not one for each stream.
+    /// There is no stream, there are too many, the clocks are not one for each stream, or a limit is 0.
     #[error("the streams and clocks do not fit the limits")]
     BadLimits,
     /// The gate never let a call pass.

@@ -5,7 +5,8 @@
 //! session. [`run_node`] runs a daemon and many workers, each in a thread of its own, on one list of publications, one
 //! sequencer and one book.
 //!
-//! - `links`: the trait `Link`, by which packets are sent and received. `datagrams`: a link over UDP.
+//! - `links`: the trait `Link`, by which packets are sent and received. `datagrams`: links over UDP, for a daemon and for
+//!   a master.
 //! - `rounds`: `daemon_rounds`, and what one call of it did. `masters`: `master_rounds`.
 //! - `gates`: the trait `Gate`, which may hold the calls of a worker, and one that holds none. `workers`: `Worker`.
 //! - `nodes`: `run_node`, with its clocks, its limits and its end.
@@ -21,7 +22,7 @@ mod nodes;
 mod rounds;
 mod workers;
 
-pub use datagrams::UdpLink;
+pub use datagrams::{MAX_DROPPED, MAX_STRANGERS, RoundLink, UdpLink};
 pub use faults::{LinkFault, NodeFault};
 pub use gates::{Gate, OpenGate};
 pub use links::{Link, PACKET_LEN};

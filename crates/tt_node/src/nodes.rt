@@ -14,7 +14,7 @@ use std::thread;
 use std::thread::{JoinHandle, Promise, PromisedHandle, Scope, Threads};
 use tt_audit::LiveNote;
 use tt_daemon::Daemon;
-use tt_publish::{Clock, MAX_WATCHES, PublishFault, Teller, Watch, open};
+use tt_publish::{Clock, MAX_WATCHES, Teller, Watch, open};
 use tt_session::{ServeFault, Served, Turns, serve};
 use tt_span::Span;
 use tt_stamp::{Book, Seat, Sequencer};
@@ -29,7 +29,7 @@ pub struct Clocks<C> {
     pub workers: Vec<C>,
 }
 
-/// How long a node goes on, and the lease that it stamps in.
+/// How long a node goes on, and the lease that it stamps in. No limit may be 0.
 #[derive(Clone, Copy, Debug)]
 pub struct Limits {
     /// The daemon's rounds.
@@ -373,10 +373,11 @@ fn run_threads<
 /// It joins every thread that it started before it answers, also where one could not be started. What is published is
 /// kept until then.
 ///
-/// Refuses, in this order: 1503 `BadLimits` where there is no stream, or not one clock for each stream; 804 `Publish`
-/// where there are more than [`MAX_WATCHES`] streams; 1 where an allocation failed or a thread was not started; then
-/// what the daemon's rounds refused: 1501 `LinkFailed`, 1502 `ClockFailed`, 802 `Publish`. A fault of a session is no
-/// fault of the node. A call of a service that its gate never lets pass is refused by 1504 and does nothing.
+/// Refuses, in this order: 1503 `BadLimits` where there is no stream, there are more than [`MAX_WATCHES`] streams, there
+/// is not one clock for each stream, or a limit is 0 (rounds, turns, reads or waits); 1 where an allocation failed; 804
+/// `Publish` where no place for a reader was given; 1 where a thread was not started; then what the daemon's rounds
+/// refused: 1501 `LinkFailed`, 1502 `ClockFailed`, 802 `Publish`. A fault of a session is no fault of the node. A call
+/// of a service that its gate never lets pass is refused by 1504 and does nothing.
 pub fn run_node<
     'n,
     R: Threads + Wait + Sync,
@@ -395,13 +396,13 @@ pub fn run_node<
     gate: &'n G,
     limits: Limits,
 ) -> Result<NodeEnd, NodeFault>
-    ensures bad_limits { IsErrOf result NodeFault.BadLimits ↔ ((vec_len streams ≡ 0) ⊎ (vec_len clocks.workers ≢ vec_len streams)) }
+    ensures bad_limits { IsErrOf result NodeFault.BadLimits ↔ ((vec_len streams ≡ 0) ⊎ (32 < vec_len streams) ⊎ (vec_len clocks.workers ≢ vec_len streams)
+        ⊎ (limits.rounds ≡ 0) ⊎ (limits.turns ≡ 0) ⊎ (limits.serve.reads ≡ 0) ⊎ (limits.serve.waits ≡ 0)) }
     ensures fault { IfErr result IsRunFault }
-    ensures places { (vec_len clocks.workers ≡ vec_len streams) → 32 < vec_len streams → IsErrOf result (NodeFault.Publish PublishFault.Places) }
     ensures done { IfOk result (λ end. end.rounds.done ≡ limits.rounds) }
     ensures all { IfOk result (λ end. vec_len end.workers ≡ vec_len streams) }
 {
-    check_limits(streams.len(), clocks.workers.len())?;
+    check_limits(streams.len(), clocks.workers.len(), &limits)?;
     let Ok((sequencer, seats)) = Sequencer::open(alloc, streams.len()) else {
         return Err(NodeFault::Memory);
     };
@@ -439,18 +440,22 @@ pub fn run_node<
     ended
 }
 
-/// Whether so many streams can be served with so many clocks.
-fn check_limits(streams: usize, clocks: usize) -> Result<(), NodeFault>
-    ensures taken { OnOk result ((streams ≢ 0) × (clocks ≡ streams) × (streams ≤ 32)) }
-    ensures bad_limits { IsErrOf result NodeFault.BadLimits ↔ ((streams ≡ 0) ⊎ (clocks ≢ streams)) }
-    ensures places { IsErrOf result (NodeFault.Publish PublishFault.Places) ↔ ((streams ≢ 0) × (clocks ≡ streams) × (32 < streams)) }
-    ensures fault { IfErr result (λ fault. (fault ≡ NodeFault.BadLimits) ⊎ (fault ≡ NodeFault.Publish PublishFault.Places)) }
+/// Whether so many streams can be served with so many clocks, within these limits.
+fn check_limits(streams: usize, clocks: usize, limits: &Limits) -> Result<(), NodeFault>
+    ensures taken { OnOk result ((streams ≢ 0) × (clocks ≡ streams) × (streams ≤ 32)
+        × (limits.now.rounds ≢ 0) × (limits.now.turns ≢ 0) × (limits.now.serve.reads ≢ 0) × (limits.now.serve.waits ≢ 0)) }
+    ensures bad_limits { IsErrOf result NodeFault.BadLimits ↔ ((streams ≡ 0) ⊎ (32 < streams) ⊎ (clocks ≢ streams)
+        ⊎ (limits.now.rounds ≡ 0) ⊎ (limits.now.turns ≡ 0) ⊎ (limits.now.serve.reads ≡ 0) ⊎ (limits.now.serve.waits ≡ 0)) }
+    ensures fault { IfErr result (λ fault. fault ≡ NodeFault.BadLimits) }
 {
-    if streams == 0 || clocks != streams {
+    if streams == 0 || streams > MAX_WATCHES || clocks != streams {
         return Err(NodeFault::BadLimits);
     }
-    if streams > MAX_WATCHES {
-        return Err(NodeFault::Publish(PublishFault::Places));
+    if limits.rounds == 0 || limits.turns == 0 {
+        return Err(NodeFault::BadLimits);
+    }
+    if limits.serve.reads == 0 || limits.serve.waits == 0 {
+        return Err(NodeFault::BadLimits);
     }
     Ok(())
 }
