@@ -12,13 +12,11 @@ use Rattle.tt_publish.specs.declared.faults.ReadFault.TheVariants.{Nothing, Cloc
 use Rattle.tt_stamp.specs.Fault.{begin_number_of}
 use Rattle.tt_stamp.specs.Stamp.{IsTooFar, HasNoStamp, IsPastLease}
 use Rattle.tt_stamp.specs.Stamping.{SeatState, Gives, SeatLooks, stamps_of}
-use Rattle.tt_stamp.specs.Steps.{Releases}
-use Rattle.tt_stamp.specs.declared.commits.Entry.{Entry}
 use Rattle.tt_stamp.specs.declared.faults.BeginFault.{BeginFault}
 use Rattle.tt_stamp.specs.declared.faults.BeginFault.TheVariants.{Read, Stamp}
 use Rattle.tt_stamp.specs.declared.faults.StampFault.{StampFault}
 use Rattle.tt_stamp.specs.declared.faults.StampFault.TheVariants.{UsedUp, FloorTooFar, LeaseOver, Seats, Memory}
-use Rattle.tt_node.specs.Working.{PassesAt, BeginsAt, AnswersStamp}
+use Rattle.tt_node.specs.Working.{BeginsAt, AnswersStamp}
 
 -- no value is a refusal
 apart : {A E : Type 0} (value : A) (fault : E) → IsErrOf (Ok value) fault → ⊥
@@ -44,17 +42,6 @@ not_read fault other is = two (same_fault (Stamp fault) (Read other) is)
   where
     two : Stamp fault ≡ Read other → ⊥
     two is = cc
-
--- a release step that counts what it released is answered
-pub released_by : (book left : List Entry) (count : ℕ) (looked : Result Interval ReadFault) (answer : Bool) → Releases looked book (Ok count) left → PassesAt looked (Ok answer)
-released_by book left count (Ok reading) answer released = refl
-released_by book left count (Err fault) answer released = absurd (apart count fault released.0)
-
--- a release step that is refused is refused as its reading is
-pub refused_by : (book left : List Entry) (fault : ReadFault) (number : ℕ) (looked : Result Interval ReadFault) → number ≡ read_number_of fault → Releases looked book (Err fault) left
-    → PassesAt looked (Err number)
-refused_by book left fault number (Ok reading) is released = absurd (apart _ fault (sym released.0))
-refused_by book left fault number (Err seen) is released = ap (λ n. Err n) (is ∙ ap read_number_of (same_fault fault seen released.0))
 
 -- a reading that was taken
 took : {C : Type 0} (gives : C → Option ℕ → C → Type 0) (failed : C → ℕ) (watch seen : WatchState) (before after : C) (reading : Interval)

@@ -1,5 +1,5 @@
 -- The service of one worker.
-use Rattle.std.specs.Prelude.{◌≡◌, ◌≢◌, ℕ, ◌⊎◌, List, [], ◌∷◌, ◌++◌, Bool, true, false, Option, Some, None, Result, Ok, Err, IfOk, IfErr, IsOk, OnErr}
+use Rattle.std.specs.Prelude.{◌≡◌, ◌≢◌, ℕ, ◌⊎◌, List, [], ◌∷◌, ◌++◌, Bool, true, false, Option, Some, None, is_some, Result, Ok, Err, IfOk, IfErr, IsOk, IsOkAnd, OnErr}
 use mathlib.Core.List.{IsPrefix}
 use Rattle.tt_stream.specs.Counts.{HasFailed, count_after}
 use Rattle.tt_span.specs.Interval.{Interval, Holds}
@@ -8,12 +8,16 @@ use Rattle.tt_publish.specs.Known.{WatchState}
 use Rattle.tt_publish.specs.Looks.{Looks}
 use Rattle.tt_publish.specs.declared.faults.ReadFault.{ReadFault}
 use Rattle.tt_stamp.specs.Fault.{number_of as stamp_number_of, book_number_of}
+use Rattle.tt_stamp.specs.History.{waiting_of, release_of, with_receipts, receipt_of}
 use Rattle.tt_stamp.specs.Stamp.{IsTooFar, HasNoStamp, IsPastLease}
 use Rattle.tt_stamp.specs.Stamping.{SeatState, Gives, SeatLooks, stamps_of}
+use Rattle.tt_stamp.specs.declared.commits.Id.{Id}
+use Rattle.tt_stamp.specs.declared.commits.Entry.{Entry}
 use Rattle.tt_stamp.specs.declared.faults.StampFault.{StampFault}
 use Rattle.tt_stamp.specs.declared.faults.StampFault.TheVariants.{UsedUp, FloorTooFar, LeaseOver}
 use Rattle.tt_stamp.specs.declared.faults.BookFault.{BookFault}
 use Rattle.tt_audit.specs.declared.live.LiveNote.{LiveNote}
+use Rattle.tt_node.specs.declared.workers.Step.{Step}
 use Rattle.tt_session.specs.declared.calls.Call.{Call}
 use Rattle.tt_session.specs.declared.calls.Call.TheVariants.{Now, Begin, Pass}
 
@@ -82,6 +86,12 @@ AnswersStamp (Err fault) answer = answer ≡ Err (stamp_number_of fault)
 abbrev pub BeginsAt : SeatState → ℕ → Interval → Result Interval ReadFault → Result ℕ ℕ → SeatState → Type 0
 BeginsAt old floor lease (Ok reading) answer new = (stamped : Result ℕ StampFault) × Stamps old reading.hi floor lease stamped new × AnswersStamp stamped answer
 BeginsAt old floor lease (Err fault) answer new = (answer ≡ Err (read_number_of fault)) × (new ≡ old)
+
+-- a release step on a book: what has surely passed at the reading is released, and told are whether the commit is and the reading's earliest; where the reading was refused, so is the step, and the book stays
+abbrev pub StepsOn : Result Interval ReadFault → List Entry → Id → Result Step ReadFault → List Entry → Type 0
+StepsOn (Ok reading) old id answer new = (new ≡ with_receipts (release_of (waiting_of old) reading.lo) old)
+    × IsOkAnd answer (λ step. (step.released ≡ is_some (receipt_of new id)) × (step.earliest ≡ reading.lo))
+StepsOn (Err fault) old id answer new = (answer ≡ Err fault) × (new ≡ old)
 
 -- a release step that took a reading is answered, by a book that others change too; one whose reading was refused, by the number of that
 abbrev pub PassesAt : Result Interval ReadFault → Result Bool ℕ → Type 0

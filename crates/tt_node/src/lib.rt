@@ -29,4 +29,4 @@ pub use links::{Link, PACKET_LEN};
 pub use masters::master_rounds;
 pub use nodes::{Clocks, Limits, NodeEnd, WorkerEnd, run_node};
 pub use rounds::{Rounds, course_laws, daemon_rounds};
-pub use workers::{MAX_TURNS, Worker};
+pub use workers::{MAX_PAUSE, MAX_TURNS, Worker};

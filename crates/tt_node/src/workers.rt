@@ -1,22 +1,46 @@
 //! The service of one worker of a running node.
 
-ghost use Rattle.std.specs.Prelude.{◌≡◌, [], Some, None, IfOk, IfErr, IsErrOf, OnErr};
+ghost use Rattle.std.specs.Prelude.{◌≡◌, [], Some, None, Result, IfOk, IfErr, IsErrOf, OnErr};
 ghost use Rattle.tt_stream.specs.Counts.{HasFailed};
-ghost use Rattle.tt_node.specs.Working.{Works, HasRead, GivesNone, LooksThen, BeginsAt, PassesAt, Allows, counted};
+ghost use Rattle.tt_span.specs.Interval.{Interval};
+ghost use Rattle.tt_publish.specs.Looks.{Looks};
+ghost use Rattle.tt_publish.specs.declared.faults.ReadFault.{ReadFault};
+ghost use Rattle.tt_node.specs.Working.{Works, HasRead, GivesNone, LooksThen, BeginsAt, StepsOn, PassesAt, Allows, counted};
 
 use crate::faults::NodeFault;
 use crate::gates::Gate;
 use std::alloc::Global;
 use std::marker::Model;
 use std::sync::{Mutex, Wait};
+use std::thread::Parker;
+use std::time::Duration;
 use tt_audit::LiveNote;
-use tt_publish::{Clock, Reading, Watch};
+use tt_publish::{Clock, ReadFault, Reading, Watch};
 use tt_session::Service;
 use tt_span::Span;
-use tt_stamp::{Book, Id, Seat, Sequencer, begin_step, release_step};
+use tt_stamp::{Book, Id, Seat, Sequencer, begin_step};
 
 /// How often a gate is asked for one call, at most.
 pub const MAX_TURNS: u32 = 10_000;
+
+/// The longest wait of one `pass` for a stamp, in nanoseconds: a tenth of a second.
+pub const MAX_PAUSE: u64 = 100_000_000;
+
+/// A commit that was begun, and its stamp.
+#[derive(Clone, Copy)]
+struct Begun {
+    number: u64,
+    stamp: u64,
+}
+
+/// What a release step gave.
+#[derive(Clone, Copy)]
+struct Step {
+    /// Whether the commit is released.
+    released: bool,
+    /// The earliest of the reading, in nanoseconds.
+    earliest: u64,
+}
 
 /// The service of one worker, for one session: it reads through a watch of its own by a clock of its own, draws its
 /// stamps with a seat of its own from the sequencer that it shares, and queues and releases commits in the book that
@@ -41,6 +65,10 @@ pub struct Worker<'a, R, C, G> {
     lease: Span,
     calls: u64,
     notes: Vec<LiveNote>,
+    /// The commit that was begun last.
+    begun: Option<Begun>,
+    /// What its waits are made by. Nothing ends one before its time.
+    parker: Parker,
 }
 
 impl<'a, R, C, G> Model for Worker<'a, R, C, G> {
@@ -83,6 +111,8 @@ impl<'a, R: Wait, C: Clock, G: Gate> Worker<'a, R, C, G> {
             lease,
             calls: 0,
             notes: Vec::new(alloc),
+            begun: None,
+            parker: Parker::new(),
         }
     }
 
@@ -180,7 +210,16 @@ impl<'a, R: Wait, C: Clock, G: Gate> Worker<'a, R, C, G> {
         }
     }
 
-    /// One release step, and whether the commit is released.
+    /// Keeps what is known of the last commit, where this is the answer to a `begin`.
+    fn remember(&mut self, number: u64, answer: Result<u64, u16>)
+        ensures same { self.new ≡ self.old }
+    {
+        if let Ok(stamp) = answer {
+            self.begun = Some(Begun { number, stamp });
+        }
+    }
+
+    /// One release step, and whether the commit is released. Where it is not, a wait follows, without the book.
     fn release(&mut self, number: u64) -> Result<bool, u16>
         ensures works { Works self.old self.new }
         ensures open { ¬ IsErrOf result 1504 }
@@ -193,10 +232,28 @@ impl<'a, R: Wait, C: Clock, G: Gate> Worker<'a, R, C, G> {
             number,
         };
         let mut book = self.book.lock(self.rt);
-        match release_step(&mut book, &mut self.watch, &mut self.clock) {
-            Ok(_) => Ok(book.is_released(id).is_some()),
+        let answer = step_on(&mut book, &mut self.watch, &mut self.clock, id);
+        drop(book);
+        match answer {
+            Ok(step) => {
+                self.pause(number, step);
+                Ok(step.released)
+            }
             Err(fault) => Err(fault.number()),
         }
+    }
+
+    /// Waits for as long as the stamp of the commit is above the earliest that the step read, at most [`MAX_PAUSE`].
+    fn pause(&self, number: u64, step: Step) {
+        let Some(begun) = self.begun else {
+            return;
+        };
+        if step.released || begun.number != number {
+            return;
+        }
+        let left = begun.stamp.saturating_sub(step.earliest).saturating_add(1);
+        self.parker
+            .park_timeout(self.rt, Duration::from_nanos(left.min(MAX_PAUSE)));
     }
 }
 
@@ -230,11 +287,14 @@ impl<'a, R: Wait, C: Clock, G: Gate> Service for Worker<'a, R, C, G> {
         } else {
             Err(NodeFault::GateClosed.number())
         };
+        self.remember(number, answer);
         self.gate.answered(self.session, call);
         answer
     }
 
-    /// One [`release_step`], and whether the commit is released then: the book is held once for both.
+    /// One release step ([`tt_stamp::release_step`]), and whether the commit is released then: the book is held once
+    /// for both. Where the commit is the one that was begun last and is not released, it then waits, without the book,
+    /// for as long as the stamp is above the earliest of the reading, at most [`MAX_PAUSE`], and answers no.
     ///
     /// Refuses with 1504 where the gate is closed, and then as the step does: 801, 803, 802.
     fn pass(&mut self, number: u64) -> Result<bool, u16> {
@@ -258,4 +318,23 @@ fn show<C: Clock>(clock: &mut C) -> Result<u64, u16>
         Ok(reading) => Ok(reading),
         Err(fault) => Err(fault.number()),
     }
+}
+
+/// One release step on a book: whether the commit is released then, and the earliest that was read.
+fn step_on<C: Clock>(
+    book: &mut Book,
+    watch: &mut Watch,
+    clock: &mut C,
+    id: Id,
+) -> Result<Step, ReadFault>
+    ensures steps { (looked : Result Interval ReadFault) × Looks C.gives C.failed watch.old clock.old looked watch.new clock.new
+        × StepsOn looked book.old id result book.new }
+{
+    let reading = watch.now(clock)?;
+    book.release(&reading);
+    let released = book.is_released(id).is_some();
+    Ok(Step {
+        released,
+        earliest: reading.earliest(),
+    })
 }
