@@ -1,10 +1,9 @@
--- What a release step and a begin step read.
-use Rattle.std.proofs.Common.{◌≡◌, ◌≤◌, ℕ, ◌↔◌, ◌∙◌, ap, refl, sym, List, [], Bool, Option, Some, None, Result, Ok, Err}
+-- What a begin step reads.
+use Rattle.std.proofs.Common.{◌≡◌, ◌≤◌, ℕ, ◌↔◌, ap, refl, [], Option, Some, None, Result, Ok, Err}
 use Rattle.std.specs.Prelude.{IsErrOf}
 use mathlib.Core.List.{IsPrefix}
 use Rattle.tt_stream.specs.Counts.{HasFailed}
 use Rattle.tt_span.specs.Interval.{Interval, Holds}
-use Rattle.tt_publish.specs.Fault.{read_number_of}
 use Rattle.tt_publish.specs.Known.{WatchState, ReadsLast, MissesLast}
 use Rattle.tt_publish.specs.Looks.{Looks}
 use Rattle.tt_publish.specs.declared.faults.ReadFault.{ReadFault}
