@@ -9,6 +9,4 @@ pub mod Least
 pub mod Canonicals
 pub mod Single
 pub mod Digits
-pub mod Fronts
-pub mod Many
 pub mod Parts

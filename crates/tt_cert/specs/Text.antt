@@ -1,27 +1,11 @@
 -- Certificates as text.
 use Rattle.std.specs.Prelude.{ℕ, ◌<◌, ◌≤◌, List, [], ◌∷◌, ◌++◌, length, All, codes}
-use Rattle.std.specs.Fmt.{decimal}
 use Rattle.std.specs.List.{flat_map}
 use Rattle.tt_span.specs.Time.{max_time}
 use Rattle.tt_span.specs.Interval.{Interval, IsInterval}
+pub use Rattle.tt_text.specs.Line.{spaced, numbers_text, line_of, ends_of}
 use Rattle.tt_cert.specs.declared.certificate.Stretch.{Stretch}
 use Rattle.tt_cert.specs.Proof.{Proof}
-
--- a space, and the decimal digits of a number, with no zero in front
-abbrev pub spaced : ℕ → List ℕ
-spaced n = 32 ∷ decimal n
-
--- the numbers of a line, and the line feed at its end
-abbrev pub numbers_text : List ℕ → List ℕ
-numbers_text numbers = flat_map spaced numbers ++ 10 ∷ []
-
--- a line: a word, and numbers, each behind one space
-abbrev pub line_of : List ℕ → List ℕ → List ℕ
-line_of word numbers = word ++ numbers_text numbers
-
--- the two numbers of a claim's line
-abbrev pub ends_of : Interval → List ℕ
-ends_of claim = claim.lo ∷ claim.hi ∷ []
 
 -- the three numbers of a stretch's line
 abbrev pub numbers_of : Stretch → List ℕ

@@ -2,7 +2,7 @@
 
 ghost use Rattle.std.specs.Prelude.{◌≡◌, ◌≤◌, length};
 
-use crate::few::Few;
+use crate::inline_lists::InlineList;
 use arrayvec::ArrayVec;
 use std::marker::Model;
 
@@ -19,10 +19,10 @@ pub struct Stretch {
 /// each side of it. Nothing is promised of them: `check` judges them.
 #[derive(Debug, Drop)]
 pub struct Certificate {
-    left: Few<u8, 16>,
-    right: Few<u8, 16>,
-    below: Few<Stretch, 33>,
-    above: Few<Stretch, 33>,
+    left: InlineList<u8, 16>,
+    right: InlineList<u8, 16>,
+    below: InlineList<Stretch, 33>,
+    above: InlineList<Stretch, 33>,
 }
 
 impl Model for Certificate {
@@ -44,19 +44,19 @@ impl Certificate {
         ensures { result ≡ record { left = left.items; right = right.items; below = below.items; above = above.items } }
     {
         Certificate {
-            left: Few::of(&left),
-            right: Few::of(&right),
-            below: Few::of(&below),
-            above: Few::of(&above),
+            left: InlineList::of(&left),
+            right: InlineList::of(&right),
+            below: InlineList::of(&below),
+            above: InlineList::of(&above),
         }
     }
 
     /// The certificate of these parts, as they are.
     pub(crate) fn of(
-        left: Few<u8, 16>,
-        right: Few<u8, 16>,
-        below: Few<Stretch, 33>,
-        above: Few<Stretch, 33>,
+        left: InlineList<u8, 16>,
+        right: InlineList<u8, 16>,
+        below: InlineList<Stretch, 33>,
+        above: InlineList<Stretch, 33>,
     ) -> Certificate
         ensures { result ≡ record { left = left; right = right; below = below; above = above } }
     {

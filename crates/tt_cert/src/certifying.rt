@@ -7,7 +7,7 @@ ghost use Rattle.tt_cert.specs.Valid.{IsCertificate};
 ghost use Rattle.tt_cert.specs.Canonical.{IsCanonical, sources_at};
 
 use crate::certificate::Certificate;
-use crate::few::Few;
+use crate::inline_lists::InlineList;
 use crate::sweeping::cut_stretches;
 use tt_fuse::{SortedEnds, fusion_laws};
 use tt_span::{MAX_TIME, Span};
@@ -38,10 +38,10 @@ pub fn certify_by(spans: &[Span], ends: &SortedEnds, faulty: usize, claim: &Span
     let lows = ends.lows();
     let highs = ends.highs();
     // The parts are written where they stand, since each is large.
-    let mut left = Few::new();
-    let mut right = Few::new();
-    let mut below = Few::new();
-    let mut above = Few::new();
+    let mut left = InlineList::new();
+    let mut right = InlineList::new();
+    let mut below = InlineList::new();
+    let mut above = InlineList::new();
     name_least_sources(&mut left, spans, need, claim.lo());
     name_least_sources(&mut right, spans, need, claim.hi());
     cut_stretches(&mut below, lows, highs, 0, claim.lo());
@@ -51,7 +51,7 @@ pub fn certify_by(spans: &[Span], ends: &SortedEnds, faulty: usize, claim: &Span
 
 /// Puts into `found` the `need` least numbers of the sources that hold `time`, ascending, or all of them where they
 /// are fewer.
-fn name_least_sources(found: &mut Few<u8, 16>, spans: &[Span], need: usize, time: u64)
+fn name_least_sources(found: &mut InlineList<u8, 16>, spans: &[Span], need: usize, time: u64)
     requires empty { found.old ≡ [] }
     requires few { length spans.now ≤ 16 }
     ensures { found.new ≡ take need (sources_at spans.now time) }

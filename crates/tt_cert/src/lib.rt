@@ -4,15 +4,15 @@
 //! possible, and cuts all time below and above the claim into stretches, each with the number of sources that meet
 //! it. So it shows that both ends are possible times, and that no time outside the claim is. [`check`] says yes
 //! exactly where the certificate is valid, and then the claim is the fusion. [`certify`] gives the canonical
-//! certificate of a fusion, and [`certify_by`] the same from the ends that the fusion was found by. [`write_text`] and [`read_text`] keep certificates as text, and
-//! [`line_at`] reads one line of such text.
+//! certificate of a fusion, and [`certify_by`] the same from the ends that the fusion was found by. [`write_text`] and
+//! [`read_text`] keep certificates as text, in lines of `tt_text`; its [`line_at`] and [`text_laws`] can be named here too.
 //!
 //! - `certificate`: `Certificate` and its `Stretch`es, as values.
 //! - `checking`: `check`, and what a certificate shows.
 //! - `certifying`: `certify`, `certify_by`.
 //! - `sweeping`: stretches of time, cut where spans begin and end.
-//! - `reading`: `read_text`, `line_at`, and what a line says. `writing`: `write_text`.
-//! - `few`: a few values that are copied whole.
+//! - `reading`: `read_text`. `writing`: `write_text`.
+//! - `inline_lists`: a few values that are copied whole.
 //! - `faults`: why a certificate, or its text, is refused.
 //!
 //! Times are whole nanoseconds, as in `tt_span`, and a source's number is its place among the spans, from 0. Only
@@ -23,7 +23,7 @@ mod certificate;
 mod certifying;
 mod checking;
 mod faults;
-mod few;
+mod inline_lists;
 mod reading;
 mod sweeping;
 mod writing;
@@ -32,5 +32,6 @@ pub use certificate::{Certificate, Stretch};
 pub use certifying::{certify, certify_by};
 pub use checking::{certificate_laws, check};
 pub use faults::CertFault;
-pub use reading::{line_at, read_text, text_laws};
+pub use reading::read_text;
+pub use tt_text::{line_at, text_laws};
 pub use writing::write_text;

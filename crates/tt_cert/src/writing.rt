@@ -2,13 +2,14 @@
 
 ghost use Rattle.std.specs.Prelude.{◌≡◌, ℕ, ◌≤◌, List, length, ◌++◌, All, IfOk, IfErr, OnOk, string_bytes};
 ghost use Rattle.std.specs.List.{flat_map};
-ghost use Rattle.tt_cert.specs.Text.{line_of, stretch_line, text_of, HasText, IsReadable};
+ghost use Rattle.tt_cert.specs.Text.{stretch_line, text_of, HasText, IsReadable};
 
 use crate::certificate::{Certificate, Stretch};
 use crate::faults::CertFault;
 use arrayvec::ArrayVec;
 use std::alloc::{AllocError, Global};
 use tt_span::Span;
+use tt_text::push_line;
 
 /// The text of a claim and its certificate, which `read_text` reads: the line `claim LO HI`, a line `left I I ..`,
 /// a line `right I I ..`, a line `below FROM TO DEPTH` for each stretch below the claim, and a line
@@ -64,15 +65,4 @@ fn push_stretches(text: &mut String, word: &str, stretches: &[Stretch]) -> Resul
         push_line(text, word, &numbers)?;
     }
     Ok(())
-}
-
-/// Writes a line at the end: the word, and the numbers, each behind one space.
-fn push_line(text: &mut String, word: &str, numbers: &[u64]) -> Result<(), AllocError>
-    ensures { OnOk result (string_bytes text.new ≡ string_bytes text.old ++ line_of word.now numbers.now) }
-{
-    text.push_str(word)?;
-    for number in numbers {
-        write!(text, " {number}")?;
-    }
-    text.push_str("\n")
 }

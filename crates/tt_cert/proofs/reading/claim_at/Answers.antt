@@ -1,9 +1,10 @@
 use Rattle.std.proofs.Common.{drop, sym, ◌∙◌}
 use Rattle.tt_span.specs.Interval.{IsInterval}
-use Rattle.tt_cert.specs.Text.{line_of, ends_of, claim_word}
-use Rattle.tt_cert.specs.Reading.{Anything, AreNumbers}
-use Rattle.tt_cert.proofs.Fronts.{ReadsNothing-parts, ReadsNothing-whole, Reads-whole}
-use Rattle.tt_cert.proofs.Parts.{AreNumbers-ends_of, one-ends_of}
+use Rattle.tt_text.specs.Line.{line_of, ends_of}
+use Rattle.tt_cert.specs.Text.{claim_word}
+use Rattle.tt_text.specs.Reading.{Anything, AreNumbers}
+use Rattle.tt_text.proofs.Fronts.{ReadsNothing-parts, ReadsNothing-whole, Reads-whole}
+use Rattle.tt_text.proofs.Lines.{AreNumbers-ends_of, one-ends_of}
 use Rattle.tt_cert.proofs.reading.claim_at.Goals as goal
 
 pub returns-in_err-numbers : goal.returns-in_err-numbers

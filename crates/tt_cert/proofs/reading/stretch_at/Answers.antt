@@ -1,7 +1,8 @@
 use Rattle.std.proofs.Common.{drop, sym, ◌∙◌}
-use Rattle.tt_cert.specs.Text.{line_of, numbers_of, IsStretch}
-use Rattle.tt_cert.specs.Reading.{Anything, AreNumbers}
-use Rattle.tt_cert.proofs.Fronts.{ReadsNothing-parts, ReadsNothing-whole, Reads-whole}
+use Rattle.tt_text.specs.Line.{line_of}
+use Rattle.tt_cert.specs.Text.{numbers_of, IsStretch}
+use Rattle.tt_text.specs.Reading.{Anything, AreNumbers}
+use Rattle.tt_text.proofs.Fronts.{ReadsNothing-parts, ReadsNothing-whole, Reads-whole}
 use Rattle.tt_cert.proofs.Parts.{AreNumbers-numbers_of, one-numbers_of}
 use Rattle.tt_cert.proofs.reading.stretch_at.Goals as goal
 

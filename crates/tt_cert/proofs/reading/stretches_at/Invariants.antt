@@ -1,7 +1,7 @@
 use Rattle.std.proofs.Common.{◌≤◌, ◌-◌, length, drop}
 use Rattle.tt_cert.specs.Text.{stretch_line, IsStretch}
-use Rattle.tt_cert.specs.Reading.{NoWord}
-use Rattle.tt_cert.proofs.Many.{AreReadSoFar}
+use Rattle.tt_text.specs.Reading.{NoWord}
+use Rattle.tt_text.proofs.Many.{AreReadSoFar}
 use Rattle.tt_cert.proofs.reading.stretches_at.Given as goal
 
 abbrev pub invariant-loop-found : goal.invariant-loop-found

@@ -7,12 +7,12 @@ use std::marker::Model;
 
 /// At most `N` values, at the front of an array.
 #[derive(Drop)]
-pub(crate) struct Few<T, const N: usize> {
+pub(crate) struct InlineList<T, const N: usize> {
     array: [T; N],
     count: usize,
 }
 
-impl<T, const N: usize> Model for Few<T, N> {
+impl<T, const N: usize> Model for InlineList<T, N> {
     ghost use Rattle.std.specs.Prelude.{◌≡◌, ◌≤◌, List, length, take};
     ghost use Rattle.std.specs.Coded.{coded_list};
 
@@ -20,12 +20,12 @@ impl<T, const N: usize> Model for Few<T, N> {
 
     ghost coded = { coded_list T.code };
 
-    ghost view = { λ f. take f.count f.array };
+    ghost view = { λ list. take list.count list.array };
 
-    ghost invariant = { λ f. (f.count ≤ N) × (length f.array ≡ N) };
+    ghost invariant = { λ list. (list.count ≤ N) × (length list.array ≡ N) };
 }
 
-impl<T, const N: usize> Few<T, N> {
+impl<T, const N: usize> InlineList<T, N> {
     /// How many there are.
     pub(crate) fn len(&self) -> usize
         ensures { result ≡ length self.now }
@@ -42,7 +42,7 @@ impl<T, const N: usize> Few<T, N> {
     }
 }
 
-impl<T: Copy, const N: usize> Few<T, N> {
+impl<T: Copy, const N: usize> InlineList<T, N> {
     /// Puts one more behind the others.
     pub(crate) fn push(&mut self, item: T)
         requires { length self.old < N }
@@ -54,41 +54,41 @@ impl<T: Copy, const N: usize> Few<T, N> {
     }
 
     /// The same values.
-    pub(crate) fn copied(&self) -> Few<T, N>
+    pub(crate) fn copied(&self) -> InlineList<T, N>
         ensures { result ≡ self.now }
     {
-        Few {
+        InlineList {
             array: self.array,
             count: self.count,
         }
     }
 }
 
-impl<T: Copy + Default, const N: usize> Few<T, N> {
+impl<T: Copy + Default, const N: usize> InlineList<T, N> {
     /// No values yet.
-    pub(crate) fn new() -> Few<T, N>
+    pub(crate) fn new() -> InlineList<T, N>
         ensures { result ≡ [] }
     {
-        Few {
+        InlineList {
             array: [T::default(); N],
             count: 0,
         }
     }
 
     /// These values.
-    pub(crate) fn of(items: &[T]) -> Few<T, N>
+    pub(crate) fn of(items: &[T]) -> InlineList<T, N>
         requires { length items.now ≤ N }
         ensures { result ≡ items.now }
     {
-        let mut few = Few::new();
+        let mut list = InlineList::new();
         for item in items {
-            few.push(*item);
+            list.push(*item);
         }
-        few
+        list
     }
 }
 
-impl<T: fmt::Debug, const N: usize> fmt::Debug for Few<T, N> {
+impl<T: fmt::Debug, const N: usize> fmt::Debug for InlineList<T, N> {
     fn fmt<W: fmt::Write>(&self, f: &mut fmt::Formatter<W>) -> fmt::Result {
         f.debug_list().entries(self.as_slice()).finish()
     }
