@@ -13,6 +13,9 @@
 #![tactic(auto)]
 
 mod commands;
+mod help;
 pub mod words;
 
-pub use words::{Asked, Command, Side, WordsFault, help_text, read_words, word_laws};
+pub use words::{
+    Asked, Command, Side, WordsFault, help_text, mistake_text, read_words, usage_text, word_laws,
+};

@@ -1,6 +1,6 @@
 //! What the arguments ask for.
 
-ghost use Rattle.std.specs.Prelude.{◌≡◌, ◌≤◌, ◌⊎◌, ℕ, List, [], ◌∷◌, codes, Some, Ok, Err, IfErr, IfOk, IfSome, IsSome, IsOk};
+ghost use Rattle.std.specs.Prelude.{◌≡◌, ◌≤◌, ◌⊎◌, ℕ, List, [], ◌∷◌, codes, Some, Ok, Err, IfErr, IfOk, IfSome, IsSome, IsNone, IsOk};
 ghost use Rattle.clap.specs.Walk.{texts};
 ghost use Rattle.clap.specs.Words.{FailsBy, found_of, rows_of, subcommand_rows_of};
 ghost use Rattle.tt_span.specs.Drift.{max_drift};
@@ -11,7 +11,7 @@ ghost use Rattle.ttd_words.specs.Fault.{number_of};
 use crate::commands::ttd_command;
 use clap::error::ErrorKind;
 use clap::{ArgMatches, Error};
-use std::alloc::Global;
+use std::alloc::{AllocError, Global};
 use tt_span::Drift;
 
 /// A command of the program, with its options.
@@ -212,6 +212,46 @@ pub fn help_text(alloc: Global, words: &[&str]) -> Result<String, WordsFault>
             _ => Err(WordsFault::BadWords),
         },
     }
+}
+
+/// What to say on standard error of a side that is neither `low` nor `high`.
+fn side_mistake(alloc: Global, matches: &ArgMatches<'_>) -> Result<String, AllocError> {
+    let side = match matches.subcommand() {
+        Some((_, options)) => options.get_str("side").unwrap_or(""),
+        None => "",
+    };
+    format!(in alloc;
+        "error: invalid value '{side}' for '--side <SIDE>'\n  [possible values: low, high]\n\nFor more information, try '--help'.\n"
+    )
+}
+
+/// What to say on standard error of arguments that [`read_words`] rejects with 1601: which of them was not expected or is missing, with
+/// a tip and the usage, in a few lines, each with its line feed. None where they are taken or ask for help. Its wording is clap's own.
+///
+/// Refuses only where an allocation failed.
+pub fn mistake_text(alloc: Global, words: &[&str]) -> Result<Option<String>, AllocError>
+    ensures taken { AreTaken (texts words.now) → IfOk result (λ text. IsNone text) }
+    ensures helped { AreForHelp (texts words.now) → IfOk result (λ text. IsNone text) }
+    ensures mistaken { AreMistaken (texts words.now) → IfOk result (λ text. IsSome text) }
+{
+    match parsed(alloc, words) {
+        Ok(matches) => match command_asked(&matches) {
+            Ok(_) => Ok(None),
+            Err(_) => Ok(Some(side_mistake(alloc, &matches)?)),
+        },
+        Err(error) => match error.kind() {
+            ErrorKind::DisplayHelp | ErrorKind::DisplayVersion => Ok(None),
+            ErrorKind::OutOfMemory => Err(AllocError),
+            _ => Ok(Some(format!(in alloc; "{error}")?)),
+        },
+    }
+}
+
+/// What the program does and which commands it has, in a few lines, for standard error where no command was given. Its wording is clap's own.
+///
+/// Refuses only where an allocation failed.
+pub fn usage_text(alloc: Global) -> Result<String, AllocError> {
+    ttd_command(alloc)?.after_help("").render_help()
 }
 
 /// Arguments that are taken always ask for a command; those at which clap finds nothing wrong are taken or a mistake; none at all are a mistake; `--help`, alone or after a command, asks for help, and so
