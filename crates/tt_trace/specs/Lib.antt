@@ -1,0 +1,4 @@
+pub mod Phrase
+pub mod Event
+pub mod Reply
+pub mod Trace
