@@ -10,6 +10,7 @@ ghost use Rattle.tt_twin.specs.Watch.{IsWatch, glance_again, asked_in, is_read, 
 ghost use Rattle.tt_daemon.specs.Config.{Configuration};
 ghost use Rattle.tt_world.specs.declared.events.Event.{Event};
 ghost use Rattle.tt_world.specs.Config.{config_at};
+ghost use Rattle.tt_world.specs.Headline.{AreConfigurations};
 ghost use Rattle.tt_world.specs.Publications.{shown_of};
 ghost use Rattle.tt_world.specs.Trace.{outline};
 
@@ -275,8 +276,9 @@ fn twin_by(
 /// is from, the machine fuses that, and its workers read from it again what they read up to then. Times are in
 /// nanoseconds. Refuses, in this order, by 1207 `Machines` where there is no machine, or more than eight, by 1401
 /// `NotAReading` where event `k` is not there or its reply is no reading, by 1402 `Cut` where that end lies past the
-/// greatest time before it is cut, and by 1 `Memory` where an allocation failed, which can only be where event `k`
-/// reads.
+/// greatest time before it is cut, and by 1 `Memory` where an allocation failed. That can only be where event `k` is there
+/// and reads: in place of a twin, of 1402, or of 1401 where its reply is no reading; never in place of 1207, nor of 1401
+/// where event `k` is not there or does not read.
 pub fn twin(
     alloc: Global,
     configs: &[Config],
@@ -288,7 +290,8 @@ pub fn twin(
     ensures value { IfOk result (λ twin. twin_of configs.now events.now k side ≡ Ok twin.items) }
     ensures refused { IfErr result (λ e. (e ≡ TwinFault.Memory) ⊎ (twin_of configs.now events.now k side ≡ Err e)) }
 
-    // Memory is taken only where there is a machine and no more than eight, and event k is there and reads.
+    // Memory is taken only where there is a machine and no more than eight, and event k is there and reads: the run up to
+    // it has to be made before it is known whether it is a reading, and whether that ends in time.
     ensures memory_only { IfErr result (λ e. e ≡ TwinFault.Memory → AsksToRead events.now k × (0 < length configs.now) × (length configs.now ≤ 8)) }
 
     // In the twin no event is refused and the assumptions are kept; the machine sees the same spans, the same number of
@@ -331,7 +334,8 @@ pub fn twin(
     )
 }
 
-/// When the twin that is defined is refused, without a call that makes it.
+/// When the twin that is defined is refused, and what it is worth where it is not, without a call that makes it and so
+/// without memory.
 pub fn twin_laws()
     // By 1207 where there is no machine, or more than eight.
     ensures machines { (configs : List Configuration) (events : List Event) (k : ℕ) (side : Side) →
@@ -348,4 +352,15 @@ pub fn twin_laws()
     // Else there is one: the reading ends at the greatest time or before.
     ensures answered { (configs : List Configuration) (events twin : List Event) (k : ℕ) (side : Side) →
         twin_of configs events k side ≡ Ok twin → (x : ℕ) × (x ≤ max_time) × HasReading configs events k side x }
+
+    // That one is a twin, as `twin` says of its own answer: in it no event is refused and the assumptions are kept, the
+    // machine sees the same, and the true time is then at the chosen end of the reading.
+    ensures twin { (configs : List Configuration) (events twin : List Event) (k : ℕ) (side : Side) → AreConfigurations configs →
+        twin_of configs events k side ≡ Ok twin → (m number : ℕ) (reading : Interval) → IsReadingOf configs events k m number reading →
+        IsTwin configs (accepted_to configs events k) m number (end_of side reading) twin }
+
+    // So no interval that is narrower at this end is right for all runs that show the machine the same.
+    ensures no_narrower { (configs : List Configuration) (events twin : List Event) (k : ℕ) (side : Side) → AreConfigurations configs →
+        twin_of configs events k side ≡ Ok twin → (m number : ℕ) (reading span : Interval) → IsReadingOf configs events k m number reading →
+        IsRightForLook configs (accepted_to configs events k) m number span → Holds span (end_of side reading) }
 {}

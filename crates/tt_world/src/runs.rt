@@ -106,7 +106,8 @@ pub fn run(alloc: Global, configs: &[Config], events: &[Event]) -> Result<Trace,
     })
 }
 
-/// What the definitions of a run give for every list of events, without a call that runs it.
+/// What the definitions of a run give for every list of events, without a call that runs it: what [`run`] says of its
+/// replies is said here of the replies that are defined, so none of it waits for memory.
 pub fn run_laws()
     // Under the assumptions every reading holds the true time, and a commit that is released before another arrives
     // has the smaller stamp, as `run` says of its own replies.
@@ -114,6 +115,20 @@ pub fn run_laws()
         ReadingsHold configs events (replies_from configs [] events) }
     ensures externally_consistent { (configs : List Configuration) (events : List Event) → AreConfigurations configs → AreEvents events →
         ExternallyConsistent configs events (replies_from configs [] events) }
+
+    // Under the assumptions no fusion is refused at which enough sources are known.
+    ensures no_fusion_refused { (configs : List Configuration) (events : List Event) → AreConfigurations configs → AreEvents events →
+        NoFusionRefused configs events (replies_from configs [] events) }
+
+    // Every fused interval is the shortest that is right whichever sources lie. Nothing is assumed of the events.
+    ensures fusions_are_shortest { (configs : List Configuration) (events : List Event) → AreConfigurations configs →
+        FusionsAreShortest configs events (replies_from configs [] events) }
+
+    // Every stamp is the least that its rules allow, and lies in the lease that its machine had at that event, so two
+    // stamps under leases that do not meet differ. Nothing is assumed.
+    ensures stamps_are_least { (configs : List Configuration) (events : List Event) → StampsAreLeast configs events (replies_from configs [] events) }
+    ensures stamps_in_leases { (configs : List Configuration) (events : List Event) → StampsInLeases configs events (replies_from configs [] events) }
+    ensures leases_keep_apart { (configs : List Configuration) (events : List Event) → LeasesKeepStampsApart configs events (replies_from configs [] events) }
 
     // A list of events keeps the assumptions exactly where none of them breaks one.
     ensures breaches { (configs : List Configuration) (past : List Event) → MeetsAssumptions configs past ↔ NoBreach configs past }

@@ -23,8 +23,8 @@ use Rattle.tt_world.proofs.Histories.Placing.{before_place, before_place-reverse
 use Rattle.tt_world.proofs.Headline.Committing.{arrival_not_bad, stamp_least, releasing}
 
 -- every stamp of a run is the least that its rules allow, whatever the run
-pub stamps-least : (configs : List Configuration) (events : List Event) → AreConfigurations configs → StampsAreLeast configs events (replies_from configs [] events)
-stamps-least configs events configurations before at m w after s e replied =
+pub stamps-least : (configs : List Configuration) (events : List Event) → StampsAreLeast configs events (replies_from configs [] events)
+stamps-least configs events before at m w after s e replied =
     let event : Event = record { at = at; action = does.Stamp m w } in
     stamp_least configs (reverse before) at m w s (same_reply (reply_of configs (reverse before) event) (Stamped s) (sym (reply_at configs events before event after e) ∙ replied))
   where

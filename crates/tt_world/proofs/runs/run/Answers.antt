@@ -41,7 +41,7 @@ returns-clause-no_fusion_refused c =
 pub returns-clause-stamps_are_least : goal.returns-clause-stamps_are_least
 returns-clause-stamps_are_least c =
     subst (λ (rs : List Reply). StampsAreLeast c.args.configs.now c.args.events.now rs) (sym (told c))
-    (stamps-least c.args.configs.now c.args.events.now c.in_ok-world.ensures.valid)
+    (stamps-least c.args.configs.now c.args.events.now)
 
 pub returns-clause-externally_consistent : goal.returns-clause-externally_consistent
 returns-clause-externally_consistent c =
