@@ -36,7 +36,7 @@ pub(crate) fn events_in(alloc: Global, table: &Table) -> Result<Vec<Event>, Scri
 }
 
 /// The tables of the events, at most [`MAX_EVENTS`].
-fn event_items_in(value: &Value) -> Result<&Array, ScriptFault>
+pub(crate) fn event_items_in(value: &Value) -> Result<&Array, ScriptFault>
     ensures { let defined = event_items_in (view value.now) in
         MatchResult result (λ items. defined ≡ Ok (array_view items.now)) (λ fault. defined ≡ Err fault) }
 {
@@ -63,7 +63,7 @@ fn events_of(alloc: Global, items: &Array) -> Result<Vec<Event>, ScriptFault>
 }
 
 /// The event that the value is.
-fn event_of(value: &Value) -> Result<Event, ScriptFault>
+pub(crate) fn event_of(value: &Value) -> Result<Event, ScriptFault>
     ensures { result ≡ of_table event_in (view value.now) }
 {
     match value.as_table() {

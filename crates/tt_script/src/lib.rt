@@ -12,15 +12,21 @@
 //! - `acts`: the acts of a master.
 //! - `lookups`: values of a table by their keys.
 //! - `faults`: why a text is refused.
+//! - `places`: where it is refused, for a person: [`refusal_of`].
+//! - `unknown`: keys that no rule names: [`unknown_keys`].
+//! - `keys`: the keys of each table.
 #![tactic(auto)]
 
 mod acts;
 mod events;
 mod faults;
+mod keys;
 mod lives;
 mod lookups;
 mod machines;
+mod places;
 mod scripts;
+mod unknown;
 mod words;
 
 pub use acts::{Acts, MAX_ACTS, act_laws};
@@ -28,4 +34,6 @@ pub use events::MAX_EVENTS;
 pub use faults::ScriptFault;
 pub use lives::{Line, Live, LiveMaster, MAX_LIMIT, Session};
 pub use machines::DEFAULT_DRIFT;
+pub use places::{Refusal, refusal_of};
 pub use scripts::{Script, read};
+pub use unknown::{MAX_UNKNOWN, unknown_keys};

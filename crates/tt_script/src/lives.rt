@@ -217,7 +217,7 @@ fn live_in(alloc: Global, table: &Table) -> Result<Live, ScriptFault>
 }
 
 /// A number from 1 to [`MAX_LIMIT`].
-fn limit_at(table: &Table, key: &str) -> Result<u32, ScriptFault>
+pub(crate) fn limit_at(table: &Table, key: &str) -> Result<u32, ScriptFault>
     ensures { result ≡ limit_at key.now (table_view table.now) }
 {
     let limit = number_at(table, key, MAX_LIMIT)?;
@@ -246,7 +246,7 @@ fn masters_in(alloc: Global, value: &Value) -> Result<Vec<LiveMaster>, ScriptFau
 }
 
 /// The items of an array of tables.
-fn tables_in(value: &Value) -> Result<&Array, ScriptFault>
+pub(crate) fn tables_in(value: &Value) -> Result<&Array, ScriptFault>
     ensures { let defined = tables_in (view value.now) in
         MatchResult result (λ items. defined ≡ Ok (array_view items.now)) (λ fault. defined ≡ Err fault) }
 {
@@ -271,7 +271,7 @@ fn masters_of(alloc: Global, items: &Array) -> Result<Vec<LiveMaster>, ScriptFau
 }
 
 /// The master that the value is.
-fn master_of(alloc: Global, value: &Value) -> Result<LiveMaster, ScriptFault>
+pub(crate) fn master_of(alloc: Global, value: &Value) -> Result<LiveMaster, ScriptFault>
     ensures { let defined = of_table master_in (view value.now) in
         MatchResult result (λ master. defined ≡ Ok master) (IsRefusal defined) }
 {
@@ -313,7 +313,7 @@ fn sessions_of(alloc: Global, items: &Array) -> Result<Vec<Session>, ScriptFault
 }
 
 /// The session that an array of lines is.
-fn session_in(alloc: Global, value: &Value) -> Result<Session, ScriptFault>
+pub(crate) fn session_in(alloc: Global, value: &Value) -> Result<Session, ScriptFault>
     ensures { let defined = session_in (view value.now) in
         MatchResult result (λ session. defined ≡ Ok session) (IsRefusal defined) }
 {

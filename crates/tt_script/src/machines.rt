@@ -28,7 +28,7 @@ pub(crate) fn machines_in(alloc: Global, table: &Table) -> Result<Vec<Config>, S
 }
 
 /// The tables of the machines: one at least, and eight at most.
-fn machine_items_in(table: &Table) -> Result<&Array, ScriptFault>
+pub(crate) fn machine_items_in(table: &Table) -> Result<&Array, ScriptFault>
     ensures { let defined = machine_items_in (table_view table.now) in
         MatchResult result (λ items. defined ≡ Ok (array_view items.now)) (λ fault. defined ≡ Err fault) }
 {
@@ -56,7 +56,7 @@ fn configurations_of(alloc: Global, items: &Array) -> Result<Vec<Config>, Script
 }
 
 /// The set-up of the machine that the value is.
-fn configuration_of(value: &Value) -> Result<Config, ScriptFault>
+pub(crate) fn configuration_of(value: &Value) -> Result<Config, ScriptFault>
     ensures { result ≡ of_table configuration_in (view value.now) }
 {
     match value.as_table() {
