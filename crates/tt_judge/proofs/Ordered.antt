@@ -1,5 +1,5 @@
 -- The order of a history by one of the commits' times.
-use Rattle.std.proofs.Common.{◌≡◌, ℕ, zero, suc, cond, ◌+◌, ◌<◌, ◌≤◌, inl, inr, List, [], ◌∷◌, ◌++◌, length, get_or, take, refl, sym, subst, ap, arith, ◌∙◌, add-one, Ordering, Less, Equal}
+use Rattle.std.proofs.Common.{◌≡◌, ℕ, zero, suc, ◌+◌, ◌<◌, ◌≤◌, inl, inr, List, [], ◌∷◌, ◌++◌, length, get_or, take, refl, sym, subst, ap, arith, ◌∙◌, add-one, Ordering, Less, Equal}
 use Rattle.std.specs.Prelude.{Bool, true, false, count_by, IsPermutation, IsSorted, All}
 use Rattle.std.specs.Cmp.{IsTotalOrder}
 use Rattle.std.specs.Ordering.{is_lt, nat_cmp, ordering_then, on, then_cmp}

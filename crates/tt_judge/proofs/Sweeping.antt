@@ -1,6 +1,6 @@
 -- A history that is swept in the order in which its commits began.
 use Rattle.std.proofs.Common.{◌≡◌, ℕ, ◌+◌, ◌<◌, ◌≤◌, inl, inr, List, length, take, refl, sym, subst, ap, arith, ◌∙◌, Option, Some, None}
-use Rattle.std.specs.Prelude.{Bool, true, false, count_by, is_some, MatchOption}
+use Rattle.std.specs.Prelude.{Bool, false, count_by, is_some, MatchOption}
 use Rattle.std.specs.Int.{from_bool}
 use Rattle.std.specs.Option.{option_or}
 use Rattle.std.proofs.lemmas.Bool.{cases_lt}
@@ -9,7 +9,7 @@ use Rattle.std.proofs.lemmas.List.Sums.{count_by_more_yes, count_by_more_no}
 use Rattle.tt_judge.specs.declared.history.Commit.{Commit}
 use Rattle.tt_judge.specs.declared.judging.Violation.{Violation}
 use Rattle.tt_judge.specs.declared.order.Moment.TheVariants.{Began, Ended}
-use Rattle.tt_judge.specs.Consistency.{commit_at, Contradicts, IsViolated, IsConsistent, is_violated, violations_of, IsGreatestBefore, IsFirstViolation}
+use Rattle.tt_judge.specs.Consistency.{commit_at, Contradicts, IsConsistent, is_violated, violations_of, IsGreatestBefore, IsFirstViolation}
 use Rattle.tt_judge.specs.Order.{entry_at, IsOrderOf, IsGreatestIfAny}
 use Rattle.tt_judge.specs.Sweep.{IsLeader, IsPassed, IsVerdict, IsFirstSoFar}
 use Rattle.tt_judge.proofs.Deciding.{is_violated-true, is_violated-false, not-IsViolated}
