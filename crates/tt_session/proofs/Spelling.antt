@@ -3,9 +3,9 @@ use Rattle.std.proofs.Common.{◌≡◌, ◌≢◌, ℕ, ◌≤◌, List, [], �
 use Rattle.std.specs.Char.{digit_value}
 use Rattle.std.specs.Fmt.{decimal}
 use Rattle.std.proofs.lemmas.List.{take_at, drop_at, get_or-append-add, append_cancel_left}
-use Rattle.tt_cert.specs.Text.{numbers_text}
-use Rattle.tt_cert.specs.Reading.{IsNumber, NoDigit}
-use Rattle.tt_cert.proofs.Digits.{Reads-digits}
+use Rattle.tt_text.specs.Line.{numbers_text}
+use Rattle.tt_text.specs.Reading.{IsNumber, NoDigit}
+use Rattle.tt_text.proofs.Digits.{Reads-digits}
 use Rattle.tt_session.specs.Requests.{IsRequest, spelling_of, after_word, before_word, commit_word}
 use Rattle.tt_session.specs.declared.requests.Request.{Request}
 use Rattle.tt_session.specs.declared.requests.Request.TheVariants.{Now, After, Before, Commit}

@@ -1,6 +1,6 @@
 -- What a line is answered, and its text.
 use Rattle.std.specs.Prelude.{ℕ, Bool, true, false, List, [], ◌∷◌, codes}
-use Rattle.tt_cert.specs.Text.{line_of, ends_of}
+use Rattle.tt_text.specs.Line.{line_of, ends_of}
 use Rattle.tt_session.specs.declared.replies.Reply.{Reply}
 use Rattle.tt_session.specs.declared.replies.Reply.TheVariants.{Now, Yes, No, Committed, Waiting, Refused}
 

@@ -1,7 +1,7 @@
 -- What a line asks for, and its one spelling.
 use Rattle.std.specs.Prelude.{◌≡◌, ◌≢◌, ℕ, List, [], ◌∷◌, codes, Option, Some, None}
-use Rattle.tt_cert.specs.Text.{line_of}
-use Rattle.tt_cert.specs.Reading.{IsNumber, AreNumbers}
+use Rattle.tt_text.specs.Line.{line_of}
+use Rattle.tt_text.specs.Reading.{IsNumber}
 use Rattle.tt_session.specs.declared.requests.Request.{Request}
 use Rattle.tt_session.specs.declared.requests.Request.TheVariants.{Now, After, Before, Commit}
 
@@ -36,9 +36,3 @@ IsRequest (Commit number floor) = IsNumber number × IsNumber floor
 abbrev pub Spells : List ℕ → Option Request → Type 0
 Spells ended None = (request : Request) → IsRequest request → ended ≢ spelling_of request
 Spells ended (Some request) = IsRequest request × (ended ≡ spelling_of request)
-
--- a line, given with its line feed, is this word and these numbers, and no others
-pub record IsLineOf (word ended numbers : List ℕ) : Type 0 where
-  pub fits : AreNumbers numbers
-  pub is : ended ≡ line_of word numbers
-  pub only : (others : List ℕ) → AreNumbers others → ended ≡ line_of word others → others ≡ numbers

@@ -1,12 +1,11 @@
 //! What a line is answered.
 
-ghost use Rattle.std.specs.Prelude.{◌≡◌, ◌≤◌, length, IsTrue, ◌↔◌};
-ghost use Rattle.tt_cert.specs.Text.{line_of};
+ghost use Rattle.std.specs.Prelude.{◌≡◌};
 ghost use Rattle.tt_session.specs.Replies.{text_of, is_refused};
 
 use arrayvec::ArrayString;
-use itoa::Buffer;
 use tt_publish::Reading;
+use tt_text::short_line;
 
 /// What a line is answered.
 #[derive(Clone, Copy, Debug, PartialEq, Eq)]
@@ -48,28 +47,12 @@ impl Reply {
         ensures { result.bytes ≡ text_of self.now }
     {
         match self {
-            Reply::Now(reading) => line_text("now", &[reading.earliest(), reading.latest()]),
-            Reply::Yes => line_text("yes", &[]),
-            Reply::No => line_text("no", &[]),
-            Reply::Committed { number, stamp } => line_text("committed", &[*number, *stamp]),
-            Reply::Waiting { number, stamp } => line_text("waiting", &[*number, *stamp]),
-            Reply::Refused(number) => line_text("refused", &[u64::from(*number)]),
+            Reply::Now(reading) => short_line("now", &[reading.earliest(), reading.latest()]),
+            Reply::Yes => short_line("yes", &[]),
+            Reply::No => short_line("no", &[]),
+            Reply::Committed { number, stamp } => short_line("committed", &[*number, *stamp]),
+            Reply::Waiting { number, stamp } => short_line("waiting", &[*number, *stamp]),
+            Reply::Refused(number) => short_line("refused", &[u64::from(*number)]),
         }
     }
-}
-
-/// The line of a word and at most two numbers.
-fn line_text(word: &str, numbers: &[u64]) -> ArrayString<64>
-    requires short { length word.now ≤ 9 }
-    requires few { length numbers.now ≤ 2 }
-    ensures { result.bytes ≡ line_of word.now numbers.now }
-{
-    let mut text = ArrayString::new();
-    text.push_str(word);
-    for number in numbers {
-        text.push_str(" ");
-        text.push_str(Buffer::new().format(*number));
-    }
-    text.push_str("\n");
-    text
 }

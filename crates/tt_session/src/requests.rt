@@ -1,13 +1,11 @@
 //! What a line asks for.
 
-ghost use Rattle.std.specs.Prelude.{◌≡◌, ◌≢◌, ℕ, List, Some, MatchOption, IfSome, IfNone};
-ghost use Rattle.tt_cert.specs.Text.{line_of};
-ghost use Rattle.tt_cert.specs.Reading.{IsNumber, AreNumbers};
-ghost use Rattle.tt_session.specs.Requests.{Spells, IsLineOf, IsRequest, spelling_of};
+ghost use Rattle.std.specs.Prelude.{◌≡◌, ◌≢◌, ℕ, Some, IfSome, IfNone};
+ghost use Rattle.tt_text.specs.Reading.{IsNumber};
+ghost use Rattle.tt_session.specs.Requests.{Spells, IsRequest, spelling_of};
 ghost use Rattle.tt_session.specs.declared.requests.Request.{Request};
 
-use arrayvec::ArrayVec;
-use tt_cert::line_at;
+use tt_text::numbers_behind;
 
 /// What a line asks for.
 #[derive(Clone, Copy, Debug, PartialEq, Eq)]
@@ -98,21 +96,6 @@ fn commit_of(ended: &[u8]) -> Option<Request>
         }),
         _ => None,
     }
-}
-
-/// The numbers of the line, where it begins with this word and has numbers alone behind it.
-fn numbers_behind(word: &[u8], ended: &[u8]) -> Option<ArrayVec<u64, 16>>
-    ensures { MatchOption result
-        ((numbers : List ℕ) → AreNumbers numbers → ended.now ≢ line_of word.now numbers)
-        (λ numbers. IsLineOf word.now ended.now numbers.items) }
-{
-    let Some((numbers, end)) = line_at(word, ended, 0) else {
-        return None;
-    };
-    if end < ended.len() {
-        return None;
-    }
-    Some(numbers)
 }
 
 /// No two requests have one spelling.

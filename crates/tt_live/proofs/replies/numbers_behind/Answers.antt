@@ -1,4 +1,4 @@
-use Rattle.tt_session.proofs.Spelled.{whole_line}
+use Rattle.tt_text.proofs.Whole.{whole_line}
 use Rattle.tt_live.proofs.replies.numbers_behind.Goals as goal
 
 pub returns : goal.returns
