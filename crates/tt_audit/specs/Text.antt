@@ -1,7 +1,7 @@
 -- The text of a report.
 use Rattle.std.specs.Prelude.{ℕ, List, [], ◌∷◌, ◌++◌, codes, Option, Some, None}
 use Rattle.std.specs.List.{flat_map}
-use Rattle.tt_cert.specs.Text.{line_of, spaced}
+use Rattle.tt_text.specs.Line.{line_of, spaced}
 use Rattle.tt_world.specs.declared.breaches.Breach.{Breach}
 use Rattle.tt_world.specs.declared.breaches.Breach.TheVariants.{Drift, FalseStatements}
 use Rattle.tt_audit.specs.declared.reports.Suspect.{Suspect}

@@ -2,12 +2,12 @@
 
 ghost use Rattle.std.specs.Prelude.{◌≡◌, ◌++◌, IfOk, IfErr, OnOk, string_bytes, codes};
 ghost use Rattle.std.specs.List.{flat_map};
-ghost use Rattle.tt_cert.specs.Text.{line_of, spaced};
 ghost use Rattle.tt_audit.specs.Text.{report_text_of, happenings_text, outcomes_text, suspect_line, broken_line, verdict_line, breach_text};
 
 use crate::faults::AuditFault;
 use crate::reports::{Broken, Report, Suspect};
 use std::alloc::{AllocError, Global};
+use tt_text::push_line;
 use tt_world::Breach;
 
 /// The text of a report: one line each with `events`, `refused`, `fusions`, `readings`, `wrong`, `released` and
@@ -26,34 +26,34 @@ fn text_in(alloc: Global, report: &Report) -> Result<String, AllocError>
     ensures { IfOk result (λ text. string_bytes text ≡ report_text_of report.now) }
 {
     let mut text = String::new(alloc);
-    push_happenings(alloc, &mut text, report)?;
-    push_outcomes(alloc, &mut text, report)?;
-    push_suspects(alloc, &mut text, report.suspects.as_slice())?;
-    push_verdict(alloc, &mut text, &report.broken)?;
+    push_happenings(&mut text, report)?;
+    push_outcomes(&mut text, report)?;
+    push_suspects(&mut text, report.suspects.as_slice())?;
+    push_verdict(&mut text, &report.broken)?;
     Ok(text)
 }
 
 /// Writes the four lines that say what happened at the end.
-fn push_happenings(alloc: Global, text: &mut String, report: &Report) -> Result<(), AllocError>
+fn push_happenings(text: &mut String, report: &Report) -> Result<(), AllocError>
     ensures { OnOk result (string_bytes text.new ≡ string_bytes text.old ++ happenings_text report.now) }
 {
-    push_line(alloc, text, "events", &[report.events])?;
-    push_line(alloc, text, "refused", &[report.refused])?;
-    push_line(alloc, text, "fusions", &[report.fusions])?;
-    push_line(alloc, text, "readings", &[report.readings])
+    push_line(text, "events", &[report.events])?;
+    push_line(text, "refused", &[report.refused])?;
+    push_line(text, "fusions", &[report.fusions])?;
+    push_line(text, "readings", &[report.readings])
 }
 
 /// Writes the three lines that say what came of it at the end.
-fn push_outcomes(alloc: Global, text: &mut String, report: &Report) -> Result<(), AllocError>
+fn push_outcomes(text: &mut String, report: &Report) -> Result<(), AllocError>
     ensures { OnOk result (string_bytes text.new ≡ string_bytes text.old ++ outcomes_text report.now) }
 {
-    push_line(alloc, text, "wrong", &[report.wrong])?;
-    push_line(alloc, text, "released", &[report.released])?;
-    push_line(alloc, text, "violations", &[report.violations])
+    push_line(text, "wrong", &[report.wrong])?;
+    push_line(text, "released", &[report.released])?;
+    push_line(text, "violations", &[report.violations])
 }
 
 /// Writes the line of each suspect at the end.
-fn push_suspects(alloc: Global, text: &mut String, suspects: &[Suspect]) -> Result<(), AllocError>
+fn push_suspects(text: &mut String, suspects: &[Suspect]) -> Result<(), AllocError>
     ensures { OnOk result (string_bytes text.new ≡ string_bytes text.old ++ flat_map suspect_line suspects.now) }
 {
     for suspect in suspects {
@@ -62,67 +62,42 @@ fn push_suspects(alloc: Global, text: &mut String, suspects: &[Suspect]) -> Resu
             suspect.publication,
             u64::from(suspect.source),
         ];
-        push_line(alloc, text, "suspect", &numbers)?;
+        push_line(text, "suspect", &numbers)?;
     }
     Ok(())
 }
 
 /// Writes the last line at the end.
-fn push_verdict(alloc: Global, text: &mut String, broken: &Option<Broken>) -> Result<(), AllocError>
+fn push_verdict(text: &mut String, broken: &Option<Broken>) -> Result<(), AllocError>
     ensures { OnOk result (string_bytes text.new ≡ string_bytes text.old ++ verdict_line broken.now) }
 {
     match broken {
         None => text.push_str("premise kept\n"),
-        Some(broken) => push_broken(alloc, text, broken),
+        Some(broken) => push_broken(text, broken),
     }
 }
 
 /// Writes the line of the first event that breaks the assumptions at the end.
-fn push_broken(alloc: Global, text: &mut String, broken: &Broken) -> Result<(), AllocError>
+fn push_broken(text: &mut String, broken: &Broken) -> Result<(), AllocError>
     ensures { OnOk result (string_bytes text.new ≡ string_bytes text.old ++ broken_line broken.now) }
 {
     text.push_str("premise broken")?;
-    push_number(alloc, text, broken.event)?;
-    push_breach(alloc, text, broken.breach)
+    write!(text, " {}", broken.event)?;
+    push_breach(text, broken.breach)
 }
 
 /// Writes what was broken, and on which machine, which ends the line.
-fn push_breach(alloc: Global, text: &mut String, breach: Breach) -> Result<(), AllocError>
+fn push_breach(text: &mut String, breach: Breach) -> Result<(), AllocError>
     ensures { OnOk result (string_bytes text.new ≡ string_bytes text.old ++ breach_text breach) }
 {
     match breach {
         Breach::Drift(machine) => {
-            push_number(alloc, text, u64::from(machine))?;
+            write!(text, " {machine}")?;
             text.push_str(" drift\n")
         }
         Breach::FalseStatements(machine) => {
-            push_number(alloc, text, u64::from(machine))?;
+            write!(text, " {machine}")?;
             text.push_str(" false\n")
         }
     }
-}
-
-/// Writes a line at the end: the word, and the numbers, each behind one space.
-fn push_line(
-    alloc: Global,
-    text: &mut String,
-    word: &str,
-    numbers: &[u64],
-) -> Result<(), AllocError>
-    ensures { OnOk result (string_bytes text.new ≡ string_bytes text.old ++ line_of word.now numbers.now) }
-{
-    text.push_str(word)?;
-    for number in numbers {
-        push_number(alloc, text, *number)?;
-    }
-    text.push_str("\n")
-}
-
-/// Writes a space and a number at the end.
-fn push_number(alloc: Global, text: &mut String, number: u64) -> Result<(), AllocError>
-    ensures { OnOk result (string_bytes text.new ≡ string_bytes text.old ++ spaced number) }
-{
-    text.push_str(" ")?;
-    let digits = number.to_string(alloc)?;
-    text.push_str(digits.as_str())
 }
