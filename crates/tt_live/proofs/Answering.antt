@@ -1,7 +1,7 @@
 -- Replies that a session may give, by their lines.
 use Rattle.std.proofs.Common.{◌≡◌, ◌⊎◌, ℕ, List, [], ◌∷◌, inl, inr, refl}
 use Rattle.std.specs.Prelude.{codes}
-use Rattle.tt_cert.specs.Text.{line_of}
+use Rattle.tt_text.specs.Line.{line_of}
 use Rattle.tt_session.specs.Replies.{text_of}
 use Rattle.tt_session.specs.declared.requests.Request.TheVariants as asks
 use Rattle.tt_session.specs.declared.replies.Reply.TheVariants as says

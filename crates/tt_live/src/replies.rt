@@ -1,26 +1,12 @@
 //! Which replies a session may give to a line.
 
 ghost use Rattle.std.specs.Prelude.{◌≡◌, ◌⊎◌, [], ◌∷◌, ℕ, codes, IfSome, IsTrue};
-ghost use Rattle.tt_cert.specs.Text.{line_of};
+ghost use Rattle.tt_text.specs.Line.{line_of};
 ghost use Rattle.tt_session.specs.Replies.{text_of};
 ghost use Rattle.tt_session.specs.declared.replies.Reply.TheVariants as says;
 ghost use Rattle.tt_live.specs.Replies.{MayAnswer};
 
-use arrayvec::ArrayVec;
-use tt_cert::line_at;
-
-/// The numbers of a line, where it begins with this word and has numbers alone behind it.
-fn numbers_behind(word: &[u8], line: &[u8]) -> Option<ArrayVec<u64, 16>>
-    ensures { IfSome result (λ numbers. line.now ≡ line_of word.now numbers.items) }
-{
-    let Some((numbers, end)) = line_at(word, line, 0) else {
-        return None;
-    };
-    if end < line.len() {
-        return None;
-    }
-    Some(numbers)
-}
+use tt_text::numbers_behind;
 
 /// Whether a session may give this reply to this line, whatever it was asked before: it may refuse any line, it answers
 /// `now` with a reading, `after` and `before` with `yes` or `no`, and `commit` with the number of that commit. Both
