@@ -1,7 +1,7 @@
 -- Words with numbers behind them.
 use Rattle.std.specs.Prelude.{ℕ, List, ◌++◌}
 use Rattle.std.specs.List.{flat_map}
-use Rattle.tt_cert.specs.Text.{spaced}
+use Rattle.tt_text.specs.Line.{spaced}
 
 -- a word, and numbers, each behind one space
 abbrev pub phrase : List ℕ → List ℕ → List ℕ

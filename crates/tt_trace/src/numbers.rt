@@ -2,7 +2,7 @@
 
 ghost use Rattle.std.specs.Prelude.{◌≡◌, ◌++◌, OnOk, string_bytes};
 ghost use Rattle.std.specs.List.{flat_map};
-ghost use Rattle.tt_cert.specs.Text.{spaced};
+ghost use Rattle.tt_text.specs.Line.{spaced};
 ghost use Rattle.tt_trace.specs.Phrase.{phrase};
 
 use std::alloc::{AllocError, Global};

@@ -1,7 +1,7 @@
 use Rattle.std.proofs.Common.{◌≡◌, ◌++◌, take}
 use Rattle.std.specs.Prelude.{string_bytes}
 use Rattle.std.specs.List.{flat_map}
-use Rattle.tt_cert.specs.Text.{spaced}
+use Rattle.tt_text.specs.Line.{spaced}
 use Rattle.tt_trace.proofs.numbers.push_numbers.Given as goal
 
 abbrev pub invariant-loop-number : goal.invariant-loop-number
