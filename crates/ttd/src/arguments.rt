@@ -51,10 +51,10 @@ pub(crate) fn main_from<R: ByteReader, W: ByteWriter>(
     match words_given(rt) {
         Ok(words) => match as_texts(rt.alloc(), words.as_slice()) {
             Ok(texts) => answer_with(rt.alloc(), texts.as_slice(), input, output),
-            Err(AllocError) => give(rt.alloc(), output, Err(Fault::Memory)),
+            Err(AllocError) => give(output, Err(Fault::Memory)),
         },
         Err(error) if error.kind() == ErrorKind::OutOfMemory => {
-            give(rt.alloc(), output, Err(Fault::Memory))
+            give(output, Err(Fault::Memory))
         }
         Err(_) => answer_with(rt.alloc(), &[], input, output),
     }
@@ -90,10 +90,10 @@ pub(crate) fn live_from<
 >(rt: &H, input: &mut R, output: &mut W) -> LiveEnded {
     let memory = Err(LiveRefusal::Program(Fault::Memory));
     let Ok(words) = words_given(rt) else {
-        return give_live(rt.alloc(), output, memory);
+        return give_live(output, memory);
     };
     match as_texts(rt.alloc(), words.as_slice()) {
         Ok(texts) => answer_live(rt, rt.alloc(), texts.as_slice(), input, output),
-        Err(AllocError) => give_live(rt.alloc(), output, memory),
+        Err(AllocError) => give_live(output, memory),
     }
 }

@@ -24,7 +24,7 @@ fn main(rt: HostRuntime) -> ExitCode {
             return ExitCode::from(ended.status);
         }
         Ok(false) => main_from(&rt, &mut input, &mut output),
-        Err(AllocError) => give(rt.alloc(), &mut output, Err(Fault::Memory)),
+        Err(AllocError) => give(&mut output, Err(Fault::Memory)),
     };
     if let Some(refusal) = ended.refusal {
         explain(rt.alloc(), &mut rt.stderr(), &refusal);

@@ -12,7 +12,7 @@ use Rattle.ttd_commands.specs.declared.faults.Fault.TheVariants.{BadInput, ReadF
 use Rattle.ttd_commands.specs.Answer.{Answer, answer_of, fine}
 use Rattle.ttd_commands.specs.Input.{IsInputFault, most_input}
 use Rattle.ttd_commands.specs.Living.{IsLiveAnswer, ReadsLive, TellsLive, TellsLiveScript, UnlessMemory}
-use Rattle.ttd_commands.specs.Run.{GivesUnlessMemory, Input, Output, memory_answer}
+use Rattle.ttd_commands.specs.Run.{Gives, GivesUnlessMemory, Input, Output, memory_answer}
 use Rattle.ttd_commands.proofs.Replies.{longer_input}
 
 -- what is answered to a text that is a script
@@ -54,13 +54,12 @@ input_answered bytes old new answer whole short end sound (inr memory) = inr (in
 
 -- the answer, or out of memory, is written where the one of them is given
 pub given : (expected answer : Answer) (before after : Output) (status : Status) → (answer ≡ expected) ⊎ (answer ≡ memory_answer)
-    → GivesUnlessMemory answer before after status → GivesUnlessMemory expected before after status
-given expected answer before after status (inl same) (inl gives) = inl (rw same at gives)
-given expected answer before after status (inr memory) (inl gives) = inr (rw memory at gives)
-given expected answer before after status is (inr gives) = inr gives
+    → Gives answer before after status → GivesUnlessMemory expected before after status
+given expected answer before after status (inl same) gives = inl (rw same at gives)
+given expected answer before after status (inr memory) gives = inr (rw memory at gives)
 
 -- a text, or out of memory, is written where the one of them is given
 pub text_given : (answer : Answer) (before after : Output) (status : Status) → ((text : List ℕ) × (answer ≡ fine text)) ⊎ (answer ≡ memory_answer)
-    → GivesUnlessMemory answer before after status → (text : List ℕ) × GivesUnlessMemory (fine text) before after status
+    → Gives answer before after status → (text : List ℕ) × GivesUnlessMemory (fine text) before after status
 text_given answer before after status (inl told) gives = (told.0, given (fine told.0) answer before after status (inl told.1) gives)
 text_given answer before after status (inr memory) gives = ([], given (fine []) answer before after status (inr memory) gives)

@@ -1,17 +1,17 @@
 -- What is replied to an input, and answered.
-use Rattle.std.proofs.Common.{◌≡◌, ◌≢◌, ◌<◌, ◌≤◌, ◌+◌, ℕ, List, Option, None, Some, Result, Err, IfSome, length, replicate, inl, inr, refl, arith}
+use Rattle.std.proofs.Common.{◌≡◌, ◌≢◌, ◌⊎◌, ◌<◌, ◌≤◌, ◌+◌, ℕ, List, [], Option, None, Some, Result, Ok, Err, IfSome, length, replicate, inl, inr, refl, arith}
 use Rattle.std.specs.Io.KnownBytes.{IsAtEnd}
 use Rattle.std.proofs.lemmas.List.{length-replicate}
 use Rattle.tt_stream.specs.Counts.{HasFailed}
 use Rattle.ttd_words.specs.declared.words.Command.{Command}
 use Rattle.ttd_commands.specs.declared.faults.Fault.{Fault}
-use Rattle.ttd_commands.specs.declared.faults.Fault.TheVariants.{BadInput, ReadFailed}
+use Rattle.ttd_commands.specs.declared.faults.Fault.TheVariants.{BadInput, BadWords, Memory, ReadFailed}
 use Rattle.std.specs.Result.{result_map_both}
 use Rattle.ttd_commands.specs.declared.ending.Status.{Status}
-use Rattle.ttd_commands.specs.Answer.{Answer, answer_of}
+use Rattle.ttd_commands.specs.Answer.{Answer, answer_of, fine}
 use Rattle.ttd_commands.specs.Command.{HasReply, IsCommandReply, IsReply, IsReplyRead}
 use Rattle.ttd_commands.specs.Input.{IsInputFault, most_input}
-use Rattle.ttd_commands.specs.Run.{Answers, GivesUnlessMemory, Input, Output}
+use Rattle.ttd_commands.specs.Run.{Answers, Gives, GivesHelp, Input, Output, RefusesOrHelps}
 
 -- an input that has more bytes than some number has some bytes that are more
 pub longer_input : (left : Option (List ℕ)) (most : ℕ) → IfSome left (λ all. most < length all)
@@ -39,7 +39,7 @@ fault_replied shows command old new fault result is (inr (inl too_long)) cause l
       },
       rw refused (inl (more.2, refl)),
     )
-fault_replied shows command old new fault result is (inr (inr memory)) cause long sound = inr (inr cc)
+fault_replied shows command old new fault result is (inr (inr memory)) cause long sound = inr (inr (cc, sound (λ e. cc)))
 
 -- what is replied where it was read
 pub command_replied : {T : Type 0} (shows : T → Answer) (command : Command) (bytes : List ℕ) (old new : Input) (result : Result T Fault)
@@ -48,14 +48,28 @@ pub command_replied : {T : Type 0} (shows : T → Answer) (command : Command) (b
     → IsReplyRead shows (IsReply command) old new result
 command_replied shows command bytes old new result whole short end sound (inl is) =
     inl (bytes, record { whole = whole; end = inl end; sound = sound }, inr (short, is))
-command_replied shows command bytes old new result whole short end sound (inr memory) = inr (inr memory)
+command_replied shows command bytes old new result whole short end sound (inr memory) = inr (inr (memory, sound))
 
 -- what is written of it
 pub answered : {T : Type 0} (shows : T → Answer) (IsReplyOf : List ℕ → Result Answer Fault → Type 0) (old new : Input) (result : Result T Fault)
     (before after : Output) (status : Status) → IsReplyRead shows IsReplyOf old new result
-    → GivesUnlessMemory (answer_of (result_map_both shows (λ fault. fault) result)) before after status
+    → Gives (answer_of (result_map_both shows (λ fault. fault) result)) before after status
     → Answers IsReplyOf old new before after status
-answered shows IsReplyOf old new result before after status read (inr memory) = inr (inr memory)
-answered shows IsReplyOf old new result before after status (inl read) (inl gives) = inl (read.0, result_map_both shows (λ fault. fault) result, read.1, read.2, gives)
-answered shows IsReplyOf old new result before after status (inr (inl failed)) (inl gives) = inr (inl (failed.1, rw failed.0 at gives))
-answered shows IsReplyOf old new result before after status (inr (inr memory)) (inl gives) = inr (inr (rw memory at gives))
+answered shows IsReplyOf old new result before after status (inl read) gives = inl (read.0, result_map_both shows (λ fault. fault) result, read.1, read.2, gives)
+answered shows IsReplyOf old new result before after status (inr (inl failed)) gives = inr (inl (failed.1, rw failed.0 at gives))
+answered shows IsReplyOf old new result before after status (inr (inr memory)) gives = inr (inr (memory.1, rw memory.0 at gives))
+
+-- what is written where help was asked for
+pub help_given : {T : Type 0} (shows : T → Answer) (old new : Input) (result : Result T Fault) (before after : Output) (status : Status)
+    → (new ≡ old) × (((text : List ℕ) × (result_map_both shows (λ fault. fault) result ≡ Ok (fine text))) ⊎ (result ≡ Err Memory))
+    → Gives (answer_of (result_map_both shows (λ fault. fault) result)) before after status → GivesHelp old new before after status
+help_given shows old new result before after status (same, inl told) gives = (same, (told.0, inl (rw told.1 at gives)))
+help_given shows old new result before after status (same, inr memory) gives = (same, ([], inr (rw memory at gives)))
+
+-- what is written where the words are not taken
+pub untaken_given : {T : Type 0} (shows : T → Answer) (old new : Input) (result : Result T Fault) (before after : Output) (status : Status)
+    → (new ≡ old) × (((result ≡ Err BadWords) ⊎ (result ≡ Err Memory)) ⊎ ((text : List ℕ) × (result_map_both shows (λ fault. fault) result ≡ Ok (fine text))))
+    → Gives (answer_of (result_map_both shows (λ fault. fault) result)) before after status → RefusesOrHelps old new before after status
+untaken_given shows old new result before after status (same, inl (inl bad)) gives = inl (same, inl (rw bad at gives))
+untaken_given shows old new result before after status (same, inl (inr memory)) gives = inl (same, inr (rw memory at gives))
+untaken_given shows old new result before after status (same, inr told) gives = inr (same, (told.0, inl (rw told.1 at gives)))

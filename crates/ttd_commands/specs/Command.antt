@@ -44,12 +44,12 @@ IsReplyTo _ input reply = ⊥
 abbrev pub HasReply : {T A : Type 0} → (T → A) → (Result A Fault → Type 0) → Result T Fault → Type 0
 HasReply shows IsSuch result = IsSuch (result_map_both shows (λ fault. fault) result) ⊎ (result ≡ Err Memory)
 
--- The result is a reply to the bytes of the input, which was read; or reading failed; or memory ran out.
+-- The result is a reply to the bytes of the input, which was read; or reading failed; or memory ran out, with no read that failed.
 abbrev pub IsReplyRead : {T A : Type 0} → (T → A) → (List ℕ → Result A Fault → Type 0) → Input → Input → Result T Fault → Type 0
 IsReplyRead shows IsReplyOf old new result =
     ((bytes : List ℕ) × IsRead bytes old new × IsReplyOf bytes (result_map_both shows (λ fault. fault) result))
     ⊎ (((result ≡ Err ReadFailed) × HasFailed old.failed new.failed)
-    ⊎ (result ≡ Err Memory))
+    ⊎ ((result ≡ Err Memory) × (new.failed ≡ old.failed)))
 
 -- What the program says of words that are rejected.
 abbrev pub words_fault_of : WordsFault → Fault

@@ -11,7 +11,7 @@ use Rattle.tt_live.specs.declared.faults.LiveFault.{LiveFault}
 use Rattle.tt_live.specs.declared.faults.LiveFault.TheVariants.{Node}
 use Rattle.ttd_commands.specs.Answer.{Answer, answer_in, answer_of, refusal_line}
 use Rattle.ttd_commands.specs.Input.{most_input}
-use Rattle.ttd_commands.specs.Run.{GivesUnlessMemory, Input, IsRead, Output, memory_answer}
+use Rattle.ttd_commands.specs.Run.{Gives, Input, IsRead, Output, memory_answer}
 use Rattle.ttd_commands.specs.Running.{script_fault_of}
 use Rattle.ttd_commands.specs.declared.ending.Reply.{Reply}
 use Rattle.ttd_commands.specs.declared.ending.Status.{Status}
@@ -84,7 +84,7 @@ ReadsLive old new answer =
     ⊎ (((answer ≡ answer_of (Err ReadFailed)) × HasFailed old.failed new.failed)
     ⊎ (answer ≡ memory_answer))
 
--- Such an answer was written, unless memory ran out.
+-- Such an answer was written.
 abbrev pub Lives : Input → Input → Output → Output → Status → Type 0
 Lives old_in new_in old_out new_out status =
-    (answer : Answer) × ReadsLive old_in new_in answer × GivesUnlessMemory answer old_out new_out status
+    (answer : Answer) × ReadsLive old_in new_in answer × Gives answer old_out new_out status

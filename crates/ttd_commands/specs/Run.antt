@@ -53,17 +53,22 @@ Gives answer old new status = IsWritten answer old new status ⊎ IsCutShort ans
 abbrev pub memory_answer : Answer
 memory_answer = answer_of (Err Memory)
 
--- The same, or memory ran out, and that is the answer.
+-- The same, or memory ran out before there was this answer, and that is the answer.
 abbrev pub GivesUnlessMemory : Answer → Output → Output → Status → Type 0
 GivesUnlessMemory answer old new status = Gives answer old new status ⊎ Gives memory_answer old new status
 
--- Nothing was read, and it was written that the words are bad, or that memory ran out.
+-- Nothing was read, and it was written that the words are bad, or that memory ran out in reading them.
 abbrev pub RefusesWords : Input → Input → Output → Output → Status → Type 0
 RefusesWords old_in new_in old_out new_out status = (new_in ≡ old_in) × GivesUnlessMemory (answer_of (Err BadWords)) old_out new_out status
 
--- Nothing was read, and some help was written, or that memory ran out.
+-- Nothing was read, and some help was written, or that memory ran out in reading the words or making the help.
 abbrev pub GivesHelp : Input → Input → Output → Output → Status → Type 0
 GivesHelp old_in new_in old_out new_out status = (new_in ≡ old_in) × ((text : List ℕ) × GivesUnlessMemory (fine text) old_out new_out status)
+
+-- Words that are a mistake and ask for help too are answered with the one or the other.
+abbrev pub RefusesOrHelps : Input → Input → Output → Output → Status → Type 0
+RefusesOrHelps old_in new_in old_out new_out status =
+    RefusesWords old_in new_in old_out new_out status ⊎ GivesHelp old_in new_in old_out new_out status
 
 -- These are the bytes that the input still had, and it is read to its end, unless they are too many; no read failed.
 pub record IsRead (bytes : List ℕ) (old new : Input) : Type 0 where
@@ -71,11 +76,11 @@ pub record IsRead (bytes : List ℕ) (old new : Input) : Type 0 where
   pub end : IsAtEnd new.left ⊎ (most_input < length bytes)
   pub sound : new.failed ≡ old.failed
 
--- The input was read, and the answer is the one for a reply to its bytes; or reading failed, and that is the answer; or memory ran out,
--- and that is the answer.
+-- The input was read, and the answer is the one for a reply to its bytes; or reading failed, and that is the answer; or memory ran out
+-- before there was a reply, with no read that failed, and that is the answer.
 abbrev pub Answers : (List ℕ → Result Answer Fault → Type 0) → Input → Input → Output → Output → Status → Type 0
 Answers IsReplyOf old_in new_in old_out new_out status =
     ((bytes : List ℕ) × (reply : Result Answer Fault) × IsRead bytes old_in new_in × IsReplyOf bytes reply
     × Gives (answer_of reply) old_out new_out status)
     ⊎ ((HasFailed old_in.failed new_in.failed × Gives (answer_of (Err ReadFailed)) old_out new_out status)
-    ⊎ Gives memory_answer old_out new_out status)
+    ⊎ ((new_in.failed ≡ old_in.failed) × Gives memory_answer old_out new_out status))

@@ -8,12 +8,12 @@ ghost use Rattle.tt_stream.specs.DeviceBytes.{ReadsOn};
 ghost use Rattle.ttd_words.specs.Reading.{AreForHelp, AreMistaken, AreTaken, asked_of};
 ghost use Rattle.ttd_commands.specs.Answer.{answer_of, fine};
 ghost use Rattle.ttd_commands.specs.Living.{IsLiveAnswer, Lives, ReadsLive, TellsLive, UnlessMemory, Unread, live_answer, report_answer, status_at};
-ghost use Rattle.ttd_commands.specs.Run.{GivesHelp, GivesUnlessMemory, RefusesWords, input_of, output_of};
+ghost use Rattle.ttd_commands.specs.Run.{Gives, GivesHelp, RefusesWords, input_of, output_of};
 
 use crate::ending::{Ended, Reply, Status};
 use crate::faults::Fault;
 use crate::input::read_input;
-use crate::output::{end_with, explain, give};
+use crate::output::{end_with, explain, give, refusal_line};
 use std::alloc::{AllocError, Global};
 use std::io::Write;
 use std::net::{Net, TcpListener, TcpStream};
@@ -167,20 +167,15 @@ fn words_reply<
     }
 }
 
-/// Writes the one line of a run that was refused. That of out of memory takes no memory.
-fn refuse_run<W: ByteWriter>(alloc: Global, output: &mut W, fault: LiveFault) -> LiveEnded
-    ensures { GivesUnlessMemory (live_answer (Err (LiveRefusal.Live fault))) (output_of W.ByteWriter output.old) (output_of W.ByteWriter output.new) result.status }
+/// Writes the one line of a run that was refused. It takes no memory.
+fn refuse_run<W: ByteWriter>(output: &mut W, fault: LiveFault) -> LiveEnded
+    ensures { Gives (live_answer (Err (LiveRefusal.Live fault))) (output_of W.ByteWriter output.old) (output_of W.ByteWriter output.new) result.status }
 {
     let number = fault.number();
-    match format!(in alloc; "refused {number}\n") {
-        Ok(line) => LiveEnded {
-            status: end_with(output, line.as_str(), status_at(number)),
-            refusal: Some(LiveRefusal::Live(fault)),
-        },
-        Err(_) => LiveEnded {
-            status: end_with(output, "refused 1\n", Status::Memory),
-            refusal: Some(LiveRefusal::Program(Fault::Memory)),
-        },
+    let line = refusal_line(number);
+    LiveEnded {
+        status: end_with(output, line.as_str(), status_at(number)),
+        refusal: Some(LiveRefusal::Live(fault)),
     }
 }
 
@@ -194,18 +189,14 @@ fn ended_so(ended: Ended) -> LiveEnded
     }
 }
 
-/// Writes a reply: its text as it is, or the one line of a refusal.
-pub fn give_live<W: ByteWriter>(
-    alloc: Global,
-    output: &mut W,
-    reply: Result<Reply, LiveRefusal>,
-) -> LiveEnded
-    ensures { GivesUnlessMemory (live_answer reply) (output_of W.ByteWriter output.old) (output_of W.ByteWriter output.new) result.status }
+/// Writes a reply: its text as it is, or the one line of a refusal. It takes no memory.
+pub fn give_live<W: ByteWriter>(output: &mut W, reply: Result<Reply, LiveRefusal>) -> LiveEnded
+    ensures { Gives (live_answer reply) (output_of W.ByteWriter output.old) (output_of W.ByteWriter output.new) result.status }
 {
     match reply {
-        Ok(reply) => ended_so(give(alloc, output, Ok(reply))),
-        Err(LiveRefusal::Program(fault)) => ended_so(give(alloc, output, Err(fault))),
-        Err(LiveRefusal::Live(fault)) => refuse_run(alloc, output, fault),
+        Ok(reply) => ended_so(give(output, Ok(reply))),
+        Err(LiveRefusal::Program(fault)) => ended_so(give(output, Err(fault))),
+        Err(LiveRefusal::Live(fault)) => refuse_run(output, fault),
     }
 }
 
@@ -243,7 +234,7 @@ pub fn answer_live<
     ensures rest { ReadsOn (R.left input.old) (R.left input.new) }
 {
     let reply = words_reply(rt, alloc, words, input);
-    give_live(alloc, output, reply)
+    give_live(output, reply)
 }
 
 /// Runs the command `live`, whose only word is `live`: reads the input, a script, runs its machine in threads

@@ -1,14 +1,16 @@
 //! What is written, and how the program ends.
 
-ghost use Rattle.std.specs.Prelude.{◌≡◌, ℕ, Err, None, true, take, IfSome, IsOk, IsSome, OnOk, OnErr};
+ghost use Rattle.std.specs.Prelude.{◌≡◌, ℕ, Err, None, Some, true, take, IfErr, IfOk, OnOk, OnErr};
 ghost use Rattle.std.specs.Result.{result_map_both};
 ghost use Rattle.std.specs.Io.KnownBytes.{Appends};
 ghost use Rattle.tt_stream.specs.Counts.{HasFailed};
-ghost use Rattle.ttd_commands.specs.Answer.{answer_in, answer_of};
-ghost use Rattle.ttd_commands.specs.Run.{Gives, GivesUnlessMemory, IsWritten, memory_answer, output_of};
+ghost use Rattle.ttd_commands.specs.Answer.{answer_in, answer_of, refusal_line};
+ghost use Rattle.ttd_commands.specs.Run.{Gives, IsWritten, memory_answer, output_of};
 
 use crate::ending::{Ended, Reply, Status};
 use crate::faults::Fault;
+use arrayvec::ArrayString;
+use itoa::Buffer;
 use std::alloc::Global;
 use std::io::Write;
 use tt_stream::{ByteWriter, DeviceFault, write_all};
@@ -35,23 +37,23 @@ pub(crate) fn end_with<W: ByteWriter>(output: &mut W, text: &str, status: Status
     }
 }
 
-/// Writes the one line of a refusal. That of out of memory takes no memory.
-fn refuse<W: ByteWriter>(alloc: Global, output: &mut W, fault: Fault) -> Ended
-    ensures gives { GivesUnlessMemory (answer_of (Err fault)) (output_of W.ByteWriter output.old) (output_of W.ByteWriter output.new) result.status }
-    ensures refused { IfSome result.refusal (λ told. Gives (answer_of (Err told)) (output_of W.ByteWriter output.old) (output_of W.ByteWriter output.new) result.status) }
-    ensures some { IsSome result.refusal }
+/// The one line of a refusal: at most 14 bytes, since its number has at most five digits.
+pub(crate) fn refusal_line(number: u16) -> ArrayString<16>
+    ensures { result.bytes ≡ refusal_line number }
 {
-    let number = fault.number();
-    match format!(in alloc; "refused {number}\n") {
-        Ok(line) => Ended {
-            status: end_with(output, line.as_str(), fault.status()),
-            refusal: Some(fault),
-        },
-        Err(_) => Ended {
-            status: end_with(output, "refused 1\n", Status::Memory),
-            refusal: Some(Fault::Memory),
-        },
-    }
+    let mut line = ArrayString::new();
+    line.push_str("refused ");
+    line.push_str(Buffer::new().format(number));
+    line.push_str("\n");
+    line
+}
+
+/// Writes the one line of a refusal. It takes no memory.
+fn refuse<W: ByteWriter>(output: &mut W, fault: &Fault) -> Status
+    ensures { Gives (answer_of (Err fault.now)) (output_of W.ByteWriter output.old) (output_of W.ByteWriter output.new) result }
+{
+    let line = refusal_line(fault.number());
+    end_with(output, line.as_str(), fault.status())
 }
 
 /// Says a refusal in a sentence: its number, and what it means. Where that can't be written, nothing more is done.
@@ -61,12 +63,13 @@ pub fn explain<W: Write>(alloc: Global, errors: &mut W, refusal: &Fault) {
     }
 }
 
-/// Writes a reply: its text as it is, after which the program ends as the reply says, or the one line of a refusal.
-pub fn give<W: ByteWriter>(alloc: Global, output: &mut W, reply: Result<Reply, Fault>) -> Ended
-    ensures gives { GivesUnlessMemory (answer_of (result_map_both answer_in (λ fault. fault) reply)) (output_of W.ByteWriter output.old) (output_of W.ByteWriter output.new) result.status }
+/// Writes a reply: its text as it is, after which the program ends as the reply says, or the one line of a refusal. It takes no memory, so
+/// no refusal is replaced by another.
+pub fn give<W: ByteWriter>(output: &mut W, reply: Result<Reply, Fault>) -> Ended
+    ensures gives { Gives (answer_of (result_map_both answer_in (λ fault. fault) reply)) (output_of W.ByteWriter output.old) (output_of W.ByteWriter output.new) result.status }
     ensures memory { result.status ≡ Status.Memory → IsWritten memory_answer (output_of W.ByteWriter output.old) (output_of W.ByteWriter output.new) result.status }
-    ensures refused { IfSome result.refusal (λ told. Gives (answer_of (Err told)) (output_of W.ByteWriter output.old) (output_of W.ByteWriter output.new) result.status) }
-    ensures none { result.refusal ≡ None → IsOk reply }
+    ensures refused { IfErr reply (λ fault. result.refusal ≡ Some fault) }
+    ensures none { IfOk reply (λ text. result.refusal ≡ None) }
 {
     match reply {
         Ok(Reply::Fine(text)) => Ended {
@@ -77,6 +80,9 @@ pub fn give<W: ByteWriter>(alloc: Global, output: &mut W, reply: Result<Reply, F
             status: end_with(output, text.as_str(), Status::Broken),
             refusal: None,
         },
-        Err(fault) => refuse(alloc, output, fault),
+        Err(fault) => Ended {
+            status: refuse(output, &fault),
+            refusal: Some(fault),
+        },
     }
 }

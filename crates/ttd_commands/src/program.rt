@@ -8,7 +8,7 @@ ghost use Rattle.tt_stream.specs.DeviceBytes.{ReadsOn};
 ghost use Rattle.ttd_words.specs.Reading.{AreForHelp, AreMistaken, AreTaken, asked_of};
 ghost use Rattle.ttd_commands.specs.Answer.{answer_in, answer_of, fine};
 ghost use Rattle.ttd_commands.specs.Command.{HasReply, IsCommandReply, IsReply, IsReplyRead, IsReplyTo, words_fault_of};
-ghost use Rattle.ttd_commands.specs.Run.{Answers, Gives, GivesHelp, IsWritten, RefusesWords, input_of, memory_answer, output_of};
+ghost use Rattle.ttd_commands.specs.Run.{Answers, Gives, GivesHelp, IsWritten, RefusesOrHelps, RefusesWords, input_of, memory_answer, output_of};
 
 use crate::age::{Ageing, age_text};
 use crate::check::check_text;
@@ -81,18 +81,25 @@ fn command_reply<R: ByteReader>(
 
 /// What the program has to write: the text that the words ask for, or a refusal. The words are tested before the input is read.
 fn reply<R: ByteReader>(alloc: Global, words: &[&str], input: &mut R) -> Result<Reply, Fault>
-    ensures taken { AreTaken (texts words.now) → IsReplyRead answer_in (IsReplyTo (asked_of (texts words.now)))
+    ensures taken { AreTaken (texts words.now) → asked_of (texts words.now) ≢ Ok (Asked.Run Command.Live) →
+        IsReplyRead answer_in (IsReplyTo (asked_of (texts words.now)))
         (input_of R.ByteReader input.old) (input_of R.ByteReader input.new) result }
+    ensures live { AreTaken (texts words.now) → asked_of (texts words.now) ≡ Ok (Asked.Run Command.Live) →
+        (input_of R.ByteReader input.new ≡ input_of R.ByteReader input.old) × ((result ≡ Err Fault.BadWords) ⊎ (result ≡ Err Fault.Memory)) }
     ensures mistaken { AreMistaken (texts words.now) → (input_of R.ByteReader input.new ≡ input_of R.ByteReader input.old)
         × ((result ≡ Err Fault.BadWords) ⊎ (result ≡ Err Fault.Memory)) }
     ensures helped { AreForHelp (texts words.now) → (input_of R.ByteReader input.new ≡ input_of R.ByteReader input.old)
         × (((text : List ℕ) × (result_map_both answer_in (λ fault. fault) result ≡ Ok (fine text))) ⊎ (result ≡ Err Fault.Memory)) }
+    ensures untaken { ¬ (AreTaken (texts words.now)) → (input_of R.ByteReader input.new ≡ input_of R.ByteReader input.old)
+        × (((result ≡ Err Fault.BadWords) ⊎ (result ≡ Err Fault.Memory))
+        ⊎ ((text : List ℕ) × (result_map_both answer_in (λ fault. fault) result ≡ Ok (fine text)))) }
     ensures failed { IsErrOf result Fault.ReadFailed → HasFailed (R.failed input.old) (R.failed input.new) }
     ensures sound { (result ≢ Err Fault.ReadFailed) → R.failed input.new ≡ R.failed input.old }
     ensures rest { ReadsOn (R.left input.old) (R.left input.new) }
 {
     match read_words(alloc, words)? {
         Asked::Help => fine(Ok(help_text(alloc, words)?)),
+        Asked::Run(Command::Live) => Err(Fault::BadWords),
         Asked::Run(command) => command_reply(alloc, command, input),
     }
 }
@@ -104,7 +111,11 @@ pub fn answer_with<R: ByteReader, W: ByteWriter>(
     input: &mut R,
     output: &mut W,
 ) -> Ended
-    ensures taken { AreTaken (texts words.now) → Answers (IsReplyTo (asked_of (texts words.now)))
+    ensures taken { AreTaken (texts words.now) → asked_of (texts words.now) ≢ Ok (Asked.Run Command.Live) →
+        Answers (IsReplyTo (asked_of (texts words.now)))
+        (input_of R.ByteReader input.old) (input_of R.ByteReader input.new)
+        (output_of W.ByteWriter output.old) (output_of W.ByteWriter output.new) result.status }
+    ensures live { AreTaken (texts words.now) → asked_of (texts words.now) ≡ Ok (Asked.Run Command.Live) → RefusesWords
         (input_of R.ByteReader input.old) (input_of R.ByteReader input.new)
         (output_of W.ByteWriter output.old) (output_of W.ByteWriter output.new) result.status }
     ensures mistaken { AreMistaken (texts words.now) → RefusesWords
@@ -113,18 +124,21 @@ pub fn answer_with<R: ByteReader, W: ByteWriter>(
     ensures helped { AreForHelp (texts words.now) → GivesHelp
         (input_of R.ByteReader input.old) (input_of R.ByteReader input.new)
         (output_of W.ByteWriter output.old) (output_of W.ByteWriter output.new) result.status }
+    ensures untaken { ¬ (AreTaken (texts words.now)) → RefusesOrHelps
+        (input_of R.ByteReader input.old) (input_of R.ByteReader input.new)
+        (output_of W.ByteWriter output.old) (output_of W.ByteWriter output.new) result.status }
 
     // Whatever the words are.
     ensures device { result.status ≡ Status.Device → HasFailed (R.failed input.old) (R.failed input.new)
         ⊎ HasFailed (W.failed output.old) (W.failed output.new) }
-    ensures sound { (result.status ≢ Status.Device) → (result.status ≢ Status.Memory) → (R.failed input.new ≡ R.failed input.old)
+    ensures sound { (result.status ≢ Status.Device) → (R.failed input.new ≡ R.failed input.old)
         × (W.failed output.new ≡ W.failed output.old) }
     ensures memory { result.status ≡ Status.Memory → IsWritten memory_answer (output_of W.ByteWriter output.old) (output_of W.ByteWriter output.new) result.status }
     ensures rest { ReadsOn (R.left input.old) (R.left input.new) }
     ensures refused { IfSome result.refusal (λ told. Gives (answer_of (Err told)) (output_of W.ByteWriter output.old) (output_of W.ByteWriter output.new) result.status) }
 {
     let reply = reply(alloc, words, input);
-    give(alloc, output, reply)
+    give(output, reply)
 }
 
 /// Runs the program with the words after its name: reads the input, writes one answer to the output, and says how the program ends.
@@ -150,15 +164,21 @@ pub fn answer_with<R: ByteReader, W: ByteWriter>(
 /// - `twin`: as `run`, then 1401 no reading at event K, 1402 that end of it lies past the greatest time.
 ///
 /// [`Status::Device`] comes only where a device failed: the reader, which is told by `refused 1604`, or the writer (1605), which has then
-/// taken a front of the answer. Out of memory is `refused 1`, which takes no memory, with [`Status::Memory`]. Nothing but the answer is
-/// ever written, and it is flushed.
+/// taken a front of the answer. Out of memory is `refused 1`, with [`Status::Memory`]; to write a refusal takes no memory. Nothing but the
+/// answer is ever written, and it is flushed.
+///
+/// `live` is rejected with 1601 as other bad words are, before any read: [`live_with`](crate::live_with) runs it.
 pub fn main_with<R: ByteReader, W: ByteWriter>(
     alloc: Global,
     words: &[&str],
     input: &mut R,
     output: &mut W,
 ) -> Status
-    ensures taken { AreTaken (texts words.now) → Answers (IsReplyTo (asked_of (texts words.now)))
+    ensures taken { AreTaken (texts words.now) → asked_of (texts words.now) ≢ Ok (Asked.Run Command.Live) →
+        Answers (IsReplyTo (asked_of (texts words.now)))
+        (input_of R.ByteReader input.old) (input_of R.ByteReader input.new)
+        (output_of W.ByteWriter output.old) (output_of W.ByteWriter output.new) result }
+    ensures live { AreTaken (texts words.now) → asked_of (texts words.now) ≡ Ok (Asked.Run Command.Live) → RefusesWords
         (input_of R.ByteReader input.old) (input_of R.ByteReader input.new)
         (output_of W.ByteWriter output.old) (output_of W.ByteWriter output.new) result }
     ensures mistaken { AreMistaken (texts words.now) → RefusesWords
@@ -167,11 +187,14 @@ pub fn main_with<R: ByteReader, W: ByteWriter>(
     ensures helped { AreForHelp (texts words.now) → GivesHelp
         (input_of R.ByteReader input.old) (input_of R.ByteReader input.new)
         (output_of W.ByteWriter output.old) (output_of W.ByteWriter output.new) result }
+    ensures untaken { ¬ (AreTaken (texts words.now)) → RefusesOrHelps
+        (input_of R.ByteReader input.old) (input_of R.ByteReader input.new)
+        (output_of W.ByteWriter output.old) (output_of W.ByteWriter output.new) result }
 
     // Whatever the words are.
     ensures device { result ≡ Status.Device → HasFailed (R.failed input.old) (R.failed input.new)
         ⊎ HasFailed (W.failed output.old) (W.failed output.new) }
-    ensures sound { (result ≢ Status.Device) → (result ≢ Status.Memory) → (R.failed input.new ≡ R.failed input.old)
+    ensures sound { (result ≢ Status.Device) → (R.failed input.new ≡ R.failed input.old)
         × (W.failed output.new ≡ W.failed output.old) }
     ensures memory { result ≡ Status.Memory → IsWritten memory_answer (output_of W.ByteWriter output.old) (output_of W.ByteWriter output.new) result }
     ensures rest { ReadsOn (R.left input.old) (R.left input.new) }

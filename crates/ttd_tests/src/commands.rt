@@ -178,12 +178,12 @@ fn a_writer_fails(rt: HostRuntime) {
 fn out_of_memory_is_a_refusal(rt: HostRuntime) {
     let alloc = rt.alloc();
     let mut writer = MemoryWriter::new(alloc, 5, None);
-    let ended = give(alloc, &mut writer, Err(Fault::Memory));
+    let ended = give(&mut writer, Err(Fault::Memory));
     assert!(rt; ended.status == Status::Memory);
     assert!(rt; ended.refusal == Some(Fault::Memory));
     assert!(rt; writer.taken() == b"refused 1\n".as_slice());
     let mut writer = MemoryWriter::new(alloc, 5, Some(2));
-    assert!(rt; give(alloc, &mut writer, Err(Fault::Memory)).status == Status::Device);
+    assert!(rt; give(&mut writer, Err(Fault::Memory)).status == Status::Device);
     assert!(rt; writer.taken() == b"refus".as_slice());
 }
 
