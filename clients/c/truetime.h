@@ -1,0 +1,217 @@
+/* truetime.h: the time with an error bound, read from shared memory.
+ *
+ * The time daemon of a machine keeps its last publication in a file of 192 bytes. A client maps that file once, with
+ * tt_open, and calls tt_now as often as it likes. tt_now takes no lock, never waits, and makes no system call where
+ * clock_gettime makes none.
+ *
+ *     tt_client client;
+ *     if (tt_open(&client, "/run/truetime/time", 0) != 0) ...    0: the user who has to own the file
+ *     tt_reading now;
+ *     if (tt_now(&client, &now) != 0) ...
+ *     now.earliest_ns <= true time <= now.latest_ns
+ *
+ * Calls answer 0, or the number of a refusal. A refused tt_now leaves the interval of all times in its reading, so a
+ * caller that does not look is told nothing wrong.
+ *
+ * Reads version 1 of the format (its first four bytes are TTS1). Needs Linux on a little-endian 64-bit machine, and
+ * GCC or Clang: C11 or later with POSIX (-std=gnu11, or -std=c11 -D_POSIX_C_SOURCE=200809L), or C++17.
+ */
+#ifndef TRUETIME_H
+#define TRUETIME_H
+
+#include <fcntl.h>
+#include <stdbool.h>
+#include <stddef.h>
+#include <stdint.h>
+#include <stdio.h>
+#include <string.h>
+#include <sys/mman.h>
+#include <sys/stat.h>
+#include <sys/types.h>
+#include <time.h>
+#include <unistd.h>
+
+#if !defined(__BYTE_ORDER__) || __BYTE_ORDER__ != __ORDER_LITTLE_ENDIAN__ || __SIZEOF_POINTER__ != 8
+#error "truetime.h needs a little-endian 64-bit machine"
+#endif
+
+#ifdef __cplusplus
+extern "C" {
+#endif
+
+/* The greatest time and the greatest clock reading, in nanoseconds. */
+#define TT_MAX_TIME_NS UINT64_C(4000000000000000000)
+/* The greatest drift of a clock, in parts per million. */
+#define TT_MAX_DRIFT_PPM UINT64_C(100000)
+
+/* The refusals. */
+enum tt_refusal {
+    TT_NOTHING = 801,      /* the daemon has published nothing so far */
+    TT_CLOCK_BACK = 802,   /* the clock is below that of the publication, or above the greatest time */
+    TT_CLOCK_FAILED = 803, /* the clock gave no reading */
+    TT_NO_FILE = 1701,     /* the file cannot be opened or mapped, or the client is not open */
+    TT_OTHER_FILE = 1702,  /* not such a file, or of another owner, writable by others, of another boot or another clock */
+    TT_NO_SLOT = 1703,     /* no daemon wrote what stands there */
+    TT_BUSY = 1704         /* another publication came during each of the tries */
+};
+
+/* A mapped file. Set it by tt_open; after that any number of threads may use it. */
+typedef struct tt_client {
+    const uint64_t *words;
+} tt_client;
+
+/* What the daemon published. */
+typedef struct tt_publication {
+    uint64_t clock_ns;       /* the machine's clock at the fusion */
+    uint64_t lo_ns, hi_ns;   /* the interval that held the true time then */
+    uint64_t valid_until_ns; /* the last clock reading at which a newer publication is not overdue */
+    uint64_t epoch, number;  /* the daemon's life, and the publication's number in it */
+    uint64_t drift_ppm;      /* how far the clock may drift */
+} tt_publication;
+
+/* What is known of the true time: it lies in [earliest_ns, latest_ns], both ends included. */
+typedef struct tt_reading {
+    uint64_t earliest_ns, latest_ns;
+    uint64_t epoch, number; /* of the publication that was read */
+    bool fresh;             /* false: the daemon is late or gone. The interval is right, and widens until it is back */
+} tt_reading;
+
+enum { TT_BYTES = 192, TT_INDEX_WORD = 2, TT_FIRST_SLOT = 8, TT_SLOT_WORDS = 8, TT_TRIES = 1000 };
+
+/* Whether CLOCK_MONOTONIC is here what it is to the daemon: the same boot, and no time namespace that shifts it. */
+static inline bool tt_is_same_clock(const char *boot) {
+    char here[36];
+    long long seconds = 0, nanoseconds = 0;
+    FILE *file = fopen("/proc/sys/kernel/random/boot_id", "r");
+    if (file == NULL) return false;
+    bool is_same = fread(here, 1, sizeof here, file) == sizeof here && memcmp(here, boot, sizeof here) == 0;
+    fclose(file);
+    file = fopen("/proc/self/timens_offsets", "r");
+    if (file == NULL) return is_same; /* a kernel without time namespaces */
+    bool is_found = fscanf(file, "monotonic %lld %lld", &seconds, &nanoseconds) == 2;
+    fclose(file);
+    return is_same && is_found && seconds == 0 && nanoseconds == 0;
+}
+
+/* Maps the file at this path. Refuses with 1701 and 1702; then the client is not open. */
+static inline int tt_open(tt_client *client, const char *path, uid_t owner) {
+    struct stat found;
+    client->words = NULL;
+    int file = open(path, O_RDONLY | O_CLOEXEC | O_NOFOLLOW | O_NONBLOCK);
+    if (file < 0) return TT_NO_FILE;
+    if (fstat(file, &found) != 0) {
+        close(file);
+        return TT_NO_FILE;
+    }
+    if (!S_ISREG(found.st_mode) || found.st_size != TT_BYTES || found.st_uid != owner ||
+        (found.st_mode & (S_IWGRP | S_IWOTH)) != 0) {
+        close(file);
+        return TT_OTHER_FILE;
+    }
+    void *mapped = mmap(NULL, TT_BYTES, PROT_READ, MAP_SHARED, file, 0);
+    close(file);
+    if (mapped == MAP_FAILED) return TT_NO_FILE;
+    const char *head = (const char *)mapped;
+    /* The format, the length, and the clock: 1 is CLOCK_MONOTONIC. The boot has 36 letters, and 4 zeros follow. */
+    if (memcmp(head, "TTS1\xc0\0\0\0\1\0\0\0\0\0\0\0", 16) != 0 || memcmp(head + 60, "\0\0\0\0", 4) != 0 ||
+        !tt_is_same_clock(head + 24)) {
+        munmap(mapped, TT_BYTES);
+        return TT_OTHER_FILE;
+    }
+    client->words = (const uint64_t *)mapped;
+    return 0;
+}
+
+/* Unmaps the file. A client that is not open stays so. */
+static inline void tt_close(tt_client *client) {
+    if (client->words != NULL) munmap((void *)(uintptr_t)client->words, TT_BYTES);
+    client->words = NULL;
+}
+
+/* Copies the slot of the index that is shown, and tells whether the copy is whole: a publication changes the index
+ * before the next one writes into this slot, and no index comes twice. So one index before and after means that no
+ * byte of the slot has changed in between. The loads stay in their order, since each one is an acquire. */
+static inline bool tt_copy(const tt_client *client, uint64_t *index, uint64_t copy[TT_SLOT_WORDS]) {
+    *index = __atomic_load_n(&client->words[TT_INDEX_WORD], __ATOMIC_ACQUIRE);
+    /* The publication's count is odd where an odd number of the eight bytes of the index are odd. */
+    int slot = __builtin_parityll(*index & UINT64_C(0x0101010101010101));
+    const uint64_t *words = client->words + TT_FIRST_SLOT + slot * TT_SLOT_WORDS;
+    for (int place = 0; place < TT_SLOT_WORDS; place++) copy[place] = __atomic_load_n(&words[place], __ATOMIC_ACQUIRE);
+    return __atomic_load_n(&client->words[TT_INDEX_WORD], __ATOMIC_ACQUIRE) == *index;
+}
+
+/* The last publication. Refuses with 1701, 801, 1704 and 1703. */
+static inline int tt_read(const tt_client *client, tt_publication *published) {
+    uint64_t index, word[TT_SLOT_WORDS];
+    if (client->words == NULL) return TT_NO_FILE;
+    for (int tries = 0; !tt_copy(client, &index, word); tries++)
+        if (tries + 1 == TT_TRIES) return TT_BUSY;
+    if (index == 0) return TT_NOTHING;
+    if (word[0] != index || word[1] > TT_MAX_TIME_NS || word[2] > word[3] || word[3] > TT_MAX_TIME_NS ||
+        word[7] > TT_MAX_DRIFT_PPM)
+        return TT_NO_SLOT;
+    published->clock_ns = word[1];
+    published->lo_ns = word[2];
+    published->hi_ns = word[3];
+    published->valid_until_ns = word[4];
+    published->epoch = word[5];
+    published->number = word[6];
+    published->drift_ppm = word[7];
+    return 0;
+}
+
+/* What a clock may be wrong by after `elapsed` nanoseconds, at most TT_MAX_TIME_NS: rounded up. Nothing overflows. */
+static inline uint64_t tt_widening(uint64_t drift_ppm, uint64_t elapsed_ns) {
+    return elapsed_ns / 1000000 * drift_ppm + (elapsed_ns % 1000000 * drift_ppm + 999999) / 1000000;
+}
+
+/* The reading of a publication at a clock reading. Refuses with 802, and then the reading stays as it was. */
+static inline int tt_read_at(const tt_publication *published, uint64_t clock_ns, tt_reading *reading) {
+    if (clock_ns < published->clock_ns || clock_ns > TT_MAX_TIME_NS) return TT_CLOCK_BACK;
+    uint64_t elapsed = clock_ns - published->clock_ns;
+    uint64_t widening = tt_widening(published->drift_ppm, elapsed); /* at most elapsed */
+    uint64_t low = published->lo_ns + (elapsed - widening), high = published->hi_ns + (elapsed + widening);
+    reading->earliest_ns = low < TT_MAX_TIME_NS ? low : TT_MAX_TIME_NS;
+    reading->latest_ns = high < TT_MAX_TIME_NS ? high : TT_MAX_TIME_NS;
+    reading->epoch = published->epoch;
+    reading->number = published->number;
+    reading->fresh = clock_ns <= published->valid_until_ns;
+    return 0;
+}
+
+/* The machine's clock in nanoseconds. Refuses with 803. */
+static inline int tt_clock(uint64_t *clock_ns) {
+    struct timespec now;
+    if (clock_gettime(CLOCK_MONOTONIC, &now) != 0 || now.tv_sec < 0) return TT_CLOCK_FAILED;
+    /* A clock past the greatest time shows one second more than that, which tt_read_at refuses. */
+    uint64_t seconds = (uint64_t)now.tv_sec <= 4000000000 ? (uint64_t)now.tv_sec : 4000000001;
+    *clock_ns = seconds * 1000000000 + (uint64_t)now.tv_nsec;
+    return 0;
+}
+
+/* The time now. The clock is read after the publication, so it is not below that of the publication. Refuses with
+ * 1701, 801, 1704, 1703, 803 and 802; the reading is then the interval of all times, and not fresh. */
+static inline int tt_now(const tt_client *client, tt_reading *reading) {
+    tt_publication published;
+    uint64_t clock_ns = 0;
+    int refused = tt_read(client, &published);
+    if (refused == 0) refused = tt_clock(&clock_ns);
+    if (refused == 0) refused = tt_read_at(&published, clock_ns, reading);
+    if (refused != 0) {
+        reading->earliest_ns = 0;
+        reading->latest_ns = TT_MAX_TIME_NS;
+        reading->epoch = reading->number = 0;
+        reading->fresh = false;
+    }
+    return refused;
+}
+
+/* Whether time t has surely passed, and whether it has surely not arrived. */
+static inline bool tt_after(const tt_reading *reading, uint64_t t_ns) { return t_ns < reading->earliest_ns; }
+static inline bool tt_before(const tt_reading *reading, uint64_t t_ns) { return t_ns > reading->latest_ns; }
+
+#ifdef __cplusplus
+}
+#endif
+
+#endif

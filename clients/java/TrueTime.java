@@ -1,0 +1,199 @@
+import java.io.IOException;
+import java.lang.invoke.MethodHandles;
+import java.lang.invoke.VarHandle;
+import java.nio.ByteBuffer;
+import java.nio.ByteOrder;
+import java.nio.channels.FileChannel;
+import java.nio.charset.StandardCharsets;
+import java.nio.file.Files;
+import java.nio.file.LinkOption;
+import java.nio.file.NoSuchFileException;
+import java.nio.file.Path;
+import java.nio.file.StandardOpenOption;
+import java.nio.file.attribute.PosixFileAttributes;
+import java.nio.file.attribute.PosixFilePermission;
+import java.util.Arrays;
+import java.util.Map;
+
+/**
+ * The time with an error bound, read from shared memory.
+ *
+ * <p>The time daemon of a machine keeps its last publication in a file of 192 bytes. A client maps that file once and
+ * reads it as often as it likes, without a lock and without waiting:
+ *
+ * <pre>{@code
+ * TrueTime client = TrueTime.open(Path.of("/run/truetime/time"), "root");
+ * TrueTime.Reading now = client.now();
+ * System.out.println(now.earliestNs() + " " + now.latestNs()); // the true time lies between them, in nanoseconds
+ * }</pre>
+ *
+ * <p>Reads version 1 of the format (its first four bytes are TTS1). Needs Linux on a little-endian 64-bit machine and
+ * Java 17 or later. A mapping lives as long as its client object does. {@link System#nanoTime} has to show
+ * CLOCK_MONOTONIC, as it does in OpenJDK on Linux.
+ */
+public final class TrueTime {
+    /** The greatest time and the greatest clock reading, in nanoseconds. */
+    public static final long MAX_TIME_NS = 4_000_000_000_000_000_000L;
+    /** The greatest drift of a clock, in parts per million. */
+    public static final long MAX_DRIFT_PPM = 100_000;
+
+    private static final int BYTES = 192;
+    private static final int INDEX_AT = 16;
+    private static final int FIRST_SLOT_AT = 64;
+    private static final int SLOT_BYTES = 64;
+    private static final int TRIES = 1000;
+    private static final long MAGIC_AND_LENGTH = 0x0000_00c0_3153_5454L;
+    private static final long LOWEST_BITS = 0x0101_0101_0101_0101L;
+    private static final VarHandle WORD = MethodHandles.byteBufferViewVarHandle(long[].class, ByteOrder.LITTLE_ENDIAN);
+    private static final Map<Integer, String> MEANINGS = Map.of(
+        801, "the daemon has published nothing so far",
+        802, "the clock is below that of the publication, or above the greatest time",
+        1701, "the file cannot be opened or mapped",
+        1702, "not such a file, or of another owner, writable by others, of another boot or another clock",
+        1703, "no daemon wrote what stands there",
+        1704, "another publication came during each of the tries");
+
+    private final ByteBuffer mapped;
+
+    private TrueTime(ByteBuffer mapped) {
+        this.mapped = mapped;
+    }
+
+    /** A refusal; {@link #number} says which. */
+    public static final class Refused extends RuntimeException {
+        private static final long serialVersionUID = 1;
+        private final int number;
+
+        private Refused(int number) {
+            super("refused " + number + ": " + MEANINGS.get(number), null, false, false);
+            this.number = number;
+        }
+
+        /** The number of the refusal. */
+        public int number() {
+            return number;
+        }
+    }
+
+    /**
+     * What is known of the true time: it lies from earliestNs to latestNs, both included. The publication that was read
+     * is the one with this number in the daemon's life {@code epoch}. Where {@code fresh} is false, the daemon is late or
+     * gone: the interval is right, and widens until the daemon is back.
+     */
+    public record Reading(long earliestNs, long latestNs, long epoch, long number, boolean fresh) {
+        /** Whether time {@code tNs} has surely passed. */
+        public boolean after(long tNs) {
+            return tNs < earliestNs;
+        }
+
+        /** Whether time {@code tNs} has surely not arrived. */
+        public boolean before(long tNs) {
+            return tNs > latestNs;
+        }
+    }
+
+    /** What the daemon published; epoch, number and validUntilNs are unsigned. */
+    public record Publication(
+            long clockNs, long loNs, long hiNs, long validUntilNs, long epoch, long number, long driftPpm) {
+        /** The reading of this publication at a clock reading. Refuses with 802. */
+        public Reading readAt(long nowNs) {
+            if (nowNs < clockNs || nowNs > MAX_TIME_NS) {
+                throw new Refused(802);
+            }
+            long elapsed = nowNs - clockNs;
+            long widening = elapsed / 1_000_000 * driftPpm + (elapsed % 1_000_000 * driftPpm + 999_999) / 1_000_000;
+            // The upper end may pass 2^63, and not 2^64.
+            long latest = hiNs + elapsed + widening;
+            if (Long.compareUnsigned(latest, MAX_TIME_NS) > 0) {
+                latest = MAX_TIME_NS;
+            }
+            long earliest = Math.min(loNs + (elapsed - widening), MAX_TIME_NS);
+            return new Reading(earliest, latest, epoch, number, Long.compareUnsigned(nowNs, validUntilNs) <= 0);
+        }
+
+        private boolean isInRange() {
+            return isTime(clockNs) && isTime(loNs) && isTime(hiNs) && loNs <= hiNs
+                && driftPpm >= 0 && driftPpm <= MAX_DRIFT_PPM;
+        }
+
+        private static boolean isTime(long ns) {
+            return ns >= 0 && ns <= MAX_TIME_NS;
+        }
+    }
+
+    /** Maps the file at this path, which the named user has to own. Refuses with 1701 and 1702. */
+    public static TrueTime open(Path path, String owner) {
+        try {
+            PosixFileAttributes found = Files.readAttributes(path, PosixFileAttributes.class, LinkOption.NOFOLLOW_LINKS);
+            if (!found.isRegularFile() || found.size() != BYTES || !found.owner().getName().equals(owner)
+                    || found.permissions().contains(PosixFilePermission.GROUP_WRITE)
+                    || found.permissions().contains(PosixFilePermission.OTHERS_WRITE)) {
+                throw new Refused(1702);
+            }
+            try (FileChannel file = FileChannel.open(path, StandardOpenOption.READ, LinkOption.NOFOLLOW_LINKS)) {
+                TrueTime client = new TrueTime(file.map(FileChannel.MapMode.READ_ONLY, 0, BYTES));
+                client.checkHead();
+                return client;
+            }
+        } catch (IOException failed) {
+            throw new Refused(1701);
+        }
+    }
+
+    /** The last publication. Refuses with 801, 1704 and 1703. */
+    public Publication read() {
+        for (int tries = 0; tries < TRIES; tries++) {
+            long index = word(INDEX_AT);
+            // The publication's count is odd where an odd number of the eight bytes of the index are odd.
+            int slot = FIRST_SLOT_AT + SLOT_BYTES * (Long.bitCount(index & LOWEST_BITS) & 1);
+            long echo = word(slot);
+            Publication published = new Publication(word(slot + 8), word(slot + 16), word(slot + 24), word(slot + 32),
+                word(slot + 40), word(slot + 48), word(slot + 56));
+            if (word(INDEX_AT) != index) {
+                continue;
+            }
+            if (index == 0) {
+                throw new Refused(801);
+            }
+            if (echo != index || !published.isInRange()) {
+                throw new Refused(1703);
+            }
+            return published;
+        }
+        throw new Refused(1704);
+    }
+
+    /** The time now. Refuses with 801, 1704, 1703 and 802. */
+    public Reading now() {
+        Publication published = read();
+        // The clock is read after the publication, so it is not below that of the publication.
+        return published.readAt(System.nanoTime());
+    }
+
+    private long word(int at) {
+        return (long) WORD.getAcquire(mapped, at);
+    }
+
+    private void checkHead() throws IOException {
+        byte[] boot = new byte[36];
+        mapped.get(24, boot);
+        boolean isFormat = word(0) == MAGIC_AND_LENGTH && word(8) == 1 && mapped.getInt(60) == 0;
+        if (!isFormat || !isSameClock(boot)) {
+            throw new Refused(1702);
+        }
+    }
+
+    /** Whether CLOCK_MONOTONIC is here what it is to the daemon: the same boot, and no time namespace that shifts it. */
+    private static boolean isSameClock(byte[] boot) throws IOException {
+        byte[] here = Files.readString(Path.of("/proc/sys/kernel/random/boot_id")).strip().getBytes(StandardCharsets.US_ASCII);
+        if (!Arrays.equals(here, boot)) {
+            return false;
+        }
+        try {
+            String first = Files.readAllLines(Path.of("/proc/self/timens_offsets")).get(0);
+            return first.strip().matches("monotonic +0 +0");
+        } catch (NoSuchFileException noNamespaces) {
+            return true;
+        }
+    }
+}

@@ -1,0 +1,297 @@
+//! The time with an error bound, read from shared memory.
+//!
+//! The time daemon of a machine keeps its last publication in a file of 192 bytes. A client maps that file once and reads
+//! it as often as it likes, without a lock and without waiting.
+//!
+//! ```no_run
+//! let client = truetime::Client::open("/run/truetime/time", 0)?;
+//! let now = client.now()?;
+//! println!("from {} to {} ns", now.earliest_ns, now.latest_ns);
+//! # Ok::<(), truetime::Refused>(())
+//! ```
+//!
+//! Reads version 1 of the format (its first four bytes are `TTS1`). Needs Linux on a little-endian 64-bit machine.
+#![warn(missing_docs)]
+
+#[cfg(not(all(target_os = "linux", target_endian = "little", target_pointer_width = "64")))]
+compile_error!("truetime needs Linux on a little-endian 64-bit machine");
+
+use std::ffi::{c_int, c_long, c_void};
+use std::fmt;
+use std::fs::{self, File, OpenOptions};
+use std::os::fd::AsRawFd;
+use std::os::unix::fs::{MetadataExt, OpenOptionsExt};
+use std::path::Path;
+use std::ptr;
+use std::sync::atomic::{AtomicU64, Ordering};
+
+/// The greatest time and the greatest clock reading, in nanoseconds.
+pub const MAX_TIME_NS: u64 = 4_000_000_000_000_000_000;
+/// The greatest drift of a clock, in parts per million.
+pub const MAX_DRIFT_PPM: u64 = 100_000;
+
+const BYTES: usize = 192;
+const WORDS: usize = BYTES / 8;
+const INDEX_WORD: usize = 2;
+const FIRST_SLOT: usize = 8;
+const SLOT_WORDS: usize = 8;
+const TRIES: usize = 1000;
+const HEAD: [u64; 2] = [0x0000_00c0_3153_5454, 1];
+const LOWEST_BITS: u64 = 0x0101_0101_0101_0101;
+
+/// Why there is no reading.
+#[derive(Clone, Copy, Debug, PartialEq, Eq)]
+pub enum Refused {
+    /// The daemon has published nothing so far.
+    Nothing,
+    /// The clock is below that of the publication, or above the greatest time.
+    ClockBack,
+    /// The clock gave no reading.
+    ClockFailed,
+    /// The file cannot be opened or mapped.
+    NoFile,
+    /// Not such a file, or of another owner, writable by others, of another boot or another clock.
+    OtherFile,
+    /// No daemon wrote what stands there.
+    NoSlot,
+    /// Another publication came during each of the tries.
+    Busy,
+}
+
+impl Refused {
+    /// The number of the refusal.
+    pub fn number(self) -> u16 {
+        match self {
+            Refused::Nothing => 801,
+            Refused::ClockBack => 802,
+            Refused::ClockFailed => 803,
+            Refused::NoFile => 1701,
+            Refused::OtherFile => 1702,
+            Refused::NoSlot => 1703,
+            Refused::Busy => 1704,
+        }
+    }
+}
+
+impl fmt::Display for Refused {
+    fn fmt(&self, out: &mut fmt::Formatter<'_>) -> fmt::Result {
+        let meaning = match self {
+            Refused::Nothing => "the daemon has published nothing so far",
+            Refused::ClockBack => "the clock is below that of the publication, or above the greatest time",
+            Refused::ClockFailed => "the clock gave no reading",
+            Refused::NoFile => "the file cannot be opened or mapped",
+            Refused::OtherFile => "not such a file, or of another owner, writable by others, of another boot or another clock",
+            Refused::NoSlot => "no daemon wrote what stands there",
+            Refused::Busy => "another publication came during each of the tries",
+        };
+        write!(out, "refused {}: {meaning}", self.number())
+    }
+}
+
+impl std::error::Error for Refused {}
+
+/// What is known of the true time: it lies from `earliest_ns` to `latest_ns`, both included.
+#[derive(Clone, Copy, Debug, PartialEq, Eq)]
+pub struct Reading {
+    /// The earliest that it may be, in nanoseconds.
+    pub earliest_ns: u64,
+    /// The latest that it may be, in nanoseconds.
+    pub latest_ns: u64,
+    /// The daemon's life.
+    pub epoch: u64,
+    /// The number of the publication that was read, in that life.
+    pub number: u64,
+    /// False where the daemon is late or gone: the interval is right, and widens until the daemon is back.
+    pub fresh: bool,
+}
+
+impl Reading {
+    /// Whether time `t_ns` has surely passed.
+    pub fn after(&self, t_ns: u64) -> bool {
+        t_ns < self.earliest_ns
+    }
+
+    /// Whether time `t_ns` has surely not arrived.
+    pub fn before(&self, t_ns: u64) -> bool {
+        t_ns > self.latest_ns
+    }
+}
+
+/// What the daemon published.
+#[derive(Clone, Copy, Debug, PartialEq, Eq)]
+pub struct Publication {
+    /// The machine's clock at the fusion.
+    pub clock_ns: u64,
+    /// The lower end of the interval that held the true time then.
+    pub lo_ns: u64,
+    /// Its upper end.
+    pub hi_ns: u64,
+    /// The last clock reading at which a newer publication is not overdue.
+    pub valid_until_ns: u64,
+    /// The daemon's life.
+    pub epoch: u64,
+    /// The publication's number in that life.
+    pub number: u64,
+    /// How far the clock may drift, in parts per million.
+    pub drift_ppm: u64,
+}
+
+impl Publication {
+    /// The reading of this publication at a clock reading. Refuses with `ClockBack`.
+    #[inline]
+    pub fn read_at(&self, clock_ns: u64) -> Result<Reading, Refused> {
+        if clock_ns < self.clock_ns || clock_ns > MAX_TIME_NS {
+            return Err(Refused::ClockBack);
+        }
+        let elapsed = clock_ns - self.clock_ns;
+        let widening = elapsed / 1_000_000 * self.drift_ppm + (elapsed % 1_000_000 * self.drift_ppm).div_ceil(1_000_000);
+        Ok(Reading {
+            earliest_ns: (self.lo_ns + (elapsed - widening)).min(MAX_TIME_NS),
+            latest_ns: (self.hi_ns + (elapsed + widening)).min(MAX_TIME_NS),
+            epoch: self.epoch,
+            number: self.number,
+            fresh: clock_ns <= self.valid_until_ns,
+        })
+    }
+
+    fn is_in_range(&self) -> bool {
+        self.clock_ns <= MAX_TIME_NS
+            && self.lo_ns <= self.hi_ns
+            && self.hi_ns <= MAX_TIME_NS
+            && self.drift_ppm <= MAX_DRIFT_PPM
+    }
+}
+
+/// A mapped file. Any number of threads may use one client.
+#[derive(Debug)]
+pub struct Client {
+    words: *const AtomicU64,
+}
+
+// SAFETY: the mapping stays until the client is dropped, and it is read by atomic loads alone.
+unsafe impl Send for Client {}
+unsafe impl Sync for Client {}
+
+impl Client {
+    /// Maps the file at this path, which the user `owner` has to own. Refuses with `NoFile` and `OtherFile`.
+    pub fn open(path: impl AsRef<Path>, owner: u32) -> Result<Client, Refused> {
+        let client = Client::map(&open_file(path.as_ref(), owner)?)?;
+        if client.is_right_head() {
+            Ok(client)
+        } else {
+            Err(Refused::OtherFile)
+        }
+    }
+
+    /// The last publication. Refuses with `Nothing`, `Busy` and `NoSlot`.
+    #[inline]
+    pub fn read(&self) -> Result<Publication, Refused> {
+        for _ in 0..TRIES {
+            let index = self.load(INDEX_WORD);
+            // The publication's count is odd where an odd number of the eight bytes of the index are odd.
+            let slot = FIRST_SLOT + SLOT_WORDS * ((index & LOWEST_BITS).count_ones() as usize & 1);
+            let word: [u64; SLOT_WORDS] = std::array::from_fn(|place| self.load(slot + place));
+            if self.load(INDEX_WORD) != index {
+                continue;
+            }
+            if index == 0 {
+                return Err(Refused::Nothing);
+            }
+            let [echo, clock_ns, lo_ns, hi_ns, valid_until_ns, epoch, number, drift_ppm] = word;
+            let published = Publication { clock_ns, lo_ns, hi_ns, valid_until_ns, epoch, number, drift_ppm };
+            return if echo == index && published.is_in_range() { Ok(published) } else { Err(Refused::NoSlot) };
+        }
+        Err(Refused::Busy)
+    }
+
+    /// The time now. Refuses with `Nothing`, `Busy`, `NoSlot`, `ClockFailed` and `ClockBack`.
+    #[inline]
+    pub fn now(&self) -> Result<Reading, Refused> {
+        let published = self.read()?;
+        // The clock is read after the publication, so it is not below that of the publication.
+        published.read_at(clock_ns()?)
+    }
+
+    fn map(file: &File) -> Result<Client, Refused> {
+        // SAFETY: a new mapping, for reading alone, of the bytes that the file has.
+        let mapped = unsafe { mmap(ptr::null_mut(), BYTES, PROT_READ, MAP_SHARED, file.as_raw_fd(), 0) };
+        if mapped as isize == -1 {
+            return Err(Refused::NoFile);
+        }
+        Ok(Client { words: mapped.cast() })
+    }
+
+    #[inline]
+    fn load(&self, place: usize) -> u64 {
+        debug_assert!(place < WORDS);
+        // SAFETY: the mapping has that many words, and begins at a page.
+        unsafe { &*self.words.add(place) }.load(Ordering::Acquire)
+    }
+
+    fn is_right_head(&self) -> bool {
+        let head: Vec<u8> = (0..FIRST_SLOT).flat_map(|place| self.load(place).to_le_bytes()).collect();
+        [self.load(0), self.load(1)] == HEAD && head[60..] == [0; 4] && is_same_clock(&head[24..60])
+    }
+}
+
+impl Drop for Client {
+    fn drop(&mut self) {
+        // SAFETY: `map` made this mapping, and nothing borrows from it any more.
+        unsafe { munmap(self.words as *mut c_void, BYTES) };
+    }
+}
+
+fn open_file(path: &Path, owner: u32) -> Result<File, Refused> {
+    let file = OpenOptions::new().read(true).custom_flags(O_NOFOLLOW | O_NONBLOCK).open(path).map_err(|_| Refused::NoFile)?;
+    let found = file.metadata().map_err(|_| Refused::NoFile)?;
+    let is_ours = found.is_file() && found.len() == BYTES as u64 && found.uid() == owner && found.mode() & 0o022 == 0;
+    if is_ours {
+        Ok(file)
+    } else {
+        Err(Refused::OtherFile)
+    }
+}
+
+/// Whether `CLOCK_MONOTONIC` is here what it is to the daemon: the same boot, and no time namespace that shifts it.
+fn is_same_clock(boot: &[u8]) -> bool {
+    let is_same = fs::read("/proc/sys/kernel/random/boot_id").is_ok_and(|here| here.starts_with(boot));
+    let is_shifted = match fs::read_to_string("/proc/self/timens_offsets") {
+        Ok(text) => !text.lines().next().is_some_and(|line| line.split_whitespace().eq(["monotonic", "0", "0"])),
+        // A kernel without time namespaces has no such file.
+        Err(error) => error.kind() != std::io::ErrorKind::NotFound,
+    };
+    is_same && !is_shifted
+}
+
+/// The machine's clock in nanoseconds.
+#[inline]
+fn clock_ns() -> Result<u64, Refused> {
+    let mut now = Timespec { seconds: 0, nanoseconds: 0 };
+    // SAFETY: the call writes one timespec.
+    let status = unsafe { clock_gettime(CLOCK_MONOTONIC, &mut now) };
+    let seconds = u64::try_from(now.seconds).map_err(|_| Refused::ClockFailed)?;
+    if status != 0 {
+        return Err(Refused::ClockFailed);
+    }
+    // A clock past the greatest time shows one second more than that, which `read_at` refuses.
+    Ok(seconds.min(4_000_000_001) * 1_000_000_000 + now.nanoseconds as u64)
+}
+
+// What is needed of the C library, as Linux has it on 64-bit machines.
+const PROT_READ: c_int = 1;
+const MAP_SHARED: c_int = 1;
+const O_NONBLOCK: c_int = 0o4000;
+const O_NOFOLLOW: c_int = if cfg!(target_arch = "aarch64") { 0o100_000 } else { 0o400_000 };
+const CLOCK_MONOTONIC: c_int = 1;
+
+#[repr(C)]
+struct Timespec {
+    seconds: c_long,
+    nanoseconds: c_long,
+}
+
+extern "C" {
+    fn mmap(at: *mut c_void, length: usize, protection: c_int, flags: c_int, file: c_int, offset: i64) -> *mut c_void;
+    fn munmap(at: *mut c_void, length: usize) -> c_int;
+    fn clock_gettime(clock: c_int, out: *mut Timespec) -> c_int;
+}
