@@ -8,7 +8,7 @@ ghost use Rattle.ttd_commands.specs.Run.{IsWritten, memory_answer, output_of};
 
 use std::alloc::{AllocError, Global};
 use std::env;
-use std::io::{self, ErrorKind};
+use std::io::{self, ErrorKind, Write};
 use std::net::{Net, TcpListener, TcpStream};
 use std::rt::Env;
 use std::sync::Wait;
@@ -18,6 +18,7 @@ use tt_stream::{ByteReader, ByteWriter};
 use ttd_commands::{
     Ended, Fault, LiveEnded, LiveRefusal, Status, answer_live, answer_with, give, give_live,
 };
+use ttd_words::{mistake_text, usage_text};
 
 /// The words after the program's name.
 fn words_given(rt: &(impl Env + AllocGlobal)) -> io::Result<Vec<String>> {
@@ -53,9 +54,7 @@ pub(crate) fn main_from<R: ByteReader, W: ByteWriter>(
             Ok(texts) => answer_with(rt.alloc(), texts.as_slice(), input, output),
             Err(AllocError) => give(output, Err(Fault::Memory)),
         },
-        Err(error) if error.kind() == ErrorKind::OutOfMemory => {
-            give(output, Err(Fault::Memory))
-        }
+        Err(error) if error.kind() == ErrorKind::OutOfMemory => { give(output, Err(Fault::Memory)) }
         Err(_) => answer_with(rt.alloc(), &[], input, output),
     }
 }
@@ -95,5 +94,24 @@ pub(crate) fn live_from<
     match as_texts(rt.alloc(), words.as_slice()) {
         Ok(texts) => answer_live(rt, rt.alloc(), texts.as_slice(), input, output),
         Err(AllocError) => give_live(output, memory),
+    }
+}
+
+/// Says which word the command line did not expect, and where there is no word, how the program is used. Where that
+/// can't be written, nothing more is done.
+pub(crate) fn say_mistake<W: Write>(rt: &(impl Env + AllocGlobal), errors: &mut W) {
+    let Ok(words) = words_given(rt) else {
+        return;
+    };
+    let Ok(texts) = as_texts(rt.alloc(), words.as_slice()) else {
+        return;
+    };
+    let said = if texts.is_empty() {
+        usage_text(rt.alloc()).map(Some)
+    } else {
+        mistake_text(rt.alloc(), texts.as_slice())
+    };
+    if let Ok(Some(text)) = said {
+        let _ = errors.write_all(text.as_bytes());
     }
 }
