@@ -1,3 +1,4 @@
+pub mod CommitLines
 pub mod Deciding
 pub mod Ordered
 pub mod Sweeping

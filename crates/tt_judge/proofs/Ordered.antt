@@ -1,6 +1,6 @@
 -- The order of a history by one of the commits' times.
 use Rattle.std.proofs.Common.{◌≡◌, ℕ, zero, suc, ◌+◌, ◌<◌, ◌≤◌, inl, inr, List, [], ◌∷◌, ◌++◌, length, get_or, take, refl, sym, subst, ap, arith, ◌∙◌, add-one, Ordering, Less, Equal}
-use Rattle.std.specs.Prelude.{Bool, true, false, count_by, IsPermutation, IsSorted, All}
+use Rattle.std.specs.Prelude.{Bool, false, count_by, IsPermutation, IsSorted, All}
 use Rattle.std.specs.Cmp.{IsTotalOrder}
 use Rattle.std.specs.Ordering.{is_lt, nat_cmp, ordering_then, on, then_cmp}
 use Rattle.std.proofs.lemmas.Bool.{cases_lt, cases_order, cond-true, cond-false, lt-ltb, le-ltb, eq-eqb, true≢false}

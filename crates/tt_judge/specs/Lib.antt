@@ -1,4 +1,6 @@
 pub mod Consistency
+pub mod Fault
+pub mod HistoryText
 pub mod Order
 pub mod Sweep
 pub mod Text

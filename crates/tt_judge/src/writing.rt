@@ -1,10 +1,11 @@
 //! The answer of the judge as text.
 
 ghost use Rattle.std.specs.Prelude.{◌≡◌, ◌++◌, IfOk, OnOk, string_bytes};
-ghost use Rattle.tt_judge.specs.Text.{line_of, first_text, text_of};
+ghost use Rattle.tt_judge.specs.Text.{first_text, text_of};
 
 use crate::judging::{Judgement, Violation};
 use std::alloc::{AllocError, Global};
+use tt_text::push_line;
 
 /// The text of a judgement: the line `commits N`, the line `violations N`, and where there is a violation the line
 /// `first LATER EARLIER`, with the lines of the two commits counted from 1. Refuses only where memory runs out.
@@ -12,8 +13,8 @@ pub fn judgement_text(alloc: Global, judgement: &Judgement) -> Result<String, Al
     ensures written { IfOk result (λ text. string_bytes text ≡ text_of judgement.now) }
 {
     let mut text = String::new(alloc);
-    push_line(&mut text, "commits", &[judgement.commits as u128])?;
-    push_line(&mut text, "violations", &[judgement.violations as u128])?;
+    push_line(&mut text, "commits", &[judgement.commits as u64])?;
+    push_line(&mut text, "violations", &[judgement.violations as u64])?;
     push_first(&mut text, &judgement.first)?;
     Ok(text)
 }
@@ -25,19 +26,9 @@ fn push_first(text: &mut String, first: &Option<Violation>) -> Result<(), AllocE
     match first {
         None => Ok(()),
         Some(violation) => {
-            let lines = [violation.later as u128 + 1, violation.earlier as u128 + 1];
-            push_line(text, "first", &lines)
+            let later = violation.later as u128 + 1;
+            let earlier = violation.earlier as u128 + 1;
+            write!(text, "first {later} {earlier}\n")
         }
     }
-}
-
-/// Writes a line at the end: the word, and the numbers, each behind one space.
-fn push_line(text: &mut String, word: &str, numbers: &[u128]) -> Result<(), AllocError>
-    ensures { OnOk result (string_bytes text.new ≡ string_bytes text.old ++ line_of word.now numbers.now) }
-{
-    text.push_str(word)?;
-    for number in numbers {
-        write!(text, " {number}")?;
-    }
-    text.push_str("\n")
 }
