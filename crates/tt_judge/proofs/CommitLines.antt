@@ -6,7 +6,7 @@ use Rattle.std.proofs.lemmas.List.Elements.{All-head, All-tail, All-nil, All-con
 use Rattle.tt_text.specs.Line.{numbers_text}
 use Rattle.tt_text.specs.Reading.{ReadsNothing, Reads, Anything, IsNumber, AreNumbers}
 use Rattle.tt_judge.specs.declared.history.Commit.{Commit}
-use Rattle.tt_judge.specs.HistoryText.{commit_word, numbers_of, commit_line, history_text, IsCommit, IsHistoryText, IsNoHistoryText, IsFirstBadLine}
+use Rattle.tt_judge.specs.HistoryText.{commit_word, numbers_of, commit_line, history_text, IsCommit, IsHistoryText, IsNoHistoryText, IsFirstBadLine, BeginsWithCommit}
 
 -- the numbers of a commit fit a line, and no other commit has them
 pub AreNumbers-numbers_of : (commit : Commit) → IsCommit commit → AreNumbers (numbers_of commit)
@@ -59,6 +59,15 @@ module _ (text : List ℕ) where
         split commits (w ∷ ws, fits, same, is) =
             let both = h.only w (history_text ws) (All-head IsCommit w ws fits) tt is in
             (ws, All-tail IsCommit w ws fits, same ∙ (ap (λ u. found ++ u ∷ ws) both.0 ∙ sym (append_assoc found (commit ∷ []) ws)), sym both.1)
+
+    -- at least one line
+    pub BeginsWithCommit-read : (commit : Commit) (next : List ℕ) → Reads commit_line IsCommit Anything rest commit next → BeginsWithCommit text
+    BeginsWithCommit-read commit next h = first found so_far
+      where
+        first : (found : List Commit) → AreFoundSoFar text found rest → BeginsWithCommit text
+        first [] so_far = (commit, next, h.fits, so_far.is ∙ h.is)
+        first (w ∷ ws) so_far =
+            (w, history_text ws ++ rest, All-head IsCommit w ws so_far.fits, so_far.is ∙ append_assoc (commit_line w) (history_text ws) rest)
 
     -- a line that is none
     pub IsFirstBadLine-found : (line : ℕ) → line ≡ length found + 1 → 0 < length rest → ReadsNothing commit_line IsCommit Anything rest → IsFirstBadLine text line

@@ -48,7 +48,11 @@ pub record IsFirstBadLine (text : List ℕ) (line : ℕ) : Type 0 where
   pub more : 0 < length rest
   pub bad : ReadsNothing commit_line IsCommit Anything rest
 
--- why a history was not read: its text is that of none, and this is the first bad line; or memory was refused
+-- the text begins with the line of a commit
+abbrev pub BeginsWithCommit : List ℕ → Type 0
+BeginsWithCommit text = (commit : Commit) × (rest : List ℕ) × IsCommit commit × (text ≡ commit_line commit ++ rest)
+
+-- why a history was not read: its text is that of none, and this is the first bad line; or memory was refused for a commit
 abbrev pub IsReadingFault : List ℕ → HistoryFault → Type 0
 IsReadingFault text (BadLine line) = IsNoHistoryText text × IsFirstBadLine text line
-IsReadingFault text Memory = Unit {0}
+IsReadingFault text Memory = BeginsWithCommit text

@@ -17,7 +17,8 @@ use tt_text::line_at;
 /// most ENDED. An empty text is a history of no commits.
 ///
 /// Refuses any other text with 1603 `BadLine` and the number of the first line, counted from 1, that is not such a line;
-/// a last line with no line feed at its end is not. Refuses with 1 `Memory` where memory runs out before such a line.
+/// a last line with no line feed at its end is not. Refuses with 1 `Memory` where no memory is left for a commit whose line
+/// stands before any such line: never for an empty text, nor where the first line is bad.
 pub fn read_history(alloc: Global, text: &[u8]) -> Result<Vec<Commit>, HistoryFault>
     ensures found { IfOk result (λ commits. IsHistoryText text.now commits.items) }
     ensures only { IfOk result (λ commits. (others : List Commit) → IsHistoryText text.now others → others ≡ commits.items) }

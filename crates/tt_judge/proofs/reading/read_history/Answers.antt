@@ -1,9 +1,9 @@
-use Rattle.std.proofs.Common.{◌+◌, ◌<◌, ℕ, List, length, drop, sym, arith, length-drop}
+use Rattle.std.proofs.Common.{rules, ◌+◌, ◌<◌, ℕ, List, length, drop, sym, arith, length-drop}
 use Rattle.std.proofs.lemmas.List.{drop_all, length_push}
 use Rattle.tt_text.specs.Reading.{Anything}
 use Rattle.tt_text.proofs.Fronts.{further-ReadsUpTo}
 use Rattle.tt_judge.specs.HistoryText.{commit_line, IsCommit}
-use Rattle.tt_judge.proofs.CommitLines.{some-line, AreFoundSoFar-push, IsFirstBadLine-found, IsNoHistoryText-bad_line, only-end}
+use Rattle.tt_judge.proofs.CommitLines.{some-line, AreFoundSoFar-push, BeginsWithCommit-read, IsFirstBadLine-found, IsNoHistoryText-bad_line, only-end}
 use Rattle.tt_judge.proofs.reading.read_history.Goals as goal
 
 pub returns-in_default-clause-bad : goal.returns-in_default-clause-bad
@@ -33,3 +33,8 @@ loop-place-preserved c =
 pub returns-clause-only : goal.returns-clause-only
 returns-clause-only c =
     only-end c.args.text.now c.loop-place.commits.items (drop c.loop-place.place c.args.text.now) c.loop-place.invariant.2 (drop_all c.loop-place.place c.args.text.now c.loop-place-test.false)
+
+pub returns-in_err-map_err-clause-bad : goal.returns-in_err-map_err-clause-bad
+returns-in_err-map_err-clause-bad c =
+    let begins = BeginsWithCommit-read c.args.text.now c.loop-place.commits.items (drop c.loop-place.place c.args.text.now) c.loop-place.invariant.2 c.in-Some.commit (drop c.in-Some.next c.args.text.now) c.in-Some.ensures.1 in
+    search rules
