@@ -1,3 +1,4 @@
+pub mod Heading
 pub mod Numbers
 pub mod Spelling
 pub mod Counting

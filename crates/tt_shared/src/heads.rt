@@ -1,7 +1,10 @@
 //! The head of a shared file: all in front of its slots.
 
-ghost use Rattle.std.specs.Prelude.{◌≡◌};
+ghost use Rattle.std.specs.Prelude.{◌≡◌, List, ℕ, length, slice_range, Ok, IfOk, IfErr};
 ghost use Rattle.tt_shared.specs.Head.{head_of};
+ghost use Rattle.tt_shared.specs.declared.faults.SharedFault.TheVariants.{BadFile};
+
+use crate::faults::SharedFault;
 
 /// How many bytes a shared file has.
 pub const FILE_LEN: usize = 192;
@@ -24,4 +27,33 @@ pub fn encode_head(index: &[u8; 8], boot: &[u8; BOOT_LEN]) -> [u8; HEAD_LEN]
     bytes[16..24].copy_from_slice(index);
     bytes[..16].copy_from_slice(&front);
     bytes
+}
+
+/// The eight bytes where the index stands.
+fn index_in(bytes: &[u8]) -> [u8; 8]
+    requires { length bytes.now ≡ 64 }
+    ensures { result ≡ slice_range bytes.now 16 24 }
+{
+    let mut index = [0; 8];
+    index.copy_from_slice(&bytes[16..24]);
+    index
+}
+
+/// The index in the head of a file of this boot of the machine. Refuses with 1702 `BadFile` where the bytes are no such
+/// head: another length or beginning, another boot, or a byte behind it that is not 0.
+pub fn decode_head(bytes: &[u8], boot: &[u8; BOOT_LEN]) -> Result<[u8; 8], SharedFault>
+    // What is read is spelled so, each byte of it.
+    ensures found { IfOk result (λ index. bytes.now ≡ head_of index boot.now) }
+    // What is spelled so is read.
+    ensures taken { (index : List ℕ) → length index ≡ 8 → bytes.now ≡ head_of index boot.now → result ≡ Ok index }
+    ensures refused { IfErr result (λ fault. fault ≡ BadFile) }
+{
+    if bytes.len() != HEAD_LEN {
+        return Err(SharedFault::BadFile);
+    }
+    let index = index_in(bytes);
+    if bytes != encode_head(&index, boot).as_slice() {
+        return Err(SharedFault::BadFile);
+    }
+    Ok(index)
 }

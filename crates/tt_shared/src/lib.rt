@@ -31,7 +31,7 @@
 //! index, the slot that it names, and the index again; where both are the same, no byte of the slot changed between
 //! them ([`copy_laws`]). A writer that dies at any moment leaves the publication before or the new one ([`crash_laws`]).
 //!
-//! - `heads`: the head as bytes.
+//! - `heads`: the head as bytes, and back.
 //! - `slots`: a publication as the bytes of a slot, and back; a reading of it.
 //! - `indexes`: the index of each count, and the count of each index.
 //! - `places`: where a writer puts the bytes.
@@ -49,7 +49,7 @@ mod slots;
 mod teller;
 
 pub use faults::{PlaceFault, SharedFault, WriteFault};
-pub use heads::{BOOT_LEN, FILE_LEN, HEAD_LEN, encode_head};
+pub use heads::{BOOT_LEN, FILE_LEN, HEAD_LEN, decode_head, encode_head};
 pub use indexes::{count_of, index_laws, index_of, turn_of};
 pub use laws::{copy_laws, crash_laws};
 pub use places::Place;
