@@ -4,4 +4,5 @@ pub mod Spelling
 pub mod Counting
 pub mod Copying
 pub mod Crashing
+pub mod Putting
 pub mod Resuming

@@ -5,3 +5,4 @@ pub mod Reading
 pub mod Index
 pub mod Writing
 pub mod Seeing
+pub mod Memory

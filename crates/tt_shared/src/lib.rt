@@ -35,6 +35,7 @@
 //! - `slots`: a publication as the bytes of a slot, and back; a reading of it.
 //! - `indexes`: the index of each count, and the count of each index.
 //! - `places`: where a writer puts the bytes.
+//! - `memory`: a file in memory that fails at the write it is told to.
 //! - `teller`: the writer, and the two writes of a publication in their order.
 //! - `laws`: why readers need no lock.
 //! - `faults`: what is answered where a call refuses.
@@ -44,6 +45,7 @@ mod faults;
 mod heads;
 mod indexes;
 mod laws;
+mod memory;
 mod places;
 mod slots;
 mod teller;
@@ -52,6 +54,7 @@ pub use faults::{PlaceFault, SharedFault, WriteFault};
 pub use heads::{BOOT_LEN, FILE_LEN, HEAD_LEN, decode_head, encode_head};
 pub use indexes::{count_of, index_laws, index_of, turn_of};
 pub use laws::{copy_laws, crash_laws};
+pub use memory::{MemoryPlace, memory_laws};
 pub use places::Place;
 pub use slots::{SLOT_LEN, SharedSpan, decode, encode, one_spelling, read};
 pub use teller::SharedTeller;

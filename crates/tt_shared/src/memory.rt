@@ -1,0 +1,106 @@
+//! A shared file in memory.
+
+ghost use Rattle.std.specs.Prelude.{◌≡◌, ◌+◌, ◌<◌, ◌≤◌, ℕ, true, false, length, nat_lt, OnOk, OnErr, is_ok};
+ghost use Rattle.tt_stream.specs.Counts.{HasFailed, count_after};
+ghost use Rattle.tt_shared.specs.Writing.{Write, StopsShort};
+ghost use Rattle.tt_shared.specs.Seeing.{DiesWriting};
+ghost use Rattle.tt_shared.specs.declared.slots.SharedSpan.{SharedSpan};
+ghost use Rattle.tt_shared.specs.Memory.{MemoryState, MemoryDoes, put};
+
+use crate::faults::PlaceFault;
+use crate::heads::FILE_LEN;
+use crate::places::Place;
+use std::marker::Model;
+
+/// A shared file in memory, for tests. It fails at one of its writes, if it is told to, and keeps the first half of
+/// the bytes of that one.
+///
+/// Contracts see its bytes, the number of the write that is to fail, how many there were, and how many failed.
+#[derive(Drop)]
+pub struct MemoryPlace {
+    bytes: [u8; FILE_LEN],
+    fails_at: Option<u64>,
+    calls: u64,
+    failures: u64,
+}
+
+impl Model for MemoryPlace {
+    ghost Value = { MemoryState };
+
+    ghost view = { λ m. record { bytes = m.bytes; fails_at = m.fails_at; calls = m.calls; failures = m.failures } };
+}
+
+/// Whether so many bytes from `offset` on reach past the end of the file.
+fn reaches_past(offset: u64, len: usize) -> bool
+    ensures { result ≡ nat_lt 192 (offset + len) }
+{
+    offset > FILE_LEN as u64 || len > FILE_LEN - offset as usize
+}
+
+impl MemoryPlace {
+    /// A file with these bytes. Its write number `fails_at`, counted from 1, fails; `None`: none does.
+    pub fn new(bytes: [u8; FILE_LEN], fails_at: Option<u64>) -> MemoryPlace
+        ensures { result ≡ record { bytes = bytes; fails_at = fails_at; calls = 0; failures = 0 } }
+    {
+        MemoryPlace {
+            bytes,
+            fails_at,
+            calls: 0,
+            failures: 0,
+        }
+    }
+
+    /// What stands in it.
+    pub fn bytes(&self) -> [u8; FILE_LEN]
+        ensures { result ≡ self.now.bytes }
+    {
+        self.bytes
+    }
+
+    /// Puts the bytes from place `at` on.
+    fn put(&mut self, at: usize, bytes: &[u8])
+        requires { at + length bytes.now ≤ 192 }
+        ensures { self.new ≡ record self.old { bytes = put at bytes.now self.old.bytes } }
+    {
+        self.bytes[at..at + bytes.len()].copy_from_slice(bytes);
+    }
+}
+
+impl Place for MemoryPlace {
+    ghost does = { MemoryDoes };
+
+    ghost failed = { λ place. place.failures };
+
+    /// Puts the bytes into the file. Fails where they reach past its end, which changes none of its bytes, and at the
+    /// call that is to fail, which puts the first half of them.
+    fn write_all_at(&mut self, offset: u64, bytes: &[u8]) -> Result<(), PlaceFault>
+        ensures did { MemoryDoes self.old (record { offset = offset; bytes = bytes.now }) (is_ok result) self.new }
+        ensures sound { OnOk result (self.new.failures ≡ self.old.failures) }
+        ensures cause { OnErr result (HasFailed self.old.failures self.new.failures) }
+
+        ensures counted { (self.new.calls ≡ count_after self.old.calls 1) × (self.new.fails_at ≡ self.old.fails_at) }
+    {
+        self.calls = self.calls.saturating_add(1);
+        if reaches_past(offset, bytes.len()) {
+            self.failures = self.failures.saturating_add(1);
+            return Err(PlaceFault::Failed);
+        }
+        if self.fails_at == Some(self.calls) {
+            self.put(offset as usize, &bytes[..bytes.len() / 2]);
+            self.failures = self.failures.saturating_add(1);
+            return Err(PlaceFault::Failed);
+        }
+        self.put(offset as usize, bytes);
+        Ok(())
+    }
+
+    fn failures(&self) -> u64 {
+        self.failures
+    }
+}
+
+/// A law, not a call to make: a writer over memory whose write failed leaves the file as one that died then, so its
+/// readers find what [`crash_laws`](crate::crash_laws) says.
+pub fn memory_laws()
+    ensures { (n : ℕ) (p : SharedSpan) (before after : MemoryState) → StopsShort MemoryDoes n p before after → DiesWriting n p before.bytes after.bytes }
+{}
