@@ -36,12 +36,14 @@
 //! - `indexes`: the index of each count, and the count of each index.
 //! - `places`: where a writer puts the bytes.
 //! - `memory`: a file in memory that fails at the write it is told to.
+//! - `files`: the file of the world, and how a writer opens or makes it.
 //! - `teller`: the writer, and the two writes of a publication in their order.
 //! - `laws`: why readers need no lock.
 //! - `faults`: what is answered where a call refuses.
 #![tactic(auto)]
 
 mod faults;
+mod files;
 mod heads;
 mod indexes;
 mod laws;
@@ -51,6 +53,7 @@ mod slots;
 mod teller;
 
 pub use faults::{PlaceFault, SharedFault, WriteFault};
+pub use files::{FilePlace, open_file};
 pub use heads::{BOOT_LEN, FILE_LEN, HEAD_LEN, decode_head, encode_head};
 pub use indexes::{count_of, index_laws, index_of, turn_of};
 pub use laws::{copy_laws, crash_laws};

@@ -1,0 +1,191 @@
+//! The file of the world: how a writer opens or makes it.
+
+ghost use Rattle.std.specs.Prelude.{◌≡◌, ◌⊎◌, false, IfOk, IfErr};
+
+use crate::faults::{PlaceFault, WriteFault};
+use crate::heads::{BOOT_LEN, FILE_LEN, HEAD_LEN, decode_head, encode_head};
+use crate::places::Place;
+use crate::teller::SharedTeller;
+use std::alloc::{AllocError, Global};
+use std::fs::{self, DirBuilder, File, Files, OpenFile, OpenOptions};
+use std::io::{self, Read};
+use std::os::unix::fs::{DirBuilderExt, FileExt, OpenOptionsExt};
+
+/// Where Linux names the boot of the machine.
+const BOOT_PATH: &str = "/proc/sys/kernel/random/boot_id";
+
+/// The file of the world, open to be written, and its lock, which is held as long as this lives. Of what the file
+/// keeps nothing is claimed.
+#[derive(Drop)]
+pub struct FilePlace {
+    file: File,
+    lock: File,
+    failures: u64,
+}
+
+impl Place for FilePlace {
+    ghost does = { λ _ _ _ _. Unit {0} };
+
+    ghost failed = { λ place. place.failures };
+
+    fn write_all_at(&mut self, offset: u64, bytes: &[u8]) -> Result<(), PlaceFault> {
+        if FileExt::write_all_at(&self.file, bytes, offset).is_err() {
+            self.failures = self.failures.saturating_add(1);
+            return Err(PlaceFault::Failed);
+        }
+        Ok(())
+    }
+
+    fn failures(&self) -> u64 {
+        self.failures
+    }
+}
+
+/// The name of this boot of the machine.
+pub(crate) fn boot_name<R: Files<File = File>>(rt: &R) -> io::Result<[u8; BOOT_LEN]> {
+    let mut file = File::open(rt, BOOT_PATH)?;
+    let mut name = [0; BOOT_LEN];
+    file.read_exact(&mut name)?;
+    Ok(name)
+}
+
+/// The index of an open file, if it is a shared file of this boot.
+pub(crate) fn index_of_file(file: &File, boot: &[u8; BOOT_LEN]) -> Option<[u8; 8]> {
+    let metadata = file.metadata().ok()?;
+    if metadata.len() != FILE_LEN as u64 {
+        return None;
+    }
+    let mut head = [0; HEAD_LEN];
+    FileExt::read_exact_at(file, &mut head, 0).ok()?;
+    decode_head(&head, boot).ok()
+}
+
+/// The file that is there, if it is one of this boot.
+fn found_at<R: Files<File = File>>(rt: &R, path: &str, boot: &[u8; BOOT_LEN]) -> Option<File> {
+    let file = OpenOptions::new()
+        .read(true)
+        .write(true)
+        .open(rt, path)
+        .ok()?;
+    index_of_file(&file, boot)?;
+    Some(file)
+}
+
+/// Makes an empty file under another name, and gives it its name when it is whole and synced.
+fn made_at<R: Files<File = File>>(
+    rt: &R,
+    path: &str,
+    draft: &str,
+    boot: &[u8; BOOT_LEN],
+) -> io::Result<File> {
+    let mut bytes = [0; FILE_LEN];
+    bytes[..HEAD_LEN].copy_from_slice(&encode_head(&[0; 8], boot));
+    let file = OpenOptions::new()
+        .read(true)
+        .write(true)
+        .create(true)
+        .truncate(true)
+        .mode(0o644)
+        .open(rt, draft)?;
+    FileExt::write_all_at(&file, &bytes, 0)?;
+    file.sync_all()?;
+    fs::rename(rt, draft, path)?;
+    Ok(file)
+}
+
+/// The file that is there, or a new one.
+fn file_at<R: Files<File = File>>(
+    rt: &R,
+    path: &str,
+    draft: &str,
+    boot: &[u8; BOOT_LEN],
+) -> io::Result<File> {
+    match found_at(rt, path, boot) {
+        Some(file) => Ok(file),
+        None => made_at(rt, path, draft, boot),
+    }
+}
+
+/// The lock file at this path, locked as long as it is open.
+fn lock_at<R: Files<File = File>>(rt: &R, path: &str) -> Result<File, WriteFault>
+    ensures refused { IfErr result (λ fault. (fault ≡ WriteFault.Locked) ⊎ (fault ≡ WriteFault.CannotOpen)) }
+{
+    let Ok(lock) = OpenOptions::new()
+        .write(true)
+        .create(true)
+        .mode(0o644)
+        .open(rt, path)
+    else {
+        return Err(WriteFault::CannotOpen);
+    };
+    match lock.try_lock() {
+        Ok(()) => Ok(lock),
+        Err(fs::TryLockError::WouldBlock) => Err(WriteFault::Locked),
+        Err(fs::TryLockError::Error(_)) => Err(WriteFault::CannotOpen),
+    }
+}
+
+/// Makes the folder where it is missing, so that all may read in it (mode 0755).
+fn make_folder<R: Files>(rt: &R, folder: &str) -> io::Result<()> {
+    let mut builder = DirBuilder::new();
+    builder.recursive(true);
+    builder.mode(0o755);
+    builder.create(rt, folder)
+}
+
+/// The paths of the file, of its draft and of its lock.
+#[derive(Drop)]
+struct Paths {
+    file: String,
+    draft: String,
+    lock: String,
+}
+
+/// The paths in the folder.
+fn paths_in(alloc: Global, folder: &str, name: &str) -> Result<Paths, AllocError> {
+    Ok(Paths {
+        file: format!(in alloc; "{folder}/{name}")?,
+        draft: format!(in alloc; "{folder}/{name}.new")?,
+        lock: format!(in alloc; "{folder}/{name}.lock")?,
+    })
+}
+
+/// The writer of the file `name` in this folder, which is made where it is missing (mode 0755). It holds `name.lock` as
+/// long as it lives. A shared file of this boot stays as it is, and publications go on behind its last one, so readers
+/// that have it open need nothing. Else a whole new file (mode 0644) is made as `name.new`, synced, and renamed.
+///
+/// Refuses with 1707 `Locked` where another process writes the file, and with 1701 `CannotOpen` where the folder, the
+/// lock, the name of the boot or the file can't be opened, read or made, or memory runs out. A file that was there is as
+/// it was then.
+pub fn open_file<R: Files<File = File>>(
+    rt: &R,
+    alloc: Global,
+    folder: &str,
+    name: &str,
+) -> Result<SharedTeller<FilePlace>, WriteFault>
+    ensures whole { IfOk result (λ teller. teller.broken ≡ false) }
+    ensures refused { IfErr result (λ fault. (fault ≡ WriteFault.Locked) ⊎ (fault ≡ WriteFault.CannotOpen)) }
+{
+    let Ok(paths) = paths_in(alloc, folder, name) else {
+        return Err(WriteFault::CannotOpen);
+    };
+    if make_folder(rt, folder).is_err() {
+        return Err(WriteFault::CannotOpen);
+    }
+    let lock = lock_at(rt, paths.lock.as_str())?;
+    let Ok(boot) = boot_name(rt) else {
+        return Err(WriteFault::CannotOpen);
+    };
+    let Ok(file) = file_at(rt, paths.file.as_str(), paths.draft.as_str(), &boot) else {
+        return Err(WriteFault::CannotOpen);
+    };
+    let Some(index) = index_of_file(&file, &boot) else {
+        return Err(WriteFault::CannotOpen);
+    };
+    let place = FilePlace {
+        file,
+        lock,
+        failures: 0,
+    };
+    Ok(SharedTeller::resume(place, &index))
+}
