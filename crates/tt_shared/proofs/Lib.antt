@@ -3,6 +3,7 @@ pub mod Numbers
 pub mod Spelling
 pub mod Counting
 pub mod Copying
+pub mod Copies
 pub mod Crashing
 pub mod Putting
 pub mod Resuming

@@ -6,3 +6,4 @@ pub mod Index
 pub mod Writing
 pub mod Seeing
 pub mod Memory
+pub mod Looking

@@ -34,7 +34,8 @@
 //! - `heads`: the head as bytes, and back.
 //! - `slots`: a publication as the bytes of a slot, and back; a reading of it.
 //! - `indexes`: the index of each count, and the count of each index.
-//! - `places`: where a writer puts the bytes.
+//! - `places`: where a writer puts the bytes, and where readers find them.
+//! - `readers`: the reader, which copies a slot between two looks at the index.
 //! - `memory`: a file in memory that fails at the write it is told to.
 //! - `files`: the file of the world, and how a writer opens or makes it.
 //! - `teller`: the writer, and the two writes of a publication in their order.
@@ -49,6 +50,7 @@ mod indexes;
 mod laws;
 mod memory;
 mod places;
+mod readers;
 mod slots;
 mod teller;
 
@@ -58,6 +60,7 @@ pub use heads::{BOOT_LEN, FILE_LEN, HEAD_LEN, decode_head, encode_head};
 pub use indexes::{count_of, index_laws, index_of, turn_of};
 pub use laws::{copy_laws, crash_laws};
 pub use memory::{MemoryPlace, memory_laws};
-pub use places::Place;
+pub use places::{Place, ReadPlace};
+pub use readers::SharedReader;
 pub use slots::{SLOT_LEN, SharedSpan, decode, encode, one_spelling, read};
 pub use teller::SharedTeller;

@@ -1,8 +1,9 @@
-//! Where a writer puts the bytes of a shared file.
+//! Where a writer puts the bytes of a shared file, and where readers find them.
 
 ghost use Rattle.std.specs.Prelude.{◌≡◌, ℕ, Bool, OnOk, OnErr, is_ok};
 ghost use Rattle.tt_stream.specs.Counts.{HasFailed};
 ghost use Rattle.tt_shared.specs.Writing.{Write};
+ghost use Rattle.tt_shared.specs.Looking.{Look, AtIndex, AtSlot};
 
 use crate::faults::PlaceFault;
 
@@ -24,4 +25,18 @@ pub trait Place {
     /// Its failures so far, at most 2^64 - 1.
     fn failures(&self) -> u64
         ensures { result ≡ failed self.now };
+}
+
+/// A file as its readers see it, or memory in tests.
+pub trait ReadPlace {
+    /// What a look gives, and the place after it. A file of the world claims nothing.
+    ghost looks: { Self → Look → Self → Type 0 };
+
+    /// The eight bytes of the index; None where the look failed.
+    fn index(&mut self) -> Option<[u8; 8]>
+        ensures { looks self.old (AtIndex result) self.new };
+
+    /// The bytes of the slot that begins at `offset`; None where the look failed.
+    fn slot(&mut self, offset: u64) -> Option<[u8; 64]>
+        ensures { looks self.old (AtSlot offset result) self.new };
 }

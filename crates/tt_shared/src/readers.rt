@@ -1,0 +1,126 @@
+//! Readings of a shared file, as any process makes them.
+
+ghost use Rattle.std.specs.Prelude.{◌≡◌, ◌≢◌, ◌⊎◌, ℕ, List, Some, None, IfOk, IfErr, IsErrOf};
+ghost use Rattle.tt_publish.specs.Reading.{CanBeReadAt, reading_at};
+ghost use Rattle.tt_shared.specs.declared.faults.SharedFault.{SharedFault as TheFault};
+ghost use Rattle.tt_shared.specs.declared.faults.SharedFault.TheVariants.{Nothing, ClockBack, ClockFailed, CannotOpen, BadSlot, Contended};
+ghost use Rattle.tt_shared.specs.declared.slots.SharedSpan.{SharedSpan as Published};
+ghost use Rattle.tt_shared.specs.Slot.{IsSlotOf};
+ghost use Rattle.tt_shared.specs.Looking.{word_of, IsNamedBy, Tries, GivesUp, SeesNothing, Fails, EndsBy, Finds};
+
+use crate::faults::SharedFault;
+use crate::indexes::count_of;
+use crate::places::ReadPlace;
+use crate::slots::{SLOT_LEN, decode};
+use tt_publish::{Clock, Reading};
+
+/// How often a copy is tried.
+const MAX_TRIES: u32 = 1000;
+
+/// A copy of a slot, and the index before and after it.
+#[derive(Drop)]
+struct Copied {
+    index: [u8; 8],
+    bytes: [u8; SLOT_LEN],
+    again: [u8; 8],
+}
+
+/// Where the slot begins that an index names.
+fn offset_of(index: &[u8; 8]) -> u64
+    ensures { IsNamedBy index.now result }
+{
+    64 + 64 * (count_of(index) % 2)
+}
+
+/// One try: the index, the slot that it names, and the index again.
+fn try_copy<P: ReadPlace>(place: &mut P) -> Result<Copied, SharedFault>
+    ensures tried { IfOk result (λ c. Tries P.looks place.old c.index c.bytes c.again place.new) }
+    ensures ended { IfErr result (λ fault. ((fault ≡ Nothing) × SeesNothing P.looks place.old place.new) ⊎ ((fault ≡ CannotOpen) × Fails P.looks place.old place.new)) }
+{
+    let Some(index) = place.index() else {
+        return Err(SharedFault::CannotOpen);
+    };
+    if u64::from_le_bytes(index) == 0 {
+        return Err(SharedFault::Nothing);
+    }
+    let Some(bytes) = place.slot(offset_of(&index)) else {
+        return Err(SharedFault::CannotOpen);
+    };
+    let Some(again) = place.index() else {
+        return Err(SharedFault::CannotOpen);
+    };
+    Ok(Copied {
+        index,
+        bytes,
+        again,
+    })
+}
+
+/// Tries until both looks show the same index.
+fn copy<P: ReadPlace>(place: &mut P) -> Result<Copied, SharedFault>
+    ensures found { IfOk result (λ c. Finds P.looks c.index c.bytes place.old place.new) }
+    ensures ended { IfErr result (λ fault. ((fault ≡ Nothing) × EndsBy P.looks (SeesNothing P.looks) place.old place.new)
+        ⊎ (((fault ≡ CannotOpen) × EndsBy P.looks (Fails P.looks) place.old place.new)
+        ⊎ ((fault ≡ Contended) × GivesUp P.looks place.old place.new))) }
+{
+    for _ in 0..MAX_TRIES {
+        let copied = try_copy(place)?;
+        if copied.again == copied.index {
+            return Ok(copied);
+        }
+    }
+    Err(SharedFault::Contended)
+}
+
+/// A reader of a shared file.
+#[derive(Drop)]
+pub struct SharedReader<P> {
+    place: P,
+}
+
+impl<P> SharedReader<P> {
+    /// A reader of this place.
+    pub fn new(place: P) -> SharedReader<P>
+        ensures { result.place ≡ place }
+    {
+        SharedReader { place }
+    }
+}
+
+impl<P: ReadPlace> SharedReader<P> {
+    /// The reading of the last publication. The slot is copied until two looks at the index, before and after the copy,
+    /// show the same; then the clock is asked. So no newer publication lies before the clock's reading.
+    ///
+    /// Refuses, in this order: 801 `Nothing` where nothing was published, 1701 `CannotOpen` where the file could not be
+    /// read, 1704 `Contended` where each of 1,000 tries met another publication, 1703 `BadSlot` where no daemon wrote
+    /// the slot, and the clock is not asked by these; 803 `ClockFailed` where the clock failed; 802 `ClockBack` where it
+    /// shows less than the publication's clock, or more than the greatest time.
+    pub fn now<C: Clock>(&mut self, clock: &mut C) -> Result<Reading, SharedFault>
+        ensures read { IfOk result (λ reading. (index bytes : List ℕ) × (p : Published) × (c : ℕ)
+            × Finds P.looks index bytes self.old.place self.new.place × IsSlotOf (word_of index) p bytes
+            × C.gives clock.old (Some c) clock.new × CanBeReadAt p.fused c × (reading ≡ reading_at p.drift p.fused c)) }
+        ensures nothing { IsErrOf result Nothing → EndsBy P.looks (SeesNothing P.looks) self.old.place self.new.place × (clock.new ≡ clock.old) }
+        ensures cannot_open { IsErrOf result CannotOpen → EndsBy P.looks (Fails P.looks) self.old.place self.new.place × (clock.new ≡ clock.old) }
+        ensures contended { IsErrOf result Contended → GivesUp P.looks self.old.place self.new.place × (clock.new ≡ clock.old) }
+        ensures bad { IsErrOf result BadSlot → (index bytes : List ℕ) × Finds P.looks index bytes self.old.place self.new.place
+            × ((p : Published) → IsSlotOf (word_of index) p bytes → ⊥) × (clock.new ≡ clock.old) }
+        ensures clock_failed { IsErrOf result ClockFailed → (index bytes : List ℕ) × (p : Published)
+            × Finds P.looks index bytes self.old.place self.new.place × IsSlotOf (word_of index) p bytes × C.gives clock.old None clock.new }
+        ensures clock_back { IsErrOf result ClockBack → (index bytes : List ℕ) × (p : Published) × (c : ℕ)
+            × Finds P.looks index bytes self.old.place self.new.place × IsSlotOf (word_of index) p bytes
+            × C.gives clock.old (Some c) clock.new × (CanBeReadAt p.fused c → ⊥) }
+        ensures never { IsErrOf result SharedFault.BadFile → ⊥ }
+    {
+        let copied = copy(&mut self.place)?;
+        let index = copied.index;
+        let bytes = copied.bytes;
+        let shared = decode(u64::from_le_bytes(index), &bytes)?;
+        let Ok(at) = clock.read() else {
+            return Err(SharedFault::ClockFailed);
+        };
+        match shared.fused.read_at(shared.drift, at) {
+            Ok(reading) => Ok(reading),
+            Err(_) => Err(SharedFault::ClockBack),
+        }
+    }
+}
