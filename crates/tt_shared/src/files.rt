@@ -1,10 +1,11 @@
-//! The file of the world: how a writer opens or makes it.
+//! The file of the world: how a writer opens or makes it, and how a reader opens it.
 
 ghost use Rattle.std.specs.Prelude.{◌≡◌, ◌⊎◌, false, IfOk, IfErr};
 
-use crate::faults::{PlaceFault, WriteFault};
+use crate::faults::{PlaceFault, SharedFault, WriteFault};
 use crate::heads::{BOOT_LEN, FILE_LEN, HEAD_LEN, decode_head, encode_head};
-use crate::places::Place;
+use crate::places::{Place, ReadPlace};
+use crate::readers::SharedReader;
 use crate::teller::SharedTeller;
 use std::alloc::{AllocError, Global};
 use std::fs::{self, DirBuilder, File, Files, OpenFile, OpenOptions};
@@ -42,7 +43,7 @@ impl Place for FilePlace {
 }
 
 /// The name of this boot of the machine.
-pub(crate) fn boot_name<R: Files<File = File>>(rt: &R) -> io::Result<[u8; BOOT_LEN]> {
+fn boot_name<R: Files<File = File>>(rt: &R) -> io::Result<[u8; BOOT_LEN]> {
     let mut file = File::open(rt, BOOT_PATH)?;
     let mut name = [0; BOOT_LEN];
     file.read_exact(&mut name)?;
@@ -50,7 +51,7 @@ pub(crate) fn boot_name<R: Files<File = File>>(rt: &R) -> io::Result<[u8; BOOT_L
 }
 
 /// The index of an open file, if it is a shared file of this boot.
-pub(crate) fn index_of_file(file: &File, boot: &[u8; BOOT_LEN]) -> Option<[u8; 8]> {
+fn index_of_file(file: &File, boot: &[u8; BOOT_LEN]) -> Option<[u8; 8]> {
     let metadata = file.metadata().ok()?;
     if metadata.len() != FILE_LEN as u64 {
         return None;
@@ -188,4 +189,47 @@ pub fn open_file<R: Files<File = File>>(
         failures: 0,
     };
     Ok(SharedTeller::resume(place, &index))
+}
+
+/// The file of the world, open to be read. Of what it shows nothing is claimed.
+#[derive(Drop)]
+pub struct FileView {
+    file: File,
+}
+
+impl ReadPlace for FileView {
+    ghost looks = { λ _ _ _. Unit {0} };
+
+    fn index(&mut self) -> Option<[u8; 8]> {
+        let mut index = [0; 8];
+        FileExt::read_exact_at(&self.file, &mut index, 16).ok()?;
+        Some(index)
+    }
+
+    fn slot(&mut self, offset: u64) -> Option<[u8; 64]> {
+        let mut bytes = [0; 64];
+        FileExt::read_exact_at(&self.file, &mut bytes, offset).ok()?;
+        Some(bytes)
+    }
+}
+
+/// A reader of the file at this path, which stays good while its writer lives and dies and another one goes on; it has to
+/// be opened again where the file was made anew. Refuses with 1701 `CannotOpen` where the file or the name of the boot
+/// can't be opened or read, and with 1702 `BadFile` where it is not a shared file of this boot.
+pub fn open_view<R: Files<File = File>>(
+    rt: &R,
+    path: &str,
+) -> Result<SharedReader<FileView>, SharedFault>
+    ensures refused { IfErr result (λ fault. (fault ≡ SharedFault.CannotOpen) ⊎ (fault ≡ SharedFault.BadFile)) }
+{
+    let Ok(boot) = boot_name(rt) else {
+        return Err(SharedFault::CannotOpen);
+    };
+    let Ok(file) = File::open(rt, path) else {
+        return Err(SharedFault::CannotOpen);
+    };
+    if index_of_file(&file, &boot).is_none() {
+        return Err(SharedFault::BadFile);
+    }
+    Ok(SharedReader::new(FileView { file }))
 }

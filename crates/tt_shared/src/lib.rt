@@ -37,7 +37,7 @@
 //! - `places`: where a writer puts the bytes, and where readers find them.
 //! - `readers`: the reader, which copies a slot between two looks at the index.
 //! - `memory`: a file in memory that fails at the write it is told to.
-//! - `files`: the file of the world, and how a writer opens or makes it.
+//! - `files`: the file of the world: how a writer opens or makes it, and how a reader opens it.
 //! - `teller`: the writer, and the two writes of a publication in their order.
 //! - `laws`: why readers need no lock.
 //! - `faults`: what is answered where a call refuses.
@@ -55,7 +55,7 @@ mod slots;
 mod teller;
 
 pub use faults::{PlaceFault, SharedFault, WriteFault};
-pub use files::{FilePlace, open_file};
+pub use files::{FilePlace, FileView, open_file, open_view};
 pub use heads::{BOOT_LEN, FILE_LEN, HEAD_LEN, decode_head, encode_head};
 pub use indexes::{count_of, index_laws, index_of, turn_of};
 pub use laws::{copy_laws, crash_laws};

@@ -5,11 +5,11 @@ ghost use Rattle.tt_stream.specs.Counts.{HasFailed, count_after};
 ghost use Rattle.tt_shared.specs.Writing.{Write, StopsShort};
 ghost use Rattle.tt_shared.specs.Seeing.{DiesWriting};
 ghost use Rattle.tt_shared.specs.declared.slots.SharedSpan.{SharedSpan};
-ghost use Rattle.tt_shared.specs.Memory.{MemoryState, MemoryDoes, put};
+ghost use Rattle.tt_shared.specs.Memory.{MemoryState, MemoryDoes, MemoryShows, put};
 
 use crate::faults::PlaceFault;
 use crate::heads::FILE_LEN;
-use crate::places::Place;
+use crate::places::{Place, ReadPlace};
 use std::marker::Model;
 
 /// A shared file in memory, for tests. It fails at one of its writes, if it is told to, and keeps the first half of
@@ -96,6 +96,27 @@ impl Place for MemoryPlace {
 
     fn failures(&self) -> u64 {
         self.failures
+    }
+}
+
+impl ReadPlace for MemoryPlace {
+    ghost looks = { MemoryShows };
+
+    fn index(&mut self) -> Option<[u8; 8]> {
+        let mut index = [0; 8];
+        index.copy_from_slice(&self.bytes[16..24]);
+        Some(index)
+    }
+
+    /// Fails where the slot reaches past the end of the file.
+    fn slot(&mut self, offset: u64) -> Option<[u8; 64]> {
+        if reaches_past(offset, 64) {
+            return None;
+        }
+        let at = offset as usize;
+        let mut bytes = [0; 64];
+        bytes.copy_from_slice(&self.bytes[at..at + 64]);
+        Some(bytes)
     }
 }
 
