@@ -24,7 +24,7 @@ use Rattle.tt_world.proofs.Histories.Lasting.{Lasts-accepted}
 use Rattle.tt_world.proofs.Histories.Placing.{before_place, before_place-reverse, replied_at}
 use Rattle.tt_audit.specs.Violations.{Answered, asked_by, stamped_by, answered_of}
 use Rattle.tt_audit.specs.Ordering.{IsPlace, IsPlaced}
-use Rattle.tt_audit.specs.Watch.{WatchState, nothing_watched, KeepsWatch, IsWatchable, watched, breach_seen}
+use Rattle.tt_audit.specs.Watch.{WatchState, nothing_watched, KeepsWatch, IsWatchable, watch_after, breach_seen}
 use Rattle.tt_audit.proofs.Noting.{IsSetting, KeepsWatch-nothing, IsNext, IsWatchable-next, KeepsWatch-more, breach-seen}
 
 -- ---- a bad event changes nothing
@@ -64,10 +64,10 @@ module _ (configs : List Configuration) (past : List Event) (event : Event) (set
   pub watchable : (state : WatchState) → KeepsWatch configs (accepted configs past) state → IsWatchable configs state event (reply_of configs past event)
   watchable state keeps = IsWatchable-next configs (accepted configs past) event.at event.action (reply_of configs past event) state next-good keeps.carried
 
-  pub watched-good : (state : WatchState) → KeepsWatch configs (accepted configs past) state → KeepsWatch configs (accepted configs (event ∷ past)) (watched configs state event (reply_of configs past event))
+  pub watched-good : (state : WatchState) → KeepsWatch configs (accepted configs past) state → KeepsWatch configs (accepted configs (event ∷ past)) (watch_after configs state event (reply_of configs past event))
   watched-good state keeps =
-      subst (λ (es : List Event). KeepsWatch configs es (watched configs state event (reply_of configs past event))) (sym (accepted-good configs past event reason_is))
-      (subst (λ (r : Reply). KeepsWatch configs (event ∷ accepted configs past) (watched configs state event r)) (sym reply_is)
+      subst (λ (es : List Event). KeepsWatch configs es (watch_after configs state event (reply_of configs past event))) (sym (accepted-good configs past event reason_is))
+      (subst (λ (r : Reply). KeepsWatch configs (event ∷ accepted configs past) (watch_after configs state event r)) (sym reply_is)
       (KeepsWatch-more configs (accepted configs past) event.at event.action next-good state keeps))
 
   pub seen-good : (state : WatchState) → KeepsWatch configs (accepted configs past) state → breach_seen configs state event ≡ breach_of configs past event
@@ -152,10 +152,10 @@ module _ (configs : List Configuration) (events : List Event) (n : ℕ) (event :
     pub breach-here : breach_seen configs state event ≡ breach_of configs (reverse (take n events)) event
     breach-here = seen-good configs (reverse (take n events)) event setting still state before.keeps
 
-    pub good-more : breach_seen configs state event ≡ None → IsWatchedTo configs events (n + 1) (watched configs state event reply)
+    pub good-more : breach_seen configs state event ≡ None → IsWatchedTo configs events (n + 1) (watch_after configs state event reply)
     good-more none = record {
-      keeps = subst (λ (es : List Event). KeepsWatch configs (accepted configs es) (watched configs state event reply)) (sym at.next)
-          (subst (λ (r : Reply). KeepsWatch configs (accepted configs (event ∷ reverse (take n events))) (watched configs state event r)) (sym at.replied) (watched-good configs (reverse (take n events)) event setting still state before.keeps));
+      keeps = subst (λ (es : List Event). KeepsWatch configs (accepted configs es) (watch_after configs state event reply)) (sym at.next)
+          (subst (λ (r : Reply). KeepsWatch configs (accepted configs (event ∷ reverse (take n events))) (watch_after configs state event r)) (sym at.replied) (watched-good configs (reverse (take n events)) event setting still state before.keeps));
       none = subst (λ (es : List Event). NoBreach configs es) (sym at.next) (sym breach-here ∙ none, before.none);
     }
 

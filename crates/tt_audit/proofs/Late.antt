@@ -13,7 +13,7 @@ use Rattle.tt_audit.specs.declared.ordering.Place.{Place}
 use Rattle.tt_audit.specs.declared.ordering.Stamping.{Stamping}
 use Rattle.tt_audit.specs.Violations.{Answered, receipts_in, receipts_of, receipts_before, asked_by, is_worker, is_late}
 use Rattle.tt_audit.proofs.Cells.{written, rows-written, cells-written, cell-here, cell-other}
-use Rattle.tt_audit.specs.Ordering.{OrderState, KeepsOrder, before_at, higher, highest_after, is_reached, IsPlace, marked, is_stamping_reached}
+use Rattle.tt_audit.specs.Ordering.{OrderState, KeepsOrder, before_at, higher, highest_after, is_reached, IsPlace, marks_after, is_stamping_reached}
 
 -- no worker has anything
 abbrev pub nothing : List (List (Option ℕ))
@@ -53,9 +53,9 @@ reached-after s o (r ∷ rs) =
 module _ (past : List Answered) (order : OrderState) (keeps : KeepsOrder past order) where
   -- what is kept once a worker, if there is one, was asked
   record IsMarked (o : Option Place) : Type 0 where
-    machines : length (marked order.before o order.released) ≡ 8
-    workers : (m : ℕ) → m < 8 → length (get_or (marked order.before o order.released) m []) ≡ 32
-    before : (m w : ℕ) → m < 8 → w < 32 → before_at (marked order.before o order.released) m w ≡ highest_after None (cond (is_worker m w o) (receipts_of past) (receipts_before past m w))
+    machines : length (marks_after order.before o order.released) ≡ 8
+    workers : (m : ℕ) → m < 8 → length (get_or (marks_after order.before o order.released) m []) ≡ 32
+    before : (m w : ℕ) → m < 8 → w < 32 → before_at (marks_after order.before o order.released) m w ≡ highest_after None (cond (is_worker m w o) (receipts_of past) (receipts_before past m w))
 
   by_test : (b : Bool) (x : Option ℕ) (all since : List Receipt) → (b ≡ true → x ≡ highest_after None all) → (b ≡ false → x ≡ highest_after None since) → x ≡ highest_after None (cond b all since)
   by_test true x all since holds fails = holds refl
@@ -82,7 +82,7 @@ module _ (past : List Answered) (order : OrderState) (keeps : KeepsOrder past or
   -- an event with its reply is noted
   pub KeepsOrder-noted : (event : Event) (reply : Reply) → IfSome (asked_by event.action reply) IsPlace
       → KeepsOrder (record { event = event; reply = reply } ∷ past)
-      (record { released = highest_after order.released (receipts_in reply); before = marked order.before (asked_by event.action reply) order.released })
+      (record { released = highest_after order.released (receipts_in reply); before = marks_after order.before (asked_by event.action reply) order.released })
   KeepsOrder-noted event reply there =
       let mark = is_marked (asked_by event.action reply) there in
       record {

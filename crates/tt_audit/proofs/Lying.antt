@@ -17,7 +17,7 @@ use Rattle.tt_world.specs.declared.packets.Packet.{Packet}
 use Rattle.tt_world.specs.Life.{Life, life_of, life_at, is_of}
 use Rattle.tt_world.specs.Packet.{machine_of_packet, source_of_packet, bytes_of}
 use Rattle.tt_world.specs.Past.{sends_now, put_by, packets_of}
-use Rattle.tt_world.specs.Sources.{stated_in, stated_by, outstanding}
+use Rattle.tt_world.specs.Sources.{stated_in, stated_by, outstanding_poll}
 use Rattle.tt_daemon.specs.Config.{Configuration}
 use Rattle.tt_world.specs.Bad.{can_be_delivered, lacks_packet}
 use Rattle.tt_world.specs.Reply.{delivery_reply, reply_to_packet, reply_to}
@@ -45,7 +45,7 @@ packet-unborn : (past : List Event) (life : Life) (i : ℕ) → IsUnborn past li
 packet-unborn [] life i unborn = refl
 packet-unborn (event ∷ past) life i unborn =
     let before : IsUnborn past life = omega (arith, life_of-on past event life.machine) in
-    ap (λ (o : Option Statement). cond (is_some o) (delivered_by event.action) (packet_of_statement past life i)) (unstated_by past life i (outstanding past life i) event.action before)
+    ap (λ (o : Option Statement). cond (is_some o) (delivered_by event.action) (packet_of_statement past life i)) (unstated_by past life i (outstanding_poll past life i) event.action before)
     ∙ packet-unborn past life i before
 
 -- ---- the packet of a statement was put
@@ -59,15 +59,15 @@ delivered-within past life i waiting (Deliver q clock) p states is = by_packet (
     by_packet (Some packet) e h = let same : q ≡ p = cc in subst (λ (k : ℕ). k < length (packets_of past)) same (slice_get_within (packets_of past) q packet e)
 delivered-within past life i waiting _ p states is = absurd cc
 
-packet_before-within : (past : List Event) (event : Event) (life : Life) (i p : ℕ) (b : Bool) → is_some (stated_by past life i (outstanding past life i) event.action) ≡ b
+packet_before-within : (past : List Event) (event : Event) (life : Life) (i p : ℕ) (b : Bool) → is_some (stated_by past life i (outstanding_poll past life i) event.action) ≡ b
     → (packet_of_statement past life i ≡ Some p → p < length (packets_of past)) → cond b (delivered_by event.action) (packet_of_statement past life i) ≡ Some p → p < length (packets_of past)
-packet_before-within past event life i p true states old is = delivered-within past life i (outstanding past life i) event.action p states is
+packet_before-within past event life i p true states old is = delivered-within past life i (outstanding_poll past life i) event.action p states is
 packet_before-within past event life i p false states old is = old is
 
 packet-within : (past : List Event) (life : Life) (i p : ℕ) → packet_of_statement past life i ≡ Some p → p < length (packets_of past)
 packet-within [] life i p is = absurd cc
 packet-within (event ∷ past) life i p is =
-    let old : p < length (packets_of past) = packet_before-within past event life i p (is_some (stated_by past life i (outstanding past life i) event.action)) refl (packet-within past life i p) is in
+    let old : p < length (packets_of past) = packet_before-within past event life i p (is_some (stated_by past life i (outstanding_poll past life i) event.action)) refl (packet-within past life i p) is in
     omega (arith, old, length-append (packets_of past) (put_by (life_of past) (sends_now past) (packets_of past) event.action))
 
 -- ---- one event more
@@ -78,10 +78,10 @@ lying-old past event None within = refl
 lying-old past event (Some p) within = ap is_lying (origin-old past event p (within p refl))
 
 -- whether a statement is false after an event: by the packet that the event delivers, if that makes the statement, and as before if not
-is_false-more : (past : List Event) (event : Event) (life : Life) (i : ℕ) (b : Bool) → is_some (stated_by past life i (outstanding past life i) event.action) ≡ b
+is_false-more : (past : List Event) (event : Event) (life : Life) (i : ℕ) (b : Bool) → is_some (stated_by past life i (outstanding_poll past life i) event.action) ≡ b
     → is_false_statement (event ∷ past) life i ≡ cond b (is_lying (option_and_then (origin_of past) (delivered_by event.action))) (is_false_statement past life i)
 is_false-more past event life i b is =
-    lying-old past event (packet_of_statement (event ∷ past) life i) (λ p e. packet_before-within past event life i p (is_some (stated_by past life i (outstanding past life i) event.action)) refl (packet-within past life i p) e)
+    lying-old past event (packet_of_statement (event ∷ past) life i) (λ p e. packet_before-within past event life i p (is_some (stated_by past life i (outstanding_poll past life i) event.action)) refl (packet-within past life i p) e)
     ∙ ap (λ (t : Bool). is_lying (option_and_then (origin_of past) (cond t (delivered_by event.action) (packet_of_statement past life i)))) is
     ∙ by_test b
   where
@@ -140,7 +140,7 @@ restarted-lies past at lies machine clock long here keeps m i hm hi =
 module _ (past : List Event) (clock : ℕ) (packet : Packet) where
   -- what the packet states for source i of machine m, if the poll of it waits
   abbrev made_for : ℕ → ℕ → Result Statement SourceFault
-  made_for m i = statement_of_message m (life_of past m) i (outstanding past (life_at past m) i) clock (read_of2 (bytes_of packet))
+  made_for m i = statement_of_message m (life_of past m) i (outstanding_poll past (life_at past m) i) clock (read_of2 (bytes_of packet))
 
   -- and for its own source and machine
   abbrev made : Result Statement SourceFault
@@ -150,7 +150,7 @@ module _ (past : List Event) (clock : ℕ) (packet : Packet) where
   both-same m i machine source = sym (ap₂ (λ (j k : ℕ). made_for j k) machine source)
 
   -- it states something for its own source and machine alone
-  states-own : (m i : ℕ) → is_some (stated_in past (life_at past m) i (outstanding past (life_at past m) i) clock (Some packet))
+  states-own : (m i : ℕ) → is_some (stated_in past (life_at past m) i (outstanding_poll past (life_at past m) i) clock (Some packet))
       ≡ ((eqb (machine_of_packet packet) m && eqb (source_of_packet packet) i) && is_some (result_ok made))
   states-own m i =
       ap (λ (b : Bool). is_some (cond (b && eqb (source_of_packet packet) i) (result_ok (made_for m i)) None)) (tick_is past (machine_of_packet packet) m)
@@ -187,7 +187,7 @@ taken-lies : (past : List Event) (at p clock : ℕ) (packet : Packet) (lies : Li
     → KeepsLies past (after_action past at (Deliver p clock)) (lies_taken lies (taken_in (carried_of past) (Deliver p clock) (delivery_reply r)))
 taken-lies past at p clock packet lies table is hk hs keeps (Err fault) e m i hm hi =
     keeps m i hm hi ∙ sym (is_false-more past (record { at = at; action = Deliver p clock }) (life_at past m) i false
-    (ap (λ (o : Option Packet). is_some (stated_in past (life_at past m) i (outstanding past (life_at past m) i) clock o)) is
+    (ap (λ (o : Option Packet). is_some (stated_in past (life_at past m) i (outstanding_poll past (life_at past m) i) clock o)) is
     ∙ states-own past clock packet m i
     ∙ ap (λ (r : Result Statement SourceFault). (eqb (machine_of_packet packet) m && eqb (source_of_packet packet) i) && is_some (result_ok r)) e
     ∙ and_false (eqb (machine_of_packet packet) m && eqb (source_of_packet packet) i)))
@@ -199,9 +199,9 @@ taken-lies past at p clock packet lies table is hk hs keeps (Ok statement) e m i
     lie = is_lying (origin_of past p)
 
     states : (b : Bool) → (eqb (machine_of_packet packet) m && eqb (source_of_packet packet) i) ≡ b
-        → is_some (stated_by past (life_at past m) i (outstanding past (life_at past m) i) (Deliver p clock)) ≡ b
+        → is_some (stated_by past (life_at past m) i (outstanding_poll past (life_at past m) i) (Deliver p clock)) ≡ b
     states b f =
-        ap (λ (o : Option Packet). is_some (stated_in past (life_at past m) i (outstanding past (life_at past m) i) clock o)) is
+        ap (λ (o : Option Packet). is_some (stated_in past (life_at past m) i (outstanding_poll past (life_at past m) i) clock o)) is
         ∙ states-own past clock packet m i
         ∙ ap (λ (r : Result Statement SourceFault). (eqb (machine_of_packet packet) m && eqb (source_of_packet packet) i) && is_some (result_ok r)) e
         ∙ and_true (eqb (machine_of_packet packet) m && eqb (source_of_packet packet) i)
@@ -227,7 +227,7 @@ delivered-lies past at p clock lies table routed keeps (Some packet) is there =
     taken-lies past at p clock packet lies table is (routed packet is).0 (routed packet is).1 keeps (made past clock packet) refl
 
 -- an event that states nothing
-unstated-lies : (past : List Event) (at : ℕ) (action : Action) (lies : List (List Bool)) → ((m i : ℕ) → is_some (stated_by past (life_at past m) i (outstanding past (life_at past m) i) action) ≡ false)
+unstated-lies : (past : List Event) (at : ℕ) (action : Action) (lies : List (List Bool)) → ((m i : ℕ) → is_some (stated_by past (life_at past m) i (outstanding_poll past (life_at past m) i) action) ≡ false)
     → KeepsLies past past lies → KeepsLies past (after_action past at action) lies
 unstated-lies past at action lies none keeps m i hm hi =
     keeps m i hm hi ∙ sym (is_false-more past (record { at = at; action = action }) (life_at past m) i false (none m i))

@@ -31,7 +31,7 @@ use Rattle.tt_world.proofs.Histories.Places.{count_by-map}
 use Rattle.tt_audit.specs.declared.packets.Carried.{Carried}
 use Rattle.tt_audit.specs.declared.packets.Tick.{Tick}
 use Rattle.tt_audit.specs.Pace.{pace_of}
-use Rattle.tt_audit.specs.Watch.{carried_of, tick_of, tick_for, paces_begun, drift_seen, lies_at, lie_at, pace_at, taken_in, falsity_seen, WatchState, nothing_watched, watched, breach_seen, KeepsWatch, IsTick, IsRoute, IsRestartable, IsFusable, IsWatchable}
+use Rattle.tt_audit.specs.Watch.{carried_of, tick_of, tick_for, paces_begun, drift_seen, lies_at, lie_at, pace_at, taken_in, falsity_seen, WatchState, nothing_watched, watch_after, breach_seen, KeepsWatch, IsTick, IsRoute, IsRestartable, IsFusable, IsWatchable}
 use Rattle.tt_audit.proofs.Carrying.{carried-at, carried_of-more, length-carried_of}
 use Rattle.tt_audit.proofs.Ticking.{reading_of_tick, clock_reading-tick, paces-begun, length-paces_begun, length-ticked, ticked-moments, drift-seen}
 use Rattle.tt_audit.proofs.Lying.{after_action, IsTable, lies-more, table-more}
@@ -203,7 +203,7 @@ module _ (configs : List Configuration) (past : List Event) (at : ℕ) (action :
   begun_long = length-paces_begun state.paces action ∙ keeps.clocks
 
   -- what is kept is of one event more, where the packets are those that are defined
-  kept : KeepsWatch configs now (watched configs (record { carried = carried_of past; lies = state.lies; paces = state.paces }) (record { at = at; action = action }) (reply_to configs past action))
+  kept : KeepsWatch configs now (watch_after configs (record { carried = carried_of past; lies = state.lies; paces = state.paces }) (record { at = at; action = action }) (reply_to configs past action))
   kept =
       let taken = taken_there configs past at action (reply_to configs past action) is in
       let new = table-more state.lies action (taken_in (carried_of past) action (reply_to configs past action)) (restartable configs past at action is) taken table in
@@ -218,9 +218,9 @@ module _ (configs : List Configuration) (past : List Event) (at : ℕ) (action :
             ∙ ap (λ (r : Option ClockReading). pace_of (config_at configs m).drift (moment_at (life_at now m) at r ++ moments_of past (life_at now m))) (sym (reading_is configs past at action is));
       }
 
-  pub KeepsWatch-more : KeepsWatch configs now (watched configs state (record { at = at; action = action }) (reply_to configs past action))
+  pub KeepsWatch-more : KeepsWatch configs now (watch_after configs state (record { at = at; action = action }) (reply_to configs past action))
   KeepsWatch-more =
-      subst (λ (c : List Carried). KeepsWatch configs now (watched configs (record { carried = c; lies = state.lies; paces = state.paces }) (record { at = at; action = action }) (reply_to configs past action)))
+      subst (λ (c : List Carried). KeepsWatch configs now (watch_after configs (record { carried = c; lies = state.lies; paces = state.paces }) (record { at = at; action = action }) (reply_to configs past action)))
       (sym keeps.carried) kept
 
   -- ---- the breach

@@ -25,8 +25,8 @@ use Rattle.tt_world.proofs.Histories.Clocks.{clock_on}
 use Rattle.tt_audit.specs.declared.packets.Carried.{Carried}
 use Rattle.tt_audit.specs.declared.packets.Tick.{Tick}
 use Rattle.tt_audit.specs.declared.paces.Pace.{Pace}
-use Rattle.tt_audit.specs.Pace.{paced, pace_of, is_in_pace}
-use Rattle.tt_audit.specs.Watch.{carried_of, tick_for, tick_of, no_moment, pace_at, paces_begun, ticked, drift_seen}
+use Rattle.tt_audit.specs.Pace.{pace_after, pace_of, is_in_pace}
+use Rattle.tt_audit.specs.Watch.{carried_of, tick_for, tick_of, no_moment, pace_at, paces_begun, paces_after, drift_seen}
 use Rattle.tt_audit.proofs.Pacing.{IsAfter, agrees-in_pace}
 use Rattle.tt_audit.proofs.Carrying.{carried-at}
 
@@ -170,7 +170,7 @@ pub length-paces_begun : (paces : List Pace) (action : Action) → length (paces
 length-paces_begun paces (Restart machine clock) = length-set paces machine no_moment
 length-paces_begun paces _ = refl
 
-pub length-ticked : (configs : List Configuration) (at : ℕ) (paces : List Pace) (tick : Option Tick) → length (ticked configs at paces tick) ≡ length paces
+pub length-ticked : (configs : List Configuration) (at : ℕ) (paces : List Pace) (tick : Option Tick) → length (paces_after configs at paces tick) ≡ length paces
 length-ticked configs at paces None = refl
 length-ticked configs at paces (Some tick) = length-set paces tick.machine _
 
@@ -186,16 +186,16 @@ tick_is lives machine m = elim (cases_eq machine m) [
 module _ (configs : List Configuration) (past lives : List Event) (at : ℕ) (paces : List Pace) (long : length paces ≡ 8) (keeps : KeepsPaces configs lives past paces) where
   -- what is kept of one machine more moment
   ticked-some : (tick : Tick) → tick.machine < 8 → (m : ℕ) → m < 8
-      → pace_at (ticked configs at paces (Some tick)) m
+      → pace_at (paces_after configs at paces (Some tick)) m
       ≡ pace_of (config_at configs m).drift (moment_at (life_at lives m) at (Some (reading_of_tick lives tick)) ++ moments_of past (life_at lives m))
   ticked-some tick there m inside =
       let now : Moment = record { clock = tick.clock; time = at } in
-      let new : Pace = paced (config_at configs tick.machine).drift (pace_at paces tick.machine) now in
+      let new : Pace = pace_after (config_at configs tick.machine).drift (pace_at paces tick.machine) now in
       elim (cases_eq tick.machine m) [
         | inl same ↦
             get_or-set_at paces tick.machine m new no_moment (sym same) (omega (arith, long))
-            ∙ ap (λ (k : ℕ). paced (config_at configs k).drift (pace_at paces k) now) same
-            ∙ ap (λ (pace : Pace). paced (config_at configs m).drift pace now) (keeps m inside)
+            ∙ ap (λ (k : ℕ). pace_after (config_at configs k).drift (pace_at paces k) now) same
+            ∙ ap (λ (pace : Pace). pace_after (config_at configs m).drift pace now) (keeps m inside)
             ∙ sym (ap (λ (b : Bool). pace_of (config_at configs m).drift (cond b (now ∷ []) [] ++ moments_of past (life_at lives m))) (tick_is lives tick.machine m ∙ eq-eqb tick.machine m same))
         | inr other ↦
             get_or-set_other paces tick.machine m new no_moment (λ e. other (sym e))
@@ -204,7 +204,7 @@ module _ (configs : List Configuration) (past lives : List Event) (at : ℕ) (pa
       ]
 
   pub ticked-moments : (tick : Option Tick) → IfSome tick (λ t. t.machine < 8) → (m : ℕ) → m < 8
-      → pace_at (ticked configs at paces tick) m
+      → pace_at (paces_after configs at paces tick) m
       ≡ pace_of (config_at configs m).drift (moment_at (life_at lives m) at (option_map (reading_of_tick lives) tick) ++ moments_of past (life_at lives m))
   ticked-moments None there m inside = keeps m inside
   ticked-moments (Some tick) there m inside = ticked-some tick there m inside

@@ -37,9 +37,9 @@ pub record KeepsOrder (past : List Answered) (order : OrderState) : Type 0 where
   pub before : (m w : ℕ) → m < 8 → w < 32 → before_at order.before m w ≡ highest_after None (receipts_before past m w)
 
 -- what is kept once this worker, if there is one, was asked for a commit
-abbrev pub marked : List (List (Option ℕ)) → Option Place → Option ℕ → List (List (Option ℕ))
-marked before None released = before
-marked before (Some place) released =
+abbrev pub marks_after : List (List (Option ℕ)) → Option Place → Option ℕ → List (List (Option ℕ))
+marks_after before None released = before
+marks_after before (Some place) released =
     slice_set before place.machine (slice_set (slice_index_or before place.machine []) place.worker released)
 
 -- whether a stamp is no greater than what is kept of its worker

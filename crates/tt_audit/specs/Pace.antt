@@ -13,13 +13,13 @@ abbrev pub fast_mark : ℕ → Moment → ℕ
 fast_mark ppm moment = 1000000 * moment.time + (1000000 - ppm) * (max_time - moment.clock)
 
 -- what is kept after one moment more: the greatest of each
-abbrev pub paced : ℕ → Pace → Moment → Pace
-paced ppm pace moment = record { slow = max (slow_mark ppm moment) pace.slow; fast = max (fast_mark ppm moment) pace.fast }
+abbrev pub pace_after : ℕ → Pace → Moment → Pace
+pace_after ppm pace moment = record { slow = max (slow_mark ppm moment) pace.slow; fast = max (fast_mark ppm moment) pace.fast }
 
 -- what is kept of these moments
 abbrev pub pace_of : ℕ → List Moment → Pace
 pace_of ppm [] = record { slow = 0; fast = 0 }
-pace_of ppm (moment ∷ moments) = paced ppm (pace_of ppm moments) moment
+pace_of ppm (moment ∷ moments) = pace_after ppm (pace_of ppm moments) moment
 
 -- whether a moment agrees with all those before it, by what is kept of them
 abbrev pub is_in_pace : ℕ → Pace → Moment → Bool

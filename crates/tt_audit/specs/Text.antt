@@ -1,7 +1,7 @@
 -- The text of a report.
 use Rattle.std.specs.Prelude.{ℕ, List, [], ◌∷◌, ◌++◌, codes, Option, Some, None}
 use Rattle.std.specs.List.{flat_map}
-use Rattle.tt_text.specs.Line.{line_of, spaced}
+use Rattle.tt_text.specs.Line.{line_of, space_and_number}
 use Rattle.tt_world.specs.declared.breaches.Breach.{Breach}
 use Rattle.tt_world.specs.declared.breaches.Breach.TheVariants.{Drift, FalseStatements}
 use Rattle.tt_audit.specs.declared.reports.Suspect.{Suspect}
@@ -18,12 +18,12 @@ suspect_line s = line_of (codes "suspect") (s.machine ∷ s.publication ∷ s.so
 
 -- what was broken, and on which machine, at the end of a line
 abbrev pub breach_text : Breach → List ℕ
-breach_text (Drift machine) = spaced machine ++ codes " drift\n"
-breach_text (FalseStatements machine) = spaced machine ++ codes " false\n"
+breach_text (Drift machine) = space_and_number machine ++ codes " drift\n"
+breach_text (FalseStatements machine) = space_and_number machine ++ codes " false\n"
 
 -- the line of the first event that breaks the assumptions
 abbrev pub broken_line : Broken → List ℕ
-broken_line broken = codes "premise broken" ++ (spaced broken.event ++ breach_text broken.breach)
+broken_line broken = codes "premise broken" ++ (space_and_number broken.event ++ breach_text broken.breach)
 
 -- the last line: whether the assumptions were kept, or the first event that breaks them
 abbrev pub verdict_line : Option Broken → List ℕ

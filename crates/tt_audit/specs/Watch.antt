@@ -19,18 +19,18 @@ use Rattle.tt_world.specs.declared.packets.Packet.{Packet}
 use Rattle.tt_audit.specs.declared.packets.Carried.{Carried}
 use Rattle.tt_audit.specs.declared.packets.Tick.{Tick}
 use Rattle.tt_audit.specs.declared.paces.Pace.{Pace}
-use Rattle.tt_audit.specs.Pace.{paced, pace_of, is_in_pace}
+use Rattle.tt_audit.specs.Pace.{pace_after, pace_of, is_in_pace}
 
 -- ---- packets
 
 -- what is kept of a packet
-abbrev pub carried : Bool → Packet → Carried
-carried lie packet = record { machine = machine_of_packet packet; source = source_of_packet packet; is_lie = lie }
+abbrev pub packet_note : Bool → Packet → Carried
+packet_note lie packet = record { machine = machine_of_packet packet; source = source_of_packet packet; is_lie = lie }
 
 -- what is kept of all packets that were put, in the order in which they were put
 abbrev pub carried_of : List Event → List Carried
 carried_of [] = []
-carried_of (event ∷ past) = carried_of past ++ map (carried (is_lie event.at event.action)) (put_by (life_of past) (sends_now past) (packets_of past) event.action)
+carried_of (event ∷ past) = carried_of past ++ map (packet_note (is_lie event.at event.action)) (put_by (life_of past) (sends_now past) (packets_of past) event.action)
 
 -- what is kept of the packet that an action puts at a true time, if it puts one, by what is kept of those before
 abbrev pub carried_by : List Carried → ℕ → Action → Option Carried
@@ -74,10 +74,10 @@ paces_begun paces (Restart machine clock) = slice_set paces machine no_moment
 paces_begun paces _ = paces
 
 -- and once a tick at a true time, if there is one, was seen
-abbrev pub ticked : List Configuration → ℕ → List Pace → Option Tick → List Pace
-ticked configs at paces None = paces
-ticked configs at paces (Some tick) =
-    slice_set paces tick.machine (paced (config_at configs tick.machine).drift (pace_at paces tick.machine) (record { clock = tick.clock; time = at }))
+abbrev pub paces_after : List Configuration → ℕ → List Pace → Option Tick → List Pace
+paces_after configs at paces None = paces
+paces_after configs at paces (Some tick) =
+    slice_set paces tick.machine (pace_after (config_at configs tick.machine).drift (pace_at paces tick.machine) (record { clock = tick.clock; time = at }))
 
 -- the clock that breaks its drift bound by a tick, by what is kept of its moments
 abbrev pub drift_seen : List Configuration → ℕ → List Pace → Option Tick → Option Breach
@@ -128,14 +128,14 @@ pub record WatchState : Type 0 where
 
 -- what is kept before the first event
 abbrev pub nothing_watched : WatchState
-nothing_watched = record { carried = []; lies = replicate 8 (replicate 16 false); paces = replicate 8 no_moment }
+nothing_watched = record { packet_note = []; lies = replicate 8 (replicate 16 false); paces = replicate 8 no_moment }
 
 -- what is kept after an event that was not bad, with its reply
-abbrev pub watched : List Configuration → WatchState → Event → Reply → WatchState
-watched configs state event reply = record {
+abbrev pub watch_after : List Configuration → WatchState → Event → Reply → WatchState
+watch_after configs state event reply = record {
   carried = carried_after state.carried (carried_by state.carried event.at event.action);
   lies = lies_taken (lies_begun state.lies event.action) (taken_in state.carried event.action reply);
-  paces = ticked configs event.at (paces_begun state.paces event.action) (tick_of state.carried event.action);
+  paces = paces_after configs event.at (paces_begun state.paces event.action) (tick_of state.carried event.action);
 }
 
 -- the first assumption that an event that was not bad breaks, by what is kept

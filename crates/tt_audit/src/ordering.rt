@@ -4,7 +4,7 @@ ghost use Rattle.std.specs.Prelude.{◌≡◌, ◌<◌, ◌≤◌, ℕ, List, []
 ghost use Rattle.tt_world.specs.declared.events.Event.{Event};
 ghost use Rattle.tt_world.specs.declared.events.Reply.{Reply};
 ghost use Rattle.tt_audit.specs.Violations.{Answered, answered_of, violations_of, is_late as is_late_after, receipts_in, asked_by as place_asked, stamped_by as stamping_in};
-ghost use Rattle.tt_audit.specs.Ordering.{OrderState, KeepsOrder, IsPlace, IsPlaced, highest_after, is_reached, is_stamping_reached, marked};
+ghost use Rattle.tt_audit.specs.Ordering.{OrderState, KeepsOrder, IsPlace, IsPlaced, highest_after, is_reached, is_stamping_reached, marks_after};
 
 use std::marker::Model;
 use tt_daemon::MAX_WORKERS;
@@ -69,7 +69,7 @@ impl Order {
     /// The worker, if there is one, is asked for a commit.
     fn mark(&mut self, place: &Option<Place>)
         requires { IfSome place.now IsPlace }
-        ensures { self.new ≡ record self.old { before = marked self.old.before place.now self.old.released } }
+        ensures { self.new ≡ record self.old { before = marks_after self.old.before place.now self.old.released } }
     {
         if let Some(place) = place {
             self.before[usize::from(place.machine)][usize::from(place.worker)] = self.released;

@@ -2,7 +2,7 @@
 
 ghost use Rattle.std.specs.Prelude.{◌≡◌, ◌≤◌, ◌<◌, ◌^◌};
 ghost use Rattle.tt_span.specs.Time.{max_time};
-ghost use Rattle.tt_audit.specs.Pace.{paced, is_in_pace, slow_mark as slow_mark_of, fast_mark as fast_mark_of};
+ghost use Rattle.tt_audit.specs.Pace.{pace_after, is_in_pace, slow_mark as slow_mark_of, fast_mark as fast_mark_of};
 
 use tt_span::MAX_TIME;
 
@@ -43,7 +43,7 @@ impl Pace {
         requires drift { ppm ≤ 1000000 }
         requires clock { clock ≤ max_time }
         requires time { at ≤ max_time }
-        ensures { result ≡ paced ppm self.now (record { clock = clock; time = at }) }
+        ensures { result ≡ pace_after ppm self.now (record { clock = clock; time = at }) }
     {
         Pace {
             slow: slow_mark(ppm, clock, at).max(self.slow),

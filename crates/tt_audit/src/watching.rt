@@ -5,7 +5,7 @@ ghost use Rattle.tt_world.specs.Headline.{AreConfigurations};
 ghost use Rattle.tt_world.specs.Reply.{IsBadReply, replies_from};
 ghost use Rattle.tt_audit.specs.Breaking.{IsFirstBreach};
 ghost use Rattle.tt_span.specs.Time.{max_time};
-ghost use Rattle.tt_audit.specs.Watch.{WatchState, IsTick, IsRoute, IsWatchable, IsRestartable, IsFusable, nothing_watched, carried_by, carried_after, paces_begun, lies_begun, ticked, drift_seen, lies_taken, falsity_seen, watched, breach_seen};
+ghost use Rattle.tt_audit.specs.Watch.{WatchState, IsTick, IsRoute, IsWatchable, IsRestartable, IsFusable, nothing_watched, carried_by, carried_after, paces_begun, lies_begun, paces_after, drift_seen, lies_taken, falsity_seen, watch_after, breach_seen};
 
 use crate::paces::Pace;
 use crate::packets::{Carried, Tick, put_by, taken_by, tick_of};
@@ -54,7 +54,7 @@ impl Watcher {
     ) -> Result<Option<Breach>, AllocError>
         requires { IsWatchable configs.now self.old event.now reply.now }
         ensures breach { IfOk result (λ breach. breach ≡ breach_seen configs.now self.old event.now) }
-        ensures keeps { OnOk result (self.new ≡ watched configs.now self.old event.now reply.now) }
+        ensures keeps { OnOk result (self.new ≡ watch_after configs.now self.old event.now reply.now) }
     {
         let tick = tick_of(self.carried.as_slice(), &event.action);
         let taken = taken_by(self.carried.as_slice(), &event.action, reply);
@@ -94,7 +94,7 @@ impl Watcher {
         requires time { at ≤ max_time }
         requires tick { IfSome tick.now (IsTick configs.now) }
         ensures breach { result ≡ drift_seen configs.now at self.old.paces tick.now }
-        ensures keeps { self.new ≡ record self.old { paces = ticked configs.now at self.old.paces tick.now } }
+        ensures keeps { self.new ≡ record self.old { paces = paces_after configs.now at self.old.paces tick.now } }
     {
         match tick {
             None => None,

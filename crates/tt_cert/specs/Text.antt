@@ -3,7 +3,7 @@ use Rattle.std.specs.Prelude.{ℕ, ◌<◌, ◌≤◌, List, [], ◌∷◌, ◌+
 use Rattle.std.specs.List.{flat_map}
 use Rattle.tt_span.specs.Time.{max_time}
 use Rattle.tt_span.specs.Interval.{Interval, IsInterval}
-pub use Rattle.tt_text.specs.Line.{spaced, numbers_text, line_of, ends_of}
+pub use Rattle.tt_text.specs.Line.{space_and_number, numbers_text, line_of, ends_of}
 use Rattle.tt_cert.specs.declared.certificate.Stretch.{Stretch}
 use Rattle.tt_cert.specs.Proof.{Proof}
 

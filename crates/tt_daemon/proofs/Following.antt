@@ -9,7 +9,7 @@ use Rattle.std.proofs.lemmas.Simd.{map-map}
 use Rattle.tt_span.specs.Statement.{Statement, stated_at}
 use Rattle.tt_source.specs.declared.faults.SourceFault.{SourceFault}
 use Rattle.tt_source.specs.declared.faults.SourceFault.TheVariants.{NoSource, ClockBack}
-use Rattle.tt_source.specs.Table.{TableState, SourceState, IsTable, IsSourceState, unknown, source_at, has_source, is_back, take_of, after_statement, statement_of_message}
+use Rattle.tt_source.specs.Table.{TableState, SourceState, IsTable, IsSourceState, unknown_source, source_at, has_source, is_back, take_of, after_statement, statement_of_message}
 use Rattle.tt_poll.specs.Reading.{read_of2}
 use Rattle.tt_fuse.specs.Stated.{Stated, IsStated, statement_of, with_statement, AreGotBy, AreAmongFirst, spans_at}
 use Rattle.tt_daemon.specs.Config.{Configuration}
@@ -25,7 +25,7 @@ known-there : (t : TableState) (i : ℕ) (statement : Statement) → (source_at 
 known-there t i statement is =
     elim (cases_lt i (length t.sources)) [
       | inl there ↦ there
-      | inr past ↦ let none : None ≡ Some statement = sym (ap (λ (source : SourceState). source.statement) (get_or_past t.sources i unknown past)) ∙ is in absurd (cc)
+      | inr past ↦ let none : None ≡ Some statement = sym (ap (λ (source : SourceState). source.statement) (get_or_past t.sources i unknown_source past)) ∙ is in absurd (cc)
     ]
 
 -- the table in which a source has made a statement
@@ -50,7 +50,7 @@ follows-stated t ends i clock made new of inside is = record {
     | inl here ↦
         ap (λ k. statement_of (with_statement ends i new) k) here ∙ get_or-set_same ends.statements i (Some new) None inside ∙ sym is ∙ ap (λ k. (source_at (stated_in t i clock made) k).statement) (sym here)
     | inr other ↦
-        get_or-set_other ends.statements i j (Some new) None other ∙ of.same_statements j ∙ sym (ap (λ (source : SourceState). source.statement) (get_or-set_other t.sources i j (record { waiting = None; statement = Some made }) unknown other))
+        get_or-set_other ends.statements i j (Some new) None other ∙ of.same_statements j ∙ sym (ap (λ (source : SourceState). source.statement) (get_or-set_other t.sources i j (record { waiting = None; statement = Some made }) unknown_source other))
   ];
 }
 
@@ -76,14 +76,14 @@ follows-take config t t' ends ends' i clock bytes new taken daemon of valid same
 module _ (t : TableState) (ends : Stated) (of : AreEndsOfTable t ends) (table : IsTable t) where
   -- a source that is not there has made no statement
   pub among-table : AreAmongFirst ends (length t.sources)
-  among-table i past = of.same_statements i ∙ ap (λ (source : SourceState). source.statement) (get_or_past t.sources i unknown past)
+  among-table i past = of.same_statements i ∙ ap (λ (source : SourceState). source.statement) (get_or_past t.sources i unknown_source past)
 
   -- each statement came at the table's clock or before
   pub got-table : (clock : ℕ) → t.clock ≤ clock → AreGotBy ends clock
   got-table clock later = All-from_get_or (λ o. IfSome o (λ statement. statement.got ≤ clock)) ends.statements None (λ i inside.
       elim (cases_lt i (length t.sources)) [
         | inl there ↦
-            let source : IsSourceState t.last t.clock (source_at t i) = All-get_or (IsSourceState t.last t.clock) t.sources i unknown there table.past in
+            let source : IsSourceState t.last t.clock (source_at t i) = All-get_or (IsSourceState t.last t.clock) t.sources i unknown_source there table.past in
             subst (λ (o : Option Statement). IfSome o (λ statement. statement.got ≤ clock)) (sym (of.same_statements i))
             (got-later t.clock clock (source_at t i).statement later source.got)
         | inr past ↦ subst (λ (o : Option Statement). IfSome o (λ statement. statement.got ≤ clock)) (sym (among-table i past)) tt
@@ -100,7 +100,7 @@ module _ (t : TableState) (ends : Stated) (of : AreEndsOfTable t ends) (table : 
       (λ k d inside.
       let there : k < length t.sources = omega arith in
       let within : k < length ends.statements = omega arith in
-      get_or-take (length t.sources) ends.statements k d there ∙ get_or_default ends.statements k d None within ∙ of.same_statements k ∙ sym (get_or-map (λ (source : SourceState). source.statement) t.sources k unknown d there)) in
+      get_or-take (length t.sources) ends.statements k d there ∙ get_or_default ends.statements k d None within ∙ of.same_statements k ∙ sym (get_or-map (λ (source : SourceState). source.statement) t.sources k unknown_source d there)) in
       ap (λ drift. map (λ o. stated_at drift o clock) (take (length t.sources) ends.statements)) of.same_drift
       ∙ ap (map (λ o. stated_at t.drift o clock)) same
       ∙ map-map (λ o. stated_at t.drift o clock) (λ (source : SourceState). source.statement) t.sources

@@ -5,7 +5,7 @@ use Rattle.std.proofs.lemmas.List.{take_more, take_more_set, get_or-map}
 use Rattle.tt_span.specs.Interval.{Interval}
 use Rattle.tt_source.specs.declared.faults.SourceFault.{SourceFault}
 use Rattle.tt_source.specs.declared.faults.SourceFault.TheVariants.{NoSource, ClockBack}
-use Rattle.tt_source.specs.Table.{TableState, SourceState, unknown, source_at, aged_of, stated_at}
+use Rattle.tt_source.specs.Table.{TableState, SourceState, unknown_source, source_at, aged_of, stated_at}
 
 -- one more span is in its place
 pub take-set_span : (spans out : List Interval) (i : ℕ) (v : Interval) → i < length spans → i < length out → take i spans ≡ take i out →
@@ -25,5 +25,5 @@ aged-ok table i clock v h = passed _ _ NoSource ClockBack _ v h
 
 -- the span of source i among those of all sources
 pub get_or-spans : (drift : ℕ) (sources : List SourceState) (i clock : ℕ) (v : Interval) → i < length sources →
-    get_or (map (λ source. stated_at drift source.statement clock) sources) i v ≡ stated_at drift (get_or sources i unknown).statement clock
-get_or-spans drift sources i clock v inside = get_or-map (λ (source : SourceState). stated_at drift source.statement clock) sources i unknown v inside
+    get_or (map (λ source. stated_at drift source.statement clock) sources) i v ≡ stated_at drift (get_or sources i unknown_source).statement clock
+get_or-spans drift sources i clock v inside = get_or-map (λ (source : SourceState). stated_at drift source.statement clock) sources i unknown_source v inside

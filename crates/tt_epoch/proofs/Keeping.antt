@@ -1,7 +1,7 @@
 -- The bound that every life keeps.
 use Rattle.std.specs.Prelude.{◌≡◌, ◌<◌, ◌≤◌, ℕ, ◌+◌, ◌==◌, Bool, true, false, if◌then◌else◌, List, [], ◌∷◌, ◌++◌, Option, Some}
 use Rattle.std.proofs.Common.{inl, inr, refl, sym, subst, ap, arith}
-use Rattle.tt_epoch.specs.Disk.{Disk, Draft, Unknown, Loose, Firm, Gift, Gave, NotOwn, Done, Broke, Gives, Replaces, MayReplace, synced, AllFrom, Bound, number_of}
+use Rattle.tt_epoch.specs.Disk.{Disk, Draft, Unknown, Loose, Firm, Gift, Gave, NotOwn, Done, Broke, Gives, Replaces, MayReplace, synced_draft, AllFrom, Bound, number_of}
 use Rattle.tt_epoch.specs.Course.{Stage, Reads, Writes, Syncs, Installs, Fixes, Answered, Over, call_at, next_of, step_of, stage_after, GivesAt, Does}
 use Rattle.tt_epoch.specs.declared.faults.EpochFault.TheVariants.{UsedUp}
 use Rattle.tt_epoch.specs.Lives.{IsOneOf, Restarts, Lives, answer_at, answers_of, Rises}
@@ -50,7 +50,7 @@ keeps k (Writes n) before after Broke stands gave = subst (Bound k) (sym gave) (
 keeps k (Syncs n) before after (Gave file) stands gave = absurd gave
 keeps k (Syncs n) before after NotOwn stands gave = absurd gave
 keeps k (Syncs n) before after Done stands gave =
-    subst (Stands k (Installs n)) (sym gave) (with_draft k before (synced before.draft) stands.0, stands.1, ap synced stands.2)
+    subst (Stands k (Installs n)) (sym gave) (with_draft k before (synced_draft before.draft) stands.0, stands.1, ap synced_draft stands.2)
 keeps k (Syncs n) before after Broke stands gave = subst (Bound k) (sym gave) (with_draft k before Unknown stands.0)
 keeps k (Installs n) before after (Gave file) stands gave = absurd gave
 keeps k (Installs n) before after NotOwn stands gave = absurd gave

@@ -47,9 +47,9 @@ number_of None = 0
 number_of (Some n) = n
 
 -- a draft that was synced is what was written
-abbrev pub synced : Draft → Draft
-synced (Loose n) = Firm n
-synced draft = draft
+abbrev pub synced_draft : Draft → Draft
+synced_draft (Loose n) = Firm n
+synced_draft draft = draft
 
 -- a synced draft takes the place of the file, and until the folder is synced a crash may leave either; of another draft nothing is known
 abbrev pub Replaces : Draft → Disk → Disk → Type 0
@@ -69,7 +69,7 @@ Gives before Read NotOwn after = after ≡ before
 Gives before Read Broke after = after ≡ before
 Gives before (Write n) Done after = after ≡ record before { draft = Loose n }
 Gives before (Write n) Broke after = after ≡ record before { draft = Unknown }
-Gives before SyncDraft Done after = after ≡ record before { draft = synced before.draft }
+Gives before SyncDraft Done after = after ≡ record before { draft = synced_draft before.draft }
 Gives before SyncDraft Broke after = after ≡ record before { draft = Unknown }
 Gives before Install Done after = Replaces before.draft before after
 Gives before Install Broke after = MayReplace before.draft before after

@@ -4,7 +4,7 @@ use Rattle.std.specs.Prelude.{codes}
 use Rattle.tt_text.specs.Line.{line_of}
 use Rattle.tt_session.specs.Replies.{text_of}
 use Rattle.tt_session.specs.declared.requests.Request.TheVariants as asks
-use Rattle.tt_session.specs.declared.replies.Reply.TheVariants as says
+use Rattle.tt_session.specs.declared.replies.LineReply.TheVariants as says
 use Rattle.tt_live.specs.Replies.{MayAnswer}
 
 -- a reading answers `now`

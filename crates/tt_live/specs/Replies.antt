@@ -4,11 +4,11 @@ use Rattle.tt_session.specs.Requests.{spelling_of}
 use Rattle.tt_session.specs.Replies.{text_of}
 use Rattle.tt_session.specs.declared.requests.Request.{Request}
 use Rattle.tt_session.specs.declared.requests.Request.TheVariants as asks
-use Rattle.tt_session.specs.declared.replies.Reply.{Reply}
-use Rattle.tt_session.specs.declared.replies.Reply.TheVariants as says
+use Rattle.tt_session.specs.declared.replies.LineReply.{LineReply}
+use Rattle.tt_session.specs.declared.replies.LineReply.TheVariants as says
 
 -- the reply is of the kind that the request asks for, and for a commit it names that commit
-abbrev pub Suits : Request → Reply → Type 0
+abbrev pub Suits : Request → LineReply → Type 0
 Suits asks.Now (says.Now reading) = Unit {0}
 Suits (asks.After time) says.Yes = Unit {0}
 Suits (asks.After time) says.No = Unit {0}
@@ -23,4 +23,4 @@ Suits _ _ = ⊥
 abbrev pub MayAnswer : List ℕ → List ℕ → Type 0
 MayAnswer line reply =
     ((number : ℕ) × (reply ≡ text_of (says.Refused number)))
-    ⊎ ((request : Request) × (answer : Reply) × (line ≡ spelling_of request) × (reply ≡ text_of answer) × Suits request answer)
+    ⊎ ((request : Request) × (answer : LineReply) × (line ≡ spelling_of request) × (reply ≡ text_of answer) × Suits request answer)

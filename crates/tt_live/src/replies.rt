@@ -3,7 +3,7 @@
 ghost use Rattle.std.specs.Prelude.{◌≡◌, ◌⊎◌, [], ◌∷◌, ℕ, codes, IfSome, IsTrue};
 ghost use Rattle.tt_text.specs.Line.{line_of};
 ghost use Rattle.tt_session.specs.Replies.{text_of};
-ghost use Rattle.tt_session.specs.declared.replies.Reply.TheVariants as says;
+ghost use Rattle.tt_session.specs.declared.replies.LineReply.TheVariants as says;
 ghost use Rattle.tt_live.specs.Replies.{MayAnswer};
 
 use tt_text::numbers_behind;

@@ -5,8 +5,8 @@ use Rattle.tt_source.specs.declared.faults.SourceFault.{SourceFault}
 use Rattle.tt_daemon.specs.Daemon.{DaemonState}
 use Rattle.tt_node.specs.Link.{Packet, Call, Send, Receive, Gift, Went, Came, NothingCame, Broke, Exchange, gifts_in, ClockGives, LinkDoes}
 use Rattle.tt_node.specs.Fusing.{Fusion}
-use Rattle.tt_node.specs.Course.{Given, Stand, Part, ◌>>=◌, ◌>>◌, after_outcome, done, each_below, next_reading, next_gift, went, came, send, receive, put_table, count_refusal, request_of, send_polled, poll_at, poll_all, put_taken, take_at, take_next, turn, fuse_at, round_of, rounds_of}
-use Rattle.tt_node.specs.Making.{before_rest, stand_of, ended, Leads, Makes, MakesByLink, MakesByMemory}
+use Rattle.tt_node.specs.Course.{Given, Stand, Part, ◌>>=◌, ◌>>◌, after_outcome, nothing_done, each_below, next_reading, next_gift, send_part, packet_part, send, receive, put_table, count_refusal, request_of, send_polled, poll_at, poll_all, put_taken, take_at, take_next, turn, fuse_at, round_of, rounds_of}
+use Rattle.tt_node.specs.Making.{before_rest, stand_of, part_with, Leads, Makes, MakesByLink, MakesByMemory}
 use Rattle.tt_node.specs.declared.faults.NodeFault.{NodeFault}
 use Rattle.tt_node.specs.declared.faults.NodeFault.TheVariants.{LinkFailed, ClockFailed}
 
@@ -45,7 +45,7 @@ LinkDoes-append does before mid after (x ∷ xs) ys one two =
 -- ---- parts
 
 -- nothing is done
-pub Leads-done : (from : List Exchange → Stand) → Leads done nothing [] from from (Ok tt)
+pub Leads-done : (from : List Exchange → Stand) → Leads nothing_done nothing [] from from (Ok tt)
 Leads-done from = record { leads = λ past rest. rw (append-nil past) }
 
 -- one part, and then the next
@@ -87,20 +87,20 @@ Leads-gift call gift next daemon items refused answer looks = record {
 }
 
 -- a packet went, or the link broke
-pub Leads-went : (from : List Exchange → Stand) → Leads (went Went) nothing [] from from (Ok tt)
+pub Leads-went : (from : List Exchange → Stand) → Leads (send_part Went) nothing [] from from (Ok tt)
 Leads-went from = record { leads = λ past rest. rw (append-nil past) }
 
-pub Leads-broke : (from : List Exchange → Stand) → Leads (went Broke) nothing [] from from (Err LinkFailed)
+pub Leads-broke : (from : List Exchange → Stand) → Leads (send_part Broke) nothing [] from from (Err LinkFailed)
 Leads-broke from = record { leads = λ past rest. rw (append-nil past) }
 
 -- a packet came, or none, or the link broke
-pub Leads-came : (from : List Exchange → Stand) (packet : Packet) → Leads (came (Came packet)) nothing [] from from (Ok (Some packet))
+pub Leads-came : (from : List Exchange → Stand) (packet : Packet) → Leads (packet_part (Came packet)) nothing [] from from (Ok (Some packet))
 Leads-came from packet = record { leads = λ past rest. rw (append-nil past) }
 
-pub Leads-nothing_came : (from : List Exchange → Stand) → Leads (came NothingCame) nothing [] from from (Ok None)
+pub Leads-nothing_came : (from : List Exchange → Stand) → Leads (packet_part NothingCame) nothing [] from from (Ok None)
 Leads-nothing_came from = record { leads = λ past rest. rw (append-nil past) }
 
-pub Leads-came_broke : (from : List Exchange → Stand) → Leads (came Broke) nothing [] from from (Err LinkFailed)
+pub Leads-came_broke : (from : List Exchange → Stand) → Leads (packet_part Broke) nothing [] from from (Err LinkFailed)
 Leads-came_broke from = record { leads = λ past rest. rw (append-nil past) }
 
 -- ---- the daemon
@@ -129,12 +129,12 @@ Leads-unpolled daemon items refused source clock fault is = record {
 -- a source was polled, and the link called
 pub Leads-polled : (daemon : DaemonState) (items : List Fusion) (refused source clock : ℕ) (table : TableState) (gift : Gift) (answer : Result (Unit {0}) NodeFault)
     → poll_of daemon.table source clock ≡ Ok table
-    → Leads (went gift) nothing [] (stand_of (record daemon { table = table }) items refused) (stand_of (record daemon { table = table }) items refused) answer
+    → Leads (send_part gift) nothing [] (stand_of (record daemon { table = table }) items refused) (stand_of (record daemon { table = table }) items refused) answer
     → Leads (poll_at clock source) (one_gift gift) (record { call = Send (record { peer = source; bytes = request_of table source }); gift = gift } ∷ [])
     (stand_of daemon items refused) (stand_of (record daemon { table = table }) items refused) answer
 unfolding poll_at send_polled send
 Leads-polled daemon items refused source clock table gift answer is looks =
-    let sends = Leads-gift (Send (record { peer = source; bytes = request_of table source })) gift went (record daemon { table = table }) items refused answer looks in
+    let sends = Leads-gift (Send (record { peer = source; bytes = request_of table source })) gift send_part (record daemon { table = table }) items refused answer looks in
     let all = Leads-then (put_table table) (λ _. send source (request_of table source)) nothing (one_gift gift) [] _
     (stand_of daemon items refused) (stand_of (record daemon { table = table }) items refused) (stand_of (record daemon { table = table }) items refused) tt answer
     (Leads-put_table daemon items refused table) sends in
@@ -181,7 +181,7 @@ module _ {L : Type 0} (does : L → Call → Gift → L → Type 0) where
   pub poll-sent : (link link' : L) (daemon : DaemonState) (items : List Fusion) (refused source clock : ℕ) (after : DaemonState) (bytes : List ℕ) (gift : Gift) (answer : Result (Unit {0}) NodeFault)
       → poll_of daemon.table source clock ≡ Ok after.table → after.config ≡ daemon.config → bytes ≡ request_of after.table source
       → does link (Send (record { peer = source; bytes = bytes })) gift link'
-      → ((from : List Exchange → Stand) → Leads (went gift) nothing [] from from answer)
+      → ((from : List Exchange → Stand) → Leads (send_part gift) nothing [] from from answer)
       → MakesByLink does (poll_at clock source) link link' (stand_of daemon items refused) (stand_of after items refused) answer
   poll-sent link link' daemon items refused source clock after bytes gift answer is config spells did looks =
       let same : record daemon { table = after.table } ≡ after = ap (λ c. record { config = c; table = after.table }) (sym config) in
@@ -205,15 +205,15 @@ each-none part from = Leads-done from
 pub each-ends : (k n : ℕ) (part : ℕ → Part (Unit {0})) (given : Given) (xs : List Exchange) (from to : List Exchange → Stand) (fault : NodeFault)
     → Leads (each_below n part) given xs from to (Err fault) → Leads (each_below (k + n) part) given xs from to (Err fault)
 unfolding each_below
-each-ends zero n part given xs from to fault ended = rw zero-add ended
-each-ends (suc k) n part given xs from to fault ended =
-    rw (suc-add k n) (Leads-ends (each_below (k + n) part) (λ _. part (k + n)) given xs from to fault (each-ends k n part given xs from to fault ended))
+each-ends zero n part given xs from to fault part_with = rw zero-add part_with
+each-ends (suc k) n part given xs from to fault part_with =
+    rw (suc-add k n) (Leads-ends (each_below (k + n) part) (λ _. part (k + n)) given xs from to fault (each-ends k n part given xs from to fault part_with))
 
 pub each-ends_below : (m n : ℕ) (part : ℕ → Part (Unit {0})) (given : Given) (xs : List Exchange) (from to : List Exchange → Stand) (fault : NodeFault) → m ≤ n
     → Leads (each_below m part) given xs from to (Err fault) → Leads (each_below n part) given xs from to (Err fault)
-each-ends_below m n part given xs from to fault below ended =
+each-ends_below m n part given xs from to fault below part_with =
     let is : n - m + m ≡ n = omega arith in
-    subst (λ k. Leads (each_below k part) given xs from to (Err fault)) is (each-ends (n - m) m part given xs from to fault ended)
+    subst (λ k. Leads (each_below k part) given xs from to (Err fault)) is (each-ends (n - m) m part given xs from to fault part_with)
 
 -- ---- parts over a clock and a link
 
@@ -325,7 +325,7 @@ module _ {C L : Type 0} (gives : C → Option ℕ → C → Type 0) (does : L �
 
   received : (packet : Option Packet) (gift : Gift) (clock : C) (link link' : L) (daemon : DaemonState) (items : List Fusion) (refused : ℕ) (answer : Result (Option Packet) NodeFault)
       → does link Receive gift link'
-      → ((from : List Exchange → Stand) → Leads (came gift) nothing [] from from answer)
+      → ((from : List Exchange → Stand) → Leads (packet_part gift) nothing [] from from answer)
       → Makes gives does receive clock clock link link' (stand_of daemon items refused) (stand_of daemon items refused) answer
   unfolding receive
   received packet gift clock link link' daemon items refused answer did looks = record {
@@ -334,7 +334,7 @@ module _ {C L : Type 0} (gives : C → Option ℕ → C → Type 0) (does : L �
     grants = [];
     gave = refl;
     did = (link', did, refl);
-    course = Leads-gift Receive gift came daemon items refused answer (looks _);
+    course = Leads-gift Receive gift packet_part daemon items refused answer (looks _);
   }
 
   -- the link broke
@@ -421,7 +421,7 @@ module _ {L : Type 0} (does : L → Call → Gift → L → Type 0) where
     did = one.did;
     course = record {
       leads = λ past rest.
-          subst (λ k. each_below k (poll_at clock) (stand_of daemon items refused past) (before_rest (record { readings = []; gifts = gifts_in one.exchanges; grants = [] }) rest) ≡ ended answer (to (past ++ one.exchanges)) rest) is
+          subst (λ k. each_below k (poll_at clock) (stand_of daemon items refused past) (before_rest (record { readings = []; gifts = gifts_in one.exchanges; grants = [] }) rest) ≡ part_with answer (to (past ++ one.exchanges)) rest) is
           (one.course.leads past rest);
     };
   }

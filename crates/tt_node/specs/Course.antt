@@ -50,8 +50,8 @@ abbrev pub ◌>>◌ : {A B : Type 0} → Part A → Part B → Part B
 part >> next = part >>= (λ _. next)
 
 -- nothing is done
-abbrev pub done : Part (Unit {0})
-done stand given = GoesOn tt stand given
+abbrev pub nothing_done : Part (Unit {0})
+nothing_done stand given = GoesOn tt stand given
 
 -- a fault ends the course
 abbrev pub fails : {A : Type 0} → NodeFault → Part A
@@ -59,7 +59,7 @@ fails fault stand given = Ends fault stand given
 
 -- a part for each number below this one, from 0 on
 unfoldable pub each_below : ℕ → (ℕ → Part (Unit {0})) → Part (Unit {0})
-each_below zero part = done
+each_below zero part = nothing_done
 each_below (suc n) part = do
   each_below n part
   part n
@@ -85,29 +85,29 @@ unfoldable pub next_gift : Call → Part Gift
 next_gift call stand given = gift_from given.gifts call stand given
 
 -- a packet went, unless the link failed
-abbrev pub went : Gift → Part (Unit {0})
-went Went stand given = GoesOn tt stand given
-went Broke stand given = Ends LinkFailed stand given
-went _ stand given = Lacks
+abbrev pub send_part : Gift → Part (Unit {0})
+send_part Went stand given = GoesOn tt stand given
+send_part Broke stand given = Ends LinkFailed stand given
+send_part _ stand given = Lacks
 
 -- a packet came, or none did, unless the link failed
-abbrev pub came : Gift → Part (Option Packet)
-came (Came packet) stand given = GoesOn (Some packet) stand given
-came NothingCame stand given = GoesOn None stand given
-came Broke stand given = Ends LinkFailed stand given
-came Went stand given = Lacks
+abbrev pub packet_part : Gift → Part (Option Packet)
+packet_part (Came packet) stand given = GoesOn (Some packet) stand given
+packet_part NothingCame stand given = GoesOn None stand given
+packet_part Broke stand given = Ends LinkFailed stand given
+packet_part Went stand given = Lacks
 
 -- some bytes are sent to a peer
 unfoldable pub send : ℕ → List ℕ → Part (Unit {0})
 send peer bytes = do
   gift ← next_gift (Send (record { peer = peer; bytes = bytes }))
-  went gift
+  send_part gift
 
 -- the next packet, if one came
 unfoldable pub receive : Part (Option Packet)
 receive = do
   gift ← next_gift Receive
-  came gift
+  packet_part gift
 
 -- the daemon's table is this one
 unfoldable pub put_table : TableState → Part (Unit {0})
@@ -126,7 +126,7 @@ unfoldable pub send_polled : ℕ → Result TableState SourceFault → Part (Uni
 send_polled source (Ok table) = do
   put_table table
   send source (request_of table source)
-send_polled source (Err _) = done
+send_polled source (Err _) = nothing_done
 
 -- a source is polled
 unfoldable pub poll_at : ℕ → ℕ → Part (Unit {0})
@@ -147,7 +147,7 @@ take_at clock packet stand = put_taken (take_of stand.daemon.table packet.peer c
 
 -- a packet that came is taken at the next reading
 unfoldable pub take_next : Option Packet → Part (Unit {0})
-take_next None = done
+take_next None = nothing_done
 take_next (Some packet) = do
   clock ← next_reading
   take_at clock packet

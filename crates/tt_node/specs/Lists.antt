@@ -2,7 +2,7 @@
 use Rattle.std.specs.Prelude.{◌≡◌, ℕ, List, [], ◌∷◌, ◌++◌, Bool, Option, Result}
 use Rattle.tt_node.specs.Link.{Packet, Call, Gift, Exchange, sent_by, sends_in}
 use Rattle.tt_node.specs.Course.{Stand, Part}
-use Rattle.tt_node.specs.Making.{ended}
+use Rattle.tt_node.specs.Making.{part_with}
 use Rattle.tt_node.specs.declared.faults.NodeFault.{NodeFault}
 
 -- a clock that keeps what it is to give, failures included, gives the first of it
@@ -24,5 +24,5 @@ pub record IsCourse (part : Part (Unit {0})) (clock clock' : List (Option ℕ)) 
   pub exchanges : List Exchange
   pub grants : List Bool
   pub course : part (from []) (record { readings = clock; gifts = line.left; grants = grants })
-      ≡ ended answer (to exchanges) (record { readings = clock'; gifts = line'.left; grants = [] })
+      ≡ part_with answer (to exchanges) (record { readings = clock'; gifts = line'.left; grants = [] })
   pub sent : line'.sent ≡ line.sent ++ sends_in exchanges

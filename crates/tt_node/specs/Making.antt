@@ -20,13 +20,13 @@ abbrev pub stand_of : DaemonState → List Fusion → ℕ → List Exchange → 
 stand_of daemon published refused exchanges = record { daemon = daemon; published = published; exchanges = exchanges; refused = refused }
 
 -- what comes of a part that has this answer
-abbrev pub ended : {A : Type 0} → Result A NodeFault → Stand → Given → Outcome A
-ended (Ok value) stand given = GoesOn value stand given
-ended (Err fault) stand given = Ends fault stand given
+abbrev pub part_with : {A : Type 0} → Result A NodeFault → Stand → Given → Outcome A
+part_with (Ok value) stand given = GoesOn value stand given
+part_with (Err fault) stand given = Ends fault stand given
 
 -- by what was given, with these exchanges, a part leads from the one stand to the other and to this answer: whatever exchanges were before, and whatever is given after
 pub record Leads {A : Type 0} (part : Part A) (given : Given) (exchanges : List Exchange) (from to : List Exchange → Stand) (answer : Result A NodeFault) : Type 0 where
-  pub leads : (past : List Exchange) (rest : Given) → part (from past) (before_rest given rest) ≡ ended answer (to (past ++ exchanges)) rest
+  pub leads : (past : List Exchange) (rest : Given) → part (from past) (before_rest given rest) ≡ part_with answer (to (past ++ exchanges)) rest
 
 -- a part made the one clock and link of the other, and leads from the one stand to the other, by just what these gave
 pub record Makes {A C L : Type 0} (gives : C → Option ℕ → C → Type 0) (does : L → Call → Gift → L → Type 0) (part : Part A) (clock clock' : C) (link link' : L) (from to : List Exchange → Stand) (answer : Result A NodeFault) : Type 0 where

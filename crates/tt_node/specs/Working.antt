@@ -33,8 +33,8 @@ pub record WorkerState (C G : Type 0) : Type 0 where
   pub notes : List LiveNote
 
 -- the worker once its gate was asked about a call: the count stays at 2^64 - 1
-abbrev pub counted : {C G : Type 0} → WorkerState C G → WorkerState C G
-counted w = record w { calls = count_after w.calls 1 }
+abbrev pub after_asking : {C G : Type 0} → WorkerState C G → WorkerState C G
+after_asking w = record w { calls = count_after w.calls 1 }
 
 -- a call leaves the session and the gate, the source and the drift of the watch, and what it has seen never shrinks
 pub record Works {C G : Type 0} (before after : WorkerState C G) : Type 0 where
@@ -105,26 +105,26 @@ LooksThen gives failed before Then after = (looked : Result Interval ReadFault) 
 -- what a worker promises of each call of its service: its gate is asked, where that says no the call is refused by 1504 and does nothing, and where it says yes this is done
 abbrev pub Allows : {C G : Type 0} → (C → Option ℕ → C → Type 0) → (C → ℕ) → (G → ℕ → ℕ → Bool → Type 0) → WorkerState C G → Call → WorkerState C G → Type 0
 Allows gives failed says before (Now answer) after = record {
-  works : Works (counted before) after;
-  closed : answer ≡ Err 1504 → says before.gate before.session before.calls false × (after ≡ counted before);
+  works : Works (after_asking before) after;
+  closed : answer ≡ Err 1504 → says before.gate before.session before.calls false × (after ≡ after_asking before);
   passed : answer ≢ Err 1504 → says before.gate before.session before.calls true;
   seat : after.seat ≡ before.seat;
-  read : IfOk answer (λ reading. HasRead gives failed (counted before) reading after);
+  read : IfOk answer (λ reading. HasRead gives failed (after_asking before) reading after);
   unread : OnErr answer (after.notes ≡ before.notes);
-  refused : answer ≢ Err 1504 → IfErr answer (λ number. GivesNone gives failed (counted before) number after);
+  refused : answer ≢ Err 1504 → IfErr answer (λ number. GivesNone gives failed (after_asking before) number after);
 }
 Allows gives failed says before (Begin number floor answer) after = record {
-  works : Works (counted before) after;
-  closed : answer ≡ Err 1504 → says before.gate before.session before.calls false × (after ≡ counted before);
+  works : Works (after_asking before) after;
+  closed : answer ≡ Err 1504 → says before.gate before.session before.calls false × (after ≡ after_asking before);
   passed : answer ≢ Err 1504 → says before.gate before.session before.calls true;
   notes : after.notes ≡ before.notes;
-  begins : answer ≢ Err 1504 → LooksThen gives failed (counted before) (λ looked. BeginsAt before.seat floor before.lease looked answer after.seat) after;
+  begins : answer ≢ Err 1504 → LooksThen gives failed (after_asking before) (λ looked. BeginsAt before.seat floor before.lease looked answer after.seat) after;
 }
 Allows gives failed says before (Pass number answer) after = record {
-  works : Works (counted before) after;
-  closed : answer ≡ Err 1504 → says before.gate before.session before.calls false × (after ≡ counted before);
+  works : Works (after_asking before) after;
+  closed : answer ≡ Err 1504 → says before.gate before.session before.calls false × (after ≡ after_asking before);
   passed : answer ≢ Err 1504 → says before.gate before.session before.calls true;
   seat : after.seat ≡ before.seat;
   notes : after.notes ≡ before.notes;
-  passes : answer ≢ Err 1504 → LooksThen gives failed (counted before) (λ looked. PassesAt looked answer) after;
+  passes : answer ≢ Err 1504 → LooksThen gives failed (after_asking before) (λ looked. PassesAt looked answer) after;
 }

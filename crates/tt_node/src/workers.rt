@@ -5,7 +5,7 @@ ghost use Rattle.tt_stream.specs.Counts.{HasFailed};
 ghost use Rattle.tt_span.specs.Interval.{Interval};
 ghost use Rattle.tt_publish.specs.Looks.{Looks};
 ghost use Rattle.tt_publish.specs.declared.faults.ReadFault.{ReadFault};
-ghost use Rattle.tt_node.specs.Working.{Works, HasRead, GivesNone, LooksThen, BeginsAt, StepsOn, PassesAt, Allows, counted};
+ghost use Rattle.tt_node.specs.Working.{Works, HasRead, GivesNone, LooksThen, BeginsAt, StepsOn, PassesAt, Allows, after_asking};
 
 use crate::faults::NodeFault;
 use crate::gates::Gate;
@@ -137,7 +137,7 @@ impl<'a, R, C: Drop, G> Worker<'a, R, C, G> {
 impl<'a, R: Wait, C: Clock, G: Gate> Worker<'a, R, C, G> {
     /// Whether the gate lets the next call pass, and the number of that call.
     fn passes(&mut self) -> (bool, u64)
-        ensures counted { self.new ≡ counted self.old }
+        ensures after_asking { self.new ≡ after_asking self.old }
         ensures said { G.says self.old.gate self.old.session self.old.calls result.0 }
     {
         let call = self.calls;

@@ -8,7 +8,7 @@
 //! - `scripts`, with the texts of `texts`: what a script says, and why it is refused (`tt_script`).
 //! - `rounds`, `failures`, `nodes`, `datagrams`, with the devices of `devices`: rounds of a daemon and of a master, what they do where
 //!   a device fails, a node and its workers, packets over UDP (`tt_node`).
-//! - `words`: command lines (`ttd_words`).
+//! - `words`: command lines (`ttd_cli`).
 #![tactic(auto)]
 
 #[cfg(test)]

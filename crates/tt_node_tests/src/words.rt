@@ -2,7 +2,7 @@
 
 use std::test::Fail;
 use tt_span::Drift;
-use ttd_words::{Asked, Command, WordsFault, help_text, read_words};
+use ttd_cli::{Asked, Command, WordsFault, help_text, read_words};
 
 fn age_asked() -> Result<Asked, Fail> {
     Ok(Asked::Run(Command::Age {

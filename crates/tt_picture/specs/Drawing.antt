@@ -12,12 +12,12 @@ use Rattle.tt_picture.specs.Sheet.{across_of, middle_of, upright_of}
 use Rattle.tt_picture.specs.Tree.{Attribute, Leaf, Branch}
 
 -- an attribute whose value is a word
-abbrev pub named : List ℕ → List ℕ → Attribute
-named name value = record { name = name; value = value }
+abbrev pub word_attribute : List ℕ → List ℕ → Attribute
+word_attribute name value = record { name = name; value = value }
 
 -- an attribute whose value is a number
-abbrev pub numbered : List ℕ → ℕ → Attribute
-numbered name n = record { name = name; value = decimal n }
+abbrev pub number_attribute : List ℕ → ℕ → Attribute
+number_attribute name n = record { name = name; value = decimal n }
 
 -- a title, which is shown where one points at its branch
 abbrev pub title : List (List ℕ) → Leaf
@@ -27,7 +27,7 @@ title words = record { name = codes "title"; attributes = []; words = words }
 abbrev pub rectangle : ℕ → ℕ → ℕ → ℕ → Leaf
 rectangle x y width height = record {
   name = codes "rect";
-  attributes = numbered (codes "x") x ∷ numbered (codes "y") y ∷ numbered (codes "width") width ∷ numbered (codes "height") height ∷ [];
+  attributes = number_attribute (codes "x") x ∷ number_attribute (codes "y") y ∷ number_attribute (codes "width") width ∷ number_attribute (codes "height") height ∷ [];
   words = [];
 }
 
@@ -35,7 +35,7 @@ rectangle x y width height = record {
 abbrev pub label : ℕ → ℕ → List ℕ → ℕ → Leaf
 label x y word n = record {
   name = codes "text";
-  attributes = numbered (codes "x") x ∷ numbered (codes "y") y ∷ [];
+  attributes = number_attribute (codes "x") x ∷ number_attribute (codes "y") y ∷ [];
   words = word ∷ decimal n ∷ [];
 }
 
@@ -43,7 +43,7 @@ label x y word n = record {
 abbrev pub measure : ℕ → ℕ → List ℕ → ℕ → Leaf
 measure x y word n = record {
   name = codes "text";
-  attributes = numbered (codes "x") x ∷ numbered (codes "y") y ∷ [];
+  attributes = number_attribute (codes "x") x ∷ number_attribute (codes "y") y ∷ [];
   words = word ∷ decimal n ∷ codes " ns" ∷ [];
 }
 
@@ -51,7 +51,7 @@ measure x y word n = record {
 abbrev pub dot : ℕ → ℕ → Leaf
 dot x y = record {
   name = codes "circle";
-  attributes = numbered (codes "cx") x ∷ numbered (codes "cy") y ∷ named (codes "r") (codes "3") ∷ [];
+  attributes = number_attribute (codes "cx") x ∷ number_attribute (codes "cy") y ∷ word_attribute (codes "r") (codes "3") ∷ [];
   words = [];
 }
 
@@ -59,13 +59,13 @@ dot x y = record {
 abbrev pub line : ℕ → ℕ → ℕ → ℕ → Leaf
 line x1 y1 x2 y2 = record {
   name = codes "line";
-  attributes = numbered (codes "x1") x1 ∷ numbered (codes "y1") y1 ∷ numbered (codes "x2") x2 ∷ numbered (codes "y2") y2 ∷ [];
+  attributes = number_attribute (codes "x1") x1 ∷ number_attribute (codes "y1") y1 ∷ number_attribute (codes "x2") x2 ∷ number_attribute (codes "y2") y2 ∷ [];
   words = [];
 }
 
 -- a branch of a class
 abbrev pub group : List ℕ → List Leaf → Branch
-group class leaves = record { name = codes "g"; attributes = named (codes "class") class ∷ []; leaves = leaves }
+group class leaves = record { name = codes "g"; attributes = word_attribute (codes "class") class ∷ []; leaves = leaves }
 
 -- what the title of a band says: the machine, what it does, the span and the true time
 abbrev pub band_title : List ℕ → Band → Leaf

@@ -7,12 +7,12 @@ use Rattle.tt_world.specs.Config.{config_at}
 use Rattle.tt_picture.specs.declared.sheets.Sheet.{Sheet}
 use Rattle.tt_picture.specs.Sheet.{across_of, middle_of, tick_of}
 use Rattle.tt_picture.specs.Tree.{Attribute, Leaf, Branch, opening_then}
-use Rattle.tt_picture.specs.Drawing.{named, numbered, title, rectangle, line, label, measure, group}
+use Rattle.tt_picture.specs.Drawing.{word_attribute, number_attribute, title, rectangle, line, label, measure, group}
 
 -- the attributes of a picture of so many machines
 abbrev pub size_of : ℕ → List Attribute
 size_of machines =
-    named (codes "xmlns") (codes "http://www.w3.org/2000/svg") ∷ named (codes "width") (codes "1200") ∷ numbered (codes "height") (72 + 190 * machines) ∷ []
+    word_attribute (codes "xmlns") (codes "http://www.w3.org/2000/svg") ∷ word_attribute (codes "width") (codes "1200") ∷ number_attribute (codes "height") (72 + 190 * machines) ∷ []
 
 -- the opening of a picture of so many machines
 abbrev pub opening_of : ℕ → List ℕ
@@ -24,13 +24,13 @@ style_group = group (codes "style") (record { name = codes "style"; attributes =
 
 -- words of the legend at a place
 abbrev pub note : List ℕ → List ℕ → List ℕ → Leaf
-note x y words = record { name = codes "text"; attributes = named (codes "x") x ∷ named (codes "y") y ∷ []; words = words ∷ [] }
+note x y words = record { name = codes "text"; attributes = word_attribute (codes "x") x ∷ word_attribute (codes "y") y ∷ []; words = words ∷ [] }
 
 -- a shape of the legend: of a class, at a place and of a size
 abbrev pub key : List ℕ → List ℕ → List ℕ → List ℕ → List ℕ → Leaf
 key class x y width height = record {
   name = codes "rect";
-  attributes = named (codes "class") class ∷ named (codes "x") x ∷ named (codes "y") y ∷ named (codes "width") width ∷ named (codes "height") height ∷ [];
+  attributes = word_attribute (codes "class") class ∷ word_attribute (codes "x") x ∷ word_attribute (codes "y") y ∷ word_attribute (codes "width") width ∷ word_attribute (codes "height") height ∷ [];
   words = [];
 }
 
@@ -38,7 +38,7 @@ key class x y width height = record {
 abbrev pub spot : List ℕ → List ℕ → Leaf
 spot x y = record {
   name = codes "circle";
-  attributes = named (codes "cx") x ∷ named (codes "cy") y ∷ named (codes "r") (codes "3") ∷ [];
+  attributes = word_attribute (codes "cx") x ∷ word_attribute (codes "cy") y ∷ word_attribute (codes "r") (codes "3") ∷ [];
   words = [];
 }
 

@@ -2,7 +2,7 @@
 
 ghost use Rattle.std.specs.Prelude.{◌≡◌, [], ◌∷◌, ◌++◌, OnOk, string_bytes, codes};
 ghost use Rattle.tt_picture.specs.Tree.{leaf_text, opening_then, closing_then};
-ghost use Rattle.tt_picture.specs.Drawing.{band_title, course_title, flag_title, rectangle, line, label, measure, dot, named};
+ghost use Rattle.tt_picture.specs.Drawing.{band_title, course_title, flag_title, rectangle, line, label, measure, dot, word_attribute};
 
 use crate::marks::{Band, Course, Flag};
 use std::alloc::{AllocError, Global};
@@ -16,7 +16,7 @@ pub fn push_words(text: &mut String, words: &str) -> Result<(), AllocError>
 
 /// Writes the opening of a group of a class at the end.
 pub fn push_opening(alloc: Global, text: &mut String, class: &str) -> Result<(), AllocError>
-    ensures { OnOk result (string_bytes text.new ≡ string_bytes text.old ++ opening_then (codes "g") (named (codes "class") class.now ∷ []) (codes "\n")) }
+    ensures { OnOk result (string_bytes text.new ≡ string_bytes text.old ++ opening_then (codes "g") (word_attribute (codes "class") class.now ∷ []) (codes "\n")) }
 {
     let part = format!(in alloc; "<g class=\"{}\">\n", class)?;
     text.push_str(part.as_str())

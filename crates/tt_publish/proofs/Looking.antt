@@ -45,5 +45,5 @@ merges seat v other w x views h at apart there =
     set_known x (set views seat w) other None (set_known x views seat w h told) tt
 
 -- the operation that was put behind none is what is shown afterwards
-pub last_wins : (shown next front : Known) (pending before : List Known) → before ≡ [] → pending ≡ before ++ front ∷ [] → next ≡ fold (λ (x y : Known). y) shown pending → next ≡ front
-last_wins shown next front pending before none one is = is ∙ ap (fold (λ (x y : Known). y) shown) (one ∙ ap (λ b. b ++ front ∷ []) none)
+pub last_wins : (shown next latest : Known) (pending before : List Known) → before ≡ [] → pending ≡ before ++ latest ∷ [] → next ≡ fold (λ (x y : Known). y) shown pending → next ≡ latest
+last_wins shown next latest pending before none one is = is ∙ ap (fold (λ (x y : Known). y) shown) (one ∙ ap (λ b. b ++ latest ∷ []) none)

@@ -12,8 +12,8 @@
 //! - `faults`: what is answered where a call refuses.
 //! - `clocks`: the trait `Clock`. `memory`: a clock in memory.
 //! - `readings`: `Reading`, and how a fusion is read at a clock reading (`FusedSpan`, `ReadAt`).
-//! - `fronts`: what is known of the publications, in the history that all threads share.
-//! - `shows`: how one front is shown to many watches.
+//! - `publications`: what is known of the publications, in the history that all threads share.
+//! - `shows`: how the latest is shown to many watches.
 //! - `teller`: `open`, `Teller` and `Told`. `watch`: `Watch`.
 //!
 //! The calls that only read, `tell`, `learn` and `now`, never wait and never allocate.
@@ -21,8 +21,8 @@
 
 mod clocks;
 mod faults;
-mod fronts;
 mod memory;
+mod publications;
 mod readings;
 mod shows;
 mod teller;

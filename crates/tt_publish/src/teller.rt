@@ -4,8 +4,8 @@ ghost use Rattle.std.specs.Prelude.{◌≡◌, ◌<◌, ◌↔◌, ◌⊎◌, �
 ghost use Rattle.tt_publish.specs.Known.{GoesBack};
 
 use crate::faults::PublishFault;
-use crate::fronts::{Front, Head};
-use crate::shows::{FrontWriter, reader_of, show, writer_of};
+use crate::publications::{Head, Latest};
+use crate::shows::{LatestWriter, reader_of, show, writer_of};
 use crate::watch::Watch;
 use std::alloc::Global;
 use std::marker::Model;
@@ -22,9 +22,9 @@ pub const MAX_WATCHES: usize = 32;
 /// It has no drop: end it by [`close`](Teller::close).
 pub struct Teller {
     head: Head,
-    front: Front,
+    latest: Latest,
     /// Present between calls.
-    writer: Option<FrontWriter>,
+    writer: Option<LatestWriter>,
 }
 
 impl Model for Teller {
@@ -36,19 +36,19 @@ impl Model for Teller {
 
     ghost Value = { Known };
 
-    ghost view = { λ t. t.front };
+    ghost view = { λ t. t.latest };
 
-    ghost invariant = { λ t. (t.head ≡ head_of t.front.source)
+    ghost invariant = { λ t. (t.head ≡ head_of t.latest.source)
         × MatchOption t.writer ⊥ (λ writer.
-        (writer.desk.shown.value ≡ t.front)
+        (writer.desk.shown.value ≡ t.latest)
         × (drop writer.behind writer.log.items ≡ [])
-        × (source_of (seen_at writer.desk.place) ≡ Some t.front.source)) };
+        × (source_of (seen_at writer.desk.place) ≡ Some t.latest.source)) };
 }
 
 /// What a teller had published when it was asked. Contracts see the source and the list, oldest first.
 #[derive(Drop)]
 pub struct Told {
-    front: Front,
+    latest: Latest,
 }
 
 impl Model for Told {
@@ -56,7 +56,7 @@ impl Model for Told {
 
     ghost Value = { Known };
 
-    ghost view = { λ t. t.front };
+    ghost view = { λ t. t.latest };
 }
 
 /// A teller that has published nothing, and `readers` watches of it, for machines whose clock has this drift.
@@ -78,13 +78,13 @@ pub fn open<R: Wait>(
     if readers == 0 || readers > MAX_WATCHES {
         return Err(PublishFault::Places);
     }
-    let (head, front) = Front::open();
-    let Ok(writer) = writer_of(rt, alloc, &front, readers) else {
+    let (head, latest) = Latest::open();
+    let Ok(writer) = writer_of(rt, alloc, &latest, readers) else {
         return Err(PublishFault::Memory);
     };
     let mut teller = Teller {
         head,
-        front,
+        latest,
         writer: Some(writer),
     };
     match teller.watches(alloc, drift, readers) {
@@ -115,13 +115,13 @@ impl Teller {
         ensures used_up { IsErrOf result PublishFault.UsedUp ↔ ((¬ GoesBack self.old.items fused) × (length self.old.items ≡ 18446744073709551615)) }
         ensures no_places { ¬ IsErrOf result PublishFault.Places }
     {
-        if self.front.goes_back(&fused) {
+        if self.latest.goes_back(&fused) {
             return Err(PublishFault::ClockBack);
         }
-        if self.front.number() == u64::MAX {
+        if self.latest.number() == u64::MAX {
             return Err(PublishFault::UsedUp);
         }
-        let Some(next) = self.front.extended(&self.head, &fused) else {
+        let Some(next) = self.latest.extended(&self.head, &fused) else {
             return Err(PublishFault::Memory);
         };
         let (writer, shown) = show(rt, self.writer.take().unwrap(), &next);
@@ -132,7 +132,7 @@ impl Teller {
         if shown.is_err() {
             return Err(PublishFault::Memory);
         }
-        self.front = next;
+        self.latest = next;
         Ok(())
     }
 
@@ -141,7 +141,7 @@ impl Teller {
         ensures { result ≡ self.now }
     {
         Told {
-            front: self.front.copied(),
+            latest: self.latest.copied(),
         }
     }
 
@@ -149,7 +149,7 @@ impl Teller {
     pub fn close<R: Wait>(self, rt: &R) {
         let Teller {
             head: _head,
-            front: _front,
+            latest: _front,
             writer,
         } = self;
         writer.unwrap().take(rt);
@@ -185,15 +185,15 @@ impl Teller {
         ensures watch { IfSome result (λ watch. watch ≡ record { source = self.old.source; drift = drift; items = self.old.items }) }
     {
         let reader = reader_of(self.writer.as_mut().unwrap())?;
-        Some(Watch::over(reader, self.front.copied(), drift))
+        Some(Watch::over(reader, self.latest.copied(), drift))
     }
 }
 
 impl Told {
     /// What the teller had published when it was asked.
-    pub(crate) fn front(&self) -> &Front
+    pub(crate) fn latest(&self) -> &Latest
         ensures { result.now ≡ self.now }
     {
-        &self.front
+        &self.latest
     }
 }

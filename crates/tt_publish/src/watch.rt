@@ -9,9 +9,9 @@ ghost use Rattle.tt_publish.specs.Shown.{source_of};
 
 use crate::clocks::Clock;
 use crate::faults::ReadFault;
-use crate::fronts::Front;
+use crate::publications::Latest;
 use crate::readings::Reading;
-use crate::shows::{FrontReader, look};
+use crate::shows::{LatestReader, look};
 use crate::teller::Told;
 use std::marker::Model;
 use tt_span::Drift;
@@ -23,8 +23,8 @@ use tt_span::Drift;
 #[derive(Drop)]
 pub struct Watch {
     /// Present between calls.
-    reader: Option<FrontReader>,
-    front: Front,
+    reader: Option<LatestReader>,
+    latest: Latest,
     drift: Drift,
 }
 
@@ -36,20 +36,20 @@ impl Model for Watch {
 
     ghost Value = { WatchState };
 
-    ghost view = { λ w. record { source = w.front.source; drift = w.drift; items = w.front.items } };
+    ghost view = { λ w. record { source = w.latest.source; drift = w.drift; items = w.latest.items } };
 
-    ghost invariant = { λ w. MatchOption w.reader ⊥ (λ reader. source_of (seen_at reader.place) ≡ Some w.front.source) };
+    ghost invariant = { λ w. MatchOption w.reader ⊥ (λ reader. source_of (seen_at reader.place) ≡ Some w.latest.source) };
 }
 
 impl Watch {
-    /// A watch that has seen what the front knows.
-    pub(crate) fn over(reader: FrontReader, front: Front, drift: Drift) -> Watch
-        requires { source_of (view reader.place) ≡ Some front.source }
-        ensures { result ≡ record { source = front.source; drift = drift; items = front.items } }
+    /// A watch that has seen what the latest knows.
+    pub(crate) fn over(reader: LatestReader, latest: Latest, drift: Drift) -> Watch
+        requires { source_of (view reader.place) ≡ Some latest.source }
+        ensures { result ≡ record { source = latest.source; drift = drift; items = latest.items } }
     {
         Watch {
             reader: Some(reader),
-            front,
+            latest,
             drift,
         }
     }
@@ -61,7 +61,7 @@ impl Watch {
         ensures same { (self.new.source ≡ self.old.source) × (self.new.drift ≡ self.old.drift) }
         ensures longer { IsLonger self.old.items told.now.items self.new.items }
     {
-        self.front.learn(told.front());
+        self.latest.learn(told.latest());
     }
 
     /// A reading of the last publication at what the clock shows, aged by the drift that
@@ -75,7 +75,7 @@ impl Watch {
         ensures looks { Looks C.gives C.failed self.old clock.old result self.new clock.new }
     {
         self.look();
-        let Some(last) = self.front.last() else {
+        let Some(last) = self.latest.last() else {
             return Err(ReadFault::Nothing);
         };
         let Ok(time) = clock.read() else {
@@ -90,6 +90,6 @@ impl Watch {
         ensures seen { IsPrefix self.old.items self.new.items }
     {
         let reader = self.reader.take().unwrap();
-        self.reader = Some(look(reader, &mut self.front));
+        self.reader = Some(look(reader, &mut self.latest));
     }
 }

@@ -6,7 +6,7 @@ use Rattle.std.specs.Prelude.{codes}
 use Rattle.tt_daemon.specs.Config.{Configuration}
 use Rattle.tt_world.specs.declared.events.Event.{Event}
 use Rattle.tt_master.specs.declared.acts.Act.{Act}
-use Rattle.tt_script.specs.Lookup.{value_at, count_of, are_tables, each, of_table, wanted}
+use Rattle.tt_script.specs.Lookup.{value_at, count_of, are_tables, each, of_table, typed_value}
 use Rattle.tt_script.specs.Fault.{◌>>=◌}
 use Rattle.tt_script.specs.Machines.{configuration_in, machines_if, machine_items_in, machines_in}
 use Rattle.tt_script.specs.Events.{event_in, events_if, event_items_in, events_of, events_in}
@@ -26,7 +26,7 @@ count_of-acts_if items found h =
 -- a master has from 1 to 64 acts
 pub length-acts : (d : Data) (items : Items) (acts : List Act) → act_items_in d ≡ Ok items → each act_of items ≡ Ok acts → (0 < length acts) × (length acts ≤ 64)
 length-acts d items acts listed read =
-    let step = both_steps (wanted (as_array d)) acts_if items listed in
+    let step = both_steps (typed_value (as_array d)) acts_if items listed in
     let few = count_of-acts_if step.0 items step.2 in
     let same = length-each act_of items acts read in
     (omega arith, omega arith)
@@ -46,8 +46,8 @@ count_of-machines_if (item d rest) found h =
 pub length-machines : (t : Members) (configs : List Configuration) → machines_in t ≡ Ok configs → (0 < length configs) × (length configs ≤ 8)
 length-machines t configs h =
     let whole = both_steps (machine_items_in t) (each (of_table configuration_in)) configs h in
-    let value = both_steps (value_at (codes "machine") t) (λ d. wanted (as_array d) >>= machines_if) whole.0 whole.1 in
-    let listed = both_steps (wanted (as_array value.0)) machines_if whole.0 value.2 in
+    let value = both_steps (value_at (codes "machine") t) (λ d. typed_value (as_array d) >>= machines_if) whole.0 whole.1 in
+    let listed = both_steps (typed_value (as_array value.0)) machines_if whole.0 value.2 in
     let few = count_of-machines_if listed.0 whole.0 listed.2 in
     let same = length-each (of_table configuration_in) whole.0 configs whole.2 in
     (omega arith, omega arith)
@@ -68,7 +68,7 @@ length-events_of : (value : Option Data) (events : List Event) → events_of val
 length-events_of None events h = let none : [] ≡ events = cc in rw (← none) (omega arith)
 length-events_of (Some d) events h =
     let whole = both_steps (event_items_in d) (each (of_table event_in)) events h in
-    let listed = both_steps (wanted (as_array d)) events_if whole.0 whole.1 in
+    let listed = both_steps (typed_value (as_array d)) events_if whole.0 whole.1 in
     let few = count_of-events_if listed.0 whole.0 listed.2 in
     let same = length-each (of_table event_in) whole.0 events whole.2 in
     omega arith

@@ -10,7 +10,7 @@ use Rattle.tt_master.specs.declared.acts.Act.TheVariants.{Honest, Ahead, Behind,
 use Rattle.tt_script.specs.declared.faults.ScriptFault.{ScriptFault}
 use Rattle.tt_script.specs.declared.faults.ScriptFault.TheVariants.{WrongValue}
 use Rattle.tt_script.specs.Fault.{◌>>=◌}
-use Rattle.tt_script.specs.Lookup.{count_of, each, wanted}
+use Rattle.tt_script.specs.Lookup.{count_of, each, typed_value}
 
 -- the text of an act
 abbrev pub act_text : Act → List ℕ
@@ -57,7 +57,7 @@ act_in text =
 -- the act that a value writes
 abbrev pub act_of : Data → Result Act ScriptFault
 act_of d = do
-  text ← wanted (as_str d)
+  text ← typed_value (as_str d)
   act_in text
 
 -- from 1 to 64 acts
@@ -67,7 +67,7 @@ acts_if items = if nat_lt 0 (count_of items) && nat_le (count_of items) 64 then 
 -- the items of an array of acts
 abbrev pub act_items_in : Data → Result Items ScriptFault
 act_items_in d = do
-  items ← wanted (as_array d)
+  items ← typed_value (as_array d)
   acts_if items
 
 -- the acts that an array lists

@@ -12,7 +12,7 @@ use Rattle.tt_script.specs.declared.faults.ScriptFault.{ScriptFault}
 use Rattle.tt_script.specs.declared.faults.ScriptFault.TheVariants.{WrongValue, TooManyEvents}
 use Rattle.tt_span.specs.Interval.{Interval}
 use Rattle.tt_script.specs.Fault.{◌>>=◌}
-use Rattle.tt_script.specs.Lookup.{any_at, time_at, small_at, session_at, text_at, count_of, are_tables, each, of_table, wanted}
+use Rattle.tt_script.specs.Lookup.{any_at, time_at, small_at, session_at, text_at, count_of, are_tables, each, of_table, typed_value}
 use Rattle.tt_script.specs.Words.{word_of}
 
 -- the span of two ends, in order
@@ -137,7 +137,7 @@ events_if items = if are_tables items then (if nat_le (count_of items) 4096 then
 -- the tables of the events
 abbrev pub event_items_in : Data → Result Items ScriptFault
 event_items_in d = do
-  items ← wanted (as_array d)
+  items ← typed_value (as_array d)
   events_if items
 
 -- the events that the value at `event` gives, where it is there

@@ -7,7 +7,7 @@ use Rattle.tt_master.specs.declared.acts.Act.{Act}
 use Rattle.tt_script.specs.declared.faults.ScriptFault.{ScriptFault}
 use Rattle.tt_script.specs.declared.faults.ScriptFault.TheVariants.{WrongValue}
 use Rattle.tt_script.specs.Fault.{◌>>=◌}
-use Rattle.tt_script.specs.Lookup.{value_at, number_at, time_at, optional_at, are_tables, each, of_table, wanted}
+use Rattle.tt_script.specs.Lookup.{value_at, number_at, time_at, optional_at, are_tables, each, of_table, typed_value}
 use Rattle.tt_script.specs.Events.{span_if}
 use Rattle.tt_script.specs.Acts.{acts_in}
 
@@ -51,7 +51,7 @@ tables_if items = if are_tables items then Ok items else Err WrongValue
 -- an array of tables
 abbrev pub tables_in : Data → Result Items ScriptFault
 tables_in d = do
-  items ← wanted (as_array d)
+  items ← typed_value (as_array d)
   tables_if items
 
 -- the masters
@@ -62,18 +62,18 @@ masters_in d = do
 
 -- a line of a session
 abbrev pub line_in : Data → Result (List ℕ) ScriptFault
-line_in d = wanted (as_str d)
+line_in d = typed_value (as_str d)
 
 -- the lines of a session
 abbrev pub session_in : Data → Result (List (List ℕ)) ScriptFault
 session_in d = do
-  items ← wanted (as_array d)
+  items ← typed_value (as_array d)
   each line_in items
 
 -- the sessions
 abbrev pub sessions_in : Data → Result (List (List (List ℕ))) ScriptFault
 sessions_in d = do
-  items ← wanted (as_array d)
+  items ← typed_value (as_array d)
   each session_in items
 
 -- the lease, which is the whole of time where neither end is given

@@ -7,16 +7,16 @@ use Rattle.tt_script.specs.declared.faults.ScriptFault.TheVariants.{MissingKey, 
 use Rattle.tt_script.specs.Fault.{◌>>=◌}
 
 -- what has to be there
-abbrev pub required : {A : Type 0} → Option A → Result A ScriptFault
-required found = ok_or found MissingKey
+abbrev pub required_value : {A : Type 0} → Option A → Result A ScriptFault
+required_value found = ok_or found MissingKey
 
 -- what has to be of the right type
-abbrev pub wanted : {A : Type 0} → Option A → Result A ScriptFault
-wanted found = ok_or found WrongValue
+abbrev pub typed_value : {A : Type 0} → Option A → Result A ScriptFault
+typed_value found = ok_or found WrongValue
 
 -- the value at a key
 abbrev pub value_at : List ℕ → Members → Result Data ScriptFault
-value_at key t = required (get_member key t)
+value_at key t = required_value (get_member key t)
 
 -- a whole number from 0 to the greatest, if there is one
 abbrev pub within : ℕ → Option ℤ → Result ℕ ScriptFault
@@ -62,7 +62,7 @@ optional_at key default most t = number_or default most (get_member key t)
 abbrev pub text_at : List ℕ → Members → Result (List ℕ) ScriptFault
 text_at key t = do
   d ← value_at key t
-  wanted (as_str d)
+  typed_value (as_str d)
 
 -- how many items there are
 abbrev pub count_of : Items → ℕ
@@ -85,5 +85,5 @@ each f (item d rest) = do
 -- what a table is, where the value is one
 abbrev pub of_table : {A : Type 0} → (Members → Result A ScriptFault) → Data → Result A ScriptFault
 of_table f d = do
-  t ← wanted (as_table d)
+  t ← typed_value (as_table d)
   f t

@@ -6,7 +6,7 @@ use Rattle.tt_daemon.specs.Config.{Configuration}
 use Rattle.tt_script.specs.declared.faults.ScriptFault.{ScriptFault}
 use Rattle.tt_script.specs.declared.faults.ScriptFault.TheVariants.{MissingKey, WrongValue}
 use Rattle.tt_script.specs.Fault.{◌>>=◌}
-use Rattle.tt_script.specs.Lookup.{value_at, any_at, optional_at, count_of, are_tables, each, of_table, wanted}
+use Rattle.tt_script.specs.Lookup.{value_at, any_at, optional_at, count_of, are_tables, each, of_table, typed_value}
 
 -- whether a machine can be set up so
 abbrev pub can_be_set_up : Configuration → Bool
@@ -35,7 +35,7 @@ machines_if (item d rest) = if are_tables (item d rest) && nat_le (count_of (ite
 abbrev pub machine_items_in : Members → Result Items ScriptFault
 machine_items_in t = do
   d ← value_at (codes "machine") t
-  items ← wanted (as_array d)
+  items ← typed_value (as_array d)
   machines_if items
 
 -- the machines of a document

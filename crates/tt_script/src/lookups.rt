@@ -3,7 +3,7 @@
 ghost use Rattle.std.specs.Prelude.{◌≡◌, Ok, Err, IsTrue, MatchResult, nat_le, option_map};
 ghost use Rattle.toml.specs.Data.{get_member, as_array};
 ghost use Rattle.toml.specs.View.{view, table_view, array_view};
-ghost use Rattle.tt_script.specs.Lookup.{value_at, number_in, number_at, any_at, time_at, small_at, session_at, optional_at, text_at, count_of, are_tables, wanted};
+ghost use Rattle.tt_script.specs.Lookup.{value_at, number_in, number_at, any_at, time_at, small_at, session_at, optional_at, text_at, count_of, are_tables, typed_value};
 
 use crate::faults::ScriptFault;
 use toml::value::Array;
@@ -110,7 +110,7 @@ pub(crate) fn text_at<'a>(table: &'a Table, key: &str) -> Result<&'a str, Script
 
 /// The items of an array.
 pub(crate) fn items_in(value: &Value) -> Result<&Array, ScriptFault>
-    ensures { let defined = wanted (as_array (view value.now)) in
+    ensures { let defined = typed_value (as_array (view value.now)) in
         MatchResult result (λ items. defined ≡ Ok (array_view items.now)) (λ fault. defined ≡ Err fault) }
 {
     match value.as_array() {

@@ -11,14 +11,14 @@ use Rattle.tt_session.specs.Session.{Session}
 use Rattle.tt_session.specs.Talks.{IsKept, Talks, TalksOn, BreaksIn}
 use Rattle.tt_session.specs.declared.begun.Begun.{Begun}
 use Rattle.tt_session.specs.declared.calls.Call.{Call}
-use Rattle.tt_session.specs.declared.replies.Reply.{Reply}
+use Rattle.tt_session.specs.declared.replies.LineReply.{LineReply}
 use Rattle.tt_session.specs.declared.serving.Served.{Served}
 use Rattle.tt_session.specs.declared.talks.Talk.{Talk}
 use Rattle.tt_session.proofs.Talking.{Conversation-append}
 use Rattle.tt_session.proofs.Splitting.{Splits-nil, Splits-kept, Splits-ended}
 
 -- one more line is answered
-AnswersLines-more : (waits : ℕ) (lines : List (List ℕ)) (calls : List Call) (replies : List Reply) (last mid begun : Option Begun) (line : List ℕ) (own : List Call) (reply : Reply)
+AnswersLines-more : (waits : ℕ) (lines : List (List ℕ)) (calls : List Call) (replies : List LineReply) (last mid begun : Option Begun) (line : List ℕ) (own : List Call) (reply : LineReply)
     → AnswersLines waits last lines calls replies mid → AnswersLine waits mid line own reply begun
     → AnswersLines waits last (lines ++ line ∷ []) (calls ++ own) (replies ++ reply ∷ []) begun
 AnswersLines-more waits [] calls [] last mid begun line own reply so_far next =
@@ -62,7 +62,7 @@ module _ {S : Type 0} (allows : S → Call → S → Type 0) (waits : ℕ) where
       }
 
   -- a line is answered
-  Session-answered : (before : S) (bytes : List ℕ) (mid after : S) (text : List ℕ) (served counted : Served) (rest : List ℕ) (last begun : Option Begun) (reply : Reply)
+  Session-answered : (before : S) (bytes : List ℕ) (mid after : S) (text : List ℕ) (served counted : Served) (rest : List ℕ) (last begun : Option Begun) (reply : LineReply)
       → Session allows waits before bytes mid text served rest last
       → Talked allows mid after (λ calls. AnswersLine waits last rest calls reply begun)
       → counted.lines ≡ served.lines + 1
@@ -107,7 +107,7 @@ module _ {S : Type 0} (allows : S → Call → S → Type 0) (waits : ℕ) where
       }
 
   -- a line feed, whose reply is written
-  pub TalksOn-answered : (took takes : Option (List ℕ)) (mid after : S) (talk answers : Talk) (reply : Reply)
+  pub TalksOn-answered : (took takes : Option (List ℕ)) (mid after : S) (talk answers : Talk) (reply : LineReply)
       → ((bytes : List ℕ) → IsKept talk.line.items bytes → Talked allows mid after (λ calls. AnswersLine waits talk.last bytes calls reply answers.last))
       → answers.line.items ≡ []
       → answers.served.lines ≡ talk.served.lines + 1
@@ -124,7 +124,7 @@ module _ {S : Type 0} (allows : S → Call → S → Type 0) (waits : ℕ) where
       }
 
   -- a line feed, of whose reply a front is written
-  pub BreaksIn-answered : (took takes : Option (List ℕ)) (mid after : S) (talk : Talk) (counted : Served) (begun : Option Begun) (reply : Reply) (front cut : List ℕ)
+  pub BreaksIn-answered : (took takes : Option (List ℕ)) (mid after : S) (talk : Talk) (counted : Served) (begun : Option Begun) (reply : LineReply) (front cut : List ℕ)
       → ((bytes : List ℕ) → IsKept talk.line.items bytes → Talked allows mid after (λ calls. AnswersLine waits talk.last bytes calls reply begun))
       → counted.lines ≡ talk.served.lines + 1
       → counted.refused ≡ talk.served.refused + (if is_refused reply then 1 else 0)

@@ -6,8 +6,8 @@ use Rattle.tt_session.specs.Answers.{Passes, Begins, Releases, Reads, SaysOf}
 use Rattle.tt_session.specs.declared.begun.Begun.{Begun}
 use Rattle.tt_session.specs.declared.calls.Call.{Call}
 use Rattle.tt_session.specs.declared.calls.Call.TheVariants.{Now, Begin, Pass}
-use Rattle.tt_session.specs.declared.replies.Reply.{Reply}
-use Rattle.tt_session.specs.declared.replies.Reply.TheVariants.{Refused}
+use Rattle.tt_session.specs.declared.replies.LineReply.{LineReply}
+use Rattle.tt_session.specs.declared.replies.LineReply.TheVariants.{Refused}
 use Rattle.tt_span.specs.Interval.{Interval}
 use Rattle.tt_session.proofs.Talking.{Conversation-append, Conversation-one}
 
@@ -39,7 +39,7 @@ module _ {S : Type 0} (allows : S → Call → S → Type 0) where
       }
 
   -- a commit begins, and its release steps follow
-  pub begins_released : (before mid after : S) (waits number floor stamp : ℕ) (last then : Option Begun) (reply : Reply)
+  pub begins_released : (before mid after : S) (waits number floor stamp : ℕ) (last then : Option Begun) (reply : LineReply)
       → allows before (Begin number floor (Ok stamp)) mid → Talked allows mid after (λ calls. Releases waits number stamp calls reply then)
       → Talked allows before after (λ calls. Begins waits number floor last calls reply then)
   begins_released before mid after waits number floor stamp last then reply begun steps =
@@ -61,7 +61,7 @@ module _ {S : Type 0} (allows : S → Call → S → Type 0) where
       }
 
   -- a reading answers
-  pub reads : (before after : S) (Of : Interval → Reply → Type 0) (answer : Result Interval ℕ) (last : Option Begun) (reply : Reply)
+  pub reads : (before after : S) (Of : Interval → LineReply → Type 0) (answer : Result Interval ℕ) (last : Option Begun) (reply : LineReply)
       → allows before (Now answer) after → SaysOf Of answer reply → Talked allows before after (λ calls. Reads Of last calls reply last)
   reads before after Of answer last reply called says =
       record {

@@ -8,14 +8,14 @@ use Rattle.tt_session.specs.Answers.{AnswersLines}
 use Rattle.tt_session.specs.Replies.{text_of, is_refused}
 use Rattle.tt_session.specs.declared.begun.Begun.{Begun}
 use Rattle.tt_session.specs.declared.calls.Call.{Call}
-use Rattle.tt_session.specs.declared.replies.Reply.{Reply}
+use Rattle.tt_session.specs.declared.replies.LineReply.{LineReply}
 use Rattle.tt_session.specs.declared.serving.Served.{Served}
 
 -- from one state of the service to another there is a conversation of which this text is exactly the replies to the lines of the bytes; the rest stands behind their last line feed
 pub record Session {S : Type 0} (allows : S → Call → S → Type 0) (waits : ℕ) (before : S) (bytes : List ℕ) (after : S) (text : List ℕ) (served : Served) (rest : List ℕ) (last : Option Begun) : Type 0 where
   pub lines : List (List ℕ)
   pub calls : List Call
-  pub replies : List Reply
+  pub replies : List LineReply
   pub splits : Splits bytes lines rest
   pub talked : Conversation allows before calls after
   pub answered : AnswersLines waits None lines calls replies last
@@ -38,7 +38,7 @@ pub record BreaksOff {S : Type 0} (allows : S → Call → S → Type 0) (waits 
   pub heard : List ℕ
   pub unheard : List ℕ
   pub told : List ℕ
-  pub reply : Reply
+  pub reply : LineReply
   pub front : List ℕ
   pub cut : List ℕ
   pub served : Served

@@ -6,7 +6,7 @@ ghost use Rattle.tt_session.specs.Answers.{Answers, Commits, Begins, GoesOn, Rel
 
 use crate::begun::Begun;
 use crate::faults::LineFault;
-use crate::replies::Reply;
+use crate::replies::LineReply;
 use crate::requests::Request;
 use crate::services::Service;
 use std::cmp::Ordering;
@@ -17,29 +17,29 @@ pub(crate) fn answer<S: Service>(
     service: &mut S,
     waits: u32,
     last: &mut Option<Begun>,
-) -> Reply
+) -> LineReply
     ensures { Talked S.allows service.old service.new (λ calls. Answers waits last.old request calls result last.new) }
 {
     match request {
         Request::Now => match service.now() {
-            Ok(reading) => Reply::Now(reading),
-            Err(fault) => Reply::Refused(fault),
+            Ok(reading) => LineReply::Now(reading),
+            Err(fault) => LineReply::Refused(fault),
         },
         Request::After(time) => match service.now() {
             Ok(reading) => if reading.after(time) {
-                Reply::Yes
+                LineReply::Yes
             } else {
-                Reply::No
+                LineReply::No
             },
-            Err(fault) => Reply::Refused(fault),
+            Err(fault) => LineReply::Refused(fault),
         },
         Request::Before(time) => match service.now() {
             Ok(reading) => if reading.before(time) {
-                Reply::Yes
+                LineReply::Yes
             } else {
-                Reply::No
+                LineReply::No
             },
-            Err(fault) => Reply::Refused(fault),
+            Err(fault) => LineReply::Refused(fault),
         },
         Request::Commit { number, floor } => commit(number, floor, service, waits, last),
     }
@@ -52,19 +52,19 @@ fn commit<S: Service>(
     service: &mut S,
     waits: u32,
     last: &mut Option<Begun>,
-) -> Reply
+) -> LineReply
     ensures { Talked S.allows service.old service.new (λ calls. Commits waits number floor last.old calls result last.new) }
 {
     match *last {
         None => begin(number, floor, service, waits, last),
         Some(begun) => match number.cmp(&begun.number) {
-            Ordering::Less => Reply::Refused(LineFault::OldId.number()),
+            Ordering::Less => LineReply::Refused(LineFault::OldId.number()),
             Ordering::Equal => go_on(begun, service, waits, last),
             Ordering::Greater => {
                 if begun.is_released {
                     begin(number, floor, service, waits, last)
                 } else {
-                    Reply::Refused(LineFault::OtherWaits.number())
+                    LineReply::Refused(LineFault::OtherWaits.number())
                 }
             }
         },
@@ -78,22 +78,27 @@ fn begin<S: Service>(
     service: &mut S,
     waits: u32,
     last: &mut Option<Begun>,
-) -> Reply
+) -> LineReply
     ensures { Talked S.allows service.old service.new (λ calls. Begins waits number floor last.old calls result last.new) }
 {
     match service.begin(number, floor) {
         Ok(stamp) => release(number, stamp, service, waits, last),
-        Err(fault) => Reply::Refused(fault),
+        Err(fault) => LineReply::Refused(fault),
     }
 }
 
 /// Goes on with the last commit.
-fn go_on<S: Service>(begun: Begun, service: &mut S, waits: u32, last: &mut Option<Begun>) -> Reply
+fn go_on<S: Service>(
+    begun: Begun,
+    service: &mut S,
+    waits: u32,
+    last: &mut Option<Begun>,
+) -> LineReply
     ensures { Talked S.allows service.old service.new (λ calls. GoesOn waits begun calls result last.new) }
 {
     if begun.is_released {
         *last = Some(begun);
-        return Reply::Committed {
+        return LineReply::Committed {
             number: begun.number,
             stamp: begun.stamp,
         };
@@ -108,13 +113,13 @@ fn release<S: Service>(
     service: &mut S,
     waits: u32,
     last: &mut Option<Begun>,
-) -> Reply
+) -> LineReply
     ensures { Talked S.allows service.old service.new (λ calls. Releases waits number stamp calls result last.new) }
 {
     let (reply, is_released) = match pass(number, service, waits) {
-        Ok(true) => (Reply::Committed { number, stamp }, true),
-        Ok(false) => (Reply::Waiting { number, stamp }, false),
-        Err(fault) => (Reply::Refused(fault), false),
+        Ok(true) => (LineReply::Committed { number, stamp }, true),
+        Ok(false) => (LineReply::Waiting { number, stamp }, false),
+        Err(fault) => (LineReply::Refused(fault), false),
     };
     *last = Some(Begun {
         number,

@@ -29,7 +29,7 @@ pub use begun::Begun;
 pub use calls::Call;
 pub use desks::Desk;
 pub use faults::{LineFault, ServeFault};
-pub use replies::Reply;
+pub use replies::LineReply;
 pub use requests::{Request, request_laws};
 pub use services::Service;
 pub use serving::{Served, Turns, line_laws, serve};

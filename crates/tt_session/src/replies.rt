@@ -9,7 +9,7 @@ use tt_text::short_line;
 
 /// What a line is answered.
 #[derive(Clone, Copy, Debug, PartialEq, Eq)]
-pub enum Reply {
+pub enum LineReply {
     /// `now EARLIEST LATEST`: a reading.
     Now(Reading),
     /// `yes`: the time has surely passed, or has surely not arrived.
@@ -34,12 +34,12 @@ pub enum Reply {
     Refused(u16),
 }
 
-impl Reply {
+impl LineReply {
     /// Whether it is a refusal.
     pub(crate) fn is_refused(&self) -> bool
         ensures { result ≡ is_refused self.now }
     {
-        matches!(self, Reply::Refused(_))
+        matches!(self, LineReply::Refused(_))
     }
 
     /// The line of the reply, with its line feed: at most 52 bytes.
@@ -47,12 +47,12 @@ impl Reply {
         ensures { result.bytes ≡ text_of self.now }
     {
         match self {
-            Reply::Now(reading) => short_line("now", &[reading.earliest(), reading.latest()]),
-            Reply::Yes => short_line("yes", &[]),
-            Reply::No => short_line("no", &[]),
-            Reply::Committed { number, stamp } => short_line("committed", &[*number, *stamp]),
-            Reply::Waiting { number, stamp } => short_line("waiting", &[*number, *stamp]),
-            Reply::Refused(number) => short_line("refused", &[u64::from(*number)]),
+            LineReply::Now(reading) => short_line("now", &[reading.earliest(), reading.latest()]),
+            LineReply::Yes => short_line("yes", &[]),
+            LineReply::No => short_line("no", &[]),
+            LineReply::Committed { number, stamp } => short_line("committed", &[*number, *stamp]),
+            LineReply::Waiting { number, stamp } => short_line("waiting", &[*number, *stamp]),
+            LineReply::Refused(number) => short_line("refused", &[u64::from(*number)]),
         }
     }
 }

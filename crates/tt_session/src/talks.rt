@@ -10,7 +10,7 @@ ghost use Rattle.tt_session.specs.Talks.{IsKept, TalksOn, BreaksIn};
 use crate::answers::answer;
 use crate::begun::Begun;
 use crate::faults::LineFault;
-use crate::replies::Reply;
+use crate::replies::LineReply;
 use crate::requests::request_of;
 use crate::services::Service;
 use crate::serving::Served;
@@ -117,26 +117,26 @@ fn judge<S: Service>(
     service: &mut S,
     waits: u32,
     last: &mut Option<Begun>,
-) -> Reply
+) -> LineReply
     ensures answered { (bytes : List ℕ) → IsKept line.old.items bytes →
         Talked S.allows service.old service.new (λ calls. AnswersLine waits last.old bytes calls result last.new) }
     ensures empty { line.new.items ≡ [] }
 {
     if line.is_full() {
         line.clear();
-        return Reply::Refused(LineFault::LongLine.number());
+        return LineReply::Refused(LineFault::LongLine.number());
     }
     line.push(b'\n');
     let request = request_of(line);
     line.clear();
     match request {
         Some(request) => answer(request, service, waits, last),
-        None => Reply::Refused(LineFault::BadLine.number()),
+        None => LineReply::Refused(LineFault::BadLine.number()),
     }
 }
 
 /// Counts a reply.
-fn count(served: &mut Served, reply: &Reply)
+fn count(served: &mut Served, reply: &LineReply)
     requires few { served.old.refused ≤ served.old.lines }
     requires room { served.old.lines + 1 < 2 ^ 64 }
     ensures lines { served.new.lines ≡ served.old.lines + 1 }

@@ -7,7 +7,7 @@ use Rattle.tt_poll.specs.Spelling.{IsMessage2, spelling_of2}
 use Rattle.tt_poll.specs.declared.messages.Message2.{Message2}
 use Rattle.tt_poll.specs.declared.messages.Message2.TheVariants.{Answer}
 use Rattle.tt_poll.specs.declared.faults.PollFault.{PollFault}
-use Rattle.tt_source.specs.Table.{Sending, TableState, IsTable, IsSourceState, IsSending, unknown, source_at, IsAwaitedAnswer, statement_of_message}
+use Rattle.tt_source.specs.Table.{Sending, TableState, IsTable, IsSourceState, IsSending, unknown_source, source_at, IsAwaitedAnswer, statement_of_message}
 
 -- the answer with this span to a poll
 abbrev pub answer_to : TableState → ℕ → Sending → Interval → Message2
@@ -16,7 +16,7 @@ answer_to t i sending span = Answer (record { machine = t.machine; source = i; n
 -- a poll that waits has a nonce that was used, and was sent in the table's past
 IsSending-waiting : (t : TableState) (i : ℕ) (sending : Sending) → IsTable t → i < length t.sources → (source_at t i).waiting ≡ Some sending → IsSending t.last t.clock sending
 IsSending-waiting t i sending table there waits =
-    let source : IsSourceState t.last t.clock (source_at t i) = All-get_or (IsSourceState t.last t.clock) t.sources i unknown there table.past in
+    let source : IsSourceState t.last t.clock (source_at t i) = All-get_or (IsSourceState t.last t.clock) t.sources i unknown_source there table.past in
     rw waits at source.sent
 
 -- an answer that is waited for is a message

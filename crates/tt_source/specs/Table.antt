@@ -58,16 +58,16 @@ pub record IsTable (table : TableState) : Type 0 where
   pub past : All (λ source. IsSourceState table.last table.clock source) table.sources
 
 -- a source of which nothing is known
-abbrev pub unknown : SourceState
-unknown = record { waiting = None; statement = None }
+abbrev pub unknown_source : SourceState
+unknown_source = record { waiting = None; statement = None }
 
 -- a table of n sources of which nothing is known
 abbrev pub new_table : ℕ → ℕ → ℕ → ℕ → ℕ → TableState
-new_table machine n drift last epoch = record { machine = machine; epoch = epoch; drift = drift; last = last; clock = 0; sources = replicate n unknown }
+new_table machine n drift last epoch = record { machine = machine; epoch = epoch; drift = drift; last = last; clock = 0; sources = replicate n unknown_source }
 
 -- what is known of source i
 abbrev pub source_at : TableState → ℕ → SourceState
-source_at table i = slice_index_or table.sources i unknown
+source_at table i = slice_index_or table.sources i unknown_source
 
 -- source i is there
 abbrev pub has_source : TableState → ℕ → Bool

@@ -3,7 +3,7 @@
 ghost use Rattle.std.specs.Prelude.{◌≡◌, ◌≤◌, is_some, IfSome};
 ghost use Rattle.tt_span.specs.Time.{max_time};
 ghost use Rattle.tt_source.specs.Statement.{IsStatement};
-ghost use Rattle.tt_source.specs.Table.{unknown, waiting_for, statement_of_answer, stated_at};
+ghost use Rattle.tt_source.specs.Table.{unknown_source, waiting_for, statement_of_answer, stated_at};
 
 use crate::faults::SourceFault;
 use crate::statements::Statement;
@@ -46,7 +46,7 @@ impl Model for Slot {
 }
 
 impl Default for Slot {
-    ghost is_default = { λ s. s ≡ unknown };
+    ghost is_default = { λ s. s ≡ unknown_source };
 
     /// A source of which nothing is known.
     fn default() -> Self {

@@ -6,7 +6,7 @@ use Rattle.std.proofs.lemmas.Bool.{eqb-true, or_cases, false≢true}
 use Rattle.atomic_table.specs.Seated.{TableId}
 use Rattle.tt_span.specs.Interval.{Interval}
 use Rattle.tt_stamp.specs.Stamping.{is_in, entries_of, IsLegalRun, Continues, SeatState, IsSameSeat, SeatLooks, Gives, Unites}
-use Rattle.tt_stamp.specs.Sequencing.{view_of, Follows, HasLooked, HasGiven, met, state_of}
+use Rattle.tt_stamp.specs.Sequencing.{view_of, Follows, HasLooked, HasGiven, joined_view, state_of}
 use Rattle.tt_stamp.specs.declared.stampings.Stamping.{Stamping}
 use Rattle.tt_stamp.specs.declared.stampings.Known.{Known}
 use Rattle.tt_stamp.specs.declared.stampings.View.{View}
@@ -75,7 +75,7 @@ last_from_word (Some s) None word e h = absurd (h (omega (arith, e)))
 last_from_word (Some s) (Some x) word e h = ap (λ (n : ℕ). Some n) (omega (arith, e, h.1))
 
 -- ---- two seats were joined
-pub Unites-from_look : (t s u : TableId) (v w x : View) (found : ℕ) → u ≡ t → v ≡ view_of v.seats v.numbers v.first.seen → w ≡ view_of w.seats w.numbers w.first.seen → 0 < v.seats → HasLooked (met v w) found x → Unites (state_of t v) (state_of s w) (state_of u x)
+pub Unites-from_look : (t s u : TableId) (v w x : View) (found : ℕ) → u ≡ t → v ≡ view_of v.seats v.numbers v.first.seen → w ≡ view_of w.seats w.numbers w.first.seen → 0 < v.seats → HasLooked (joined_view v w) found x → Unites (state_of t v) (state_of s w) (state_of u x)
 Unites-from_look t s u v w x found table one other opened looked =
     let numbers : x.numbers ≡ v.numbers ++ w.numbers = ap (λ (y : View). y.numbers) looked.is in
     let seats : x.seats ≡ v.seats = ap (λ (y : View). y.seats) looked.is in

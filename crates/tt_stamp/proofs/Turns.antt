@@ -9,8 +9,8 @@ use Rattle.std.proofs.lemmas.Bool.{false≢true, cases_Bool}
 use Rattle.tt_span.specs.Time.{max_time}
 use Rattle.tt_stamp.specs.Stamp.{least_above, least_from, IsTooFar, IsLeastStamp}
 use Rattle.tt_stamp.specs.Stamping.{stamps_of, is_in, MayAdd, IsLegalRun}
-use Rattle.tt_stamp.specs.Sequencing.{view_of, AreAmong, Fits, AllFit, AreApart, IsKept, HasLooked, HasGiven, TellsLook, TellsTry, dealt_left, dealt_right, met, spent}
-use Rattle.tt_stamp.specs.declared.asks.Ask.{Ask}
+use Rattle.tt_stamp.specs.Sequencing.{view_of, AreAmong, Fits, AllFit, AreApart, IsKept, HasLooked, HasGiven, TellsLook, TellsTry, dealt_left, dealt_right, joined_view, spent_view}
+use Rattle.tt_stamp.specs.declared.requests.StampRequest.{StampRequest}
 use Rattle.tt_stamp.specs.declared.stampings.Stamping.{Stamping}
 use Rattle.tt_stamp.specs.declared.stampings.View.{View}
 use Rattle.tt_stamp.proofs.Stamps.{IsLeastStamp-least_from}
@@ -54,15 +54,15 @@ look_told seats words views id v kept at = record {
   legal = λ open'. subst (λ (n : ℕ). IsLegalRun n kept.log) (sym ((kept.fit id v at).count open')) kept.legal;
 }
 
-pub look_allowed : (seats slots id : ℕ) (me : Me Ask View) (st : Step Ask) → Allows {S = Ask} {V = View} (λ s. IsKept seats s.words s.views) slots id me 0 (λ n. n) (TellsLook st me)
+pub look_allowed : (seats slots id : ℕ) (me : Me StampRequest View) (st : Step StampRequest) → Allows {S = StampRequest} {V = View} (λ s. IsKept seats s.words s.views) slots id me 0 (λ n. n) (TellsLook st me)
 look_allowed seats slots id me st s kept homes at fits =
     (view_of me.0.seats me.0.numbers kept.log, keeps, tt, look_kept seats s.words s.views id me.0 kept at, (look_told seats s.words s.views id me.0 kept at, refl))
 
 -- ---- an exchange
-abbrev entry_for : ℕ → Ask → ℕ → Stamping
+abbrev entry_for : ℕ → StampRequest → ℕ → Stamping
 entry_for number ask stamp = record { number = number; latest = ask.latest; floor = ask.floor; lease = ask.lease; stamp = stamp }
 
-module _ (seats : ℕ) (words : List ℕ) (views : List View) (id : ℕ) (v : View) (kept : IsKept seats words views) (at : get_elem? views id ≡ some v) (ask : Ask) (number stamp : ℕ) (mine : is_in v.numbers number ≡ true) (near : ¬ IsTooFar ask.latest ask.floor) (least : stamp ≡ max (max (max ask.latest ask.floor) ask.lease.lo) (slice_index words 0)) (in_time : stamp ≤ max_time) (in_lease : stamp ≤ ask.lease.hi) where
+module _ (seats : ℕ) (words : List ℕ) (views : List View) (id : ℕ) (v : View) (kept : IsKept seats words views) (at : get_elem? views id ≡ some v) (ask : StampRequest) (number stamp : ℕ) (mine : is_in v.numbers number ≡ true) (near : ¬ IsTooFar ask.latest ask.floor) (least : stamp ≡ max (max (max ask.latest ask.floor) ask.lease.lo) (slice_index words 0)) (in_time : stamp ≤ max_time) (in_lease : stamp ≤ ask.lease.hi) where
   word_is : slice_index words 0 ≡ least_above (stamps_of kept.log)
   word_is = ap (λ (ws : List ℕ). slice_index ws 0) kept.word
 
@@ -107,12 +107,12 @@ module _ (seats : ℕ) (words : List ℕ) (views : List View) (id : ℕ) (v : Vi
 pub one_less : (n : ℕ) → (n + 1) - 1 ≡ n
 one_less n = omega arith
 
-pub try_allowed : (seats slots id : ℕ) (me : Me Ask View) (ask : Ask) (word stamp : ℕ) → 0 < length me.0.numbers → ¬ IsTooFar ask.latest ask.floor → stamp ≡ max (max (max ask.latest ask.floor) ask.lease.lo) word → stamp ≤ max_time → stamp ≤ ask.lease.hi → Allows {S = Ask} {V = View} (λ s. IsKept seats s.words s.views) slots id me 0 (λ n. either (eqb n word) (stamp + 1) n) (TellsTry (step slots 0 word (stamp + 1) (some ask)) me)
+pub try_allowed : (seats slots id : ℕ) (me : Me StampRequest View) (ask : StampRequest) (word stamp : ℕ) → 0 < length me.0.numbers → ¬ IsTooFar ask.latest ask.floor → stamp ≡ max (max (max ask.latest ask.floor) ask.lease.lo) word → stamp ≤ max_time → stamp ≤ ask.lease.hi → Allows {S = StampRequest} {V = View} (λ s. IsKept seats s.words s.views) slots id me 0 (λ n. either (eqb n word) (stamp + 1) n) (TellsTry (step slots 0 word (stamp + 1) (some ask)) me)
 try_allowed seats slots id me ask word stamp numbered near least in_time in_lease s kept homes at fits =
     let v : View = me.0 in
     let found : ℕ = slice_index s.words 0 in
     let mine = is_in-first v.numbers numbered in
-    exchanged found word (stamp + 1) (λ (m : ℕ). (w : View) × (a : Act Ask) × Valid s.homes me.1 a × IsKept seats (slice_set s.words 0 m) (slice_set s.views id w) × TellsTry (step slots 0 word (stamp + 1) (some ask)) me found (w, carried_after me.1 a))
+    exchanged found word (stamp + 1) (λ (m : ℕ). (w : View) × (a : Act StampRequest) × Valid s.homes me.1 a × IsKept seats (slice_set s.words 0 m) (slice_set s.views id w) × TellsTry (step slots 0 word (stamp + 1) (some ask)) me found (w, carried_after me.1 a))
     (λ hit.
     let least' : stamp ≡ max (max (max ask.latest ask.floor) ask.lease.lo) found = least ∙ ap (λ (n : ℕ). max (max (max ask.latest ask.floor) ask.lease.lo) n) (sym hit) in
     let w : View = view_of v.seats v.numbers (entry_for (mine.0) ask stamp ∷ kept.log) in (
@@ -199,7 +199,7 @@ module _ (seats : ℕ) (words : List ℕ) (views : List View) (id own_seats k : 
 
 -- ---- a join
 module _ (seats : ℕ) (words : List ℕ) (views : List View) (id other : ℕ) (v w : View) (kept : IsKept seats words views) (at : get_elem? views id ≡ some v) (ne : ¬ (other ≡ id)) (at_other : get_elem? views other ≡ some w) (first_among : AreAmong v.first.numbers v.numbers) where
-  met_fits : Fits seats kept.log (met v w)
+  met_fits : Fits seats kept.log (joined_view v w)
   met_fits =
       let f = kept.fit id v at in
       let g = kept.fit other w at_other in
@@ -212,7 +212,7 @@ module _ (seats : ℕ) (words : List ℕ) (views : List View) (id other : ℕ) (
         second_among = λ n h. AreAmong-append_right v.numbers w.numbers n (g.first_among n h);
       }
 
-  spent_fits : Fits seats kept.log spent
+  spent_fits : Fits seats kept.log spent_view
   spent_fits = record {
     count = λ h. absurd (omega (arith, h));
     below = λ n h. absurd (false≢true h);
@@ -223,7 +223,7 @@ module _ (seats : ℕ) (words : List ℕ) (views : List View) (id other : ℕ) (
   }
 
   -- whose a number was that is a seat's now
-  was : (j : ℕ) (u : View) (n : ℕ) → get_elem? (slice_set (slice_set views id (met v w)) other spent) j ≡ some u → is_in u.numbers n ≡ true → (j ≢ other) × (((j ≡ id) × ((is_in v.numbers n ≡ true) ⊎ (is_in w.numbers n ≡ true))) ⊎ ((j ≢ id) × (get_elem? views j ≡ some u)))
+  was : (j : ℕ) (u : View) (n : ℕ) → get_elem? (slice_set (slice_set views id (joined_view v w)) other spent_view) j ≡ some u → is_in u.numbers n ≡ true → (j ≢ other) × (((j ≡ id) × ((is_in v.numbers n ≡ true) ⊎ (is_in w.numbers n ≡ true))) ⊎ ((j ≢ id) × (get_elem? views j ≡ some u)))
   was j u n e here =
       ⊎_elim
       (λ h. absurd (false≢true (subst (λ (t : View). is_in t.numbers n ≡ true) (sym (h.1)) here)))
@@ -232,9 +232,9 @@ module _ (seats : ℕ) (words : List ℕ) (views : List View) (id other : ℕ) (
         ⊎_elim
             (λ g. inl (g.0, is_in-append_cases v.numbers w.numbers n (subst (λ (t : View). is_in t.numbers n ≡ true) (sym (g.1)) here)))
             (λ g. inr g)
-            (at_set views id j (met v w) u (h.1)),
+            (at_set views id j (joined_view v w) u (h.1)),
       ))
-      (at_set (slice_set views id (met v w)) other j spent u e)
+      (at_set (slice_set views id (joined_view v w)) other j spent_view u e)
 
   -- a number of either is nobody else's
   theirs : (j : ℕ) (u : View) (n : ℕ) → j ≢ other → j ≢ id → get_elem? views j ≡ some u → is_in u.numbers n ≡ true → (is_in v.numbers n ≡ true) ⊎ (is_in w.numbers n ≡ true) → ⊥
@@ -244,7 +244,7 @@ module _ (seats : ℕ) (words : List ℕ) (views : List View) (id other : ℕ) (
       (λ b. not_other (kept.apart j other u w e at_other n here b))
       of
 
-  join_apart : AreApart (slice_set (slice_set views id (met v w)) other spent)
+  join_apart : AreApart (slice_set (slice_set views id (joined_view v w)) other spent_view)
   join_apart i j a b ea eb n ha hb =
       let p = was i a n ea ha in
       let q = was j b n eb hb in
@@ -253,18 +253,18 @@ module _ (seats : ℕ) (words : List ℕ) (views : List View) (id other : ℕ) (
       (λ of_a. ⊎_elim (λ of_b. absurd (theirs i a n (p.0) (of_a.0) (of_a.1) ha (of_b.1))) (λ of_b. kept.apart i j a b (of_a.1) (of_b.1) n ha hb) (q.1))
       (p.1)
 
-  pub join_kept : IsKept seats words (slice_set (slice_set views id (met v w)) other spent)
+  pub join_kept : IsKept seats words (slice_set (slice_set views id (joined_view v w)) other spent_view)
   join_kept = record {
     log = kept.log;
     word = kept.word;
     legal = kept.legal;
-    fit = AllFit-set seats kept.log _ other spent (λ i u not_other e. AllFit-set seats kept.log views id (met v w) (λ i' u' ne' e'. kept.fit i' u' e') met_fits i u e) spent_fits;
+    fit = AllFit-set seats kept.log _ other spent_view (λ i u not_other e. AllFit-set seats kept.log views id (joined_view v w) (λ i' u' ne' e'. kept.fit i' u' e') met_fits i u e) spent_fits;
     apart = join_apart;
   }
 
-pub join_allowed : (seats id other : ℕ) (v w : View) → Joins {S = Ask} {V = View} (λ s. IsKept seats s.words s.views) id v other w (met v w) spent
+pub join_allowed : (seats id other : ℕ) (v w : View) → Joins {S = StampRequest} {V = View} (λ s. IsKept seats s.words s.views) id v other w (joined_view v w) spent_view
 join_allowed seats id other v w s kept at ne at_other =
-    let there : get_elem? s.views other ≡ some w = sym (set_else s.views id other (met v w) ne) ∙ at_other in
+    let there : get_elem? s.views other ≡ some w = sym (set_else s.views id other (joined_view v w) ne) ∙ at_other in
     join_kept seats s.words s.views id other v w kept at ne there (kept.fit id v at).first_among
 
 -- ---- a new table
@@ -286,8 +286,8 @@ opening_kept seats numbers below = record {
         subst (Fits seats []) (some-injective _ u e) (Fits-view_of seats seats numbers [] (λ _. refl) below)
     only_fits (suc i) u e = absurd (some-ne-none u (sym e))
 
-pub split_allowed : (seats id own_seats k : ℕ) (numbers : List ℕ) (seen : List Stamping) (v : View) → v ≡ view_of own_seats (k ∷ numbers) seen → ((n : ℕ) → is_in (k ∷ []) n ≡ true → is_in numbers n ≡ true → ⊥) → Splits {S = Ask} {V = View} (λ s. IsKept seats s.words s.views) id v (dealt_left v) (dealt_right v)
+pub split_allowed : (seats id own_seats k : ℕ) (numbers : List ℕ) (seen : List Stamping) (v : View) → v ≡ view_of own_seats (k ∷ numbers) seen → ((n : ℕ) → is_in (k ∷ []) n ≡ true → is_in numbers n ≡ true → ⊥) → Splits {S = StampRequest} {V = View} (λ s. IsKept seats s.words s.views) id v (dealt_left v) (dealt_right v)
 split_allowed seats id own_seats k numbers seen v is distinct =
     let whole : View = view_of own_seats (k ∷ numbers) seen in
-    let P : View → Type 0 = λ x. Splits {S = Ask} {V = View} (λ s. IsKept seats s.words s.views) id x (dealt_left x) (dealt_right x) in
+    let P : View → Type 0 = λ x. Splits {S = StampRequest} {V = View} (λ s. IsKept seats s.words s.views) id x (dealt_left x) (dealt_right x) in
     subst P (sym is) (λ s kept at. split_kept seats s.words s.views id own_seats k numbers seen kept at distinct)

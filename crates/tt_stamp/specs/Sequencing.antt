@@ -10,7 +10,7 @@ use Rattle.tt_stamp.specs.Stamping.{stamps_of, is_in, entries_of, IsLegalRun, Co
 use Rattle.tt_stamp.specs.declared.stampings.Stamping.{Stamping}
 use Rattle.tt_stamp.specs.declared.stampings.Known.{Known}
 use Rattle.tt_stamp.specs.declared.stampings.View.{View}
-use Rattle.tt_stamp.specs.declared.asks.Ask.{Ask}
+use Rattle.tt_stamp.specs.declared.requests.StampRequest.{StampRequest}
 
 -- nothing is known
 abbrev pub nothing : Known
@@ -72,16 +72,16 @@ pub record HasGiven (v : View) (latest floor : ℕ) (lease : Interval) (stamp : 
   pub legal : 0 < v.seats → IsLegalRun v.seats w.first.seen
 
 -- what a load tells
-abbrev pub TellsLook : Step Ask → Me Ask View → ℕ → Me Ask View → Type 0
+abbrev pub TellsLook : Step StampRequest → Me StampRequest View → ℕ → Me StampRequest View → Type 0
 TellsLook step before found after = HasLooked before.0 found after.0 × (after.1 ≡ before.1)
 
 -- a stamp for what was asked
-abbrev pub GivesFor : Option Ask → View → ℕ → View → Type 0
+abbrev pub GivesFor : Option StampRequest → View → ℕ → View → Type 0
 GivesFor (some ask) v stamp w = HasGiven v ask.latest ask.floor ask.lease stamp w
 GivesFor none v stamp w = Unit {0}
 
 -- what an exchange tells: it found the word that it expected, and gave the stamp below the new word, or it has only looked
-abbrev pub TellsTry : Step Ask → Me Ask View → ℕ → Me Ask View → Type 0
+abbrev pub TellsTry : Step StampRequest → Me StampRequest View → ℕ → Me StampRequest View → Type 0
 TellsTry step before found after =
     ((found ≡ step.first) × GivesFor step.said before.0 (step.second - 1) after.0 × (after.1 ≡ before.1))
     ⊎ ((found ≢ step.first) × HasLooked before.0 found after.0 × (after.1 ≡ before.1))
@@ -95,19 +95,19 @@ abbrev pub dealt_right : View → View
 dealt_right v = view_of v.seats (take 1 v.numbers) v.first.seen
 
 -- two seats become one, which knows what each knew
-abbrev pub met : View → View → View
-met v w = record { seats = v.seats; numbers = v.numbers ++ w.numbers; first = v.first; second = w.first }
+abbrev pub joined_view : View → View → View
+joined_view v w = record { seats = v.seats; numbers = v.numbers ++ w.numbers; first = v.first; second = w.first }
 
 -- what is left of the other
-abbrev pub spent : View
-spent = record { seats = 0; numbers = []; first = nothing; second = nothing }
+abbrev pub spent_view : View
+spent_view = record { seats = 0; numbers = []; first = nothing; second = nothing }
 
 -- the seat, as contracts see it
 abbrev pub state_of : TableId → View → SeatState
 state_of table v = record { table = table; seats = v.seats; numbers = v.numbers; seen = v.first.seen; own = entries_of v.numbers v.first.seen }
 
 -- between two calls a seat holds no slot, knows one thing alone, which is legal, and has a number
-pub record IsAtRest (me : Me Ask View) : Type 0 where
+pub record IsAtRest (me : Me StampRequest View) : Type 0 where
   pub no_slot : me.1 ≡ []
   pub one : me.0 ≡ view_of me.0.seats me.0.numbers me.0.first.seen
   pub opened : 0 < me.0.seats

@@ -13,13 +13,13 @@
 //! by a reading that was taken before the call.
 //!
 //! The modules: `rows` for one thread, `sequencers` for several (`rule` has what the shared word is kept by, `stampings`
-//! what seats know, `asks` what a try asks), `books` with `commits`, `steps`, and `faults`.
+//! what seats know, `requests` what a try asks), `books` with `commits`, `steps`, and `faults`.
 #![tactic(auto)]
 
-mod asks;
 mod books;
 mod commits;
 mod faults;
+mod requests;
 mod rows;
 mod rule;
 mod sequencers;

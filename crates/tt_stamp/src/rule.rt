@@ -1,14 +1,14 @@
 //! The rule under which the seats of a sequencer share its word, which is 0 or one more than the last stamp. The steps
 //! are atomic: a load, and a compare and exchange.
 
-use crate::asks::Ask;
+use crate::requests::StampRequest;
 use crate::stampings::View;
 use atomic_table::{Join, Play, Split, TableRule};
 
 /// Each stamp is the least that may be given after those before it, and each seat knows a beginning of them.
 pub(crate) struct InTurn;
 
-impl TableRule<Ask, View, u64> for InTurn {
+impl TableRule<StampRequest, View, u64> for InTurn {
     ghost use Rattle.std.specs.Prelude.{[]};
     ghost use Rattle.std.specs.List.{range_with_len};
     ghost use Rattle.tt_stamp.specs.Sequencing.{IsKept, view_of};
@@ -21,7 +21,7 @@ impl TableRule<Ask, View, u64> for InTurn {
 /// What a load tells.
 pub(crate) struct Look;
 
-impl Play<Ask, View> for Look {
+impl Play<StampRequest, View> for Look {
     ghost use Rattle.tt_stamp.specs.Sequencing.{TellsLook};
 
     ghost then = { TellsLook };
@@ -30,7 +30,7 @@ impl Play<Ask, View> for Look {
 /// What a compare and exchange tells.
 pub(crate) struct Try;
 
-impl Play<Ask, View> for Try {
+impl Play<StampRequest, View> for Try {
     ghost use Rattle.tt_stamp.specs.Sequencing.{TellsTry};
 
     ghost then = { TellsTry };
@@ -51,9 +51,9 @@ impl Split<View> for Deal {
 pub(crate) struct Meet;
 
 impl Join<View> for Meet {
-    ghost use Rattle.tt_stamp.specs.Sequencing.{met, spent};
+    ghost use Rattle.tt_stamp.specs.Sequencing.{joined_view, spent_view};
 
-    ghost both = { met };
+    ghost both = { joined_view };
 
-    ghost spent = { spent };
+    ghost spent = { spent_view };
 }

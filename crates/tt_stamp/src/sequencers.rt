@@ -6,11 +6,11 @@ ghost use Rattle.tt_span.specs.Time.{max_time};
 ghost use Rattle.tt_span.specs.Interval.{Holds};
 ghost use Rattle.tt_stamp.specs.Stamp.{IsTooFar, HasNoStamp, IsPastLease, least_above};
 ghost use Rattle.tt_stamp.specs.Stamping.{IsLegalRun, SeatLooks, Gives, Unites, new_seat, stamps_of, last_of, is_in, entries_of, max_seats};
-ghost use Rattle.tt_stamp.specs.Sequencing.{met};
+ghost use Rattle.tt_stamp.specs.Sequencing.{joined_view};
 ghost use Rattle.tt_stamp.specs.declared.stampings.Stamping.{Stamping};
 
-use crate::asks::Ask;
 use crate::faults::StampFault;
+use crate::requests::StampRequest;
 use crate::rows::MAX_AHEAD;
 use crate::rule::{Deal, InTurn, Look, Meet, Try};
 use crate::stampings::View;
@@ -28,7 +28,7 @@ pub const MAX_SEATS: usize = 32;
 /// see which one it is.
 #[derive(Drop)]
 pub struct Sequencer {
-    table: Table<Ask, View, u64, InTurn, Global>,
+    table: Table<StampRequest, View, u64, InTurn, Global>,
 }
 
 impl Model for Sequencer {
@@ -49,7 +49,7 @@ impl Model for Sequencer {
 /// at all times, after a refusal too.
 #[derive(Drop)]
 pub struct Seat {
-    token: Token<Ask, View>,
+    token: Token<StampRequest, View>,
 }
 
 impl Model for Seat {
@@ -144,12 +144,12 @@ impl Sequencer {
             if stamp > lease.hi() {
                 return Err(StampFault::LeaseOver);
             }
-            let ask = Ask {
+            let request = StampRequest {
                 latest,
                 floor,
                 lease: *lease,
             };
-            match self.try_stamp(seat, ask, word, stamp) {
+            match self.try_stamp(seat, request, word, stamp) {
                 Ok(()) => return Ok(stamp),
                 Err(found) => word = found,
             }
@@ -184,12 +184,12 @@ impl Sequencer {
 
     // Makes one token of two, which keeps what each of them knew.
     #[tactic(auto, using(crate::proofs::Turns::join_allowed))]
-    fn meet(&self, token: &mut Token<Ask, View>, other: Token<Ask, View>)
+    fn meet(&self, token: &mut Token<StampRequest, View>, other: Token<StampRequest, View>)
         requires token { token.old.table_id ≡ self.now }
         requires other { other.table_id ≡ self.now }
         requires no_slot { other.me.1 ≡ [] }
         ensures table { token.new.table_id ≡ token.old.table_id }
-        ensures both { token.new.me ≡ (met token.old.me.0 other.me.0, token.old.me.1) }
+        ensures both { token.new.me ≡ (joined_view token.old.me.0 other.me.0, token.old.me.1) }
     {
         self.table.shared.join_seat::<Meet>(token, other);
     }
@@ -204,17 +204,29 @@ impl Sequencer {
     }
 
     // Gives the stamp if the word is still what it was; else answers what it is.
-    fn try_stamp(&self, seat: &mut Seat, ask: Ask, word: u64, stamp: u64) -> Result<(), u64>
+    fn try_stamp(
+        &self,
+        seat: &mut Seat,
+        request: StampRequest,
+        word: u64,
+        stamp: u64,
+    ) -> Result<(), u64>
         requires seat { seat.old.table ≡ self.now }
-        requires near { ¬ IsTooFar ask.latest ask.floor }
-        requires least { stamp ≡ max (max (max ask.latest ask.floor) ask.lease.lo) word }
+        requires near { ¬ IsTooFar request.latest request.floor }
+        requires least { stamp ≡ max (max (max request.latest request.floor) request.lease.lo) word }
         requires in_time { stamp ≤ max_time }
-        requires in_lease { stamp ≤ ask.lease.hi }
-        ensures given { OnOk result (Gives seat.old seat.new ask.latest ask.floor ask.lease stamp) }
+        requires in_lease { stamp ≤ request.lease.hi }
+        ensures given { OnOk result (Gives seat.old seat.new request.latest request.floor request.lease stamp) }
         ensures missed { IfErr result (λ found. SeatLooks seat.old seat.new × (found ≡ least_above (stamps_of seat.new.seen))) }
     {
         let shared = &self.table.shared;
-        let found = shared.compare_exchange_with::<Try>(&mut seat.token, 0, word, stamp + 1, &ask);
+        let found = shared.compare_exchange_with::<Try>(
+            &mut seat.token,
+            0,
+            word,
+            stamp + 1,
+            &request,
+        );
         if found == word { Ok(()) } else { Err(found) }
     }
 }

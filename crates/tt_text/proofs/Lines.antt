@@ -6,7 +6,7 @@ use Rattle.std.proofs.lemmas.List.{append_cancel_left}
 use Rattle.std.proofs.lemmas.List.Elements.{All-nil, All-cons}
 use Rattle.tt_span.specs.Time.{max_time}
 use Rattle.tt_span.specs.Interval.{Interval, IsInterval}
-use Rattle.tt_text.specs.Line.{spaced, numbers_text, ends_of}
+use Rattle.tt_text.specs.Line.{space_and_number, numbers_text, ends_of}
 use Rattle.tt_text.specs.Reading.{ReadsNothing, Reads, Anything, NoDigit, BeginsWith, IsNumber, AreNumbers}
 
 -- lists with different heads are not the same
@@ -24,28 +24,28 @@ pub no_space-at_end : (r : List ℕ) → LineEnds r → BeginsWith (32 ∷ []) r
 no_space-at_end r (a, e) (b, f) =
     different-heads 10 32 a b (sym e ∙ f) (omega arith)
 
-pub begins-spaced : (n : ℕ) → BeginsWith (32 ∷ []) (spaced n)
+pub begins-spaced : (n : ℕ) → BeginsWith (32 ∷ []) (space_and_number n)
 begins-spaced n = (decimal n, refl)
 
 -- neither a space nor a line feed is a digit
-pub NoDigit-spaced : (numbers : List ℕ) (r : List ℕ) → LineEnds r → NoDigit (flat_map spaced numbers ++ r)
+pub NoDigit-spaced : (numbers : List ℕ) (r : List ℕ) → LineEnds r → NoDigit (flat_map space_and_number numbers ++ r)
 NoDigit-spaced [] r (a, e) = subst (λ (b : List ℕ). NoDigit b) (sym e) (omega arith)
 NoDigit-spaced (n ∷ numbers) r h = omega arith
 
 -- the numbers, and then the line feed
-pub Reads-line_end : (bytes numbers rest end : List ℕ) → Reads (flat_map spaced) AreNumbers LineEnds bytes numbers rest → rest ≡ 10 ∷ end → Reads numbers_text AreNumbers Anything bytes numbers end
+pub Reads-line_end : (bytes numbers rest end : List ℕ) → Reads (flat_map space_and_number) AreNumbers LineEnds bytes numbers rest → rest ≡ 10 ∷ end → Reads numbers_text AreNumbers Anything bytes numbers end
 Reads-line_end bytes numbers rest end h is = record {
   fits = h.fits;
   follows = tt;
-  is = h.is ∙ (ap (λ r. flat_map spaced numbers ++ r) is ∙ sym (append_assoc (flat_map spaced numbers) (10 ∷ []) end));
+  is = h.is ∙ (ap (λ r. flat_map space_and_number numbers ++ r) is ∙ sym (append_assoc (flat_map space_and_number numbers) (10 ∷ []) end));
   only = λ w other fits follows is'.
-      let both = h.only w (10 ∷ other) fits (other, refl) (is' ∙ append_assoc (flat_map spaced w) (10 ∷ []) other) in
+      let both = h.only w (10 ∷ other) fits (other, refl) (is' ∙ append_assoc (flat_map space_and_number w) (10 ∷ []) other) in
       (both.0, append_cancel_left (10 ∷ []) other end (both.1 ∙ is));
 }
 
-pub ReadsNothing-line_end : (bytes : List ℕ) → ReadsNothing (flat_map spaced) AreNumbers LineEnds bytes → ReadsNothing numbers_text AreNumbers Anything bytes
+pub ReadsNothing-line_end : (bytes : List ℕ) → ReadsNothing (flat_map space_and_number) AreNumbers LineEnds bytes → ReadsNothing numbers_text AreNumbers Anything bytes
 ReadsNothing-line_end bytes none w other fits follows is =
-    none w (10 ∷ other) fits (other, refl) (is ∙ append_assoc (flat_map spaced w) (10 ∷ []) other)
+    none w (10 ∷ other) fits (other, refl) (is ∙ append_assoc (flat_map space_and_number w) (10 ∷ []) other)
 
 -- one number fits a line, and it is the only one that the line has
 pub AreNumbers-alone : (n : ℕ) → IsNumber n → AreNumbers (n ∷ [])

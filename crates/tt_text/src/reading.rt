@@ -5,7 +5,7 @@ ghost use Rattle.std.specs.Char.{digit_value};
 ghost use Rattle.std.specs.Fmt.{decimal};
 ghost use Rattle.std.specs.Str.Parse.{AllDigits};
 ghost use Rattle.tt_span.specs.Interval.{Interval, IsInterval};
-ghost use Rattle.tt_text.specs.Line.{spaced, numbers_text, line_of, ends_of};
+ghost use Rattle.tt_text.specs.Line.{space_and_number, numbers_text, line_of, ends_of};
 ghost use Rattle.tt_text.specs.Reading.{ReadsNothing, Reads, ReadsUpTo, Anything, NoDigit, NoWord, IsNumber, AreNumbers, IsLineOf};
 
 use arrayvec::ArrayVec;
@@ -101,8 +101,8 @@ fn numbers_at(text: &[u8], at: usize) -> Option<(ArrayVec<u64, 16>, usize)>
 /// The number at that place, behind a space, and what comes after it.
 fn spaced_number_at(text: &[u8], at: usize) -> Option<(u64, usize)>
     requires { at ≤ length text.now }
-    ensures { MatchOption result (ReadsNothing spaced IsNumber NoDigit (drop at text.now))
-        (λ read. ReadsUpTo spaced IsNumber NoDigit text.now at read.0 read.1) }
+    ensures { MatchOption result (ReadsNothing space_and_number IsNumber NoDigit (drop at text.now))
+        (λ read. ReadsUpTo space_and_number IsNumber NoDigit text.now at read.0 read.1) }
 {
     number_at(text, after(b" ", text, at)?)
 }

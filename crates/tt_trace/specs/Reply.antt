@@ -1,7 +1,7 @@
 -- Replies as text.
 use Rattle.std.specs.Prelude.{ℕ, List, [], ◌∷◌, ◌++◌, codes}
 use Rattle.std.specs.List.{flat_map}
-use Rattle.tt_text.specs.Line.{spaced}
+use Rattle.tt_text.specs.Line.{space_and_number}
 use Rattle.tt_stamp.specs.declared.commits.Receipt.{Receipt}
 use Rattle.tt_world.specs.declared.events.Reply.{Reply}
 use Rattle.tt_world.specs.declared.events.Reply.TheVariants as replies
@@ -9,7 +9,7 @@ use Rattle.tt_trace.specs.Phrase.{phrase}
 
 -- a receipt: the session and the number of its commit, the stamp, and the earliest of the reading that released it, each behind one space
 abbrev pub receipt_text : Receipt → List ℕ
-receipt_text receipt = flat_map spaced (receipt.id.session ∷ receipt.id.number ∷ receipt.stamp ∷ receipt.earliest ∷ [])
+receipt_text receipt = flat_map space_and_number (receipt.id.session ∷ receipt.id.number ∷ receipt.stamp ∷ receipt.earliest ∷ [])
 
 -- a reply: its name, and its numbers
 abbrev pub reply_text : Reply → List ℕ

@@ -2,7 +2,7 @@
 
 ghost use Rattle.std.specs.Prelude.{◌≡◌, ◌++◌, OnOk, string_bytes};
 ghost use Rattle.std.specs.List.{flat_map};
-ghost use Rattle.tt_text.specs.Line.{spaced};
+ghost use Rattle.tt_text.specs.Line.{space_and_number};
 ghost use Rattle.tt_trace.specs.Phrase.{phrase};
 
 use std::alloc::{AllocError, Global};
@@ -26,7 +26,7 @@ pub(crate) fn push_numbers(
     text: &mut String,
     numbers: &[u64],
 ) -> Result<(), AllocError>
-    ensures { OnOk result (string_bytes text.new ≡ string_bytes text.old ++ flat_map spaced numbers.now) }
+    ensures { OnOk result (string_bytes text.new ≡ string_bytes text.old ++ flat_map space_and_number numbers.now) }
 {
     for number in numbers {
         text.push_str(" ")?;

@@ -1,4 +1,4 @@
 pub mod Pushing
-pub mod Watching
+pub mod Observing
 pub mod Telling
 pub mod Worth

@@ -1,4 +1,4 @@
--- What a watch tells of the twin.
+-- What a observation tells of the twin.
 use Rattle.std.proofs.Common.{◌≡◌, ℕ, zero, suc, ◌+◌, ◌-◌, ◌<◌, ◌≤◌, ◌||◌, ◌&&◌, ◌≢◌, ne_eqb, le-ltb, inl, inr, Global, length-take-le, Bool, true, false, cond, ltb, eqb, List, [], ◌∷◌, ◌++◌, length, map, take, reverse, get_or, slice_get, Option, Some, None, Result, Ok, Err, refl, ap, subst, sym, ◌∙◌, arith}
 use Rattle.std.specs.Prelude.{is_some, nat_lt, ◌⊎◌, Vec, IfOk, IfErr}
 use Rattle.std.specs.List.{All}
@@ -28,16 +28,16 @@ use Rattle.tt_twin.specs.declared.twins.Side.{Side}
 use Rattle.tt_twin.specs.declared.twins.Asked.{Asked}
 use Rattle.tt_twin.specs.declared.twin_faults.TwinFault.{TwinFault}
 use Rattle.tt_twin.specs.declared.twin_faults.TwinFault.TheVariants.{Machines, NotAReading, Cut, Memory}
-use Rattle.tt_twin.specs.declared.watches.Glance.{Glance}
-use Rattle.tt_twin.specs.declared.watches.Made.{Made}
-use Rattle.tt_twin.specs.declared.watches.Watch.{Watch}
+use Rattle.tt_twin.specs.declared.observations.Glance.{Glance}
+use Rattle.tt_twin.specs.declared.observations.Made.{Made}
+use Rattle.tt_twin.specs.declared.observations.Observation.{Observation}
 use Rattle.tt_twin.specs.Looks.{Making, making_in, making_of, Look, look_by, looks_of, known_sources}
 use Rattle.tt_twin.specs.Twin.{end_of, end_after, fused_again, look_again, twin_from, twin_unless_cut, twin_of_action, twin_of_reply, twin_of_event, twin_of}
-use Rattle.tt_twin.specs.Watch.{glance_of, glance_again, IsMade, IsWatch, asked_in, is_read, twin_of_asked}
+use Rattle.tt_twin.specs.Observation.{glance_of, glance_again, IsMade, IsObservation, asked_in, is_read, twin_of_asked}
 
--- ---- the twin of a watch
+-- ---- the twin of a observation
 
--- how the publication was made, by what the watch kept of it
+-- how the publication was made, by what the observation kept of it
 record IsTold (configs : List Configuration) (m : ℕ) (making : Option Making) (made : Made) (showing : Showing) : Type 0 where
   before : List Event
   is : making ≡ Some (record { showing = showing; before = before })
@@ -49,39 +49,39 @@ told_by configs m shown (Some making) made showing h there =
     let same : making.showing ≡ showing = same_Some making.showing showing (sym h.0 ∙ there) in
     record { before = making.before; is = ap (λ (s : Showing). Some (record { showing = s; before = making.before })) same; known = h.1 }
 
-told : (configs : List Configuration) (past : List Event) (m k : ℕ) (watch : Watch) (shown : List Showing) (made : Made) (showing : Showing) → shown ≡ shown_of configs past → IsWatch configs past m k watch → watch.made ≡ Some made → slice_get shown made.place ≡ Some showing →
+told : (configs : List Configuration) (past : List Event) (m k : ℕ) (observation : Observation) (shown : List Showing) (made : Made) (showing : Showing) → shown ≡ shown_of configs past → IsObservation configs past m k observation → observation.made ≡ Some made → slice_get shown made.place ≡ Some showing →
     IsTold configs m (making_of configs past m k) made showing
-told configs past m k watch shown made showing is w kept there =
+told configs past m k observation shown made showing is w kept there =
     told_by configs m (shown_of configs past) (making_of configs past m k) made showing (subst (λ (o : Option Made). IsMade configs m (shown_of configs past) (making_of configs past m k) o) kept w.made)
     (ap (λ (l : List Showing). slice_get l made.place) (sym is) ∙ there)
 
-pub told_cut : (side : Side) (configs : List Configuration) (past : List Event) (asked : Asked) (config : Configuration) (shown : List Showing) (watch : Watch) (made : Made) (showing : Showing) → config_at configs asked.machine ≡ config → shown ≡ shown_of configs past →
-    IsWatch configs past asked.machine asked.publication watch → watch.made ≡ Some made → slice_get shown made.place ≡ Some showing →
+pub told_cut : (side : Side) (configs : List Configuration) (past : List Event) (asked : Asked) (config : Configuration) (shown : List Showing) (observation : Observation) (made : Made) (showing : Showing) → config_at configs asked.machine ≡ config → shown ≡ shown_of configs past →
+    IsObservation configs past asked.machine asked.publication observation → observation.made ≡ Some made → slice_get shown made.place ≡ Some showing →
     nat_lt max_time (end_after side config.drift (end_of side showing.span) (asked.clock - showing.clock)) ≡ true → twin_of_asked side configs past asked ≡ Err Cut
-told_cut side configs past asked config shown watch made showing same is w kept there is_cut =
-    let t = told configs past asked.machine asked.publication watch shown made showing is w kept there in
+told_cut side configs past asked config shown observation made showing same is w kept there is_cut =
+    let t = told configs past asked.machine asked.publication observation shown made showing is w kept there in
     let cuts : nat_lt max_time (end_after side (config_at configs asked.machine).drift (end_of side showing.span) (asked.clock - showing.clock)) ≡ true =
     ap (λ (c : Configuration). nat_lt max_time (end_after side c.drift (end_of side showing.span) (asked.clock - showing.clock))) same ∙ is_cut in
     ap (λ (o : Option Making). twin_unless_cut side configs asked.machine asked.clock o (looks_of configs past asked.machine asked.publication)) t.is
     ∙ ap (λ (b : Bool). cond b (Err Cut) (Ok (twin_from side configs asked.machine (record { showing = showing; before = t.before }) (looks_of configs past asked.machine asked.publication)))) cuts
 
-pub told_value : (side : Side) (configs : List Configuration) (past : List Event) (asked : Asked) (config : Configuration) (shown : List Showing) (watch : Watch) (made : Made) (showing : Showing) (front twin : List Event) → config_at configs asked.machine ≡ config → shown ≡ shown_of configs past →
-    IsWatch configs past asked.machine asked.publication watch → watch.made ≡ Some made → slice_get shown made.place ≡ Some showing →
+pub told_value : (side : Side) (configs : List Configuration) (past : List Event) (asked : Asked) (config : Configuration) (shown : List Showing) (observation : Observation) (made : Made) (showing : Showing) (front twin : List Event) → config_at configs asked.machine ≡ config → shown ≡ shown_of configs past →
+    IsObservation configs past asked.machine asked.publication observation → observation.made ≡ Some made → slice_get shown made.place ≡ Some showing →
     nat_lt max_time (end_after side config.drift (end_of side showing.span) (asked.clock - showing.clock)) ≡ false →
     front ≡ fused_again (end_of side showing.span) asked.machine showing.clock made.known.items showing.spans →
-    twin ≡ front ++ map (glance_again side config.drift asked.machine showing.clock (end_of side showing.span)) watch.glances.items → twin_of_asked side configs past asked ≡ Ok twin
-told_value side configs past asked config shown watch made showing front twin same is w kept there not_cut fused looked =
-    let t = told configs past asked.machine asked.publication watch shown made showing is w kept there in
+    twin ≡ front ++ map (glance_again side config.drift asked.machine showing.clock (end_of side showing.span)) observation.glances.items → twin_of_asked side configs past asked ≡ Ok twin
+told_value side configs past asked config shown observation made showing front twin same is w kept there not_cut fused looked =
+    let t = told configs past asked.machine asked.publication observation shown made showing is w kept there in
     let x = end_of side showing.span in
     let looks = looks_of configs past asked.machine asked.publication in
     let goes_on : nat_lt max_time (end_after side (config_at configs asked.machine).drift (end_of side showing.span) (asked.clock - showing.clock)) ≡ false =
     ap (λ (c : Configuration). nat_lt max_time (end_after side c.drift (end_of side showing.span) (asked.clock - showing.clock))) same ∙ not_cut in
-    let again : map (glance_again side config.drift asked.machine showing.clock x) watch.glances.items ≡ map (look_again side (config_at configs asked.machine).drift asked.machine showing.clock x) looks =
+    let again : map (glance_again side config.drift asked.machine showing.clock x) observation.glances.items ≡ map (look_again side (config_at configs asked.machine).drift asked.machine showing.clock x) looks =
     ap (λ (l : List Glance). map (glance_again side config.drift asked.machine showing.clock x) l) w.glances
     ∙ map-map (glance_again side config.drift asked.machine showing.clock x) glance_of looks
     ∙ ap (λ (c : Configuration). map (look_again side c.drift asked.machine showing.clock x) looks) (sym same) in
     let all : twin ≡ twin_from side configs asked.machine (record { showing = showing; before = t.before }) looks =
-    looked ∙ ap (λ (l : List Event). l ++ map (glance_again side config.drift asked.machine showing.clock x) watch.glances.items) (fused ∙ ap (λ (l : List ℕ). fused_again x asked.machine showing.clock l showing.spans) t.known)
+    looked ∙ ap (λ (l : List Event). l ++ map (glance_again side config.drift asked.machine showing.clock x) observation.glances.items) (fused ∙ ap (λ (l : List ℕ). fused_again x asked.machine showing.clock l showing.spans) t.known)
     ∙ ap (λ (l : List Event). fused_again x asked.machine showing.clock (known_sources configs t.before asked.machine) showing.spans ++ l) again in
     ap (λ (o : Option Making). twin_unless_cut side configs asked.machine asked.clock o looks) t.is
     ∙ ap (λ (b : Bool). cond b (Err Cut) (Ok (twin_from side configs asked.machine (record { showing = showing; before = t.before }) looks))) goes_on
@@ -214,8 +214,8 @@ looks_in_time configs (event ∷ past) m k good =
     unless false looks more h j =
         subst (λ (l : List Glance). All (λ (g : Glance). g.clock ≤ max_time) l) (sym (map-append glance_of looks more)) (All-append (λ (g : Glance). g.clock ≤ max_time) (map glance_of looks) (map glance_of more) h j)
 
-pub glances_in_time : (configs : List Configuration) (past : List Event) (m k : ℕ) (watch : Watch) → IsWatch configs (accepted configs past) m k watch → All (λ (g : Glance). g.clock ≤ max_time) watch.glances.items
-glances_in_time configs past m k watch w = subst (λ (l : List Glance). All (λ (g : Glance). g.clock ≤ max_time) l) (sym w.glances) (looks_in_time configs (accepted configs past) m k (good_accepted configs past))
+pub glances_in_time : (configs : List Configuration) (past : List Event) (m k : ℕ) (observation : Observation) → IsObservation configs (accepted configs past) m k observation → All (λ (g : Glance). g.clock ≤ max_time) observation.glances.items
+glances_in_time configs past m k observation w = subst (λ (l : List Glance). All (λ (g : Glance). g.clock ≤ max_time) l) (sym w.glances) (looks_in_time configs (accepted configs past) m k (good_accepted configs past))
 
 -- ---- equations of the body
 

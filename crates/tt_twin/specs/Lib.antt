@@ -2,4 +2,4 @@ pub mod TwinFault
 pub mod Looks
 pub mod Twin
 pub mod Alike
-pub mod Watch
+pub mod Observation

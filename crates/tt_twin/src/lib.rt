@@ -6,13 +6,13 @@
 //! no interval that is narrower at that end would be right: the intervals are as short as they can be.
 //!
 //! - `twins`: [`twin`], which makes that run.
-//! - `watches`: what a machine has seen of one publication, as a run goes on.
+//! - `observations`: what a machine has seen of one publication, as a run goes on.
 //! - `twin_faults`: why there is no twin.
 #![tactic(auto)]
 
+mod observations;
 mod twin_faults;
 mod twins;
-mod watches;
 
 pub use twin_faults::TwinFault;
 pub use twins::{Side, twin, twin_laws};

@@ -6,7 +6,7 @@ ghost use Rattle.tt_span.specs.Interval.{Interval, whole, Holds};
 ghost use Rattle.tt_twin.specs.Alike.{IsReadingOf, HasReading, AsksToRead, accepted_to, IsTwin, IsRightForLook};
 ghost use Rattle.tt_twin.specs.Twin.{twin_of, end_of, end_after, polls, answers, deliveries, fused_again};
 ghost use Rattle.tt_twin.specs.declared.twins.Side.{Side};
-ghost use Rattle.tt_twin.specs.Watch.{IsWatch, glance_again, asked_in, is_read, twin_of_asked};
+ghost use Rattle.tt_twin.specs.Observation.{IsObservation, glance_again, asked_in, is_read, twin_of_asked};
 ghost use Rattle.tt_daemon.specs.Config.{Configuration};
 ghost use Rattle.tt_world.specs.declared.events.Event.{Event};
 ghost use Rattle.tt_world.specs.Config.{config_at};
@@ -14,8 +14,8 @@ ghost use Rattle.tt_world.specs.Headline.{AreConfigurations};
 ghost use Rattle.tt_world.specs.Publications.{shown_of};
 ghost use Rattle.tt_world.specs.Trace.{outline};
 
+use crate::observations::{Glance, Observation, observation_of};
 use crate::twin_faults::TwinFault;
-use crate::watches::{Glance, Watch, watch_of};
 use std::alloc::{AllocError, Global};
 use tt_daemon::Config;
 use tt_span::{Drift, MAX_TIME, Span};
@@ -226,20 +226,20 @@ fn twin_by(
     alloc: Global,
     config: &Config,
     shown: &[Shown],
-    watch: &Watch,
+    observation: &Observation,
     asked: Asked,
     side: Side,
 ) -> Result<Vec<Event>, TwinFault>
     requires in_time { asked.clock ≤ max_time }
-    requires glances { All (λ glance. glance.clock ≤ max_time) watch.now.glances.items }
+    requires glances { All (λ glance. glance.clock ≤ max_time) observation.now.glances.items }
     ensures value { (configs : List Configuration) (past : List Event) → config_at configs asked.machine ≡ config.now →
-        map outline shown.now ≡ shown_of configs past → IsWatch configs past asked.machine asked.publication watch.now →
+        map outline shown.now ≡ shown_of configs past → IsObservation configs past asked.machine asked.publication observation.now →
         IfOk result (λ twin. twin_of_asked side configs past asked ≡ Ok twin.items) }
     ensures refused { (configs : List Configuration) (past : List Event) → config_at configs asked.machine ≡ config.now →
-        map outline shown.now ≡ shown_of configs past → IsWatch configs past asked.machine asked.publication watch.now →
+        map outline shown.now ≡ shown_of configs past → IsObservation configs past asked.machine asked.publication observation.now →
         IfErr result (λ e. (e ≡ TwinFault.Memory) ⊎ (twin_of_asked side configs past asked ≡ Err e)) }
 {
-    let Some(made) = &watch.made else {
+    let Some(made) = &observation.made else {
         return Err(TwinFault::NotAReading);
     };
     let Some(found) = shown.get(made.place) else {
@@ -267,7 +267,7 @@ fn twin_by(
         &made.known,
         found.fused.spans(),
     )?;
-    look_all_again(&mut twin, &scene, &watch.glances)?;
+    look_all_again(&mut twin, &scene, &observation.glances)?;
     Ok(twin)
 }
 
@@ -321,14 +321,15 @@ pub fn twin(
     if !is_reading(&trace.replies()[k]) {
         return Err(TwinFault::NotAReading);
     }
-    let Ok(watch) = watch_of(alloc, configs, upto, asked.machine, asked.publication) else {
+    let Ok(observation) = observation_of(alloc, configs, upto, asked.machine, asked.publication)
+    else {
         return Err(TwinFault::Memory);
     };
     twin_by(
         alloc,
         &configs[usize::from(asked.machine)],
         trace.shown(),
-        &watch,
+        &observation,
         asked,
         side,
     )

@@ -12,7 +12,7 @@ use Rattle.tt_world.specs.declared.events.Action.TheVariants.{Answer, Forge, Del
 use Rattle.tt_daemon.specs.Config.{Configuration}
 use Rattle.tt_world.specs.Config.{config_at}
 use Rattle.tt_world.specs.Past.{packets_of, ClockReading, clock_reading, moments_of}
-use Rattle.tt_world.specs.Sources.{stated_by, outstanding}
+use Rattle.tt_world.specs.Sources.{stated_by, outstanding_poll}
 use Rattle.tt_world.specs.Bad.{first_bad, accepted}
 
 -- the event that sent packet p, if it was sent
@@ -32,7 +32,7 @@ delivered_by _ = None
 abbrev pub packet_of_statement : List Event → Life → ℕ → Option ℕ
 packet_of_statement [] life i = None
 packet_of_statement (event ∷ past) life i =
-    if is_some (stated_by past life i (outstanding past life i) event.action) then delivered_by event.action
+    if is_some (stated_by past life i (outstanding_poll past life i) event.action) then delivered_by event.action
     else packet_of_statement past life i
 
 -- whether an action at a true time sends a lie: bytes that were made up, or an answer whose span does not hold that time

@@ -9,8 +9,8 @@ pub mod Commits
 pub mod Bad
 pub mod Reply
 pub mod Assumptions
+pub mod Private
 pub mod State
-pub mod Step
 pub mod Fault
 pub mod Headline
 pub mod Trace

@@ -23,15 +23,15 @@ abbrev pub known_of : Configuration → List Event → Life → ℕ
 known_of config past life = count_by (λ i. is_some (statement_of past life i)) (range_with_len 0 config.sources)
 
 -- a publication of the fusion, or refusal 504 where no time is possible
-abbrev pub published : ℕ → Option Interval → Result FusedSpan ℕ
-published clock None = Err 504
-published clock (Some span) = Ok (record { clock = clock; span = span })
+abbrev pub publication_from : ℕ → Option Interval → Result FusedSpan ℕ
+publication_from clock None = Err 504
+publication_from clock (Some span) = Ok (record { clock = clock; span = span })
 
 -- what this life publishes when it fuses at a clock reading, or its refusal: 701 where too few sources are known, 504 where no time is possible
 abbrev pub fusion_of : Configuration → List Event → Life → ℕ → Result FusedSpan ℕ
 fusion_of config past life clock =
     if nat_lt (known_of config past life) (config.sources - config.faulty) then Err 701
-    else published clock (slow_fusion (spans_of config past life clock) config.faulty)
+    else publication_from clock (slow_fusion (spans_of config past life clock) config.faulty)
 
 -- the one publication that was made, or none
 abbrev pub one_if_made : Result FusedSpan ℕ → List FusedSpan

@@ -20,7 +20,7 @@ use Rattle.tt_daemon.specs.Config.{Configuration}
 use Rattle.tt_world.specs.Config.{config_at}
 use Rattle.tt_world.specs.Packet.{machine_of_packet, source_of_packet, bytes_of}
 use Rattle.tt_world.specs.Past.{packets_of}
-use Rattle.tt_world.specs.Sources.{stated_by, outstanding}
+use Rattle.tt_world.specs.Sources.{stated_by, outstanding_poll}
 use Rattle.tt_world.specs.Publications.{fusion_of, publications_of, publication_at, reading_at}
 use Rattle.tt_world.specs.Commits.{reading_of, stamping_of, queueing_of, book_of, released_with}
 use Rattle.tt_world.specs.declared.faults.WorldFault.{WorldFault}
@@ -39,7 +39,7 @@ reply_to_packet past clock None = bad_reply bad.NoPacket
 reply_to_packet past clock (Some packet) =
     let m = machine_of_packet packet in
     let i = source_of_packet packet in
-    delivery_reply (statement_of_message m (life_of past m) i (outstanding past (life_at past m) i) clock (read_of2 (bytes_of packet)))
+    delivery_reply (statement_of_message m (life_of past m) i (outstanding_poll past (life_at past m) i) clock (read_of2 (bytes_of packet)))
 
 -- the reply to a fusion, after so many publications
 abbrev pub fusion_reply : ℕ → Result FusedSpan ℕ → Reply
@@ -110,4 +110,4 @@ abbrev pub MakesStatement : List Configuration → List Event → Event → Type
 MakesStatement configs past event =
     let before = accepted configs past in
     (first_bad configs before event ≡ None)
-    × ((life : Life) × (i : ℕ) × (statement : Statement) × (stated_by before life i (outstanding before life i) event.action ≡ Some statement))
+    × ((life : Life) × (i : ℕ) × (statement : Statement) × (stated_by before life i (outstanding_poll before life i) event.action ≡ Some statement))

@@ -44,10 +44,10 @@ is_answered (event ∷ past) life i =
     else (is_some (stated_by past life i (last_send past life i) event.action) || is_answered past life i)
 
 -- the poll of source i that still waits for its answer: the last one, unless an answer to it has come
-abbrev pub outstanding : List Event → Life → ℕ → Option Sending
-outstanding past life i = if is_answered past life i then None else last_send past life i
+abbrev pub outstanding_poll : List Event → Life → ℕ → Option Sending
+outstanding_poll past life i = if is_answered past life i then None else last_send past life i
 
 -- the statement of source i in this life: that of the last delivery of an answer with the nonce of the last poll before it, if no answer to that poll had come between the two
 abbrev pub statement_of : List Event → Life → ℕ → Option Statement
 statement_of [] life i = None
-statement_of (event ∷ past) life i = option_or (stated_by past life i (outstanding past life i) event.action) (statement_of past life i)
+statement_of (event ∷ past) life i = option_or (stated_by past life i (outstanding_poll past life i) event.action) (statement_of past life i)

@@ -2,7 +2,7 @@
 
 ghost use Rattle.std.specs.Prelude.{◌≡◌};
 ghost use Rattle.tt_world.specs.Fault.{number_of};
-ghost use Rattle.tt_world.specs.Step.{refusal_reply};
+ghost use Rattle.tt_world.specs.Private.Step.{refusal_reply};
 
 use crate::events::Reply;
 use std::alloc::{AllocError, AllocFailed};

@@ -29,7 +29,7 @@
 //! - `breaches`: what breaks the assumptions of a run.
 //! - `packets`: what is in transit between machines and sources.
 //! - `publications`: what is shown of what a machine has published.
-//! - `workers`: what is kept of one worker. `deeds`: what a machine is asked to do by itself.
+//! - `workers`: what is kept of one worker. `machine_actions`: what a machine is asked to do by itself.
 //! - `machines`: what is kept of one machine.
 //! - `world`: a whole run, event by event.
 //! - `runs`: whole runs.
@@ -37,9 +37,9 @@
 #![tactic(auto)]
 
 mod breaches;
-mod deeds;
 mod events;
 mod faults;
+mod machine_actions;
 mod machines;
 mod packets;
 mod publications;

@@ -7,7 +7,7 @@ ghost use Rattle.tt_source.specs.Table.{poll_of, take_of, is_known_of};
 ghost use Rattle.tt_daemon.specs.Config.{IsConfiguration};
 ghost use Rattle.tt_world.specs.Packet.{source_of_packet, bytes_of};
 ghost use Rattle.tt_world.specs.Life.{life_at};
-ghost use Rattle.tt_world.specs.State.{MachineState, IsMachine, machine_of};
+ghost use Rattle.tt_world.specs.Private.Machine.{MachineState, IsMachine, machine_of};
 ghost use Rattle.tt_world.specs.Headline.{CertificatesProve};
 ghost use Rattle.tt_world.specs.Publications.{showing_of};
 ghost use Rattle.tt_world.specs.Trace.{outline};
@@ -16,13 +16,13 @@ ghost use Rattle.tt_daemon.specs.Fault.{number_of};
 ghost use Rattle.tt_daemon.specs.Publication.{IsPublication};
 ghost use Rattle.tt_publish.specs.Reading.{fused_span_of};
 ghost use Rattle.tt_world.specs.Reply.{TakesMemory};
-ghost use Rattle.tt_world.specs.Step.{is_back_on, with_table, take_turn, publish_turn, fusion_on, readable_on, machine_in, arrive_turn, work_on, deed_on, Does};
+ghost use Rattle.tt_world.specs.Private.Step.{is_back_on, with_table, take_turn, publish_turn, fusion_on, readable_on, machine_in, arrive_turn, worker_outcome, machine_outcome, Does};
 ghost use Rattle.tt_stamp.specs.declared.commits.Entry.{Entry};
 ghost use Rattle.tt_stamp.specs.declared.commits.Receipt.{Receipt};
 
-use crate::deeds::{Deed, Work};
 use crate::events::{Receipts, Reply};
 use crate::faults::WorldFault;
+use crate::machine_actions::{MachineAction, WorkerAction};
 use crate::packets::Packet;
 use crate::publications::Shown;
 use crate::workers::{Arrival, Task, Worker};
@@ -53,7 +53,7 @@ pub struct Machine {
 impl Model for Machine {
     ghost use Rattle.std.specs.Prelude.{◌≡◌, ◌≤◌, length};
     ghost use Rattle.tt_span.specs.Time.{max_time};
-    ghost use Rattle.tt_world.specs.State.{MachineState, IsMachine};
+    ghost use Rattle.tt_world.specs.Private.Machine.{MachineState, IsMachine};
 
     ghost Value = { MachineState };
 
@@ -224,17 +224,22 @@ impl Machine {
     /// Does a deed, as the machine of this number, or answers why it is bad: 1202 `ClockBack`, 1204 `NoPublication`,
     /// 1205 `NothingThere`, 1206 `UnknownNumber` where there is no such worker, or 1208 `LivesUsedUp`. A bad deed
     /// changes nothing, and nor does a failed allocation.
-    pub fn act(&mut self, alloc: Global, number: u8, deed: Deed) -> Result<Reply, WorldFault>
+    pub fn act(
+        &mut self,
+        alloc: Global,
+        number: u8,
+        machine_action: MachineAction,
+    ) -> Result<Reply, WorldFault>
         requires { number < 8 }
-        ensures { Does TakesMemory (deed_on number self.old deed) self.old result self.new }
+        ensures { Does TakesMemory (machine_outcome number self.old machine_action) self.old result self.new }
     {
-        match deed {
-            Deed::Restart(clock) => self.restart(alloc, number, clock),
-            Deed::Lease(lease) => {
+        match machine_action {
+            MachineAction::Restart(clock) => self.restart(alloc, number, clock),
+            MachineAction::Lease(lease) => {
                 self.lease = lease;
                 Ok(Reply::Leased)
             }
-            Deed::Work(worker, work) => {
+            MachineAction::Work(worker, work) => {
                 if usize::from(worker) >= self.workers.len() {
                     return Err(WorldFault::UnknownNumber);
                 }
@@ -246,7 +251,7 @@ impl Machine {
     /// Restarts, as the machine of this number.
     fn restart(&mut self, alloc: Global, number: u8, clock: u64) -> Result<Reply, WorldFault>
         requires { number < 8 }
-        ensures { Does TakesMemory (deed_on number self.old (Deed.Restart clock)) self.old result self.new }
+        ensures { Does TakesMemory (machine_outcome number self.old (MachineAction.Restart clock)) self.old result self.new }
     {
         if clock > MAX_TIME {
             return Err(WorldFault::ClockBack);
@@ -260,23 +265,23 @@ impl Machine {
     }
 
     /// Lets a worker do its work.
-    fn work(&mut self, alloc: Global, worker: u8, work: Work) -> Result<Reply, WorldFault>
+    fn work(&mut self, alloc: Global, worker: u8, work: WorkerAction) -> Result<Reply, WorldFault>
         requires { worker < length self.old.workers }
-        ensures { Does TakesMemory (work_on self.old worker work) self.old result self.new }
+        ensures { Does TakesMemory (worker_outcome self.old worker work) self.old result self.new }
     {
         match work {
-            Work::Read { clock, publication } => self.read(worker, clock, publication),
-            Work::Arrive(arrival) => Ok(self.arrive(worker, arrival)),
-            Work::Stamp => self.stamp(worker),
-            Work::Queue => self.queue(worker),
-            Work::Release => self.release(alloc, worker),
+            WorkerAction::Read { clock, publication } => self.read(worker, clock, publication),
+            WorkerAction::Arrive(arrival) => Ok(self.arrive(worker, arrival)),
+            WorkerAction::Stamp => self.stamp(worker),
+            WorkerAction::Queue => self.queue(worker),
+            WorkerAction::Release => self.release(alloc, worker),
         }
     }
 
     /// The worker reads from the publication of this number.
     fn read(&mut self, worker: u8, clock: u64, number: u64) -> Result<Reply, WorldFault>
         requires { worker < length self.old.workers }
-        ensures { Does TakesMemory (work_on self.old worker (Work.Read clock number)) self.old result self.new }
+        ensures { Does TakesMemory (worker_outcome self.old worker (WorkerAction.Read clock number)) self.old result self.new }
     {
         if self.is_back(clock) {
             return Err(WorldFault::ClockBack);
@@ -331,7 +336,7 @@ impl Machine {
     /// The worker stamps its task by its last reading since it was asked for it.
     fn stamp(&mut self, worker: u8) -> Result<Reply, WorldFault>
         requires { worker < length self.old.workers }
-        ensures { Does TakesMemory (work_on self.old worker Work.Stamp) self.old result self.new }
+        ensures { Does TakesMemory (worker_outcome self.old worker WorkerAction.Stamp) self.old result self.new }
     {
         let place = usize::from(worker);
         let kept = self.workers[place];
@@ -354,7 +359,7 @@ impl Machine {
     /// The worker queues its stamped task.
     fn queue(&mut self, worker: u8) -> Result<Reply, WorldFault>
         requires { worker < length self.old.workers }
-        ensures { Does TakesMemory (work_on self.old worker Work.Queue) self.old result self.new }
+        ensures { Does TakesMemory (worker_outcome self.old worker WorkerAction.Queue) self.old result self.new }
     {
         let place = usize::from(worker);
         let Some(Task::Stamped { id, stamp }) = self.workers[place].task else {
@@ -373,7 +378,7 @@ impl Machine {
     /// The worker releases with its last reading.
     fn release(&mut self, alloc: Global, worker: u8) -> Result<Reply, WorldFault>
         requires { worker < length self.old.workers }
-        ensures { Does TakesMemory (work_on self.old worker Work.Release) self.old result self.new }
+        ensures { Does TakesMemory (worker_outcome self.old worker WorkerAction.Release) self.old result self.new }
     {
         let Some(reading) = self.workers[usize::from(worker)].reading else {
             return Err(WorldFault::NothingThere);

@@ -1,7 +1,7 @@
 //! What is kept of a worker.
 
 ghost use Rattle.std.specs.Prelude.{◌≡◌};
-ghost use Rattle.tt_world.specs.Step.{new_worker};
+ghost use Rattle.tt_world.specs.Private.Step.{new_worker};
 
 use tt_publish::Reading;
 use tt_stamp::Id;

@@ -10,11 +10,11 @@ ghost use Rattle.tt_world.specs.Bad.{accepted};
 ghost use Rattle.tt_world.specs.Reply.{reply_of, TakesMemory};
 ghost use Rattle.tt_world.specs.State.{WorldState, StandsFor, knows};
 ghost use Rattle.tt_world.specs.Packet.{answer_to};
-ghost use Rattle.tt_world.specs.Step.{Does, WantsMemory, HasRoom, send_on, answer_on, forge_on, deliver_on, fuse_on, on_machine, stepped};
+ghost use Rattle.tt_world.specs.Private.Step.{Does, WantsMemory, HasRoom, send_on, answer_on, forge_on, deliver_on, fuse_on, on_machine, event_outcome};
 
-use crate::deeds::{Deed, Work};
 use crate::events::{Action, Event, Payload, Reply};
 use crate::faults::WorldFault;
+use crate::machine_actions::{MachineAction, WorkerAction};
 use crate::machines::Machine;
 use crate::packets::Packet;
 use crate::publications::Shown;
@@ -127,14 +127,19 @@ impl World {
     }
 
     /// A machine does what it is asked.
-    fn on_machine(&mut self, at: u64, machine: u8, deed: Deed) -> Result<Reply, WorldFault>
-        ensures { Does TakesMemory (on_machine self.old at machine deed (slice_get self.old.machines machine)) self.old result self.new }
+    fn on_machine(
+        &mut self,
+        at: u64,
+        machine: u8,
+        machine_action: MachineAction,
+    ) -> Result<Reply, WorldFault>
+        ensures { Does TakesMemory (on_machine self.old at machine machine_action (slice_get self.old.machines machine)) self.old result self.new }
     {
         let place = usize::from(machine);
         if place >= self.machines.len() {
             return Err(WorldFault::UnknownNumber);
         }
-        let reply = self.machines[place].act(self.alloc, machine, deed)?;
+        let reply = self.machines[place].act(self.alloc, machine, machine_action)?;
         self.time = at;
         Ok(reply)
     }
@@ -184,7 +189,7 @@ impl World {
 
     /// What an event makes, or why it is bad.
     fn act(&mut self, event: &Event) -> Result<Reply, WorldFault>
-        ensures does { Does (WantsMemory event.now.action) (stepped self.old event.now) self.old result self.new }
+        ensures does { Does (WantsMemory event.now.action) (event_outcome self.old event.now) self.old result self.new }
         ensures room { OnOk result (HasRoom self.old event.now.action) }
     {
         let at = event.at;
@@ -211,11 +216,11 @@ impl World {
                 clock,
                 publication,
             } => {
-                let work = Work::Read {
+                let work = WorkerAction::Read {
                     clock: *clock,
                     publication: *publication,
                 };
-                self.on_machine(at, *machine, Deed::Work(*worker, work))
+                self.on_machine(at, *machine, MachineAction::Work(*worker, work))
             }
             Action::Arrive {
                 machine,
@@ -227,22 +232,38 @@ impl World {
                     id: *id,
                     floor: *floor,
                 };
-                self.on_machine(at, *machine, Deed::Work(*worker, Work::Arrive(arrival)))
+                self.on_machine(
+                    at,
+                    *machine,
+                    MachineAction::Work(*worker, WorkerAction::Arrive(arrival)),
+                )
             }
             Action::Stamp { machine, worker } => {
-                self.on_machine(at, *machine, Deed::Work(*worker, Work::Stamp))
+                self.on_machine(
+                    at,
+                    *machine,
+                    MachineAction::Work(*worker, WorkerAction::Stamp),
+                )
             }
             Action::Queue { machine, worker } => {
-                self.on_machine(at, *machine, Deed::Work(*worker, Work::Queue))
+                self.on_machine(
+                    at,
+                    *machine,
+                    MachineAction::Work(*worker, WorkerAction::Queue),
+                )
             }
             Action::Restart { machine, clock } => {
-                self.on_machine(at, *machine, Deed::Restart(*clock))
+                self.on_machine(at, *machine, MachineAction::Restart(*clock))
             }
             Action::Lease { machine, lease } => {
-                self.on_machine(at, *machine, Deed::Lease(*lease))
+                self.on_machine(at, *machine, MachineAction::Lease(*lease))
             }
             Action::Release { machine, worker } => {
-                self.on_machine(at, *machine, Deed::Work(*worker, Work::Release))
+                self.on_machine(
+                    at,
+                    *machine,
+                    MachineAction::Work(*worker, WorkerAction::Release),
+                )
             }
         }
     }

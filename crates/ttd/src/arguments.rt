@@ -18,7 +18,7 @@ use tt_stream::{ByteReader, ByteWriter};
 use ttd_commands::{
     Ended, Fault, LiveEnded, LiveRefusal, Status, answer_live, answer_with, give, give_live,
 };
-use ttd_words::{mistake_text, usage_text};
+use ttd_cli::{mistake_text, usage_text};
 
 /// The words after the program's name.
 fn words_given(rt: &(impl Env + AllocGlobal)) -> io::Result<Vec<String>> {

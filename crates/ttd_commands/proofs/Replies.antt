@@ -3,7 +3,7 @@ use Rattle.std.proofs.Common.{◌≡◌, ◌≢◌, ◌⊎◌, ◌<◌, ◌≤�
 use Rattle.std.specs.Io.KnownBytes.{IsAtEnd}
 use Rattle.std.proofs.lemmas.List.{length-replicate}
 use Rattle.tt_stream.specs.Counts.{HasFailed}
-use Rattle.ttd_words.specs.declared.words.Command.{Command}
+use Rattle.ttd_cli.specs.declared.words.Command.{Command}
 use Rattle.ttd_commands.specs.declared.faults.Fault.{Fault}
 use Rattle.ttd_commands.specs.declared.faults.Fault.TheVariants.{BadInput, BadWords, Memory, ReadFailed}
 use Rattle.std.specs.Result.{result_map_both}

@@ -14,7 +14,7 @@ use Rattle.tt_twin.specs.Twin.{twin_of}
 use Rattle.tt_world.specs.declared.events.Event.{Event}
 use Rattle.tt_world.specs.declared.events.Reply.TheVariants as replies
 use Rattle.tt_world.specs.Reply.{replies_from}
-use Rattle.ttd_words.specs.declared.words.Side.{Side}
+use Rattle.ttd_cli.specs.declared.words.Side.{Side}
 use Rattle.ttd_commands.specs.declared.faults.Fault.{Fault}
 use Rattle.ttd_commands.specs.Answer.{Answer, fine}
 use Rattle.ttd_commands.specs.Command.{HasReply}

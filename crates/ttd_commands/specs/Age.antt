@@ -40,8 +40,8 @@ answered_in2 (Ok (two.Request request)) = Err (Source NotMine)
 answered_in2 (Err fault) = Err (Poll fault)
 
 -- The span of the answer that the bytes spell, in TTP2 where they begin with its name, else in TTP1.
-abbrev pub answered : List ℕ → Result Interval Fault
-answered bytes = if starts_with nat_eq bytes (codes "TTP2") then answered_in2 (read_of2 bytes) else answered_in (read_of bytes)
+abbrev pub answer_span_of : List ℕ → Result Interval Fault
+answer_span_of bytes = if starts_with nat_eq bytes (codes "TTP2") then answered_in2 (read_of2 bytes) else answered_in (read_of bytes)
 
 -- The aged span of an answer, or its refusal.
 abbrev pub aged_answer : Ageing → Result Interval Fault → Result Interval Fault
@@ -50,7 +50,7 @@ aged_answer a (Err fault) = Err fault
 
 -- The aged span of the bytes that the hex digits write; bad hex is refused with 1602.
 abbrev pub aged_hex : Ageing → Result (List ℕ) FromHexError → Result Interval Fault
-aged_hex a (Ok bytes) = aged_answer a (answered bytes)
+aged_hex a (Ok bytes) = aged_answer a (answer_span_of bytes)
 aged_hex a (Err error) = Err BadHex
 
 -- The line that tells an aged span.

@@ -1,8 +1,8 @@
 -- What the program writes, and how it ends.
 use Rattle.std.specs.Prelude.{◌≡◌, ℕ, List, [], ◌∷◌, ◌++◌, codes, decimal, string_bytes, Result, Ok, Err}
-use Rattle.ttd_commands.specs.declared.ending.Reply.{Reply}
+use Rattle.ttd_commands.specs.declared.ending.CommandOutput.{CommandOutput}
 use Rattle.ttd_commands.specs.declared.ending.Status.{Status}
-use Rattle.ttd_commands.specs.declared.ending.Reply.TheVariants as reply
+use Rattle.ttd_commands.specs.declared.ending.CommandOutput.TheVariants as reply
 use Rattle.ttd_commands.specs.declared.ending.Status.TheVariants.{Fine, Broken}
 use Rattle.ttd_commands.specs.declared.faults.Fault.{Fault}
 use Rattle.ttd_commands.specs.Fault.{number_of, status_of}
@@ -21,7 +21,7 @@ abbrev pub fine : List ℕ → Answer
 fine text = record { text = text; status = Fine }
 
 -- The answer that a command's reply is.
-abbrev pub answer_in : Reply → Answer
+abbrev pub answer_in : CommandOutput → Answer
 answer_in (reply.Fine text) = fine (string_bytes text)
 answer_in (reply.Broken text) = record { text = string_bytes text; status = Broken }
 

@@ -3,12 +3,12 @@ use Rattle.std.specs.Prelude.{◌≡◌, ◌⊎◌, ℕ, ◌<◌, ◌≤◌, Lis
 use Rattle.std.specs.Result.{result_map_both}
 use Rattle.tt_stream.specs.Counts.{HasFailed}
 use Rattle.ttd_commands.specs.Run.{Input, IsRead}
-use Rattle.ttd_words.specs.declared.words.Asked.{Asked}
-use Rattle.ttd_words.specs.declared.words.Asked.TheVariants.{Run}
-use Rattle.ttd_words.specs.declared.words.Command.{Command}
-use Rattle.ttd_words.specs.declared.words.Command.TheVariants.{Age, Fuse, Check, Run as RunScript, Twin, Picture, Live}
-use Rattle.ttd_words.specs.declared.words.WordsFault.{WordsFault}
-use Rattle.ttd_words.specs.declared.words.WordsFault.TheVariants.{BadWords as BadWordsAsked, Memory as NoMemory}
+use Rattle.ttd_cli.specs.declared.words.Asked.{Asked}
+use Rattle.ttd_cli.specs.declared.words.Asked.TheVariants.{Run}
+use Rattle.ttd_cli.specs.declared.words.Command.{Command}
+use Rattle.ttd_cli.specs.declared.words.Command.TheVariants.{Age, Fuse, Check, Run as RunScript, Twin, Picture, Live}
+use Rattle.ttd_cli.specs.declared.words.WordsFault.{WordsFault}
+use Rattle.ttd_cli.specs.declared.words.WordsFault.TheVariants.{BadWords as BadWordsAsked, Memory as NoMemory}
 use Rattle.ttd_commands.specs.declared.faults.Fault.{Fault}
 use Rattle.ttd_commands.specs.declared.faults.Fault.TheVariants.{BadWords, BadInput, ReadFailed, Memory}
 use Rattle.ttd_commands.specs.Answer.{Answer, EndsFine}

@@ -13,7 +13,7 @@ use Rattle.ttd_commands.specs.Answer.{Answer, answer_in, answer_of, refusal_line
 use Rattle.ttd_commands.specs.Input.{most_input}
 use Rattle.ttd_commands.specs.Run.{Gives, Input, IsRead, Output, memory_answer}
 use Rattle.ttd_commands.specs.Running.{script_fault_of}
-use Rattle.ttd_commands.specs.declared.ending.Reply.{Reply}
+use Rattle.ttd_commands.specs.declared.ending.CommandOutput.{CommandOutput}
 use Rattle.ttd_commands.specs.declared.ending.Status.{Status}
 use Rattle.ttd_commands.specs.declared.ending.Status.TheVariants.{Fine, Memory, Bad, Broken, Device}
 use Rattle.ttd_commands.specs.declared.faults.Fault.TheVariants.{BadInput, ReadFailed}
@@ -43,7 +43,7 @@ report_answer report = record {
 }
 
 -- What is written of a result: a reply as it is, or the one line of a refusal with its status.
-abbrev pub live_answer : Result Reply LiveRefusal → Answer
+abbrev pub live_answer : Result CommandOutput LiveRefusal → Answer
 live_answer (Ok reply) = answer_in reply
 live_answer (Err (Program fault)) = answer_of (Err fault)
 live_answer (Err (Live fault)) = refusal_at (live_number_of fault)

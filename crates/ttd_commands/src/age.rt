@@ -2,8 +2,8 @@
 
 ghost use Rattle.std.specs.Prelude.{◌≡◌, ◌≢◌, Err, string_bytes};
 ghost use Rattle.hex.specs.Hex.{decode_of};
-ghost use Rattle.ttd_words.specs.Reading.{IsUnlessMemory};
-ghost use Rattle.ttd_commands.specs.Age.{age_of, aged_hex, aged_of, answered as answered_of, without_line_feed as without_line_feed_of};
+ghost use Rattle.ttd_cli.specs.Reading.{IsUnlessMemory};
+ghost use Rattle.ttd_commands.specs.Age.{age_of, aged_hex, aged_of, answer_span_of as answered_of, without_line_feed as without_line_feed_of};
 ghost use Rattle.ttd_commands.specs.Command.{HasReply};
 
 use crate::faults::Fault;
@@ -39,7 +39,7 @@ fn without_line_feed(text: &[u8]) -> &[u8]
 
 /// The span of the answer that the bytes spell: in TTP2 where they begin with its name, else in TTP1. What is not a
 /// message is refused with the decoder's number, a request with 405.
-fn answered(bytes: &[u8]) -> Result<Span, Fault>
+fn answer_span_of(bytes: &[u8]) -> Result<Span, Fault>
     ensures value { result ≡ answered_of bytes.now }
     ensures no_device { result ≢ Err Fault.ReadFailed }
 {
@@ -76,7 +76,7 @@ fn aged_from_hex(alloc: Global, ageing: &Ageing, text: &[u8]) -> Result<Span, Fa
         Err(FromHexError::OutOfMemory) => return Err(Fault::Memory),
         Err(_) => return Err(Fault::BadHex),
     };
-    let span = answered(bytes.as_slice())?;
+    let span = answer_span_of(bytes.as_slice())?;
     aged(ageing, span)
 }
 

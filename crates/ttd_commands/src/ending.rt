@@ -3,7 +3,7 @@
 ghost use Rattle.std.specs.Prelude.{◌≡◌};
 ghost use Rattle.std.specs.Process.{exit_status};
 ghost use Rattle.std.specs.Result.{result_map_both};
-ghost use Rattle.ttd_commands.specs.declared.ending.Reply.TheVariants.{Fine};
+ghost use Rattle.ttd_commands.specs.declared.ending.CommandOutput.TheVariants.{Fine};
 ghost use Rattle.ttd_commands.specs.Fault.{code_of};
 
 use crate::faults::Fault;
@@ -41,7 +41,7 @@ impl Status {
 
 /// What a command answers: a text to be written, and how the program ends after it.
 #[derive(Debug, Drop)]
-pub enum Reply {
+pub enum CommandOutput {
     /// The answer, after which the program ends as [`Status::Fine`].
     Fine(String),
     /// The report of a run that does not keep the assumptions, after which the program ends as [`Status::Broken`].
@@ -58,10 +58,10 @@ pub struct Ended {
 }
 
 /// The reply that is a text alone, after which the program ends as fine.
-pub(crate) fn fine(text: Result<String, Fault>) -> Result<Reply, Fault>
+pub(crate) fn fine(text: Result<String, Fault>) -> Result<CommandOutput, Fault>
     ensures { result ≡ result_map_both Fine (λ fault. fault) text }
 {
-    Ok(Reply::Fine(text?))
+    Ok(CommandOutput::Fine(text?))
 }
 
 impl From<Status> for ExitCode {

@@ -40,7 +40,7 @@ mod running;
 mod spans_text;
 mod twinning;
 
-pub use ending::{Ended, Reply, Status};
+pub use ending::{Ended, CommandOutput, Status};
 pub use faults::Fault;
 pub use input::{MOST_INPUT, MOST_READS};
 pub use living::{

@@ -5,12 +5,12 @@ ghost use Rattle.clap.specs.Walk.{texts};
 ghost use Rattle.tt_audit.specs.declared.live.LiveReport.{LiveReport};
 ghost use Rattle.tt_live.specs.Plan.{refusal_of};
 ghost use Rattle.tt_stream.specs.DeviceBytes.{ReadsOn};
-ghost use Rattle.ttd_words.specs.Reading.{AreForHelp, AreMistaken, AreTaken, asked_of};
+ghost use Rattle.ttd_cli.specs.Reading.{AreForHelp, AreMistaken, AreTaken, asked_of};
 ghost use Rattle.ttd_commands.specs.Answer.{answer_of, fine};
 ghost use Rattle.ttd_commands.specs.Living.{IsLiveAnswer, Lives, ReadsLive, TellsLive, UnlessMemory, Unread, live_answer, report_answer, status_at};
 ghost use Rattle.ttd_commands.specs.Run.{Gives, GivesHelp, RefusesWords, input_of, output_of};
 
-use crate::ending::{Ended, Reply, Status};
+use crate::ending::{Ended, CommandOutput, Status};
 use crate::faults::Fault;
 use crate::input::read_input;
 use crate::output::{end_with, explain, give, refusal_line};
@@ -25,7 +25,7 @@ use tt_audit::LiveReport;
 use tt_live::{LiveFault, live};
 use tt_script::{Script, read};
 use tt_stream::{ByteReader, ByteWriter};
-use ttd_words::{Asked, Command, help_text, read_words};
+use ttd_cli::{Asked, Command, help_text, read_words};
 
 /// Why `live` answers no report.
 #[derive(Clone, Copy, Debug, PartialEq, Eq)]
@@ -69,7 +69,7 @@ fn script_reply<H: Threads + Wait + Clock + Sync + Net<Listener = TcpListener, S
     rt: &H,
     alloc: Global,
     script: &Script,
-) -> Result<Reply, LiveRefusal>
+) -> Result<CommandOutput, LiveRefusal>
     ensures value { UnlessMemory (TellsLive (refusal_of script.now.configs script.now.live)) (live_answer result) }
     ensures no_device { result ≢ Err (LiveRefusal.Program Fault.ReadFailed) }
 {
@@ -81,9 +81,9 @@ fn script_reply<H: Threads + Wait + Clock + Sync + Net<Listener = TcpListener, S
         return Err(LiveRefusal::Program(Fault::Memory));
     };
     if report.wrong == 0 {
-        Ok(Reply::Fine(text))
+        Ok(CommandOutput::Fine(text))
     } else {
-        Ok(Reply::Broken(text))
+        Ok(CommandOutput::Broken(text))
     }
 }
 
@@ -96,7 +96,7 @@ fn text_reply<H: Threads + Wait + Clock + Sync + Net<Listener = TcpListener, Str
     rt: &H,
     alloc: Global,
     input: &[u8],
-) -> Result<Reply, LiveRefusal>
+) -> Result<CommandOutput, LiveRefusal>
     ensures value { UnlessMemory (IsLiveAnswer input.now) (live_answer result) }
     ensures no_device { result ≢ Err (LiveRefusal.Program Fault.ReadFailed) }
 {
@@ -113,7 +113,7 @@ fn text_reply<H: Threads + Wait + Clock + Sync + Net<Listener = TcpListener, Str
 fn input_reply<
     H: Threads + Wait + Clock + Sync + Net<Listener = TcpListener, Stream = TcpStream>,
     R: ByteReader,
->(rt: &H, alloc: Global, input: &mut R) -> Result<Reply, LiveRefusal>
+>(rt: &H, alloc: Global, input: &mut R) -> Result<CommandOutput, LiveRefusal>
     ensures value { ReadsLive (input_of R.ByteReader input.old) (input_of R.ByteReader input.new) (live_answer result) }
     ensures rest { ReadsOn (R.left input.old) (R.left input.new) }
 {
@@ -127,7 +127,7 @@ fn input_reply<
 fn command_reply<
     H: Threads + Wait + Clock + Sync + Net<Listener = TcpListener, Stream = TcpStream>,
     R: ByteReader,
->(rt: &H, alloc: Global, command: Command, input: &mut R) -> Result<Reply, LiveRefusal>
+>(rt: &H, alloc: Global, command: Command, input: &mut R) -> Result<CommandOutput, LiveRefusal>
     ensures lives { command ≡ Command.Live →
         ReadsLive (input_of R.ByteReader input.old) (input_of R.ByteReader input.new) (live_answer result) }
     ensures other { (command ≢ Command.Live) → (input_of R.ByteReader input.new ≡ input_of R.ByteReader input.old)
@@ -145,7 +145,7 @@ fn command_reply<
 fn words_reply<
     H: Threads + Wait + Clock + Sync + Net<Listener = TcpListener, Stream = TcpStream>,
     R: ByteReader,
->(rt: &H, alloc: Global, words: &[&str], input: &mut R) -> Result<Reply, LiveRefusal>
+>(rt: &H, alloc: Global, words: &[&str], input: &mut R) -> Result<CommandOutput, LiveRefusal>
     ensures lives { AreTaken (texts words.now) → asked_of (texts words.now) ≡ Ok (Asked.Run Command.Live) →
         ReadsLive (input_of R.ByteReader input.old) (input_of R.ByteReader input.new) (live_answer result) }
     ensures other { AreTaken (texts words.now) → asked_of (texts words.now) ≢ Ok (Asked.Run Command.Live) →
@@ -160,7 +160,7 @@ fn words_reply<
     match read_words(alloc, words) {
         Ok(Asked::Run(command)) => command_reply(rt, alloc, command, input),
         Ok(Asked::Help) => match help_text(alloc, words) {
-            Ok(text) => Ok(Reply::Fine(text)),
+            Ok(text) => Ok(CommandOutput::Fine(text)),
             Err(fault) => Err(LiveRefusal::Program(Fault::from(fault))),
         },
         Err(fault) => Err(LiveRefusal::Program(Fault::from(fault))),
@@ -190,7 +190,7 @@ fn ended_so(ended: Ended) -> LiveEnded
 }
 
 /// Writes a reply: its text as it is, or the one line of a refusal. It takes no memory.
-pub fn give_live<W: ByteWriter>(output: &mut W, reply: Result<Reply, LiveRefusal>) -> LiveEnded
+pub fn give_live<W: ByteWriter>(output: &mut W, reply: Result<CommandOutput, LiveRefusal>) -> LiveEnded
     ensures { Gives (live_answer reply) (output_of W.ByteWriter output.old) (output_of W.ByteWriter output.new) result.status }
 {
     match reply {

@@ -7,7 +7,7 @@ ghost use Rattle.tt_stream.specs.Counts.{HasFailed};
 ghost use Rattle.ttd_commands.specs.Answer.{answer_in, answer_of, refusal_line};
 ghost use Rattle.ttd_commands.specs.Run.{Gives, IsWritten, memory_answer, output_of};
 
-use crate::ending::{Ended, Reply, Status};
+use crate::ending::{Ended, CommandOutput, Status};
 use crate::faults::Fault;
 use arrayvec::ArrayString;
 use itoa::Buffer;
@@ -65,18 +65,18 @@ pub fn explain<W: Write>(alloc: Global, errors: &mut W, refusal: &Fault) {
 
 /// Writes a reply: its text as it is, after which the program ends as the reply says, or the one line of a refusal. It takes no memory, so
 /// no refusal is replaced by another.
-pub fn give<W: ByteWriter>(output: &mut W, reply: Result<Reply, Fault>) -> Ended
+pub fn give<W: ByteWriter>(output: &mut W, reply: Result<CommandOutput, Fault>) -> Ended
     ensures gives { Gives (answer_of (result_map_both answer_in (λ fault. fault) reply)) (output_of W.ByteWriter output.old) (output_of W.ByteWriter output.new) result.status }
     ensures memory { result.status ≡ Status.Memory → IsWritten memory_answer (output_of W.ByteWriter output.old) (output_of W.ByteWriter output.new) result.status }
     ensures refused { IfErr reply (λ fault. result.refusal ≡ Some fault) }
     ensures none { IfOk reply (λ text. result.refusal ≡ None) }
 {
     match reply {
-        Ok(Reply::Fine(text)) => Ended {
+        Ok(CommandOutput::Fine(text)) => Ended {
             status: end_with(output, text.as_str(), Status::Fine),
             refusal: None,
         },
-        Ok(Reply::Broken(text)) => Ended {
+        Ok(CommandOutput::Broken(text)) => Ended {
             status: end_with(output, text.as_str(), Status::Broken),
             refusal: None,
         },

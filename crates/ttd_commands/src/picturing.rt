@@ -5,7 +5,7 @@ ghost use Rattle.ttd_commands.specs.Answer.{answer_in};
 ghost use Rattle.ttd_commands.specs.Command.{HasReply};
 ghost use Rattle.ttd_commands.specs.Picturing.{IsPictureReply, ShowsRun, picture_fault_of};
 
-use crate::ending::Reply;
+use crate::ending::CommandOutput;
 use crate::faults::Fault;
 use std::alloc::Global;
 use std::str;
@@ -27,7 +27,7 @@ impl From<PictureFault> for Fault {
 /// does so also where the run does not keep the assumptions: the lies and the wrong readings are marked in the picture.
 ///
 /// Refuses, in this order, with 1603 `BadInput` what is not UTF-8; with 1301 to 1305 what is no script; and with 1 `Memory`.
-pub(crate) fn picture_reply(alloc: Global, input: &[u8]) -> Result<Reply, Fault>
+pub(crate) fn picture_reply(alloc: Global, input: &[u8]) -> Result<CommandOutput, Fault>
     ensures value { HasReply answer_in (IsPictureReply input.now) result }
     ensures no_device { result ≢ Err Fault.ReadFailed }
 {
@@ -39,11 +39,11 @@ pub(crate) fn picture_reply(alloc: Global, input: &[u8]) -> Result<Reply, Fault>
 }
 
 /// The picture of a script's run.
-fn shown(alloc: Global, script: &Script) -> Result<Reply, Fault>
+fn shown(alloc: Global, script: &Script) -> Result<CommandOutput, Fault>
     ensures value { HasReply answer_in (ShowsRun script.now) result }
     ensures no_device { result ≢ Err Fault.ReadFailed }
 {
     let trace = run(alloc, script.configs(), script.to_events())?;
     let text = picture(alloc, script.configs(), script.to_events(), &trace)?;
-    Ok(Reply::Fine(text))
+    Ok(CommandOutput::Fine(text))
 }

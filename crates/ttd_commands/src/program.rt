@@ -5,14 +5,14 @@ ghost use Rattle.std.specs.Result.{result_map_both};
 ghost use Rattle.clap.specs.Walk.{texts};
 ghost use Rattle.tt_stream.specs.Counts.{HasFailed};
 ghost use Rattle.tt_stream.specs.DeviceBytes.{ReadsOn};
-ghost use Rattle.ttd_words.specs.Reading.{AreForHelp, AreMistaken, AreTaken, asked_of};
+ghost use Rattle.ttd_cli.specs.Reading.{AreForHelp, AreMistaken, AreTaken, asked_of};
 ghost use Rattle.ttd_commands.specs.Answer.{answer_in, answer_of, fine};
 ghost use Rattle.ttd_commands.specs.Command.{HasReply, IsCommandReply, IsReply, IsReplyRead, IsReplyTo, words_fault_of};
 ghost use Rattle.ttd_commands.specs.Run.{Answers, Gives, GivesHelp, IsWritten, RefusesOrHelps, RefusesWords, input_of, memory_answer, output_of};
 
 use crate::age::{Ageing, age_text};
 use crate::check::check_text;
-use crate::ending::{Ended, Reply, Status, fine};
+use crate::ending::{Ended, CommandOutput, Status, fine};
 use crate::faults::Fault;
 use crate::fuse::fuse_text;
 use crate::input::read_input;
@@ -22,7 +22,7 @@ use crate::running::run_reply;
 use crate::twinning::twin_reply;
 use std::alloc::Global;
 use tt_stream::{ByteReader, ByteWriter};
-use ttd_words::{Asked, Command, WordsFault, help_text, read_words};
+use ttd_cli::{Asked, Command, WordsFault, help_text, read_words};
 
 impl From<WordsFault> for Fault {
     ghost from_gives = { λ words fault. fault ≡ words_fault_of words };
@@ -36,7 +36,7 @@ impl From<WordsFault> for Fault {
 }
 
 /// What a command answers to its input.
-fn reply_to(alloc: Global, command: Command, input: &[u8]) -> Result<Reply, Fault>
+fn reply_to(alloc: Global, command: Command, input: &[u8]) -> Result<CommandOutput, Fault>
     ensures value { HasReply answer_in (IsCommandReply command input.now) result }
     ensures no_device { result ≢ Err Fault.ReadFailed }
 {
@@ -69,7 +69,7 @@ fn command_reply<R: ByteReader>(
     alloc: Global,
     command: Command,
     input: &mut R,
-) -> Result<Reply, Fault>
+) -> Result<CommandOutput, Fault>
     ensures value { IsReplyRead answer_in (IsReply command) (input_of R.ByteReader input.old) (input_of R.ByteReader input.new) result }
     ensures failed { IsErrOf result Fault.ReadFailed → HasFailed (R.failed input.old) (R.failed input.new) }
     ensures sound { (result ≢ Err Fault.ReadFailed) → R.failed input.new ≡ R.failed input.old }
@@ -80,7 +80,7 @@ fn command_reply<R: ByteReader>(
 }
 
 /// What the program has to write: the text that the words ask for, or a refusal. The words are tested before the input is read.
-fn reply<R: ByteReader>(alloc: Global, words: &[&str], input: &mut R) -> Result<Reply, Fault>
+fn reply<R: ByteReader>(alloc: Global, words: &[&str], input: &mut R) -> Result<CommandOutput, Fault>
     ensures taken { AreTaken (texts words.now) → asked_of (texts words.now) ≢ Ok (Asked.Run Command.Live) →
         IsReplyRead answer_in (IsReplyTo (asked_of (texts words.now)))
         (input_of R.ByteReader input.old) (input_of R.ByteReader input.new) result }

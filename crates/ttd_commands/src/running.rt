@@ -5,7 +5,7 @@ ghost use Rattle.ttd_commands.specs.Answer.{answer_in};
 ghost use Rattle.ttd_commands.specs.Command.{HasReply};
 ghost use Rattle.ttd_commands.specs.Running.{IsRunReply, TellsRun, audit_fault_of, script_fault_of, world_fault_of};
 
-use crate::ending::Reply;
+use crate::ending::CommandOutput;
 use crate::faults::Fault;
 use std::alloc::Global;
 use std::str;
@@ -49,7 +49,7 @@ impl From<AuditFault> for Fault {
 /// assumptions, and as broken where it did not.
 ///
 /// Refuses, in this order, with 1603 `BadInput` what is not UTF-8; with 1301 to 1305 what is no script; and with 1 `Memory`.
-pub(crate) fn run_reply(alloc: Global, input: &[u8]) -> Result<Reply, Fault>
+pub(crate) fn run_reply(alloc: Global, input: &[u8]) -> Result<CommandOutput, Fault>
     ensures value { HasReply answer_in (IsRunReply input.now) result }
     ensures no_device { result ≢ Err Fault.ReadFailed }
 {
@@ -61,7 +61,7 @@ pub(crate) fn run_reply(alloc: Global, input: &[u8]) -> Result<Reply, Fault>
 }
 
 /// The report of a script's run, and how the program ends after it.
-fn told(alloc: Global, script: &Script) -> Result<Reply, Fault>
+fn told(alloc: Global, script: &Script) -> Result<CommandOutput, Fault>
     ensures value { HasReply answer_in (TellsRun script.now) result }
     ensures no_device { result ≢ Err Fault.ReadFailed }
 {
@@ -69,7 +69,7 @@ fn told(alloc: Global, script: &Script) -> Result<Reply, Fault>
     let report = audit(alloc, script.configs(), script.to_events(), &trace)?;
     let text = report_text(alloc, &report)?;
     Ok(match report.broken {
-        None => Reply::Fine(text),
-        Some(_) => Reply::Broken(text),
+        None => CommandOutput::Fine(text),
+        Some(_) => CommandOutput::Broken(text),
     })
 }

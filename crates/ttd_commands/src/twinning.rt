@@ -11,7 +11,7 @@ ghost use Rattle.ttd_commands.specs.Answer.{answer_in};
 ghost use Rattle.ttd_commands.specs.Command.{HasReply};
 ghost use Rattle.ttd_commands.specs.Twinning.{IsTwinReply, TellsFound, event_line, forged_line, truth_line, twin_fault_of, twin_side, twin_text};
 
-use crate::ending::Reply;
+use crate::ending::CommandOutput;
 use crate::faults::Fault;
 use std::alloc::{AllocError, Global};
 use std::str;
@@ -19,7 +19,7 @@ use tt_publish::Reading;
 use tt_script::{Script, read};
 use tt_twin::{TwinFault, twin, twin_laws};
 use tt_world::{Action, Event, Payload, run};
-use ttd_words::Side;
+use ttd_cli::Side;
 
 impl From<TwinFault> for Fault {
     ghost from_gives = { λ twin fault. fault ≡ twin_fault_of twin };
@@ -47,7 +47,7 @@ fn side_of(side: Side) -> tt_twin::Side
 ///
 /// Refuses, in this order, with 1603 `BadInput` what is not UTF-8; with 1301 to 1305 what is no script; with 1401 where event `k` is not
 /// there or gives no reading; with 1402 where the chosen end lies past the greatest time; and with 1 `Memory`.
-pub(crate) fn twin_reply(alloc: Global, k: u64, side: Side, input: &[u8]) -> Result<Reply, Fault>
+pub(crate) fn twin_reply(alloc: Global, k: u64, side: Side, input: &[u8]) -> Result<CommandOutput, Fault>
     ensures value { HasReply answer_in (IsTwinReply k side input.now) result }
     ensures no_device { result ≢ Err Fault.ReadFailed }
 {
@@ -59,7 +59,7 @@ pub(crate) fn twin_reply(alloc: Global, k: u64, side: Side, input: &[u8]) -> Res
 }
 
 /// The reply to the twin of the reading of event `k` in the run of a script.
-fn found(alloc: Global, script: &Script, k: usize, side: Side) -> Result<Reply, Fault>
+fn found(alloc: Global, script: &Script, k: usize, side: Side) -> Result<CommandOutput, Fault>
     ensures value { HasReply answer_in (TellsFound script.now k (twin_of script.now.configs script.now.events k (twin_side side))) result }
     ensures no_device { result ≢ Err Fault.ReadFailed }
 {
@@ -76,7 +76,7 @@ fn found(alloc: Global, script: &Script, k: usize, side: Side) -> Result<Reply, 
     let Ok(text) = text_of(alloc, twin.as_slice(), reading) else {
         return Err(Fault::Memory);
     };
-    Ok(Reply::Fine(text))
+    Ok(CommandOutput::Fine(text))
 }
 
 /// The reading that the reply to event `k` gives.

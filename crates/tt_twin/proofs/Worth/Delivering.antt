@@ -21,7 +21,7 @@ use Rattle.tt_world.specs.declared.events.Event.{Event}
 use Rattle.tt_world.specs.declared.packets.Packet.{Packet}
 use Rattle.tt_world.specs.Packet.{machine_of_packet, bytes_of}
 use Rattle.tt_world.specs.Past.{packets_of, clock_of}
-use Rattle.tt_world.specs.Sources.{stated_in, outstanding, statement_of}
+use Rattle.tt_world.specs.Sources.{stated_in, outstanding_poll, statement_of}
 use Rattle.tt_world.specs.Bad.{can_be_delivered, goes_back}
 use Rattle.tt_world.specs.Assumptions.{origin_of, packet_of_statement}
 use Rattle.tt_world.proofs.Simulation.Waiting.{outstanding-deliver}
@@ -124,27 +124,27 @@ next-other p j i h waiting other =
 
 -- what is known after j deliveries
 pub record IsDelivered (p : Plan) (j : ℕ) : Type 0 where
-  pub waits : (k : ℕ) → j ≤ k → k < p.count → outstanding (delivered p j) (home p) (p.source k) ≡ Some (sending p k)
+  pub waits : (k : ℕ) → j ≤ k → k < p.count → outstanding_poll (delivered p j) (home p) (p.source k) ≡ Some (sending p k)
   pub states : (k : ℕ) → k < j → statement_of (delivered p j) (home p) (p.source k) ≡ Some (statement p k)
   pub packets : (k : ℕ) → k < j → packet_of_statement (delivered p j) (home p) (p.source k) ≡ Some (p.count + k)
   pub no_statement : (i : ℕ) → ((k : ℕ) → k < j → p.source k ≡ i → ⊥) → statement_of (delivered p j) (home p) i ≡ None
   pub no_packet : (i : ℕ) → ((k : ℕ) → k < j → p.source k ≡ i → ⊥) → packet_of_statement (delivered p j) (home p) i ≡ None
 
 -- what one more delivery leaves of a source, by what it states for it
-statement_next : (p : Plan) (j i : ℕ) (o : Option Statement) → stated_next p j i (outstanding (delivered p j) (home p) i) ≡ o → statement_of (delivered p (suc j)) (home p) i ≡ option_or o (statement_of (delivered p j) (home p) i)
+statement_next : (p : Plan) (j i : ℕ) (o : Option Statement) → stated_next p j i (outstanding_poll (delivered p j) (home p) i) ≡ o → statement_of (delivered p (suc j)) (home p) i ≡ option_or o (statement_of (delivered p j) (home p) i)
 statement_next p j i o h = ap (λ (s : Option Statement). option_or s (statement_of (delivered p j) (home p) i)) h
 
-packet_next : (p : Plan) (j i : ℕ) (o : Option Statement) → stated_next p j i (outstanding (delivered p j) (home p) i) ≡ o → packet_of_statement (delivered p (suc j)) (home p) i ≡ cond (is_some o) (Some (p.count + j)) (packet_of_statement (delivered p j) (home p) i)
+packet_next : (p : Plan) (j i : ℕ) (o : Option Statement) → stated_next p j i (outstanding_poll (delivered p j) (home p) i) ≡ o → packet_of_statement (delivered p (suc j)) (home p) i ≡ cond (is_some o) (Some (p.count + j)) (packet_of_statement (delivered p j) (home p) i)
 packet_next p j i o h = ap (λ (s : Option Statement). cond (is_some s) (Some (p.count + j)) (packet_of_statement (delivered p j) (home p) i)) h
 
-waits_next : (p : Plan) (j i : ℕ) (o : Option Statement) → stated_next p j i (outstanding (delivered p j) (home p) i) ≡ o → outstanding (delivered p (suc j)) (home p) i ≡ cond (is_some o) None (outstanding (delivered p j) (home p) i)
+waits_next : (p : Plan) (j i : ℕ) (o : Option Statement) → stated_next p j i (outstanding_poll (delivered p j) (home p) i) ≡ o → outstanding_poll (delivered p (suc j)) (home p) i ≡ cond (is_some o) None (outstanding_poll (delivered p j) (home p) i)
 waits_next p j i o h =
-    outstanding-deliver (delivered p j) p.time (p.count + j) p.clock (home p) i ∙ ap (λ (s : Option Statement). cond (is_some s) None (outstanding (delivered p j) (home p) i)) h
+    outstanding-deliver (delivered p j) p.time (p.count + j) p.clock (home p) i ∙ ap (λ (s : Option Statement). cond (is_some s) None (outstanding_poll (delivered p j) (home p) i)) h
 
 delivered-next : (configs : List Configuration) (p : Plan) → IsPlan configs p → (j : ℕ) → j < p.count → IsDelivered p j → IsDelivered p (suc j)
 delivered-next configs p plan j h d =
-    let own : stated_next p j (p.source j) (outstanding (delivered p j) (home p) (p.source j)) ≡ Some (statement p j) = next-own configs p plan j h (outstanding (delivered p j) (home p) (p.source j)) (d.waits j (omega arith) h) in
-    let other : (i : ℕ) → (p.source j ≡ i → ⊥) → stated_next p j i (outstanding (delivered p j) (home p) i) ≡ None = λ i differ. next-other p j i h (outstanding (delivered p j) (home p) i) differ in
+    let own : stated_next p j (p.source j) (outstanding_poll (delivered p j) (home p) (p.source j)) ≡ Some (statement p j) = next-own configs p plan j h (outstanding_poll (delivered p j) (home p) (p.source j)) (d.waits j (omega arith) h) in
+    let other : (i : ℕ) → (p.source j ≡ i → ⊥) → stated_next p j i (outstanding_poll (delivered p j) (home p) i) ≡ None = λ i differ. next-other p j i h (outstanding_poll (delivered p j) (home p) i) differ in
     let differs : (k : ℕ) → k < p.count → (k ≡ j → ⊥) → p.source j ≡ p.source k → ⊥ = λ k below not_same e. not_same (plan.apart k j below h (sym e)) in
     let at_own : (k : ℕ) → k ≡ j → p.source j ≡ p.source k = λ k e. ap p.source (sym e) in
     record {

@@ -16,7 +16,7 @@ use Rattle.tt_world.specs.declared.events.Action.{Action}
 use Rattle.tt_world.specs.declared.events.Action.TheVariants as does
 use Rattle.tt_publish.specs.declared.readings.FusedSpan.{FusedSpan}
 use Rattle.tt_world.specs.Past.{clock_of}
-use Rattle.tt_world.specs.Publications.{Showing, known_of, published, showing_of, shown_by, spans_of, fusion_of, one_if_made, fuses_at, published_at, publications_of, no_publication, publication_at, reading_at}
+use Rattle.tt_world.specs.Publications.{Showing, known_of, publication_from, showing_of, shown_by, spans_of, fusion_of, one_if_made, fuses_at, published_at, publications_of, no_publication, publication_at, reading_at}
 use Rattle.tt_world.proofs.Simulation.Lives.{is_of-own, is_of-other}
 use Rattle.tt_world.proofs.Simulation.Unborn.{publications_of-unborn}
 use Rattle.tt_world.proofs.Histories.Judging.{IsGood, AreGood}
@@ -143,7 +143,7 @@ same_made : (a b : FusedSpan) → as_made a ≡ as_made b → a ≡ b
 same_made a b e = cc
 
 -- what a fusion that was made is
-pub made_at : (few : Bool) (clock : ℕ) (fused : Option Interval) (p : FusedSpan) → cond few (Err 701) (published clock fused) ≡ Ok p → (fused ≡ Some p.span) × (p.clock ≡ clock) × (few ≡ false)
+pub made_at : (few : Bool) (clock : ℕ) (fused : Option Interval) (p : FusedSpan) → cond few (Err 701) (publication_from clock fused) ≡ Ok p → (fused ≡ Some p.span) × (p.clock ≡ clock) × (few ≡ false)
 made_at true clock fused p h = absurd cc
 made_at false clock None p h = absurd cc
 made_at false clock (Some span) p h =

@@ -15,7 +15,7 @@ use Rattle.tt_world.specs.declared.events.Reply.{Reply}
 use Rattle.tt_world.specs.declared.packets.Packet.{Packet}
 use Rattle.tt_world.specs.Packet.{bytes_of}
 use Rattle.tt_world.specs.Past.{packets_of}
-use Rattle.tt_world.specs.Sources.{outstanding}
+use Rattle.tt_world.specs.Sources.{outstanding_poll}
 use Rattle.tt_world.specs.Bad.{first_bad, accepted}
 use Rattle.tt_world.specs.Reply.{delivery_reply, reply_to_packet, reply_to, reply_unless_bad, reply_of, replies_from}
 use Rattle.tt_world.proofs.Histories.Judging.{AreGood}
@@ -79,8 +79,8 @@ taken configs p plan j h =
     let live = at_home p (delivered p j) (still-delivered p j) in
     let life = still-life p.clock p.time (delivered p j) p.machine (still-delivered p j) in
     ap (λ (o : Option Packet). reply_to_packet (delivered p j) p.clock o) (delivered-there p j j h)
-    ∙ ap (λ (k : Life). delivery_reply (statement_of_message p.machine (life_of (delivered p j) p.machine) (p.source j) (outstanding (delivered p j) k (p.source j)) p.clock (read_of2 (bytes_of (answer p j))))) live
-    ∙ ap (λ (n : ℕ). delivery_reply (statement_of_message p.machine n (p.source j) (outstanding (delivered p j) (home p) (p.source j)) p.clock (read_of2 (bytes_of (answer p j))))) life
+    ∙ ap (λ (k : Life). delivery_reply (statement_of_message p.machine (life_of (delivered p j) p.machine) (p.source j) (outstanding_poll (delivered p j) k (p.source j)) p.clock (read_of2 (bytes_of (answer p j))))) live
+    ∙ ap (λ (n : ℕ). delivery_reply (statement_of_message p.machine n (p.source j) (outstanding_poll (delivered p j) (home p) (p.source j)) p.clock (read_of2 (bytes_of (answer p j))))) life
     ∙ ap (λ (w : Option Sending). delivery_reply (statement_of_message p.machine 1 (p.source j) w p.clock (read_of2 (bytes_of (answer p j))))) (d.waits j (omega arith) h)
     ∙ ap (λ (r : Result Statement SourceFault). delivery_reply r) (answer_told configs p plan j h)
 

@@ -18,7 +18,7 @@ use Rattle.tt_world.specs.Config.{config_at}
 use Rattle.tt_world.specs.declared.events.Event.{Event}
 use Rattle.tt_publish.specs.declared.readings.FusedSpan.{FusedSpan}
 use Rattle.tt_world.specs.Sources.{statement_of}
-use Rattle.tt_world.specs.Publications.{spans_of, known_of, published, fusion_of}
+use Rattle.tt_world.specs.Publications.{spans_of, known_of, publication_from, fusion_of}
 use Rattle.tt_world.specs.Assumptions.{origin_of, packet_of_statement, is_lying, is_false_statement, false_count}
 use Rattle.tt_world.proofs.Simulation.Ranges.{get_or-made, count_by-map}
 use Rattle.tt_twin.specs.declared.twins.Side.{Side}
@@ -121,8 +121,8 @@ module _ (configs : List Configuration) (p : Plan) (side : Side) (spans : List I
       let known = same_known h in
       let enough = h.enough in
       let not_few : ltb (known_of config all_in (home p)) (config.sources - config.faulty) ≡ false = le-ltb _ _ (omega arith) in
-      let after : Option Interval → Result FusedSpan ℕ = λ o. published p.clock o in
-      ap (λ (b : Bool). cond b (Err 701) (published p.clock (slow_fusion (spans_of config all_in (home p) p.clock) config.faulty))) not_few
+      let after : Option Interval → Result FusedSpan ℕ = λ o. publication_from p.clock o in
+      ap (λ (b : Bool). cond b (Err 701) (publication_from p.clock (slow_fusion (spans_of config all_in (home p) p.clock) config.faulty))) not_few
       ∙ ap (λ (l : List Interval). after (slow_fusion l config.faulty)) (same_spans h) ∙ ap after h.fused
 
   -- ---- few statements are false

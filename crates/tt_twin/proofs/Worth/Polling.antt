@@ -11,7 +11,7 @@ use Rattle.tt_world.specs.Life.{Life, life_of, life_at, is_of}
 use Rattle.tt_world.specs.declared.packets.Packet.{Packet}
 use Rattle.tt_world.specs.declared.packets.Packet.TheVariants.{Asked}
 use Rattle.tt_world.specs.Past.{sends_of, sends_now, packets_of, clock_of}
-use Rattle.tt_world.specs.Sources.{outstanding, statement_of}
+use Rattle.tt_world.specs.Sources.{outstanding_poll, statement_of}
 use Rattle.tt_world.specs.Assumptions.{packet_of_statement}
 use Rattle.tt_world.proofs.Simulation.Waiting.{outstanding-send}
 use Rattle.tt_world.proofs.Histories.Judging.{AreGood}
@@ -46,22 +46,22 @@ pub length-polled : (p : Plan) (j : ℕ) → length (packets_of (polled p j)) �
 length-polled p j = ap (λ (l : List Packet). length l) (polled-packets p j) ∙ length-map-range_with_len (request p) 0 j
 
 -- each of them waits
-pub polled-waits : (configs : List Configuration) (p : Plan) → IsPlan configs p → (j : ℕ) → j ≤ p.count → (k : ℕ) → k < j → outstanding (polled p j) (home p) (p.source k) ≡ Some (record { nonce = k + 1; clock = p.clock })
+pub polled-waits : (configs : List Configuration) (p : Plan) → IsPlan configs p → (j : ℕ) → j ≤ p.count → (k : ℕ) → k < j → outstanding_poll (polled p j) (home p) (p.source k) ≡ Some (record { nonce = k + 1; clock = p.clock })
 polled-waits configs p plan zero few k h = absurd (omega arith)
 polled-waits configs p plan (suc j) few k h =
     let own : is_of (polled p j) (home p) p.machine ≡ true = is_home p (polled p j) (still-polled p j) in
     let sent : ℕ → Option Sending = λ n. Some (record { nonce = n; clock = p.clock }) in
     outstanding-send (polled p j) p.time p.machine (p.source j) p.clock (home p) (p.source k)
-    ∙ ap (λ (b : Bool). cond (b && eqb (p.source j) (p.source k)) (sent (sends_of (polled p j) (home p) + 1)) (outstanding (polled p j) (home p) (p.source k))) own
+    ∙ ap (λ (b : Bool). cond (b && eqb (p.source j) (p.source k)) (sent (sends_of (polled p j) (home p) + 1)) (outstanding_poll (polled p j) (home p) (p.source k))) own
     ∙ elim (cases_eq k j) [
       | inl here ↦
           let same : eqb (p.source j) (p.source k) ≡ true = eq-eqb _ _ (ap p.source (sym here)) in
           let nonce : sends_of (polled p j) (home p) + 1 ≡ k + 1 = ap (λ n. n + 1) (polled-sends p j ∙ sym here) in
-          ap (λ (b : Bool). cond b (sent (sends_of (polled p j) (home p) + 1)) (outstanding (polled p j) (home p) (p.source k))) same ∙ ap sent nonce
+          ap (λ (b : Bool). cond b (sent (sends_of (polled p j) (home p) + 1)) (outstanding_poll (polled p j) (home p) (p.source k))) same ∙ ap sent nonce
       | inr other ↦
           let earlier : k < j = omega arith in
           let differ : eqb (p.source j) (p.source k) ≡ false = ne_eqb _ _ (λ e. other (plan.apart k j (omega arith) (omega arith) (sym e))) in
-          ap (λ (b : Bool). cond b (sent (sends_of (polled p j) (home p) + 1)) (outstanding (polled p j) (home p) (p.source k))) differ
+          ap (λ (b : Bool). cond b (sent (sends_of (polled p j) (home p) + 1)) (outstanding_poll (polled p j) (home p) (p.source k))) differ
           ∙ polled-waits configs p plan j (omega arith) k earlier
     ]
 

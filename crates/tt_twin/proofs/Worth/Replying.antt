@@ -10,7 +10,7 @@ use Rattle.tt_world.specs.declared.packets.Packet.{Packet}
 use Rattle.tt_world.specs.declared.packets.Packet.TheVariants.{Answered}
 use Rattle.tt_world.specs.Packet.{answer_to}
 use Rattle.tt_world.specs.Past.{packets_of}
-use Rattle.tt_world.specs.Sources.{outstanding, statement_of}
+use Rattle.tt_world.specs.Sources.{outstanding_poll, statement_of}
 use Rattle.tt_world.specs.Bad.{is_request}
 use Rattle.tt_world.specs.Assumptions.{origin_of, packet_of_statement}
 use Rattle.tt_world.proofs.Simulation.Ranges.{slice_get-made}
@@ -60,7 +60,7 @@ answer_there p k h =
     ap (λ (l : List Packet). slice_get l (p.count + k)) (answered-packets p p.count (omega arith))
     ∙ get_back (requests p) (map (answer p) (range_with_len 0 p.count)) (p.count + k) k (omega arith) ∙ slice_get-made (answer p) p.count k h
 
-pub answered-waits : (p : Plan) (j : ℕ) (life : Life) (i : ℕ) → outstanding (answered p j) life i ≡ outstanding (polled p p.count) life i
+pub answered-waits : (p : Plan) (j : ℕ) (life : Life) (i : ℕ) → outstanding_poll (answered p j) life i ≡ outstanding_poll (polled p p.count) life i
 answered-waits p zero life i = refl
 answered-waits p (suc j) life i = answered-waits p j life i
 

@@ -30,7 +30,7 @@ use Rattle.tt_daemon.specs.Config.{Configuration}
 use Rattle.tt_world.specs.Config.{config_at}
 use Rattle.tt_world.specs.Packet.{machine_of_packet, source_of_packet, bytes_of}
 use Rattle.tt_world.specs.Past.{packets_of}
-use Rattle.tt_world.specs.Sources.{outstanding}
+use Rattle.tt_world.specs.Sources.{outstanding_poll}
 use Rattle.tt_world.specs.Publications.{fusion_of, publications_of}
 use Rattle.tt_world.specs.Commits.{arrival_of, reading_of, reading_since, stamping_after, stamps_of, stamping_of, book_of, queueing_of, released_with}
 use Rattle.tt_world.specs.Bad.{first_bad, accepted}
@@ -110,7 +110,7 @@ no_release_delivered (Err e) receipts h = cc
 no_release_of_packet : (past : List Event) (clock : ℕ) (packet : Option Packet) (receipts : List Receipt) → reply_to_packet past clock packet ≡ Released receipts → ⊥
 no_release_of_packet past clock None receipts h = cc
 no_release_of_packet past clock (Some packet) receipts h =
-    no_release_delivered (statement_of_message (machine_of_packet packet) (life_of past (machine_of_packet packet)) (source_of_packet packet) (outstanding past (life_at past (machine_of_packet packet)) (source_of_packet packet)) clock (read_of2 (bytes_of packet))) receipts h
+    no_release_delivered (statement_of_message (machine_of_packet packet) (life_of past (machine_of_packet packet)) (source_of_packet packet) (outstanding_poll past (life_at past (machine_of_packet packet)) (source_of_packet packet)) clock (read_of2 (bytes_of packet))) receipts h
 
 no_release_fused : (count : ℕ) (made : Result FusedSpan ℕ) (receipts : List Receipt) → fusion_reply count made ≡ Released receipts → ⊥
 no_release_fused count (Ok publication) receipts h = cc

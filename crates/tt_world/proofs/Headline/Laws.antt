@@ -30,8 +30,8 @@ use Rattle.tt_world.specs.declared.workers.Arrival.{Arrival}
 use Rattle.tt_daemon.specs.Config.{Configuration}
 use Rattle.tt_world.specs.Config.{config_at}
 use Rattle.tt_world.specs.Packet.{machine_of_packet, source_of_packet, bytes_of}
-use Rattle.tt_world.specs.Sources.{outstanding, stated_in, stated_by}
-use Rattle.tt_world.specs.Publications.{published}
+use Rattle.tt_world.specs.Sources.{outstanding_poll, stated_in, stated_by}
+use Rattle.tt_world.specs.Publications.{publication_from}
 use Rattle.tt_world.specs.Commits.{arrival_of, reading_since, stamp_held, is_queued, task_with, stamps_of, stamping_after}
 use Rattle.tt_world.specs.Bad.{can_be_delivered, is_arrived, first_bad, accepted}
 use Rattle.tt_world.specs.Reply.{IsBadReply, delivery_reply, reply_to_packet, fusion_reply, stamping_reply, queueing_reply, reply_to, reply_unless_bad, reply_of, MakesStatement}
@@ -72,7 +72,7 @@ packet-good : (past : List Event) (clock : ℕ) (o : Option Packet) → not (can
 packet-good past clock None there h = absurd cc
 packet-good past clock (Some packet) there h = delivery-good _ h
 
-fusion-good : (count clock : ℕ) (few : Bool) (fused : Option Interval) → ¬ IsBadReply (fusion_reply count (cond few (Err 701) (published clock fused)))
+fusion-good : (count clock : ℕ) (few : Bool) (fused : Option Interval) → ¬ IsBadReply (fusion_reply count (cond few (Err 701) (publication_from clock fused)))
 fusion-good count clock true fused h = omega (arith, h.0)
 fusion-good count clock false None h = omega (arith, h.0)
 fusion-good count clock false (Some span) h = h
@@ -135,7 +135,7 @@ not_taken_queued (Some fault) h = cc
 
 -- what an action states for some source after what has happened
 abbrev States : List Event → Action → Type 0
-States past action = (life : Life) × (i : ℕ) × (statement : Statement) × (stated_by past life i (outstanding past life i) action ≡ Some statement)
+States past action = (life : Life) × (i : ℕ) × (statement : Statement) × (stated_by past life i (outstanding_poll past life i) action ≡ Some statement)
 
 stated-taken : (r : Result Statement SourceFault) → delivery_reply r ≡ Taken → (statement : Statement) × (result_ok r ≡ Some statement)
 stated-taken (Ok statement) h = (statement, refl)
@@ -146,13 +146,13 @@ taken-stated (Ok s) statement h = refl
 taken-stated (Err fault) statement h = absurd cc
 
 packet_states : (past : List Event) (clock : ℕ) (o : Option Packet) → reply_to_packet past clock o ≡ Taken
-    → (life : Life) × (i : ℕ) × (statement : Statement) × (stated_in past life i (outstanding past life i) clock o ≡ Some statement)
+    → (life : Life) × (i : ℕ) × (statement : Statement) × (stated_in past life i (outstanding_poll past life i) clock o ≡ Some statement)
 packet_states past clock None h = absurd cc
 packet_states past clock (Some packet) h =
     let m = machine_of_packet packet in
     let life : Life = life_at past m in
     let i = source_of_packet packet in
-    let s = stated-taken (statement_of_message m (life_of past m) i (outstanding past life i) clock (read_of2 (bytes_of packet))) h in
+    let s = stated-taken (statement_of_message m (life_of past m) i (outstanding_poll past life i) clock (read_of2 (bytes_of packet))) h in
     let same_machine : is_of past life m ≡ true = is_of-own past m in
     let same_source : eqb i i ≡ true = eq-eqb i i refl in
     (life, i, s.0, rw (same_machine, same_source) s.1)
@@ -161,7 +161,7 @@ only_if : (b : Bool) (o : Option Statement) (s : Statement) → cond b o None �
 only_if true o s h = (refl, h)
 only_if false o s h = absurd cc
 
-states_packet : (past : List Event) (clock : ℕ) (o : Option Packet) (life : Life) (i : ℕ) (s : Statement) → stated_in past life i (outstanding past life i) clock o ≡ Some s → reply_to_packet past clock o ≡ Taken
+states_packet : (past : List Event) (clock : ℕ) (o : Option Packet) (life : Life) (i : ℕ) (s : Statement) → stated_in past life i (outstanding_poll past life i) clock o ≡ Some s → reply_to_packet past clock o ≡ Taken
 states_packet past clock None life i s h = absurd cc
 states_packet past clock (Some packet) life i s h =
     let mine = only_if (is_of past life (machine_of_packet packet) && eqb (source_of_packet packet) i) _ s h in
@@ -169,11 +169,11 @@ states_packet past clock (Some packet) life i s h =
     at_own life i (same_life-true (life_at past (machine_of_packet packet)) life here.0) (eqb-true _ _ here.1) mine.1
   where
     at_own : (other : Life) (j : ℕ) → life_at past (machine_of_packet packet) ≡ other → source_of_packet packet ≡ j
-        → result_ok (statement_of_message other.machine other.number j (outstanding past other j) clock (read_of2 (bytes_of packet))) ≡ Some s
+        → result_ok (statement_of_message other.machine other.number j (outstanding_poll past other j) clock (read_of2 (bytes_of packet))) ≡ Some s
         → reply_to_packet past clock (Some packet) ≡ Taken
     at_own other j e f h =
-        taken-stated _ s (subst (λ (k : Life). result_ok (statement_of_message k.machine k.number (source_of_packet packet) (outstanding past k (source_of_packet packet)) clock (read_of2 (bytes_of packet))) ≡ Some s) (sym e)
-        (subst (λ (n : ℕ). result_ok (statement_of_message other.machine other.number n (outstanding past other n) clock (read_of2 (bytes_of packet))) ≡ Some s) (sym f) h))
+        taken-stated _ s (subst (λ (k : Life). result_ok (statement_of_message k.machine k.number (source_of_packet packet) (outstanding_poll past k (source_of_packet packet)) clock (read_of2 (bytes_of packet))) ≡ Some s) (sym e)
+        (subst (λ (n : ℕ). result_ok (statement_of_message other.machine other.number n (outstanding_poll past other n) clock (read_of2 (bytes_of packet))) ≡ Some s) (sym f) h))
 
 taken_states : (configs : List Configuration) (past : List Event) (action : Action) → reply_to configs past action ≡ Taken → States past action
 taken_states configs past (Send m s clock) h = absurd cc

@@ -26,7 +26,7 @@ use Rattle.tt_daemon.specs.Config.{Configuration}
 use Rattle.tt_world.specs.Config.{config_at}
 use Rattle.tt_world.specs.Packet.{machine_of_packet, source_of_packet, bytes_of}
 use Rattle.tt_world.specs.Past.{packets_of, clock_of, moments_of, time_of}
-use Rattle.tt_world.specs.Sources.{outstanding}
+use Rattle.tt_world.specs.Sources.{outstanding_poll}
 use Rattle.tt_world.specs.Publications.{spans_of, known_of, fusion_of, publications_of, seen_of, no_publication, publication_at}
 use Rattle.tt_publish.specs.Reading.{reading_at}
 use Rattle.tt_world.specs.Bad.{has_machine, has_worker, is_unreadable, first_bad, accepted}
@@ -58,7 +58,7 @@ no_reading_delivered (Err e) reading h = cc
 no_reading_of_packet : (past : List Event) (clock : ℕ) (packet : Option Packet) (reading : Interval) → reply_to_packet past clock packet ≡ Read reading → ⊥
 no_reading_of_packet past clock None reading h = cc
 no_reading_of_packet past clock (Some packet) reading h =
-    no_reading_delivered (statement_of_message (machine_of_packet packet) (life_of past (machine_of_packet packet)) (source_of_packet packet) (outstanding past (life_at past (machine_of_packet packet)) (source_of_packet packet)) clock (read_of2 (bytes_of packet))) reading h
+    no_reading_delivered (statement_of_message (machine_of_packet packet) (life_of past (machine_of_packet packet)) (source_of_packet packet) (outstanding_poll past (life_at past (machine_of_packet packet)) (source_of_packet packet)) clock (read_of2 (bytes_of packet))) reading h
 
 no_reading_fused : (count : ℕ) (made : Result FusedSpan ℕ) (reading : Interval) → fusion_reply count made ≡ Read reading → ⊥
 no_reading_fused count (Ok publication) reading h = cc

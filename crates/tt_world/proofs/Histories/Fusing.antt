@@ -18,7 +18,7 @@ use Rattle.tt_publish.specs.declared.readings.FusedSpan.{FusedSpan}
 use Rattle.tt_daemon.specs.Config.{Configuration, IsConfiguration}
 use Rattle.tt_world.specs.Past.{clock_reading, time_of, clock_of, moments_of}
 use Rattle.tt_world.specs.Sources.{statement_of}
-use Rattle.tt_world.specs.Publications.{spans_of, known_of, published, fusion_of}
+use Rattle.tt_world.specs.Publications.{spans_of, known_of, publication_from, fusion_of}
 use Rattle.tt_world.specs.Assumptions.{is_false_statement, false_count}
 use Rattle.tt_world.specs.Headline.{IsAction}
 use Rattle.tt_world.proofs.Histories.Places.{holds_in, count_by-map}
@@ -92,7 +92,7 @@ same_made : (a b : FusedSpan) → as_made a ≡ as_made b → a ≡ b
 same_made a b e = cc
 
 -- what is known of what was made
-made_of : (few : Bool) (clock : ℕ) (fused : Option Interval) (publication : FusedSpan) → cond few (Err 701) (published clock fused) ≡ Ok publication → (fused ≡ Some publication.span) × (publication.clock ≡ clock)
+made_of : (few : Bool) (clock : ℕ) (fused : Option Interval) (publication : FusedSpan) → cond few (Err 701) (publication_from clock fused) ≡ Ok publication → (fused ≡ Some publication.span) × (publication.clock ≡ clock)
 made_of true clock fused publication h = absurd cc
 made_of false clock None publication h = absurd cc
 made_of false clock (Some span) publication h =
@@ -113,7 +113,7 @@ made_is_fusion configs past config life clock publication configuration good h =
     )
 
 -- a fusion, made or not
-made_unless : (clock : ℕ) (fused : Option Interval) → (fused ≡ None → ⊥) → (publication : FusedSpan) × (published clock fused ≡ Ok publication)
+made_unless : (clock : ℕ) (fused : Option Interval) → (fused ≡ None → ⊥) → (publication : FusedSpan) × (publication_from clock fused ≡ Ok publication)
 made_unless clock None h = absurd (h refl)
 made_unless clock (Some span) h = (record { clock = clock; span = span }, refl)
 
@@ -127,4 +127,4 @@ fusion_made configs past config life clock x configuration good known possible =
     (none-found_slowly spans config.faulty (spans_valid configs past config life clock good) (omega (arith, length-spans_of config past life clock))).1 none x possible in
     let made = made_unless clock (slow_fusion spans config.faulty) some in
     let enough : ltb (known_of config past life) (config.sources - config.faulty) ≡ false = le-ltb (known_of config past life) (config.sources - config.faulty) known in
-    (made.0, ap (λ (b : Bool). cond b (Err 701) (published clock (slow_fusion spans config.faulty))) enough ∙ made.1)
+    (made.0, ap (λ (b : Bool). cond b (Err 701) (publication_from clock (slow_fusion spans config.faulty))) enough ∙ made.1)

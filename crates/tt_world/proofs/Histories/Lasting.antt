@@ -22,9 +22,9 @@ use Rattle.tt_world.specs.declared.packets.Packet.TheVariants.{Asked, Answered, 
 use Rattle.tt_daemon.specs.Config.{Configuration}
 use Rattle.tt_world.specs.Packet.{machine_of_packet, source_of_packet, bytes_of, answer_to}
 use Rattle.tt_world.specs.Past.{sends_now, is_send_of, sends_of, put_by, packets_of, clock_reading, clock_after, clock_of}
-use Rattle.tt_world.specs.Sources.{outstanding}
+use Rattle.tt_world.specs.Sources.{outstanding_poll}
 use Rattle.tt_world.specs.Bad.{has_source, names_unknown, goes_back, first_bad, accepted}
-use Rattle.tt_world.specs.State.{is_taken, polled_clock_of}
+use Rattle.tt_world.specs.Private.Machine.{is_taken, polled_clock_of}
 use Rattle.tt_world.proofs.Simulation.Waiting.{happens}
 
 -- ---- polls are packets
@@ -60,11 +60,11 @@ not_below clocks a c b fresh same =
 below_delivery : (past : List Event) (life : Life) (c : ℕ) (o : Option Packet)
     → goes_back (clock_of past) (option_map (λ p. record { life = life_at past (machine_of_packet p); clock = c }) o) ≡ false
     → polled_clock_of past life ≤ clock_of past life
-    → cond (is_taken past life (outstanding past life) c o) c (polled_clock_of past life) ≤ clock_after life (option_map (λ p. record { life = life_at past (machine_of_packet p); clock = c }) o) (clock_of past life)
+    → cond (is_taken past life (outstanding_poll past life) c o) c (polled_clock_of past life) ≤ clock_after life (option_map (λ p. record { life = life_at past (machine_of_packet p); clock = c }) o) (clock_of past life)
 below_delivery past life c None fresh h = h
 below_delivery past life c (Some p) fresh h =
     let s = source_of_packet p in
-    below_reading (λ b. is_some (cond (b && eqb s s) (result_ok (statement_of_message life.machine life.number s (outstanding past life s) c (read_of2 (bytes_of p)))) None))
+    below_reading (λ b. is_some (cond (b && eqb s s) (result_ok (statement_of_message life.machine life.number s (outstanding_poll past life s) c (read_of2 (bytes_of p)))) None))
     (is_of past life (machine_of_packet p)) c (polled_clock_of past life) (clock_of past life) refl (not_below (clock_of past) (life_at past (machine_of_packet p)) c life fresh) h
 
 polled_more : (past : List Event) (life : Life) (at : ℕ) (action : Action) → goes_back (clock_of past) (clock_reading past action) ≡ false

@@ -28,7 +28,7 @@ use Rattle.tt_world.specs.declared.packets.Packet.TheVariants.{Asked, Answered, 
 use Rattle.tt_daemon.specs.Config.{Configuration}
 use Rattle.tt_world.specs.Packet.{machine_of_packet, source_of_packet, bytes_of, is_asked}
 use Rattle.tt_world.specs.Past.{sends_now, time_of, put_by, packets_of, clock_reading, clock_of, moments_of}
-use Rattle.tt_world.specs.Sources.{last_send, stated_in, stated_by, is_answered, outstanding, statement_of}
+use Rattle.tt_world.specs.Sources.{last_send, stated_in, stated_by, is_answered, outstanding_poll, statement_of}
 use Rattle.tt_world.specs.Bad.{can_be_delivered, lacks_packet}
 use Rattle.tt_world.specs.Assumptions.{origin_of, delivered_by, packet_of_statement, is_lie, is_lying, is_false_statement}
 use Rattle.tt_world.specs.Headline.{IsAction}
@@ -126,13 +126,13 @@ taken_of past life i waiting (Deliver place clock) s h = taken_of_packet past li
 taken_of past life i waiting _ s h = absurd cc
 
 -- the packet of a statement was put
-packet_put_after : (past : List Event) (event : Event) (life : Life) (i p : ℕ) (stated : Option Statement) → stated_by past life i (outstanding past life i) event.action ≡ stated → (packet_of_statement past life i ≡ Some p → p < length (packets_of past)) →
+packet_put_after : (past : List Event) (event : Event) (life : Life) (i p : ℕ) (stated : Option Statement) → stated_by past life i (outstanding_poll past life i) event.action ≡ stated → (packet_of_statement past life i ≡ Some p → p < length (packets_of past)) →
     cond (is_some stated) (delivered_by event.action) (packet_of_statement past life i) ≡ Some p → p < length (packets_of (event ∷ past))
 packet_put_after past event life i p None h old e =
     let before : p < length (packets_of past) = old e in
     omega (arith, length-append (packets_of past) (put_by (life_of past) (sends_now past) (packets_of past) event.action))
 packet_put_after past event life i p (Some s) h old e =
-    let taken = taken_of past life i (outstanding past life i) event.action s h in
+    let taken = taken_of past life i (outstanding_poll past life i) event.action s h in
     let within : taken.place < length (packets_of past) = slice_get_within (packets_of past) taken.place taken.packet taken.there in
     let same : taken.place ≡ p = same_some taken.place p (delivered_by event.action) taken.delivers e in
     omega (arith, length-append (packets_of past) (put_by (life_of past) (sends_now past) (packets_of past) event.action))
@@ -142,7 +142,7 @@ packet_put_after past event life i p (Some s) h old e =
 
 packet_put : (past : List Event) (life : Life) (i p : ℕ) → packet_of_statement past life i ≡ Some p → p < length (packets_of past)
 packet_put [] life i p e = absurd cc
-packet_put (event ∷ past) life i p e = packet_put_after past event life i p (stated_by past life i (outstanding past life i) event.action) refl (packet_put past life i p) e
+packet_put (event ∷ past) life i p e = packet_put_after past event life i p (stated_by past life i (outstanding_poll past life i) event.action) refl (packet_put past life i p) e
 
 -- the true times of a statement: its span held the true time when it was given, from the sending to the receipt
 pub record WasTrue (past : List Event) (life : Life) (s : Statement) : Type 0 where
@@ -183,7 +183,7 @@ lying_stays past event None h = refl
 lying_stays past event (Some p) h = ap is_lying (origin-old past event p (h p refl))
 
 -- an event that states nothing leaves a statement as it was
-stated_stays : (configs : List Configuration) (past : List Event) (event : Event) (life : Life) (i : ℕ) (s : Statement) → IsGood configs past event → stated_by past life i (outstanding past life i) event.action ≡ None → IsStated past life i s → IsStated (event ∷ past) life i s
+stated_stays : (configs : List Configuration) (past : List Event) (event : Event) (life : Life) (i : ℕ) (s : Statement) → IsGood configs past event → stated_by past life i (outstanding_poll past life i) event.action ≡ None → IsStated past life i s → IsStated (event ∷ past) life i s
 stated_stays configs past event life i s good none old =
     let clock : clock_of past life ≤ clock_of (event ∷ past) life = clock_on configs past event life good in
     let place : packet_of_statement (event ∷ past) life i ≡ packet_of_statement past life i = ap (λ (o : Option Statement). cond (is_some o) (delivered_by event.action) (packet_of_statement past life i)) none in
@@ -213,9 +213,9 @@ unless_answered false last sending h = h
 
 -- an event that makes a statement
 stated_new : (configs : List Configuration) (past : List Event) (event : Event) (life : Life) (i : ℕ) (s : Statement) → IsGood configs past event → AreGood configs past →
-    stated_by past life i (outstanding past life i) event.action ≡ Some s → IsStated (event ∷ past) life i s
+    stated_by past life i (outstanding_poll past life i) event.action ≡ Some s → IsStated (event ∷ past) life i s
 stated_new configs past event life i s good all_good h =
-    let taken = taken_of past life i (outstanding past life i) event.action s h in
+    let taken = taken_of past life i (outstanding_poll past life i) event.action s h in
     let said_so = taken.is_said in
     let poll = last_poll configs past all_good life i said_so.sending (unless_answered (is_answered past life i) (last_send past life i) said_so.sending said_so.waits) in
     let reading = reading_of configs past event life s.got good taken.reading in
@@ -248,7 +248,7 @@ stated_new configs past event life i s good all_good h =
     }
 
 stated_after : (configs : List Configuration) (past : List Event) (event : Event) (life : Life) (i : ℕ) (s : Statement) (stated : Option Statement) → IsGood configs past event → AreGood configs past →
-    ((old : Statement) → statement_of past life i ≡ Some old → IsStated past life i old) → stated_by past life i (outstanding past life i) event.action ≡ stated → option_or stated (statement_of past life i) ≡ Some s → IsStated (event ∷ past) life i s
+    ((old : Statement) → statement_of past life i ≡ Some old → IsStated past life i old) → stated_by past life i (outstanding_poll past life i) event.action ≡ stated → option_or stated (statement_of past life i) ≡ Some s → IsStated (event ∷ past) life i s
 stated_after configs past event life i s None good all_good old h e = stated_stays configs past event life i s good h (old s e)
 stated_after configs past event life i s (Some new) good all_good old h e = stated_new configs past event life i s good all_good (h ∙ e)
 
@@ -256,4 +256,4 @@ stated_after configs past event life i s (Some new) good all_good old h e = stat
 pub statement_known : (configs : List Configuration) (past : List Event) → AreGood configs past → (life : Life) (i : ℕ) (s : Statement) → statement_of past life i ≡ Some s → IsStated past life i s
 statement_known configs [] good life i s e = absurd cc
 statement_known configs (event ∷ past) good life i s e =
-    stated_after configs past event life i s (stated_by past life i (outstanding past life i) event.action) good.0 good.1 (statement_known configs past good.1 life i) refl e
+    stated_after configs past event life i s (stated_by past life i (outstanding_poll past life i) event.action) good.0 good.1 (statement_known configs past good.1 life i) refl e

@@ -11,8 +11,8 @@ use Rattle.tt_world.specs.declared.workers.Arrival.{Arrival}
 use Rattle.tt_world.specs.declared.workers.Task.TheVariants.{Arrived}
 use Rattle.tt_world.specs.declared.workers.Worker.{Worker}
 use Rattle.tt_daemon.specs.Config.{Configuration}
-use Rattle.tt_world.specs.State.{MachineState, worker_of, machine_of}
-use Rattle.tt_world.specs.Step.{new_worker, arrive_turn}
+use Rattle.tt_world.specs.Private.Machine.{MachineState, worker_of, machine_of}
+use Rattle.tt_world.specs.Private.Step.{new_worker, arrive_turn}
 use Rattle.tt_world.proofs.Simulation.Ranges.{get_or-made, set-made}
 use Rattle.tt_world.proofs.Simulation.Waiting.{happens}
 use Rattle.tt_world.proofs.Simulation.Kept.{worker_if_asked, machine_of-arrive, machine_if_asked}

@@ -1,7 +1,7 @@
 -- What is kept of a machine before anything has happened.
 use Rattle.std.proofs.Common.{◌≡◌, ap₂, Option, ℕ, zero, suc, ◌+◌, List, [], ◌∷◌, ap, sym, refl, map, replicate, None}
 use Rattle.std.specs.List.{range_with_len}
-use Rattle.tt_source.specs.Table.{SourceState, unknown}
+use Rattle.tt_source.specs.Table.{SourceState, unknown_source}
 use Rattle.tt_span.specs.Interval.{Interval, whole}
 use Rattle.tt_world.specs.Life.{life_at}
 use Rattle.tt_publish.specs.declared.readings.FusedSpan.{FusedSpan}
@@ -9,8 +9,8 @@ use Rattle.tt_daemon.specs.Config.{Configuration}
 use Rattle.tt_daemon.specs.Daemon.{DaemonState, new_daemon}
 use Rattle.tt_stamp.specs.declared.commits.Entry.{Entry}
 use Rattle.tt_world.specs.declared.workers.Worker.{Worker}
-use Rattle.tt_world.specs.State.{MachineState, machine_of}
-use Rattle.tt_world.specs.Step.{new_worker, machine_in}
+use Rattle.tt_world.specs.Private.Machine.{MachineState, machine_of}
+use Rattle.tt_world.specs.Private.Step.{new_worker, machine_in}
 
 -- the same for each number
 pub map-const : {A : Type 0} (v : A) (a n : ℕ) → map (λ i. v) (range_with_len a n) ≡ replicate n v
@@ -22,7 +22,7 @@ pub machine_in-first : (config : Configuration) (m : ℕ) → machine_in config 
 machine_in-first config m =
     let first : MachineState = machine_of config [] (life_at [] m) in
     ap₂ (λ (sources : List SourceState) (workers : List Worker). record first { daemon = record first.daemon { table = record first.daemon.table { sources = sources } }; workers = workers })
-    (sym (map-const unknown 0 config.sources)) (sym (map-const new_worker 0 config.workers))
+    (sym (map-const unknown_source 0 config.sources)) (sym (map-const new_worker 0 config.workers))
 
 -- a machine as it begins a life, by its parts
 abbrev pub machine : DaemonState → ℕ → Interval → ℕ → List FusedSpan → Option ℕ → List Entry → List Worker → MachineState

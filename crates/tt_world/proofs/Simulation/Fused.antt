@@ -14,8 +14,8 @@ use Rattle.tt_daemon.specs.declared.faults.DaemonFault.{DaemonFault}
 use Rattle.tt_daemon.specs.declared.faults.DaemonFault.TheVariants.{ClockBack, Unknown, NoPoint}
 use Rattle.tt_publish.specs.Reading.{fused_span_of}
 use Rattle.tt_world.specs.declared.publications.Shown.{Shown}
-use Rattle.tt_world.specs.State.{MachineState}
-use Rattle.tt_world.specs.Step.{fusion_on}
+use Rattle.tt_world.specs.Private.Machine.{MachineState}
+use Rattle.tt_world.specs.Private.Step.{fusion_on}
 use Rattle.tt_world.specs.Headline.{CertificatesProve}
 
 -- what a daemon's fusion ensures, at a clock reading that is not refused

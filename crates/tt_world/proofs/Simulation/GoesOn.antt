@@ -12,7 +12,7 @@ use Rattle.tt_daemon.specs.Config.{Configuration}
 use Rattle.tt_world.specs.Bad.{first_bad, accepted}
 use Rattle.tt_world.specs.Reply.{TakesMemory, reply_to, reply_unless_bad, reply_of}
 use Rattle.tt_world.specs.State.{WorldState, state_of, StandsFor}
-use Rattle.tt_world.specs.Step.{Turn, Judged, stepped, WantsMemory, HasRoom, IsRefusal, refusal_reply}
+use Rattle.tt_world.specs.Private.Step.{Turn, Judged, event_outcome, WantsMemory, HasRoom, IsRefusal, refusal_reply}
 use Rattle.tt_world.proofs.Histories.Lasting.{Lasts, Lasts-accepted}
 use Rattle.tt_world.proofs.Simulation.Waiting.{happens}
 use Rattle.tt_world.proofs.Simulation.Stepping.{turn_unless}
@@ -46,14 +46,14 @@ module _ (configs : List Configuration) (past : List Event) (event : Event) wher
 
 -- memory that was refused was wanted for the reply to an event that is not bad
 takes_if_good : (configs : List Configuration) (past : List Event) (at : ℕ) (action : Action) → Lasts configs past → first_bad configs past (happens at action) ≡ None
-    → IsRefusal (WantsMemory action) bad.Memory (stepped (state_of configs past) (happens at action)) → TakesMemory (reply_to configs past action)
+    → IsRefusal (WantsMemory action) bad.Memory (event_outcome (state_of configs past) (happens at action)) → TakesMemory (reply_to configs past action)
 takes_if_good configs past at (Send m s clock) lasts good refusal = tt
 takes_if_good configs past at action lasts good refusal =
     subst (IsRefusal (WantsMemory action) bad.Memory)
     (stepped-state_of configs past (happens at action) (λ _. tt) lasts ∙ ap (λ (o : Option WorldFault). turn_unless o (record { state = state_of configs (happens at action ∷ past); reply = reply_to configs past action })) good) refusal
 
 takes_then : (configs : List Configuration) (past : List Event) (event : Event) (o : Option WorldFault) → Lasts configs past → first_bad configs past event ≡ o
-    → IsRefusal (WantsMemory event.action) bad.Memory (stepped (state_of configs past) event) → TakesMemory (reply_unless_bad o (reply_to configs past event.action))
+    → IsRefusal (WantsMemory event.action) bad.Memory (event_outcome (state_of configs past) event) → TakesMemory (reply_unless_bad o (reply_to configs past event.action))
 takes_then configs past event None lasts is refusal = takes_if_good configs past event.at event.action lasts is refusal
 takes_then configs past event (Some fault) lasts is refusal =
     absurd (subst (IsRefusal (WantsMemory event.action) bad.Memory)
@@ -63,11 +63,11 @@ takes_then configs past event (Some fault) lasts is refusal =
     some-none e = absurd cc
 
 -- an event that was not bad
-pub goes_on : (old new : WorldState) (event : Event) (reply : Reply) → HasRoom old event.action → stepped old event ≡ Ok (record { state = new; reply = reply }) →
+pub goes_on : (old new : WorldState) (event : Event) (reply : Reply) → HasRoom old event.action → event_outcome old event ≡ Ok (record { state = new; reply = reply }) →
     (configs : List Configuration) (past : List Event) → StandsFor configs past old → (reply ≡ reply_of configs past event) × StandsFor configs (event ∷ past) new
 goes_on old new event reply room did configs past stands =
     made_then configs past event new reply (first_bad configs (accepted configs past) event)
-    (sym did ∙ ap (λ (w : WorldState). stepped w event) stands
+    (sym did ∙ ap (λ (w : WorldState). event_outcome w event) stands
     ∙ stepped-state_of configs (accepted configs past) event (λ good. subst (λ (w : WorldState). HasRoom w event.action) stands room) (Lasts-accepted configs past))
 
 -- what a step promises of its answer
@@ -77,10 +77,10 @@ pub record Promises (old new : WorldState) (event : Event) (answer : Result Repl
   pub memory_only : OnErr answer ((configs : List Configuration) (past : List Event) → StandsFor configs past old → TakesMemory (reply_of configs past event))
   pub unchanged : OnErr answer (new ≡ old)
 
-bad_event : (old new : WorldState) (event : Event) (fault : WorldFault) → new ≡ old → stepped old event ≡ Err fault → Promises old new event (Ok (bad_reply fault))
+bad_event : (old new : WorldState) (event : Event) (fault : WorldFault) → new ≡ old → event_outcome old event ≡ Err fault → Promises old new event (Ok (bad_reply fault))
 bad_event old new event fault same did = record {
   reply = λ configs past stands.
-      let here : stepped (state_of configs (accepted configs past)) event ≡ Err fault = ap (λ (w : WorldState). stepped w event) (sym stands) ∙ did in
+      let here : event_outcome (state_of configs (accepted configs past)) event ≡ Err fault = ap (λ (w : WorldState). event_outcome w event) (sym stands) ∙ did in
       let then = refused_then configs past event fault (first_bad configs (accepted configs past) event)
       (sym here ∙ stepped-state_of configs (accepted configs past) event (room_if_refused configs (accepted configs past) fault event.at event.action here) (Lasts-accepted configs past)) in
       (then.0, same ∙ stands ∙ then.1);
@@ -90,12 +90,12 @@ bad_event old new event fault same did = record {
 }
 
 -- an event that was bad, or for which memory was refused
-pub refusal_promises : (old new : WorldState) (event : Event) (fault : WorldFault) → new ≡ old → IsRefusal (WantsMemory event.action) fault (stepped old event) → Promises old new event (refusal_reply fault)
+pub refusal_promises : (old new : WorldState) (event : Event) (fault : WorldFault) → new ≡ old → IsRefusal (WantsMemory event.action) fault (event_outcome old event) → Promises old new event (refusal_reply fault)
 refusal_promises old new event bad.Memory same did = record {
   reply = tt;
   memory = refl;
   memory_only = λ configs past stands.
-      takes_then configs (accepted configs past) event (first_bad configs (accepted configs past) event) (Lasts-accepted configs past) refl (subst (λ (w : WorldState). IsRefusal (WantsMemory event.action) bad.Memory (stepped w event)) stands did);
+      takes_then configs (accepted configs past) event (first_bad configs (accepted configs past) event) (Lasts-accepted configs past) refl (subst (λ (w : WorldState). IsRefusal (WantsMemory event.action) bad.Memory (event_outcome w event)) stands did);
   unchanged = same;
 }
 refusal_promises old new event fault same did = bad_event old new event fault same did

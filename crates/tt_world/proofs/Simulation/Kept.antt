@@ -22,11 +22,11 @@ use Rattle.tt_world.specs.declared.workers.Worker.{Worker}
 use Rattle.tt_daemon.specs.Config.{Configuration}
 use Rattle.tt_world.specs.Packet.{machine_of_packet}
 use Rattle.tt_world.specs.Past.{sends_of, packets_of, clock_of, clock_after}
-use Rattle.tt_world.specs.Sources.{outstanding, stated_in, statement_of}
+use Rattle.tt_world.specs.Sources.{outstanding_poll, stated_in, statement_of}
 use Rattle.tt_world.specs.Publications.{publications_of, seen_of, published_at, publication_at}
 use Rattle.tt_publish.specs.Reading.{reading_at}
 use Rattle.tt_world.specs.Commits.{arrival_of, reading_of, reading_since, stamp_given, stamps_after, stamps_of, stamping_of, stamp_held, with_queued, released_with, book_of, queueing_of, is_queued, task_with}
-use Rattle.tt_world.specs.State.{MachineState, is_taken, polled_clock_of, source_of, worker_of, machine_of}
+use Rattle.tt_world.specs.Private.Machine.{MachineState, is_taken, polled_clock_of, source_of, worker_of, machine_of}
 use Rattle.tt_world.proofs.Simulation.Ranges.{map-same}
 use Rattle.tt_world.proofs.Simulation.Waiting.{happens, outstanding-send, outstanding-deliver}
 
@@ -64,14 +64,14 @@ module _ (config : Configuration) (past : List Event) where
   abbrev pub machine_if_sent : ℕ → ℕ → Life → Bool → MachineState
   machine_if_sent s clock j here =
       kept (machine_of config past j) (cond here (sends_of past j + 1) (sends_of past j)) (cond here clock (polled_clock_of past j))
-      (map (λ i. record { waiting = cond (here && eqb s i) (Some (record { nonce = sends_of past j + 1; clock = clock })) (outstanding past j i); statement = statement_of past j i }) (range_with_len 0 config.sources))
+      (map (λ i. record { waiting = cond (here && eqb s i) (Some (record { nonce = sends_of past j + 1; clock = clock })) (outstanding_poll past j i); statement = statement_of past j i }) (range_with_len 0 config.sources))
       (cond here clock (clock_of past j)) (publications_of config past j)
 
   pub machine_of-send : (at m s clock : ℕ) (j : Life) → machine_of config (happens at (Send m s clock) ∷ past) j ≡ machine_if_sent s clock j (is_of past j m)
   machine_of-send at m s clock j =
       same_publications (machine_of config (happens at (Send m s clock) ∷ past) j) j
       ∙ same_sources j _ _ (λ i. source_of (happens at (Send m s clock) ∷ past) j i) _ _ _
-      (λ i. waiting_is (outstanding (happens at (Send m s clock) ∷ past) j i) _ (statement_of past j i) (outstanding-send past at m s clock j i))
+      (λ i. waiting_is (outstanding_poll (happens at (Send m s clock) ∷ past) j i) _ (statement_of past j i) (outstanding-send past at m s clock j i))
 
   -- a source after a delivery that states this for it
   abbrev pub after_delivery : Option Statement → SourceState → SourceState
@@ -80,8 +80,8 @@ module _ (config : Configuration) (past : List Event) where
   -- machine j after the delivery of a packet
   abbrev pub machine_if_delivered : ℕ → Life → Option Packet → MachineState
   machine_if_delivered clock j o =
-      kept (machine_of config past j) (sends_of past j) (cond (is_taken past j (outstanding past j) clock o) clock (polled_clock_of past j))
-      (map (λ i. after_delivery (stated_in past j i (outstanding past j i) clock o) (source_of past j i)) (range_with_len 0 config.sources))
+      kept (machine_of config past j) (sends_of past j) (cond (is_taken past j (outstanding_poll past j) clock o) clock (polled_clock_of past j))
+      (map (λ i. after_delivery (stated_in past j i (outstanding_poll past j i) clock o) (source_of past j i)) (range_with_len 0 config.sources))
       (clock_after j (option_map (λ p. record { life = life_at past (machine_of_packet p); clock = clock }) o) (clock_of past j))
       (publications_of config past j)
 
@@ -89,8 +89,8 @@ module _ (config : Configuration) (past : List Event) where
   machine_of-deliver at k clock j =
       same_publications (machine_of config (happens at (Deliver k clock) ∷ past) j) j
       ∙ same_sources j _ _ (λ i. source_of (happens at (Deliver k clock) ∷ past) j i) _ _ _
-      (λ i. waiting_is (outstanding (happens at (Deliver k clock) ∷ past) j i) _
-      (option_or (stated_in past j i (outstanding past j i) clock (slice_get (packets_of past) k)) (statement_of past j i)) (outstanding-deliver past at k clock j i))
+      (λ i. waiting_is (outstanding_poll (happens at (Deliver k clock) ∷ past) j i) _
+      (option_or (stated_in past j i (outstanding_poll past j i) clock (slice_get (packets_of past) k)) (statement_of past j i)) (outstanding-deliver past at k clock j i))
 
   -- machine j after a fusion, where here says whether it fuses
   abbrev pub machine_if_fused : ℕ → Life → Bool → MachineState

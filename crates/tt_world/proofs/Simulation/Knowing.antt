@@ -3,12 +3,13 @@ use Rattle.std.proofs.Common.{◌≡◌, ℕ, zero, suc, ◌<◌, ◌≤◌, fal
 use Rattle.std.proofs.lemmas.Bool.{cases_lt, lt-ltb, le-ltb}
 use Rattle.std.proofs.lemmas.List.FromFn.{length-map-range_with_len}
 use Rattle.std.proofs.lemmas.Option.{same_Some, slice_get_within}
-use Rattle.tt_source.specs.Table.{SourceState, unknown, is_known_of}
+use Rattle.tt_source.specs.Table.{SourceState, unknown_source, is_known_of}
 use Rattle.tt_world.specs.declared.events.Event.{Event}
 use Rattle.tt_daemon.specs.Config.{Configuration}
 use Rattle.tt_world.specs.Life.{life_at}
 use Rattle.tt_world.specs.Config.{config_at}
-use Rattle.tt_world.specs.State.{MachineState, WorldState, source_of, machine_of, state_of, knows}
+use Rattle.tt_world.specs.State.{WorldState, state_of, knows}
+use Rattle.tt_world.specs.Private.Machine.{MachineState, source_of, machine_of}
 use Rattle.tt_world.proofs.Simulation.Ranges.{get_or-made, slice_get-made}
 
 get_or-past : (xs : List SourceState) (i : ℕ) (d : SourceState) → length xs ≤ i → get_or xs i d ≡ d
@@ -34,7 +35,7 @@ module _ (configs : List Configuration) (past : List Event) (world : WorldState)
         | inr beyond ↦
             let none = le-ltb i config.sources beyond in
             ap (λ (source : SourceState). is_some source.statement)
-            (get_or-past (machine_of config past (life_at past m)).daemon.table.sources i unknown (omega (arith, length-map-range_with_len (λ k. source_of past (life_at past m) k) 0 config.sources)))
+            (get_or-past (machine_of config past (life_at past m)).daemon.table.sources i unknown_source (omega (arith, length-map-range_with_len (λ k. source_of past (life_at past m) k) 0 config.sources)))
             ∙ (rw (named, none) refl)
       ]
 
@@ -49,5 +50,5 @@ module _ (configs : List Configuration) (past : List Event) (world : WorldState)
       ∙ kept_of_source (λ within.
       let named = lt-ltb m (length configs) there in
       let asks = lt-ltb i config.sources within in
-      ap (λ (source : SourceState). is_some source.statement) (get_or-made (λ k. source_of past (life_at past m) k) config.sources i unknown within)
+      ap (λ (source : SourceState). is_some source.statement) (get_or-made (λ k. source_of past (life_at past m) k) config.sources i unknown_source within)
       ∙ (rw (named, asks) refl)) there

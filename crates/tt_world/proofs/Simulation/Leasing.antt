@@ -8,8 +8,8 @@ use Rattle.tt_world.specs.declared.events.Reply.TheVariants as replies
 use Rattle.tt_daemon.specs.Config.{Configuration}
 use Rattle.tt_world.specs.Life.{life_at}
 use Rattle.tt_world.specs.Lease.{lease_of}
-use Rattle.tt_world.specs.State.{MachineState, machine_of}
-use Rattle.tt_world.specs.Step.{lease_turn}
+use Rattle.tt_world.specs.Private.Machine.{MachineState, machine_of}
+use Rattle.tt_world.specs.Private.Step.{lease_turn}
 use Rattle.tt_world.proofs.Simulation.Waiting.{happens}
 use Rattle.tt_world.proofs.Simulation.Kept.{machine_of-lease}
 

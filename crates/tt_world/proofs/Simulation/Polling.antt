@@ -1,17 +1,17 @@
 -- A machine that polls a source keeps what its past says.
 use Rattle.std.proofs.Common.{◌≡◌, ℕ, ◌+◌, ◌-◌, ◌^◌, ◌<◌, Bool, true, false, cond, eqb, ltb, List, ◌∷◌, map, length, get_or, set, Some, Ok, refl, sym, ap, ◌∙◌, eq-eqb, ne_eqb}
 use Rattle.std.specs.List.{range_with_len}
-use Rattle.tt_source.specs.Table.{Sending, SourceState, TableState, unknown, source_at, is_back, poll_of}
+use Rattle.tt_source.specs.Table.{Sending, SourceState, TableState, unknown_source, source_at, is_back, poll_of}
 use Rattle.tt_world.proofs.Simulation.Lives.{is_of-own, is_of-other}
 use Rattle.tt_world.specs.Life.{Life, life_at}
 use Rattle.tt_world.specs.declared.events.Event.{Event}
 use Rattle.tt_world.specs.declared.events.Action.TheVariants.{Send}
 use Rattle.tt_daemon.specs.Config.{Configuration}
 use Rattle.tt_world.specs.Past.{sends_of}
-use Rattle.tt_world.specs.Sources.{outstanding, statement_of}
+use Rattle.tt_world.specs.Sources.{outstanding_poll, statement_of}
 use Rattle.tt_world.specs.Publications.{publications_of}
-use Rattle.tt_world.specs.State.{source_of, machine_of}
-use Rattle.tt_world.specs.Step.{with_table}
+use Rattle.tt_world.specs.Private.Machine.{source_of, machine_of}
+use Rattle.tt_world.specs.Private.Step.{with_table}
 use Rattle.tt_world.proofs.Simulation.Ranges.{get_or-made, set-made}
 use Rattle.tt_world.proofs.Simulation.Waiting.{happens}
 use Rattle.tt_world.proofs.Simulation.Kept.{kept, machine_of-send, machine_if_sent}
@@ -39,15 +39,15 @@ module _ (config : Configuration) (past : List Event) (at m s clock : ℕ) where
 
   -- a source after the poll, where here says whether it is the one that is asked
   abbrev if_asked : ℕ → Bool → SourceState
-  if_asked i here = record { waiting = cond here (Some sending) (outstanding past life i); statement = statement_of past life i }
+  if_asked i here = record { waiting = cond here (Some sending) (outstanding_poll past life i); statement = statement_of past life i }
 
   asked_sources : s < config.sources
       → set (map (λ i. source_of past life i) (range_with_len 0 config.sources)) s
-      (record (get_or (map (λ i. source_of past life i) (range_with_len 0 config.sources)) s unknown) { waiting = Some sending })
+      (record (get_or (map (λ i. source_of past life i) (range_with_len 0 config.sources)) s unknown_source) { waiting = Some sending })
       ≡ map (λ i. if_asked i (eqb s i)) (range_with_len 0 config.sources)
   asked_sources there =
       set-made (λ i. source_of past life i) (λ i. if_asked i (eqb s i)) config.sources s _
-      (ap (λ (source : SourceState). record source { waiting = Some sending }) (get_or-made (λ i. source_of past life i) config.sources s unknown there)
+      (ap (λ (source : SourceState). record source { waiting = Some sending }) (get_or-made (λ i. source_of past life i) config.sources s unknown_source there)
       ∙ sym (ap (if_asked s) (eq-eqb s s refl)))
       (λ j other. sym (ap (if_asked j) (ne_eqb s j (λ same. other (sym same)))))
 

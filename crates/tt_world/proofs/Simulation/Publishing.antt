@@ -10,11 +10,11 @@ use Rattle.tt_world.specs.declared.events.Event.{Event}
 use Rattle.tt_world.specs.declared.events.Action.TheVariants.{Fuse}
 use Rattle.tt_publish.specs.declared.readings.FusedSpan.{FusedSpan}
 use Rattle.tt_daemon.specs.Config.{Configuration}
-use Rattle.tt_world.specs.Publications.{spans_of, known_of, published, fusion_of, one_if_made, publications_of}
+use Rattle.tt_world.specs.Publications.{spans_of, known_of, publication_from, fusion_of, one_if_made, publications_of}
 use Rattle.tt_world.specs.Reply.{fusion_reply}
-use Rattle.tt_world.specs.State.{MachineState, source_of, machine_of}
+use Rattle.tt_world.specs.Private.Machine.{MachineState, source_of, machine_of}
 use Rattle.tt_daemon.specs.Daemon.{spans_of as spans_of_daemon}
-use Rattle.tt_world.specs.Step.{fusion_on, publish_turn}
+use Rattle.tt_world.specs.Private.Step.{fusion_on, publish_turn}
 use Rattle.tt_world.proofs.Simulation.Ranges.{map-map, count_by-map}
 use Rattle.tt_world.proofs.Simulation.Waiting.{happens}
 use Rattle.tt_world.proofs.Simulation.Kept.{machine_of-fuse, machine_if_fused}
@@ -22,7 +22,7 @@ use Rattle.tt_world.proofs.Simulation.Kept.{machine_of-fuse, machine_if_fused}
 -- what is published by so many known sources with these spans
 abbrev fusion_by : Configuration → ℕ → ℕ → List Interval → Result FusedSpan ℕ
 fusion_by config clock known spans =
-    cond (ltb known (config.sources - config.faulty)) (Err 701) (published clock (slow_fusion spans config.faulty))
+    cond (ltb known (config.sources - config.faulty)) (Err 701) (publication_from clock (slow_fusion spans config.faulty))
 
 module _ (config : Configuration) (past : List Event) (at m clock : ℕ) where
   -- the life that the machine is in

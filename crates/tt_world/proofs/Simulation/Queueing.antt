@@ -19,8 +19,8 @@ use Rattle.tt_world.specs.declared.workers.Worker.{Worker}
 use Rattle.tt_daemon.specs.Config.{Configuration}
 use Rattle.tt_world.specs.Commits.{arrival_of, reading_of, stamp_held, with_queued, released_with, book_of, queue_fault, queueing_of, is_queued, task_with}
 use Rattle.tt_world.specs.Reply.{queueing_reply}
-use Rattle.tt_world.specs.State.{MachineState, worker_of, machine_of}
-use Rattle.tt_world.specs.Step.{Turn, new_worker, queue_turn, release_turn}
+use Rattle.tt_world.specs.Private.Machine.{MachineState, worker_of, machine_of}
+use Rattle.tt_world.specs.Private.Step.{Turn, new_worker, queue_turn, release_turn}
 use Rattle.tt_world.proofs.Simulation.Ranges.{get_or-made, set-made, map-same}
 use Rattle.tt_world.proofs.Simulation.Waiting.{happens}
 use Rattle.tt_world.proofs.Simulation.Kept.{worker_if_queued, machine_of-queue, machine_if_queued, machine_of-release, machine_if_released}

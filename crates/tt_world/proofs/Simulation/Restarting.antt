@@ -3,7 +3,7 @@ use Rattle.std.proofs.Common.{◌≡◌, ℕ, ◌+◌, ◌++◌, Bool, false, co
 use Rattle.std.specs.List.{range_with_len}
 use Rattle.tt_span.specs.Interval.{Interval}
 use Rattle.tt_source.specs.Statement.{Statement}
-use Rattle.tt_source.specs.Table.{Sending, SourceState, unknown}
+use Rattle.tt_source.specs.Table.{Sending, SourceState, unknown_source}
 use Rattle.tt_stamp.specs.declared.commits.Entry.{Entry}
 use Rattle.tt_stamp.specs.Stamp.{greatest_of}
 use Rattle.tt_world.specs.declared.events.Event.{Event}
@@ -17,8 +17,8 @@ use Rattle.tt_world.specs.Life.{Life, life_of, next_life, life_at, same_life}
 use Rattle.tt_world.specs.Lease.{lease_of}
 use Rattle.tt_world.specs.Past.{clock_of}
 use Rattle.tt_world.specs.Publications.{publications_of}
-use Rattle.tt_world.specs.State.{MachineState, source_of, worker_of, machine_of}
-use Rattle.tt_world.specs.Step.{new_worker, machine_in, restart_turn}
+use Rattle.tt_world.specs.Private.Machine.{MachineState, source_of, worker_of, machine_of}
+use Rattle.tt_world.specs.Private.Step.{new_worker, machine_in, restart_turn}
 use Rattle.tt_world.proofs.Simulation.Ranges.{map-same}
 use Rattle.tt_world.proofs.Simulation.Waiting.{happens}
 use Rattle.tt_world.proofs.Simulation.Lives.{same_life-own}
@@ -46,7 +46,7 @@ module _ (config : Configuration) (past : List Event) (at m clock : ℕ) where
   unborn : IsUnborn past life
   unborn = omega arith
 
-  source_is : (i : ℕ) → source_of past life i ≡ unknown
+  source_is : (i : ℕ) → source_of past life i ≡ unknown_source
   source_is i =
       ap₂ (λ (w : Option Sending) (s : Option Statement). record { waiting = w; statement = s }) (outstanding-unborn past life i unborn) (statement_of-unborn past life i unborn)
 
@@ -59,8 +59,8 @@ module _ (config : Configuration) (past : List Event) (at m clock : ℕ) where
       ap₂ (λ (seen : ℕ) (task : Option Task). worker seen task (worker_of config past life w).reading (worker_of config past life w).since) (seen_of-unborn past life w unborn) (task_of-unborn config past life w unborn)
       ∙ ap₂ (λ (reading since : Option Interval). worker 0 None reading since) (reading_of-unborn config past life w unborn) (reading_since-unborn config past life w unborn)
 
-  sources_are : map (λ i. source_of past life i) (range_with_len 0 config.sources) ≡ replicate config.sources unknown
-  sources_are = map-same (λ i. source_of past life i) (λ i. unknown) config.sources source_is ∙ map-const unknown 0 config.sources
+  sources_are : map (λ i. source_of past life i) (range_with_len 0 config.sources) ≡ replicate config.sources unknown_source
+  sources_are = map-same (λ i. source_of past life i) (λ i. unknown_source) config.sources source_is ∙ map-const unknown_source 0 config.sources
 
   workers_are : map (λ w. worker_of config past life w) (range_with_len 0 config.workers) ≡ replicate config.workers new_worker
   workers_are = map-same (λ w. worker_of config past life w) (λ w. new_worker) config.workers worker_is ∙ map-const new_worker 0 config.workers
@@ -79,7 +79,7 @@ module _ (config : Configuration) (past : List Event) (at m clock : ℕ) where
       (ap (λ (b : Bool). cond b clock (clock_of past life)) (same_life-own life)) (append-nil (publications_of config past life) ∙ publications_of-unborn config past life unborn)
       ∙ ap₂ (λ (last polled : ℕ). with_parts last polled before.daemon.table.sources clock [] before.row before.book before.workers) (sends_of-unborn past life unborn) (polled_clock_of-unborn past life unborn)
       ∙ ap₂ (λ (sources : List SourceState) (workers : List Worker). with_parts 0 0 sources clock [] before.row before.book workers) sources_are workers_are
-      ∙ ap₂ (λ (stamps : List ℕ) (book : List Entry). with_parts 0 0 (replicate config.sources unknown) clock [] (greatest_of stamps) book (replicate config.workers new_worker))
+      ∙ ap₂ (λ (stamps : List ℕ) (book : List Entry). with_parts 0 0 (replicate config.sources unknown_source) clock [] (greatest_of stamps) book (replicate config.workers new_worker))
       (stamps_of-unborn config past life unborn) (book_of-unborn config past life unborn)
 
   -- what the machine is then

@@ -10,8 +10,8 @@ use Rattle.tt_world.specs.declared.events.Reply.TheVariants as replies
 use Rattle.tt_world.specs.declared.workers.Worker.{Worker}
 use Rattle.tt_daemon.specs.Config.{Configuration}
 use Rattle.tt_world.specs.Publications.{publications_of, seen_of, publication_at}
-use Rattle.tt_world.specs.State.{MachineState, worker_of, machine_of}
-use Rattle.tt_world.specs.Step.{new_worker, read_turn}
+use Rattle.tt_world.specs.Private.Machine.{MachineState, worker_of, machine_of}
+use Rattle.tt_world.specs.Private.Step.{new_worker, read_turn}
 use Rattle.tt_world.proofs.Simulation.Ranges.{get_or-made, set-made}
 use Rattle.tt_world.proofs.Simulation.Waiting.{happens}
 use Rattle.tt_world.proofs.Simulation.Kept.{reading_from, worker_if_reads, machine_of-read, machine_if_read}

@@ -20,8 +20,8 @@ use Rattle.tt_world.specs.declared.workers.Worker.{Worker}
 use Rattle.tt_daemon.specs.Config.{Configuration}
 use Rattle.tt_world.specs.Commits.{arrival_of, reading_since, stamping_after, stamp_given, with_stamp, stamps_after, stamps_of, stamping_of, stamp_held, is_queued, task_with}
 use Rattle.tt_world.specs.Reply.{stamping_reply}
-use Rattle.tt_world.specs.State.{MachineState, worker_of, machine_of}
-use Rattle.tt_world.specs.Step.{Turn, new_worker, given_in, stamp_turn}
+use Rattle.tt_world.specs.Private.Machine.{MachineState, worker_of, machine_of}
+use Rattle.tt_world.specs.Private.Step.{Turn, new_worker, given_in, stamp_turn}
 use Rattle.tt_world.proofs.Simulation.Ranges.{get_or-made, set-made, map-same}
 use Rattle.tt_world.proofs.Simulation.Waiting.{happens}
 use Rattle.tt_world.proofs.Simulation.Kept.{worker_if_stamped, machine_of-stamp, machine_if_stamped}

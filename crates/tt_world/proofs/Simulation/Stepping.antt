@@ -24,10 +24,10 @@ use Rattle.tt_world.specs.declared.workers.Task.{Task}
 use Rattle.tt_world.specs.declared.workers.Worker.{Worker}
 use Rattle.tt_daemon.specs.Config.{Configuration}
 use Rattle.tt_daemon.specs.Daemon.{spans_of}
-use Rattle.tt_world.specs.declared.deeds.Deed.{Deed}
-use Rattle.tt_world.specs.declared.deeds.Deed.TheVariants as deeds
-use Rattle.tt_world.specs.declared.deeds.Work.{Work}
-use Rattle.tt_world.specs.declared.deeds.Work.TheVariants as works
+use Rattle.tt_world.specs.declared.machine_actions.MachineAction.{MachineAction}
+use Rattle.tt_world.specs.declared.machine_actions.MachineAction.TheVariants as machine_actions
+use Rattle.tt_world.specs.declared.machine_actions.WorkerAction.{WorkerAction}
+use Rattle.tt_world.specs.declared.machine_actions.WorkerAction.TheVariants as worker_actions
 use Rattle.tt_world.specs.Config.{config_at}
 use Rattle.tt_world.specs.Packet.{machine_of_packet, source_of_packet, is_asked, answer_to}
 use Rattle.tt_world.specs.Past.{sends_now, sends_of, put_by, packets_of, clock_reading, clock_of}
@@ -35,8 +35,9 @@ use Rattle.tt_world.specs.Publications.{Showing, publications_of, showing_of, sh
 use Rattle.tt_world.specs.Commits.{arrival_of, reading_of, reading_since, stamp_held, is_queued, task_with, task_of}
 use Rattle.tt_world.specs.Bad.{has_machine, names_unknown, is_request, can_be_delivered, lacks_packet, goes_back, is_unreadable, lacks_publication, is_arrived, is_stamped, lacks_its_thing, uses_up_lives}
 use Rattle.tt_world.specs.Reply.{reply_to_packet, reply_to}
-use Rattle.tt_world.specs.State.{MachineState, WorldState, source_of, worker_of, machine_of, polled_clock_of, state_of}
-use Rattle.tt_world.specs.Step.{Turn, Judged, HasRoom, after_turn, after_poll, send_on, after_put, answer_on, forge_on, deliver_to, deliver_on, fuse_on, publish_turn, fusion_on, with_shown, new_worker, read_from, restart_turn, stamp_with, queue_with, release_with, turned, work_on, deed_on, on_machine, acted}
+use Rattle.tt_world.specs.State.{WorldState, state_of}
+use Rattle.tt_world.specs.Private.Machine.{MachineState, source_of, worker_of, machine_of, polled_clock_of}
+use Rattle.tt_world.specs.Private.Step.{Turn, Judged, HasRoom, after_turn, after_poll, send_on, after_put, answer_on, forge_on, deliver_to, deliver_on, fuse_on, publish_turn, fusion_on, with_shown, new_worker, read_from, restart_turn, stamp_with, queue_with, release_with, turn_outcome, worker_outcome, machine_outcome, on_machine, action_outcome}
 use Rattle.tt_world.proofs.Simulation.Ranges.{get_or-made, slice_get-made, slice_get-made_past, set-made, map-same}
 use Rattle.tt_world.proofs.Simulation.Waiting.{happens}
 use Rattle.tt_world.proofs.Simulation.Kept.{machine_of-answer, machine_of-forge}
@@ -154,13 +155,13 @@ module _ (configs : List Configuration) (past : List Event) where
   answer_on-answer_to at span (Some (Answered answer)) made h = refl
   answer_on-answer_to at span (Some (Forged machine source payload)) made h = refl
 
-  acted-answer : (at k : ℕ) (span : Interval) → acted (state_of configs past) at (Answer k span) ≡ as_judged at (Answer k span) (bad_action (Answer k span))
+  acted-answer : (at k : ℕ) (span : Interval) → action_outcome (state_of configs past) at (Answer k span) ≡ as_judged at (Answer k span) (bad_action (Answer k span))
   acted-answer at k span =
       answer_on-answer_to at span (slice_get (packets_of past) k) _
       (after_put-state_of at (Answer k span) (λ j. machine_of-answer (config_at configs j) past at k span (life_at past j)) refl)
       ∙ turn_if (not (is_request (slice_get (packets_of past) k))) bad.NoPacket _ None _ (λ found. refl)
 
-  acted-forge : (at m s : ℕ) (payload : List ℕ) → acted (state_of configs past) at (Forge m s payload) ≡ as_judged at (Forge m s payload) (bad_action (Forge m s payload))
+  acted-forge : (at m s : ℕ) (payload : List ℕ) → action_outcome (state_of configs past) at (Forge m s payload) ≡ as_judged at (Forge m s payload) (bad_action (Forge m s payload))
   acted-forge at m s payload =
       at_machine m (λ o. forge_on (state_of configs past) at m s payload o)
       (λ b. as_judged at (Forge m s payload) (cond (not (b && ltb s (config_at configs m).sources)) (Some bad.UnknownNumber) None))
@@ -186,7 +187,7 @@ module _ (configs : List Configuration) (past : List Event) where
     good_send : (m s clock : ℕ) → m < length configs → not (ltb s (config_at configs m).sources) ≡ false → (ltb clock (clock_of past (life_at past m)) || ltb max_time clock) ≡ false → bad_action (Send m s clock) ≡ None
     good_send m s clock there named fresh = let t : ltb m (length configs) ≡ true = lt-ltb m (length configs) there in rw (t, named, fresh) refl
 
-    acted-send : (at m s clock : ℕ) → (bad_action (Send m s clock) ≡ None → length (packets_of past) < 2 ^ 64 - 1) → acted (state_of configs past) at (Send m s clock) ≡ as_judged at (Send m s clock) (bad_action (Send m s clock))
+    acted-send : (at m s clock : ℕ) → (bad_action (Send m s clock) ≡ None → length (packets_of past) < 2 ^ 64 - 1) → action_outcome (state_of configs past) at (Send m s clock) ≡ as_judged at (Send m s clock) (bad_action (Send m s clock))
     acted-send at m s clock few =
         let back : Bool = ltb clock (clock_of past (life_at past m)) || ltb max_time clock in
         at_machine m (λ o. send_on (state_of configs past) at m s clock o)
@@ -223,7 +224,7 @@ module _ (configs : List Configuration) (past : List Event) where
         ap (λ (b : Bool). cond b (Err bad.NoPacket) (deliver_to (state_of configs past) at clock p (slice_get (state_of configs past).machines (machine_of_packet p)))) (sym (not-not (is_asked p)))
         ∙ turn_if (not (not (is_asked p))) bad.NoPacket _ _ _ (λ kind. deliver_to-machine_at at k clock p is)
 
-    acted-deliver : (at k clock : ℕ) → acted (state_of configs past) at (Deliver k clock) ≡ as_judged at (Deliver k clock) (bad_action (Deliver k clock))
+    acted-deliver : (at k clock : ℕ) → action_outcome (state_of configs past) at (Deliver k clock) ≡ as_judged at (Deliver k clock) (bad_action (Deliver k clock))
     acted-deliver at k clock = deliver_on-packet at k clock (slice_get (packets_of past) k) refl
 
   -- ---- a machine fuses
@@ -242,7 +243,7 @@ module _ (configs : List Configuration) (past : List Event) where
       (publish_turn-fusion_on config past at m clock) (ap₂ (shows m) (spans_of_daemon-machine_of config past at m clock) (fusion_on-machine_of config past at m clock))
       ∙ with_shown-state_of at m (Fuse m clock) _ refl (λ j other. machine_of-fuse_other (config_at configs j) past at m clock j other)
 
-  acted-fuse : (at m clock : ℕ) → acted (state_of configs past) at (Fuse m clock) ≡ as_judged at (Fuse m clock) (bad_action (Fuse m clock))
+  acted-fuse : (at m clock : ℕ) → action_outcome (state_of configs past) at (Fuse m clock) ≡ as_judged at (Fuse m clock) (bad_action (Fuse m clock))
   acted-fuse at m clock =
       let back : Bool = ltb clock (clock_of past (life_at past m)) || ltb max_time clock in
       at_machine m (λ o. fuse_on (state_of configs past) at m clock o)
@@ -258,30 +259,30 @@ module _ (configs : List Configuration) (past : List Event) where
 
   turned-by : (at m : ℕ) (action : Action) (o : Option WorldFault) → ((j : ℕ) → (j ≡ m → ⊥) → machine_at j ≡ machine_then at action j)
       → put_by (life_of past) (sends_now past) (packets_of past) action ≡ [] → shown_by configs past action ≡ []
-      → turned (state_of configs past) at m (turn_unless o (turn_of at m action)) ≡ as_judged at action o
+      → turn_outcome (state_of configs past) at m (turn_unless o (turn_of at m action)) ≡ as_judged at action o
   turned-by at m action None others unput unshown =
       ap (λ (put : List Packet). Ok (after_turn (state_of configs past) at m (turn_of at m action) put)) (sym unput)
       ∙ ap (λ (turn : Turn WorldState). Ok turn) (after_turn-state_of at m action (turn_of at m action) refl others unshown)
   turned-by at m action (Some fault) others unput unshown = refl
 
   -- a deed of a machine, by the reasons why it is bad where the machine is there and where it is not
-  acted-deed : (at m : ℕ) (action : Action) (deed : Deed) (reasons : Bool → Option WorldFault)
-      → deed_on m (machine_at m) deed ≡ turn_unless (reasons true) (turn_of at m action) → reasons false ≡ Some bad.UnknownNumber
+  action_outcome-machine : (at m : ℕ) (action : Action) (machine_action : MachineAction) (reasons : Bool → Option WorldFault)
+      → machine_outcome m (machine_at m) machine_action ≡ turn_unless (reasons true) (turn_of at m action) → reasons false ≡ Some bad.UnknownNumber
       → ((j : ℕ) → (j ≡ m → ⊥) → machine_at j ≡ machine_then at action j)
       → put_by (life_of past) (sends_now past) (packets_of past) action ≡ [] → shown_by configs past action ≡ []
-      → on_machine (state_of configs past) at m deed (slice_get (state_of configs past).machines m) ≡ as_judged at action (reasons (has_machine configs m))
-  acted-deed at m action deed reasons does lost others unput unshown =
-      at_machine m (λ o. on_machine (state_of configs past) at m deed o) (λ b. as_judged at action (reasons b))
-      (λ there. ap (turned (state_of configs past) at m) does ∙ turned-by at m action (reasons true) others unput unshown)
+      → on_machine (state_of configs past) at m machine_action (slice_get (state_of configs past).machines m) ≡ as_judged at action (reasons (has_machine configs m))
+  action_outcome-machine at m action machine_action reasons does lost others unput unshown =
+      at_machine m (λ o. on_machine (state_of configs past) at m machine_action o) (λ b. as_judged at action (reasons b))
+      (λ there. ap (turn_outcome (state_of configs past) at m) does ∙ turned-by at m action (reasons true) others unput unshown)
       (sym (ap (as_judged at action) lost))
 
   -- a worker's work, by the reason why it is bad where the worker is there
-  deed_on-work : (m w : ℕ) (work : Work) (o : Option WorldFault) (turn : Turn MachineState) → (w < (config_at configs m).workers → work_on (machine_at m) w work ≡ turn_unless o turn)
-      → deed_on m (machine_at m) (deeds.Work w work) ≡ turn_unless (cond (not (ltb w (config_at configs m).workers)) (Some bad.UnknownNumber) o) turn
-  deed_on-work m w work o turn does =
+  machine_outcome-worker : (m w : ℕ) (work : WorkerAction) (o : Option WorldFault) (turn : Turn MachineState) → (w < (config_at configs m).workers → worker_outcome (machine_at m) w work ≡ turn_unless o turn)
+      → machine_outcome m (machine_at m) (machine_actions.Work w work) ≡ turn_unless (cond (not (ltb w (config_at configs m).workers)) (Some bad.UnknownNumber) o) turn
+  machine_outcome-worker m w work o turn does =
       let config = config_at configs m in
-      ap (λ (n : ℕ). cond (ltb w n) (work_on (machine_at m) w work) (Err bad.UnknownNumber)) (length-map-range_with_len (λ v. worker_of config past (life_at past m) v) 0 config.workers)
-      ∙ turn_where (ltb w config.workers) (work_on (machine_at m) w work) o turn (λ named. does (ltb-true w config.workers named))
+      ap (λ (n : ℕ). cond (ltb w n) (worker_outcome (machine_at m) w work) (Err bad.UnknownNumber)) (length-map-range_with_len (λ v. worker_of config past (life_at past m) v) 0 config.workers)
+      ∙ turn_where (ltb w config.workers) (worker_outcome (machine_at m) w work) o turn (λ named. does (ltb-true w config.workers named))
 
   -- what is kept of a worker that is there
   worker_is : (m w : ℕ) (f : Worker → Judged MachineState) → w < (config_at configs m).workers
@@ -316,10 +317,10 @@ module _ (configs : List Configuration) (past : List Event) where
         ap (read_from (machine_at m) w clock k) (slice_get-get_or publications (k - 1) no_publication (omega arith))
         ∙ ap (λ (turn : Turn MachineState). Ok turn) (read_turn-machine_of config past at m w clock k (ltb-false k (seen_of past (life_at past m) w) newer.1) there)
 
-    acted-read : acted (state_of configs past) at (Read m w clock k) ≡ as_judged at (Read m w clock k) (bad_action (Read m w clock k))
+    acted-read : action_outcome (state_of configs past) at (Read m w clock k) ≡ as_judged at (Read m w clock k) (bad_action (Read m w clock k))
     acted-read =
-        acted-deed at m (Read m w clock k) (deeds.Work w (works.Read clock k)) bad_reading
-        (deed_on-work m w (works.Read clock k) _ _
+        action_outcome-machine at m (Read m w clock k) (machine_actions.Work w (worker_actions.Read clock k)) bad_reading
+        (machine_outcome-worker m w (worker_actions.Read clock k) _ _
         (λ there. turn_if (ltb clock (clock_of past (life_at past m)) || ltb max_time clock) bad.ClockBack _ _ _
         (λ fresh.
         worker_is m w (λ worker. read_from (machine_at m) w clock k (cond (unreadable worker.seen) None (slice_get (publications_of (config_at configs m) past (life_at past m)) (k - 1)))) there
@@ -329,11 +330,11 @@ module _ (configs : List Configuration) (past : List Event) where
   -- ---- a worker is asked for a commit
 
   acted-arrive : (at m w : ℕ) (id : Id) (floor : ℕ)
-      → acted (state_of configs past) at (Arrive m w id floor) ≡ as_judged at (Arrive m w id floor) (bad_action (Arrive m w id floor))
+      → action_outcome (state_of configs past) at (Arrive m w id floor) ≡ as_judged at (Arrive m w id floor) (bad_action (Arrive m w id floor))
   acted-arrive at m w id floor =
-      let work : Work = works.Arrive (record { id = id; floor = floor }) in
-      acted-deed at m (Arrive m w id floor) (deeds.Work w work) (λ b. cond (not (b && ltb w (config_at configs m).workers)) (Some bad.UnknownNumber) None)
-      (deed_on-work m w work None _ (λ there. ap (λ (turn : Turn MachineState). Ok turn) (arrive_turn-machine_of (config_at configs m) past at m w id floor there)))
+      let work : WorkerAction = worker_actions.Arrive (record { id = id; floor = floor }) in
+      action_outcome-machine at m (Arrive m w id floor) (machine_actions.Work w work) (λ b. cond (not (b && ltb w (config_at configs m).workers)) (Some bad.UnknownNumber) None)
+      (machine_outcome-worker m w work None _ (λ there. ap (λ (turn : Turn MachineState). Ok turn) (arrive_turn-machine_of (config_at configs m) past at m w id floor there)))
       refl (λ j other. machine_of-arrive_other (config_at configs j) past at m w id floor j other) refl refl
 
   -- ---- a machine restarts
@@ -344,11 +345,11 @@ module _ (configs : List Configuration) (past : List Event) where
       let first : ltb clock (clock_of past (next_life past m)) ≡ false = ap (ltb clock) (clock_of-unborn past (next_life past m) (omega arith)) ∙ le-ltb clock 0 (omega arith) in
       rw first refl
 
-  acted-restart : (at m clock : ℕ) → acted (state_of configs past) at (Restart m clock) ≡ as_judged at (Restart m clock) (bad_action (Restart m clock))
+  acted-restart : (at m clock : ℕ) → action_outcome (state_of configs past) at (Restart m clock) ≡ as_judged at (Restart m clock) (bad_action (Restart m clock))
   acted-restart at m clock =
       let back : Bool = ltb clock (clock_of past (next_life past m)) || ltb max_time clock in
       let last : Bool = eqb (life_of past m) (2 ^ 64 - 1) in
-      acted-deed at m (Restart m clock) (deeds.Restart clock) (λ b. cond (not b) (Some bad.UnknownNumber) (cond back (Some bad.ClockBack) (cond last (Some bad.LivesUsedUp) None)))
+      action_outcome-machine at m (Restart m clock) (machine_actions.Restart clock) (λ b. cond (not b) (Some bad.UnknownNumber) (cond back (Some bad.ClockBack) (cond last (Some bad.LivesUsedUp) None)))
       (ap (λ (b : Bool). cond b (Err bad.ClockBack) (cond last (Err bad.LivesUsedUp) (Ok (restart_turn m (machine_at m) clock)))) (sym (back_of_next m clock))
       ∙ turn_if back bad.ClockBack _ _ _
       (λ fresh. turn_if last bad.LivesUsedUp _ _ _ (λ more. ap (λ (turn : Turn MachineState). Ok turn) (restart_turn-machine_of (config_at configs m) past at m clock))))
@@ -356,9 +357,9 @@ module _ (configs : List Configuration) (past : List Event) where
 
   -- ---- a machine is granted a lease
 
-  acted-lease : (at m : ℕ) (lease : Interval) → acted (state_of configs past) at (Lease m lease) ≡ as_judged at (Lease m lease) (bad_action (Lease m lease))
+  acted-lease : (at m : ℕ) (lease : Interval) → action_outcome (state_of configs past) at (Lease m lease) ≡ as_judged at (Lease m lease) (bad_action (Lease m lease))
   acted-lease at m lease =
-      acted-deed at m (Lease m lease) (deeds.Lease lease) (λ b. cond (not b) (Some bad.UnknownNumber) None)
+      action_outcome-machine at m (Lease m lease) (machine_actions.Lease lease) (λ b. cond (not b) (Some bad.UnknownNumber) None)
       (ap (λ (turn : Turn MachineState). Ok turn) (lease_turn-machine_of (config_at configs m) past at m lease))
       refl (λ j other. machine_of-lease_other (config_at configs j) past at m lease j other) refl refl
 
@@ -379,13 +380,13 @@ module _ (configs : List Configuration) (past : List Event) where
   stamp_with-by at m w there false (Some arrival) None (Some reading) q a r =
       ap (λ (turn : Turn MachineState). Ok turn) (stamp_turn-machine_of (config_at configs m) past at m w arrival reading there q a r)
 
-  acted-stamp : (at m w : ℕ) → acted (state_of configs past) at (Stamp m w) ≡ as_judged at (Stamp m w) (bad_action (Stamp m w))
+  acted-stamp : (at m w : ℕ) → action_outcome (state_of configs past) at (Stamp m w) ≡ as_judged at (Stamp m w) (bad_action (Stamp m w))
   acted-stamp at m w =
       let config = config_at configs m in
       let life = life_at past m in
-      acted-deed at m (Stamp m w) (deeds.Work w works.Stamp)
+      action_outcome-machine at m (Stamp m w) (machine_actions.Work w worker_actions.Stamp)
       (λ b. cond (not (b && ltb w config.workers)) (Some bad.UnknownNumber) (bad_stamping (task_of config past life w) (reading_since config past life w)))
-      (deed_on-work m w works.Stamp _ _ (λ there.
+      (machine_outcome-worker m w worker_actions.Stamp _ _ (λ there.
       worker_is m w (λ worker. stamp_with (machine_at m) w worker.task worker.since) there
       ∙ stamp_with-by at m w there (is_queued config past life w) (arrival_of past life w) (stamp_held config past life w) (reading_since config past life w) refl refl refl))
       refl (λ j other. machine_of-stamp_other (config_at configs j) past at m w j other) refl refl
@@ -406,13 +407,13 @@ module _ (configs : List Configuration) (past : List Event) where
   queue_with-by at m w there false (Some arrival) (Some stamp) a h =
       ap (λ (turn : Turn MachineState). Ok turn) (queue_turn-machine_of (config_at configs m) past at m w arrival stamp there a h)
 
-  acted-queue : (at m w : ℕ) → acted (state_of configs past) at (Queue m w) ≡ as_judged at (Queue m w) (bad_action (Queue m w))
+  acted-queue : (at m w : ℕ) → action_outcome (state_of configs past) at (Queue m w) ≡ as_judged at (Queue m w) (bad_action (Queue m w))
   acted-queue at m w =
       let config = config_at configs m in
       let life = life_at past m in
-      acted-deed at m (Queue m w) (deeds.Work w works.Queue)
+      action_outcome-machine at m (Queue m w) (machine_actions.Work w worker_actions.Queue)
       (λ b. cond (not (b && ltb w config.workers)) (Some bad.UnknownNumber) (bad_queueing (task_of config past life w)))
-      (deed_on-work m w works.Queue _ _ (λ there.
+      (machine_outcome-worker m w worker_actions.Queue _ _ (λ there.
       worker_is m w (λ worker. queue_with (machine_at m) w worker.task) there
       ∙ queue_with-by at m w there (is_queued config past life w) (arrival_of past life w) (stamp_held config past life w) refl refl))
       refl (λ j other. machine_of-queue_other (config_at configs j) past at m w j other) refl refl
@@ -425,20 +426,20 @@ module _ (configs : List Configuration) (past : List Event) where
   release_with-by at m w (Some reading) is =
       ap (λ (turn : Turn MachineState). Ok turn) (release_turn-machine_of (config_at configs m) past at m w reading is)
 
-  acted-release : (at m w : ℕ) → acted (state_of configs past) at (Release m w) ≡ as_judged at (Release m w) (bad_action (Release m w))
+  acted-release : (at m w : ℕ) → action_outcome (state_of configs past) at (Release m w) ≡ as_judged at (Release m w) (bad_action (Release m w))
   acted-release at m w =
       let config = config_at configs m in
       let life = life_at past m in
-      acted-deed at m (Release m w) (deeds.Work w works.Release)
+      action_outcome-machine at m (Release m w) (machine_actions.Work w worker_actions.Release)
       (λ b. cond (not (b && ltb w config.workers)) (Some bad.UnknownNumber) (cond (not (is_some (reading_of config past life w))) (Some bad.NothingThere) None))
-      (deed_on-work m w works.Release _ _ (λ there.
+      (machine_outcome-worker m w worker_actions.Release _ _ (λ there.
       worker_is m w (λ worker. release_with (machine_at m) worker.reading) there ∙ release_with-by at m w (reading_of config past life w) refl))
       refl (λ j other. machine_of-release_other (config_at configs j) past at m w j other) refl refl
 
   -- ---- any of them
 
   pub acted-state_of : Lasts configs past → (at : ℕ) (action : Action) → (bad_action action ≡ None → HasRoom (state_of configs past) action)
-      → acted (state_of configs past) at action ≡ as_judged at action (bad_action action)
+      → action_outcome (state_of configs past) at action ≡ as_judged at action (bad_action action)
   acted-state_of lasts at (Send m s clock) room = acted-send lasts at m s clock room
   acted-state_of lasts at (Answer k span) room = acted-answer at k span
   acted-state_of lasts at (Forge m s payload) room = acted-forge at m s payload

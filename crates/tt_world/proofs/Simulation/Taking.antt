@@ -8,7 +8,7 @@ use Rattle.tt_poll.specs.Reading.{read_of2}
 use Rattle.tt_poll.specs.declared.faults.PollFault.{PollFault}
 use Rattle.tt_poll.specs.declared.messages.Message2.{Message2}
 use Rattle.tt_source.specs.Statement.{Statement}
-use Rattle.tt_source.specs.Table.{SourceState, TableState, unknown, source_at, is_back, statement_of_message, after_statement, take_of}
+use Rattle.tt_source.specs.Table.{SourceState, TableState, unknown_source, source_at, is_back, statement_of_message, after_statement, take_of}
 use Rattle.tt_source.specs.declared.faults.SourceFault.{SourceFault}
 use Rattle.tt_world.proofs.Simulation.Lives.{is_of-own, is_of-other}
 use Rattle.tt_world.specs.Life.{Life, life_of, life_at, is_of}
@@ -18,11 +18,11 @@ use Rattle.tt_world.specs.declared.packets.Packet.{Packet}
 use Rattle.tt_daemon.specs.Config.{Configuration}
 use Rattle.tt_world.specs.Packet.{machine_of_packet, source_of_packet, bytes_of}
 use Rattle.tt_world.specs.Past.{sends_of, packets_of, clock_of}
-use Rattle.tt_world.specs.Sources.{outstanding}
+use Rattle.tt_world.specs.Sources.{outstanding_poll}
 use Rattle.tt_world.specs.Publications.{publications_of}
 use Rattle.tt_world.specs.Reply.{delivery_reply}
-use Rattle.tt_world.specs.State.{MachineState, polled_clock_of, source_of, machine_of}
-use Rattle.tt_world.specs.Step.{take_turn}
+use Rattle.tt_world.specs.Private.Machine.{MachineState, polled_clock_of, source_of, machine_of}
+use Rattle.tt_world.specs.Private.Step.{take_turn}
 use Rattle.tt_world.proofs.Simulation.Ranges.{get_or-made, set-made, map-same}
 use Rattle.tt_world.proofs.Simulation.Waiting.{happens}
 use Rattle.tt_world.proofs.Simulation.Kept.{kept, after_delivery, machine_of-deliver, machine_if_delivered}
@@ -34,14 +34,14 @@ take_of-taken table i clock bytes there in_time = rw (there, in_time) refl
 module _ (config : Configuration) (past : List Event) (life : Life) (s clock : ℕ) (message : Result Message2 PollFault) where
   -- what the message states for source i, if the poll of it waits
   abbrev stated_for : ℕ → Result Statement SourceFault
-  stated_for i = statement_of_message life.machine life.number i (outstanding past life i) clock message
+  stated_for i = statement_of_message life.machine life.number i (outstanding_poll past life i) clock message
 
   -- machine j after a message of source s of the machine, where here says whether it is in this life, and from whether a source is source s
   abbrev pub machine_if_reached : Life → Bool → (ℕ → Bool) → MachineState
   machine_if_reached j here from =
       kept (machine_of config past j) (sends_of past j)
-      (cond (is_some (cond (here && from s) (result_ok (statement_of_message j.machine j.number s (outstanding past j s) clock message)) None)) clock (polled_clock_of past j))
-      (map (λ i. after_delivery config past (cond (here && from i) (result_ok (statement_of_message j.machine j.number i (outstanding past j i) clock message)) None) (source_of past j i)) (range_with_len 0 config.sources))
+      (cond (is_some (cond (here && from s) (result_ok (statement_of_message j.machine j.number s (outstanding_poll past j s) clock message)) None)) clock (polled_clock_of past j))
+      (map (λ i. after_delivery config past (cond (here && from i) (result_ok (statement_of_message j.machine j.number i (outstanding_poll past j i) clock message)) None) (source_of past j i)) (range_with_len 0 config.sources))
       (cond here clock (clock_of past j)) (publications_of config past j)
 
   -- a source after the message, where from says whether it is the source that the message is from, which made this statement
@@ -104,7 +104,7 @@ module _ (config : Configuration) (past : List Event) (at k clock : ℕ) (p : Pa
 
   -- what the packet states, if the poll that waits is its own
   abbrev stated : Result Statement SourceFault
-  stated = statement_of_message (machine_of_packet p) (life_of past (machine_of_packet p)) (source_of_packet p) (outstanding past life (source_of_packet p)) clock (read_of2 (bytes_of p))
+  stated = statement_of_message (machine_of_packet p) (life_of past (machine_of_packet p)) (source_of_packet p) (outstanding_poll past life (source_of_packet p)) clock (read_of2 (bytes_of p))
 
   pub take_turn-take_of : source_of_packet p < config.sources → is_back (machine_of config past life).daemon.table clock ≡ false
       → take_turn (machine_of config past life) clock (take_of (machine_of config past life).daemon.table (source_of_packet p) clock (bytes_of p))
@@ -113,7 +113,7 @@ module _ (config : Configuration) (past : List Event) (at k clock : ℕ) (p : Pa
       let m = machine_of_packet p in
       let s = source_of_packet p in
       let machine = machine_of config past life in
-      let known : get_or machine.daemon.table.sources s unknown ≡ source_of past life s = get_or-made (λ i. source_of past life i) config.sources s unknown there in
+      let known : get_or machine.daemon.table.sources s unknown_source ≡ source_of past life s = get_or-made (λ i. source_of past life i) config.sources s unknown_source there in
       let length_is : ltb s (length machine.daemon.table.sources) ≡ true = lt-ltb s _ (omega (arith, length-map-range_with_len (λ i. source_of past life i) 0 config.sources)) in
       ap (take_turn machine clock) (take_of-taken machine.daemon.table s clock (bytes_of p) length_is in_time)
       ∙ ap (λ (source : SourceState). take_turn machine clock (after_statement machine.daemon.table s clock (statement_of_message m (life_of past m) s source.waiting clock (read_of2 (bytes_of p))))) known

@@ -15,12 +15,13 @@ use Rattle.tt_world.specs.declared.packets.Packet.{Packet}
 use Rattle.tt_world.specs.declared.packets.Packet.TheVariants.{Asked}
 use Rattle.tt_publish.specs.declared.readings.FusedSpan.{FusedSpan}
 use Rattle.tt_daemon.specs.Daemon.{spans_of}
-use Rattle.tt_world.specs.declared.deeds.Deed.{Deed}
+use Rattle.tt_world.specs.declared.machine_actions.MachineAction.{MachineAction}
 use Rattle.tt_world.specs.Packet.{machine_of_packet, source_of_packet, bytes_of, is_asked}
 use Rattle.tt_world.specs.Publications.{Showing, showing_of}
 use Rattle.tt_world.specs.Reply.{TakesMemory}
-use Rattle.tt_world.specs.State.{MachineState, WorldState}
-use Rattle.tt_world.specs.Step.{Turn, Judged, IsRefusal, Does, is_back_on, send_on, after_poll, with_table, fuse_on, after_turn, turned, publish_turn, fusion_on, deliver_on, take_turn, deed_on, on_machine}
+use Rattle.tt_world.specs.State.{WorldState}
+use Rattle.tt_world.specs.Private.Machine.{MachineState}
+use Rattle.tt_world.specs.Private.Step.{Turn, Judged, IsRefusal, Does, is_back_on, send_on, after_poll, with_table, fuse_on, after_turn, turn_outcome, publish_turn, fusion_on, deliver_on, take_turn, machine_outcome, on_machine}
 
 -- what is kept after a turn, by its parts
 abbrev pub outcome : ℕ → List Packet → List MachineState → List Showing → Reply → Turn WorldState
@@ -115,24 +116,24 @@ deliver_on-taken world at p clock packet machine next reply asked e b turn same 
     rw (asked, e, b) (ap (λ (made : Turn WorldState). Ok made) (ap (λ (t : Turn MachineState). after_turn world at (machine_of_packet packet) t []) (sym turn) ∙ after_turn-nothing world at (machine_of_packet packet) p next reply same))
 
 -- a machine took its turn
-pub on_machine-turned : (world : WorldState) (at m p : ℕ) (deed : Deed) (machine next : MachineState) (reply : Reply) → slice_get world.machines m ≡ Some machine →
-    deed_on m machine deed ≡ Ok (record { state = next; reply = reply }) → p ≡ m →
-    on_machine world at m deed (slice_get world.machines m) ≡ Ok (outcome at world.packets (slice_set world.machines p next) world.shown reply)
-on_machine-turned world at m p deed machine next reply found turn same =
-    rw found (ap (turned world at m) turn ∙ ap (λ (made : Turn WorldState). Ok made) (after_turn-nothing world at m p next reply same))
+pub on_machine-turned : (world : WorldState) (at m p : ℕ) (machine_action : MachineAction) (machine next : MachineState) (reply : Reply) → slice_get world.machines m ≡ Some machine →
+    machine_outcome m machine machine_action ≡ Ok (record { state = next; reply = reply }) → p ≡ m →
+    on_machine world at m machine_action (slice_get world.machines m) ≡ Ok (outcome at world.packets (slice_set world.machines p next) world.shown reply)
+on_machine-turned world at m p machine_action machine next reply found turn same =
+    rw found (ap (turn_outcome world at m) turn ∙ ap (λ (made : Turn WorldState). Ok made) (after_turn-nothing world at m p next reply same))
 
 -- what a machine refused, the run refuses
-turned-refused : (world : WorldState) (at m : ℕ) (judged : Judged MachineState) (fault : WorldFault) → IsRefusal TakesMemory fault judged → IsRefusal TakesMemory fault (turned world at m judged)
+turned-refused : (world : WorldState) (at m : ℕ) (judged : Judged MachineState) (fault : WorldFault) → IsRefusal TakesMemory fault judged → IsRefusal TakesMemory fault (turn_outcome world at m judged)
 turned-refused world at m (Ok turn) bad.Memory refusal = refusal
 turned-refused world at m (Err other) bad.Memory refusal = refusal
-turned-refused world at m judged fault refusal = ap (turned world at m) refusal
+turned-refused world at m judged fault refusal = ap (turn_outcome world at m) refusal
 
 -- a machine refused
-pub on_machine-refused : (world new : WorldState) (at m : ℕ) (deed : Deed) (machine : MachineState) (fault : WorldFault) (answer : Result Reply WorldFault) → answer ≡ Err fault → slice_get world.machines m ≡ Some machine →
-    IsRefusal TakesMemory fault (deed_on m machine deed) → new ≡ world → Does TakesMemory (on_machine world at m deed (slice_get world.machines m)) world answer new
-on_machine-refused world new at m deed machine fault answer none found refusal same =
-    subst (λ (r : Result Reply WorldFault). Does TakesMemory (on_machine world at m deed (slice_get world.machines m)) world r new) (sym none)
-    (same, subst (λ (o : Option MachineState). IsRefusal TakesMemory fault (on_machine world at m deed o)) (sym found) (turned-refused world at m (deed_on m machine deed) fault refusal))
+pub on_machine-refused : (world new : WorldState) (at m : ℕ) (machine_action : MachineAction) (machine : MachineState) (fault : WorldFault) (answer : Result Reply WorldFault) → answer ≡ Err fault → slice_get world.machines m ≡ Some machine →
+    IsRefusal TakesMemory fault (machine_outcome m machine machine_action) → new ≡ world → Does TakesMemory (on_machine world at m machine_action (slice_get world.machines m)) world answer new
+on_machine-refused world new at m machine_action machine fault answer none found refusal same =
+    subst (λ (r : Result Reply WorldFault). Does TakesMemory (on_machine world at m machine_action (slice_get world.machines m)) world r new) (sym none)
+    (same, subst (λ (o : Option MachineState). IsRefusal TakesMemory fault (on_machine world at m machine_action o)) (sym found) (turned-refused world at m (machine_outcome m machine machine_action) fault refusal))
 
 -- ---- what is not bad
 

@@ -16,10 +16,10 @@ use Rattle.tt_daemon.specs.Config.{Configuration}
 use Rattle.tt_world.specs.Packet.{machine_of_packet, source_of_packet}
 use Rattle.tt_world.specs.Life.{Life, restarts, life_of, next_life, life_at, same_life, is_of}
 use Rattle.tt_world.specs.Past.{is_send_of, sends_of, packets_of, clock_reading, clock_after, clock_of}
-use Rattle.tt_world.specs.Sources.{sent_by, last_send, stated_in, stated_by, is_answered, outstanding, statement_of}
+use Rattle.tt_world.specs.Sources.{sent_by, last_send, stated_in, stated_by, is_answered, outstanding_poll, statement_of}
 use Rattle.tt_world.specs.Publications.{fuses_at, published_at, publications_of, seen_by, seen_of}
 use Rattle.tt_world.specs.Commits.{arrived_by, arrival_of, read_by, reading_of, reading_since, stamping_worker, stamps_after, stamps_of, stamp_held, book_after, book_of, is_queued, task_with, task_of}
-use Rattle.tt_world.specs.State.{is_taken, polled_by, polled_clock_of}
+use Rattle.tt_world.specs.Private.Machine.{is_taken, polled_by, polled_clock_of}
 use Rattle.tt_world.proofs.Simulation.Lives.{is_of-unborn, life_of-on}
 
 -- a life of a machine that has not begun after these events
@@ -59,7 +59,7 @@ module _ (past : List Event) (life : Life) (unborn : IsUnborn past life) where
   polled_none : (action : Action) (before : ℕ) → polled_by past life action before ≡ before
   polled_none (Send machine source clock) before = let other : is_of past life machine ≡ false = not_here machine in rw other refl
   polled_none (Deliver packet clock) before =
-      ap (λ (b : Bool). cond b clock before) (taken_none clock (outstanding past life) (slice_get (packets_of past) packet))
+      ap (λ (b : Bool). cond b clock before) (taken_none clock (outstanding_poll past life) (slice_get (packets_of past) packet))
   polled_none _ before = refl
 
   fuses_none : (action : Action) → fuses_at past life action ≡ None
@@ -105,14 +105,14 @@ none_either : {A : Type 0} (b : Bool) (o : Option A) → o ≡ None → cond b N
 none_either true o h = refl
 none_either false o h = h
 
-pub outstanding-unborn : (past : List Event) (life : Life) (i : ℕ) → IsUnborn past life → outstanding past life i ≡ None
+pub outstanding-unborn : (past : List Event) (life : Life) (i : ℕ) → IsUnborn past life → outstanding_poll past life i ≡ None
 outstanding-unborn past life i unborn = none_either {A = Sending} (is_answered past life i) (last_send past life i) (last_send-unborn past life i unborn)
 
 pub statement_of-unborn : (past : List Event) (life : Life) (i : ℕ) → IsUnborn past life → statement_of past life i ≡ None
 statement_of-unborn [] life i unborn = refl
 statement_of-unborn (event ∷ past) life i unborn =
     let before = unborn_before past event life unborn in
-    ap (λ (o : Option Statement). option_or o (statement_of past life i)) (states_none past life before i (outstanding past life i) event.action) ∙ statement_of-unborn past life i before
+    ap (λ (o : Option Statement). option_or o (statement_of past life i)) (states_none past life before i (outstanding_poll past life i) event.action) ∙ statement_of-unborn past life i before
 
 pub polled_clock_of-unborn : (past : List Event) (life : Life) → IsUnborn past life → polled_clock_of past life ≡ 0
 polled_clock_of-unborn [] life unborn = refl

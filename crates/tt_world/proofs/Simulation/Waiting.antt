@@ -8,7 +8,7 @@ use Rattle.tt_world.specs.declared.events.Event.{Event}
 use Rattle.tt_world.specs.declared.events.Action.{Action}
 use Rattle.tt_world.specs.declared.events.Action.TheVariants.{Send, Deliver}
 use Rattle.tt_world.specs.Past.{sends_of, packets_of}
-use Rattle.tt_world.specs.Sources.{last_send, stated_in, is_answered, outstanding}
+use Rattle.tt_world.specs.Sources.{last_send, stated_in, is_answered, outstanding_poll}
 
 -- an action at a true time
 abbrev pub happens : ℕ → Action → Event
@@ -20,7 +20,7 @@ waits_after_send true a x l = refl
 waits_after_send false a x l = refl
 
 pub outstanding-send : (past : List Event) (at m s clock : ℕ) (j : Life) (i : ℕ)
-    → outstanding (happens at (Send m s clock) ∷ past) j i ≡ cond (is_of past j m && eqb s i) (Some (record { nonce = sends_of past j + 1; clock = clock })) (outstanding past j i)
+    → outstanding_poll (happens at (Send m s clock) ∷ past) j i ≡ cond (is_of past j m && eqb s i) (Some (record { nonce = sends_of past j + 1; clock = clock })) (outstanding_poll past j i)
 outstanding-send past at m s clock j i =
     waits_after_send (is_of past j m && eqb s i) (is_answered past j i) (record { nonce = sends_of past j + 1; clock = clock }) (last_send past j i)
 
@@ -42,7 +42,7 @@ waits_after_delivery f true l = ended (is_some (f l)) l ∙ sym (no_wait (is_som
 waits_after_delivery f false l = same_wait (is_some (f l)) l
 
 pub outstanding-deliver : (past : List Event) (at k clock : ℕ) (j : Life) (i : ℕ)
-    → outstanding (happens at (Deliver k clock) ∷ past) j i
-    ≡ cond (is_some (stated_in past j i (outstanding past j i) clock (slice_get (packets_of past) k))) None (outstanding past j i)
+    → outstanding_poll (happens at (Deliver k clock) ∷ past) j i
+    ≡ cond (is_some (stated_in past j i (outstanding_poll past j i) clock (slice_get (packets_of past) k))) None (outstanding_poll past j i)
 outstanding-deliver past at k clock j i =
     waits_after_delivery (λ w. stated_in past j i w clock (slice_get (packets_of past) k)) (is_answered past j i) (last_send past j i)

@@ -2,7 +2,7 @@ use Rattle.std.proofs.Common.{◌≡◌, Ok, Err, refl}
 use Rattle.std.proofs.lemmas.Bool.{false≢true}
 use Rattle.tt_publish.specs.Reading.{HasPassed, IsToCome}
 use Rattle.tt_session.specs.Answers.{Says}
-use Rattle.tt_session.specs.declared.replies.Reply.TheVariants.{Now}
+use Rattle.tt_session.specs.declared.replies.LineReply.TheVariants.{Now}
 use Rattle.tt_session.proofs.Releasing.{reads}
 use Rattle.tt_session.proofs.answers.answer.Goals as goal
 

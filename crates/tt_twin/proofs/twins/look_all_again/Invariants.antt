@@ -1,5 +1,5 @@
 use Rattle.std.proofs.Common.{◌≡◌, ◌++◌, map, take}
-use Rattle.tt_twin.specs.Watch.{glance_again}
+use Rattle.tt_twin.specs.Observation.{glance_again}
 use Rattle.tt_twin.proofs.twins.look_all_again.Given as goal
 
 abbrev pub invariant-loop-glance : goal.invariant-loop-glance

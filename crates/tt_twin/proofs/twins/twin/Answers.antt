@@ -8,7 +8,7 @@ use Rattle.tt_world.specs.declared.events.Event.{Event}
 use Rattle.tt_world.specs.declared.events.Reply.{Reply}
 use Rattle.tt_world.specs.Bad.{accepted}
 use Rattle.tt_world.specs.Reply.{reply_of, replies_from}
-use Rattle.tt_twin.specs.Watch.{asked_in, is_read}
+use Rattle.tt_twin.specs.Observation.{asked_in, is_read}
 use Rattle.tt_twin.proofs.Telling.{got, same_place, replied_there, twin-not_asked, twin-not_read, twin-read, asked_there, glances_in_time, told-ok, told-err}
 use Rattle.tt_world.specs.declared.publications.Shown.{Shown}
 use Rattle.tt_world.specs.Trace.{outline}
@@ -48,8 +48,8 @@ returns-then-not-is_reading-clause-refused c =
     same_place c.replies.result.now (replies_from c.args.configs.now [] (take (k + 1) events)) k c.index-replies-k.result (reply_of c.args.configs.now (reverse (take k events)) event) (c.replies.ensures ∙ c.in-Ok.ensures.replies) inside c.index-replies-k.is replied in
     inr (twin-not_read c.args.side c.args.configs.now events k event some few there (ap is_read (sym same) ∙ sym c.is_reading.ensures ∙ c.if-not-is_reading.true))
 
-pub watch_of-requires : goal.watch_of-requires
-watch_of-requires c =
+pub observation_of-requires : goal.observation_of-requires
+observation_of-requires c =
     let events = c.args.events.now in
     let k = c.args.k in
     let event : Event = c.in-Some.event.now in
@@ -95,7 +95,7 @@ twin_by-requires-clause-in_time c =
 
 pub twin_by-requires-clause-glances : goal.twin_by-requires-clause-glances
 twin_by-requires-clause-glances c =
-    glances_in_time c.args.configs.now (reverse (take (c.args.k + 1) c.args.events.now)) c.in-Some-asked_by.asked.machine c.in-Some-asked_by.asked.publication c.in-Ok-watch_of.watch c.in-Ok-watch_of.ensures
+    glances_in_time c.args.configs.now (reverse (take (c.args.k + 1) c.args.events.now)) c.in-Some-asked_by.asked.machine c.in-Some-asked_by.asked.publication c.in-Ok-observation_of.observation c.in-Ok-observation_of.ensures
 
 pub returns-clause-value : goal.returns-clause-value
 returns-clause-value c =
@@ -118,7 +118,7 @@ returns-clause-value c =
     ap (λ (n : ℕ). config_at c.args.configs.now n) (sym machine) ∙ sym (c.index-configs-from.is ∙ get_or_default c.args.configs.now c.from.result c.index-configs-from.result no_configuration here) in
     let shows = ap (λ (l : List Shown). map outline l) c.shown.ensures ∙ c.in-Ok.ensures.shown in
     let defined = twin-read c.args.side c.args.configs.now events k event c.in-Some-asked_by.asked some few there read asks in
-    told-ok _ _ c.twin_by.result defined (c.twin_by.ensures.value c.args.configs.now (accepted c.args.configs.now (reverse (take (k + 1) events))) config shows c.in-Ok-watch_of.ensures)
+    told-ok _ _ c.twin_by.result defined (c.twin_by.ensures.value c.args.configs.now (accepted c.args.configs.now (reverse (take (k + 1) events))) config shows c.in-Ok-observation_of.ensures)
 
 pub returns-clause-refused : goal.returns-clause-refused
 returns-clause-refused c =
@@ -141,7 +141,7 @@ returns-clause-refused c =
     ap (λ (n : ℕ). config_at c.args.configs.now n) (sym machine) ∙ sym (c.index-configs-from.is ∙ get_or_default c.args.configs.now c.from.result c.index-configs-from.result no_configuration here) in
     let shows = ap (λ (l : List Shown). map outline l) c.shown.ensures ∙ c.in-Ok.ensures.shown in
     let defined = twin-read c.args.side c.args.configs.now events k event c.in-Some-asked_by.asked some few there read asks in
-    told-err _ _ c.twin_by.result defined (c.twin_by.ensures.refused c.args.configs.now (accepted c.args.configs.now (reverse (take (k + 1) events))) config shows c.in-Ok-watch_of.ensures)
+    told-err _ _ c.twin_by.result defined (c.twin_by.ensures.refused c.args.configs.now (accepted c.args.configs.now (reverse (take (k + 1) events))) config shows c.in-Ok-observation_of.ensures)
 
 pub returns-clause-twin : goal.returns-clause-twin
 returns-clause-twin c =
@@ -165,7 +165,7 @@ returns-clause-twin c =
     let shows = ap (λ (l : List Shown). map outline l) c.shown.ensures ∙ c.in-Ok.ensures.shown in
     let defined = twin-read c.args.side c.args.configs.now events k event c.in-Some-asked_by.asked some few there read asks in
     worth-ok c.args.configs.now events k c.args.side c.twin_by.result c.in-Ok.ensures.trace.configurations
-    (told-ok _ _ c.twin_by.result defined (c.twin_by.ensures.value c.args.configs.now (accepted c.args.configs.now (reverse (take (k + 1) events))) config shows c.in-Ok-watch_of.ensures))
+    (told-ok _ _ c.twin_by.result defined (c.twin_by.ensures.value c.args.configs.now (accepted c.args.configs.now (reverse (take (k + 1) events))) config shows c.in-Ok-observation_of.ensures))
 
 pub returns-clause-no_narrower : goal.returns-clause-no_narrower
 returns-clause-no_narrower c =
@@ -189,4 +189,4 @@ returns-clause-no_narrower c =
     let shows = ap (λ (l : List Shown). map outline l) c.shown.ensures ∙ c.in-Ok.ensures.shown in
     let defined = twin-read c.args.side c.args.configs.now events k event c.in-Some-asked_by.asked some few there read asks in
     wide-ok c.args.configs.now events k c.args.side c.twin_by.result c.in-Ok.ensures.trace.configurations
-    (told-ok _ _ c.twin_by.result defined (c.twin_by.ensures.value c.args.configs.now (accepted c.args.configs.now (reverse (take (k + 1) events))) config shows c.in-Ok-watch_of.ensures))
+    (told-ok _ _ c.twin_by.result defined (c.twin_by.ensures.value c.args.configs.now (accepted c.args.configs.now (reverse (take (k + 1) events))) config shows c.in-Ok-observation_of.ensures))

@@ -4,7 +4,7 @@ use Rattle.tt_stamp.specs.declared.commits.Receipt.{Receipt}
 use Rattle.tt_audit.specs.declared.ordering.Place.{Place}
 use Rattle.tt_audit.specs.declared.ordering.Stamping.{Stamping}
 use Rattle.tt_audit.specs.Violations.{receipts_in, asked_by}
-use Rattle.tt_audit.specs.Ordering.{OrderState, KeepsOrder, highest_after, marked, is_stamping_reached}
+use Rattle.tt_audit.specs.Ordering.{OrderState, KeepsOrder, highest_after, marks_after, is_stamping_reached}
 use Rattle.tt_audit.proofs.Late.{KeepsOrder-noted, is_late-reached}
 use Rattle.tt_audit.proofs.ordering.Order.note.Goals as goal
 
@@ -15,8 +15,8 @@ returns-clause-keeps c = λ past keeps.
     let reply = c.args.reply.now in
     let inside : OrderState = record { released = c.self.inside.released; before = c.self.inside.before } in
     let opened : inside ≡ c.mark.new.self = c.self.view_is in
-    let asked : c.mark.new.self ≡ record old { before = marked old.before (asked_by event.action reply) old.released } =
-    c.mark.ensures ∙ ap (λ (o : Option Place). record { released = old.released; before = marked old.before o old.released }) c.asked_by.ensures in
+    let asked : c.mark.new.self ≡ record old { before = marks_after old.before (asked_by event.action reply) old.released } =
+    c.mark.ensures ∙ ap (λ (o : Option Place). record { released = old.released; before = marks_after old.before o old.released }) c.asked_by.ensures in
     let risen : c.highest-self-inside.result ≡ highest_after old.released (receipts_in reply) =
     c.highest-self-inside.ensures
     ∙ ap₂ (λ (o : Option ℕ) (rs : List Receipt). highest_after o rs) (ap (λ (s : OrderState). s.released) (opened ∙ asked)) c.released_by.ensures in

@@ -5,8 +5,8 @@ use Rattle.tt_publish.proofs.watch.Watch.now.Goals as goal
 
 pub returns-in_default : goal.returns-in_default
 returns-in_default g c =
-    let none : last_read_of c.self.inside.front.items ≡ None = sym c.in_default.ensures in
-    let empty : c.look.new.self.items ≡ [] = ap (λ w. w.items) (sym c.self.view_is) ∙ nothing_read c.self.inside.front.items none in
+    let none : last_read_of c.self.inside.latest.items ≡ None = sym c.in_default.ensures in
+    let empty : c.look.new.self.items ≡ [] = ap (λ w. w.items) (sym c.self.view_is) ∙ nothing_read c.self.inside.latest.items none in
     record {
       looks = record {
         same = search rules;

@@ -3,7 +3,7 @@ use mathlib.Core.Option.{none}
 use Rattle.atomic_table.specs.Table.{Me, step}
 use Rattle.tt_stamp.specs.Stamping.{SeatState, Unites}
 use Rattle.tt_stamp.specs.Sequencing.{HasLooked, state_of}
-use Rattle.tt_stamp.specs.declared.asks.Ask.{Ask}
+use Rattle.tt_stamp.specs.declared.requests.StampRequest.{StampRequest}
 use Rattle.tt_stamp.specs.declared.stampings.View.{View}
 use Rattle.tt_stamp.proofs.Turns.{look_allowed}
 use Rattle.tt_stamp.proofs.Seats.{Unites-from_look}
@@ -25,7 +25,7 @@ returns c =
     let first = c.first.inside.token in
     let second = c.second.inside.token in
     let new = c.load.new.seat in
-    let looked = subst (λ (v : View). HasLooked v c.load.result new.me.0) (ap (λ (m : Me Ask View). m.0) c.meet.ensures.both) (c.load.ensures.2.0) in
+    let looked = subst (λ (v : View). HasLooked v c.load.result new.me.0) (ap (λ (m : Me StampRequest View). m.0) c.meet.ensures.both) (c.load.ensures.2.0) in
     let united = Unites-from_look first.table_id second.table_id new.table_id first.me.0 second.me.0 new.me.0 c.load.result (c.load.ensures.0 ∙ c.meet.ensures.table) c.first.invariant.one c.second.invariant.one c.first.invariant.opened looked in
     record {
       unites =

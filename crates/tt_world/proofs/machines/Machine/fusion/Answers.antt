@@ -2,10 +2,10 @@ use Rattle.std.proofs.Common.{◌≡◌, ap, subst, arith}
 use Rattle.std.specs.Prelude.{MatchResult, Ok, Err}
 use Rattle.tt_daemon.specs.Fault.{number_of}
 use Rattle.tt_publish.specs.Reading.{fused_span_of}
-use Rattle.tt_world.specs.Step.{fusion_on}
+use Rattle.tt_world.specs.Private.Step.{fusion_on}
 use Rattle.tt_daemon.specs.Daemon.{IsForward}
 use Rattle.tt_world.specs.contracts.machines.Machine.{the_view}
-use Rattle.tt_world.specs.State.{MachineState}
+use Rattle.tt_world.specs.Private.Machine.{MachineState}
 use Rattle.tt_world.proofs.Simulation.Fused.{fusion-answered}
 use Rattle.tt_world.proofs.machines.Machine.fusion.Goals as goal
 

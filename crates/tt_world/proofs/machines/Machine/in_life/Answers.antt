@@ -1,7 +1,7 @@
 use Rattle.std.proofs.Common.{◌≡◌, ◌∙◌, ap, List, take, replicate, arith, rules}
 use Rattle.std.proofs.lemmas.List.{take-replicate}
 use Rattle.tt_world.specs.declared.workers.Worker.{Worker}
-use Rattle.tt_world.specs.Step.{new_worker}
+use Rattle.tt_world.specs.Private.Step.{new_worker}
 use Rattle.tt_world.proofs.Simulation.Fresh.{fresh-machine}
 use Rattle.tt_world.proofs.machines.Machine.in_life.Goals as goal
 

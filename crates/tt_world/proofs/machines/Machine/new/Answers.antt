@@ -1,6 +1,6 @@
 use Rattle.std.proofs.Common.{◌∙◌, ap}
 use Rattle.tt_span.specs.Interval.{Interval}
-use Rattle.tt_world.specs.Step.{machine_in}
+use Rattle.tt_world.specs.Private.Step.{machine_in}
 use Rattle.tt_world.proofs.Simulation.Fresh.{machine_in-first}
 use Rattle.tt_world.proofs.machines.Machine.new.Goals as goal
 

@@ -7,8 +7,8 @@ use Rattle.tt_stamp.specs.declared.commits.Receipt.{Receipt}
 use Rattle.tt_stamp.specs.History.{waiting_of, release_of, with_receipts}
 use Rattle.tt_world.specs.declared.events.Reply.TheVariants.{Released}
 use Rattle.tt_world.specs.contracts.machines.Machine.{the_view}
-use Rattle.tt_world.specs.State.{MachineState}
-use Rattle.tt_world.specs.Step.{Turn, new_worker, worker_at, release_with}
+use Rattle.tt_world.specs.Private.Machine.{MachineState}
+use Rattle.tt_world.specs.Private.Step.{Turn, new_worker, worker_at, release_with}
 use Rattle.tt_world.specs.declared.workers.Worker.{Worker}
 use Rattle.tt_span.specs.Interval.{Interval}
 use Rattle.std.proofs.lemmas.List.{get_or_default}

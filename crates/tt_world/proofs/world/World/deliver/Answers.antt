@@ -2,8 +2,9 @@ use Rattle.std.proofs.Common.{◌≡◌, false, ◌<◌, ◌∙◌, List, refl, 
 use Rattle.std.proofs.lemmas.Option.{slice_get_read}
 use Rattle.tt_world.specs.declared.packets.Packet.{Packet}
 use Rattle.tt_world.specs.Packet.{machine_of_packet, is_asked}
-use Rattle.tt_world.specs.State.{MachineState, WorldState}
-use Rattle.tt_world.specs.Step.{is_back_on, deliver_on}
+use Rattle.tt_world.specs.State.{WorldState}
+use Rattle.tt_world.specs.Private.Machine.{MachineState}
+use Rattle.tt_world.specs.Private.Step.{is_back_on, deliver_on}
 use Rattle.tt_world.specs.contracts.world.World.{the_view}
 use Rattle.tt_world.proofs.Simulation.Turns.{same_item, found_at, deliver_on-taken}
 use Rattle.tt_world.proofs.world.World.deliver.Goals as goal

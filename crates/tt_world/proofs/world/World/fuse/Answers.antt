@@ -2,9 +2,10 @@ use Rattle.std.proofs.Common.{rules, List, map, ap₂, ◌≡◌, false, ◌<◌
 use Rattle.tt_world.specs.declared.publications.Shown.{Shown}
 use Rattle.tt_world.specs.Publications.{Showing}
 use Rattle.tt_world.specs.Trace.{outline}
-use Rattle.tt_world.specs.State.{MachineState, WorldState}
+use Rattle.tt_world.specs.State.{WorldState}
+use Rattle.tt_world.specs.Private.Machine.{MachineState}
 use Rattle.tt_world.specs.declared.faults.WorldFault.TheVariants as bad
-use Rattle.tt_world.specs.Step.{IsRefusal, is_back_on, fuse_on}
+use Rattle.tt_world.specs.Private.Step.{IsRefusal, is_back_on, fuse_on}
 use Rattle.tt_world.specs.Reply.{TakesMemory}
 use Rattle.tt_world.specs.contracts.world.World.{the_view}
 use Rattle.tt_world.proofs.Simulation.Turns.{same_item, found_at, fuse_on-fused, Does-memory, TakesMemory-fuse_on, put_back}

@@ -1,7 +1,8 @@
 use Rattle.std.proofs.Common.{◌≡◌, ◌<◌, ◌≤◌, ◌∙◌, slice_get, Some, length, arith}
 use Rattle.std.proofs.lemmas.Bool.{le-ltb}
 use Rattle.tt_world.specs.Bad.{accepted}
-use Rattle.tt_world.specs.State.{MachineState, WorldState}
+use Rattle.tt_world.specs.State.{WorldState}
+use Rattle.tt_world.specs.Private.Machine.{MachineState}
 use Rattle.tt_world.specs.contracts.world.World.{the_view}
 use Rattle.tt_world.proofs.Simulation.Turns.{found_at}
 use Rattle.tt_world.proofs.Simulation.Knowing.{unknown-beyond, known-there}

@@ -5,7 +5,7 @@ use Rattle.std.specs.List.{range_with_len}
 use Rattle.tt_daemon.specs.Config.{Configuration, IsConfiguration, no_configuration}
 use Rattle.tt_world.specs.Life.{life_at}
 use Rattle.tt_world.specs.Config.{config_at}
-use Rattle.tt_world.specs.State.{MachineState, machine_of}
+use Rattle.tt_world.specs.Private.Machine.{MachineState, machine_of}
 use Rattle.tt_world.proofs.world.World.new.Goals as goal
 
 pub loop-number-preserved : goal.loop-number-preserved

@@ -3,7 +3,7 @@ use Rattle.std.specs.List.{range_with_len}
 use Rattle.tt_daemon.specs.Config.{IsConfiguration}
 use Rattle.tt_world.specs.Life.{life_at}
 use Rattle.tt_world.specs.Config.{config_at}
-use Rattle.tt_world.specs.State.{machine_of}
+use Rattle.tt_world.specs.Private.Machine.{machine_of}
 use Rattle.tt_world.proofs.world.World.new.Given as goal
 
 -- the machines so far know nothing yet, and can be set up so

@@ -3,8 +3,9 @@ use Rattle.tt_poll.specs.Message.{PollRequest2}
 use Rattle.tt_world.specs.declared.events.Reply.TheVariants.{Refused}
 use Rattle.tt_world.specs.declared.packets.Packet.{Packet}
 use Rattle.tt_world.specs.declared.packets.Packet.TheVariants.{Asked}
-use Rattle.tt_world.specs.State.{MachineState, WorldState}
-use Rattle.tt_world.specs.Step.{is_back_on, send_on}
+use Rattle.tt_world.specs.State.{WorldState}
+use Rattle.tt_world.specs.Private.Machine.{MachineState}
+use Rattle.tt_world.specs.Private.Step.{is_back_on, send_on}
 use Rattle.tt_world.specs.contracts.world.World.{the_view}
 use Rattle.tt_world.proofs.Simulation.Turns.{same_item, found_at, send_on-no_source, send_on-back, send_on-sent, send_on-refused, outcome}
 use Rattle.tt_world.proofs.world.World.send.Goals as goal

@@ -1,0 +1,15 @@
+use Rattle.std.proofs.Common.{◌≡◌, ◌∙◌, ap, ap₂, codes}
+use Rattle.std.proofs.lemmas.Result.{IfOk-weaker}
+use Rattle.clap.specs.Simple.{App, Shape, app_of, new_app, with_subcommand}
+use Rattle.ttd_cli.specs.CommandLine.{runs_app, ttd_app}
+use Rattle.ttd_cli.proofs.commands.ttd_command.Goals as goal
+
+pub returns : goal.returns
+unfolding ttd_app
+returns c =
+    let top : App → Shape = λ a. a.top in
+    let with_picture : app_of c.in_ok-with_picture.with_picture ≡ with_subcommand runs_app (new_app (codes "picture")).top =
+    c.in_ok-with_picture.ensures.shape c.plain_command-picture.ensures.local ∙ ap₂ with_subcommand c.in_ok-with_runs.ensures.app (ap top c.plain_command-picture.ensures.app) in
+    record {
+      app = IfOk-weaker c.subcommand-2.result _ _ (λ r h. h.shape c.plain_command-live.ensures.local ∙ ap₂ with_subcommand with_picture (ap top c.plain_command-live.ensures.app)) c.subcommand-2.ensures;
+    }

@@ -1,0 +1,23 @@
+use Rattle.std.proofs.Common.{◌∙◌, ℕ, Option, IsSome, subst}
+use Rattle.std.specs.Str.Parse.{ExplainsUnsignedError, HasUnsignedDigitsIfOk, ParsesUnsigned}
+use Rattle.clap.proofs.WalkLemmas.{one_text-rows}
+use Rattle.clap.specs.Walk.{one_of, rows_of}
+use Rattle.clap.specs.Words.{found_of}
+use Rattle.ttd_cli.proofs.NumberLemmas.{number_read}
+use Rattle.ttd_cli.proofs.words.number_given.Goals as goal
+
+pub unwrap-requires : goal.unwrap-requires
+unwrap-requires c =
+    let f = found_of c.args.matches.now in
+    let id = c.args.id.now in
+    let read = number_read _ (λ bs r. ParsesUnsigned 64 10 bs r × ExplainsUnsignedError 10 bs r × HasUnsignedDigitsIfOk bs r) (λ u x g. g.0)
+    (one_of id (rows_of f)) c.get_one.result (λ t e. c.get_one.ensures.value t (one_text-rows f id ∙ e)) c.requires in
+    subst (λ (o : Option ℕ). IsSome o) read c.requires
+
+pub returns : goal.returns
+returns c =
+    let f = found_of c.args.matches.now in
+    let id = c.args.id.now in
+    let read = number_read _ (λ bs r. ParsesUnsigned 64 10 bs r × ExplainsUnsignedError 10 bs r × HasUnsignedDigitsIfOk bs r) (λ u x g. g.0)
+    (one_of id (rows_of f)) c.get_one.result (λ t e. c.get_one.ensures.value t (one_text-rows f id ∙ e)) c.requires in
+    read ∙ c.unwrap.ensures
