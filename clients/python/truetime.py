@@ -1,4 +1,4 @@
-"""The time with an error bound, read from shared memory.
+"""The time with an error bound, and timestamps for commits, from the time service of this machine.
 
 The time daemon of a machine keeps its last publication in a file of 192 bytes. A client maps that file once and reads
 it as often as it likes, without a lock and without waiting::
@@ -9,16 +9,24 @@ it as often as it likes, without a lock and without waiting::
         now = client.now()
         print(now.earliest_ns, now.latest_ns)   # the true time lies between them, in nanoseconds
 
+Timestamps come from the service itself, over TCP or its Unix socket::
+
+    with truetime.Session(("127.0.0.1", 5601)) as session:
+        stamp = session.begin()      # no other commit of this machine has this timestamp
+        ...                          # write and commit locally, under this timestamp
+        session.wait()               # only now may anybody be told of the commit
+
 Reads version 1 of the format (its first four bytes are TTS1). Needs Linux on a little-endian 64-bit machine, Python 3.9
 or later, and nothing but the standard library.
 """
 import mmap
 import os
+import socket
 import stat
 import struct
 import sys
 import time
-from typing import NamedTuple
+from typing import NamedTuple, Tuple, Union
 
 #: The greatest time and the greatest clock reading, in nanoseconds.
 MAX_TIME_NS = 4_000_000_000_000_000_000
@@ -45,12 +53,17 @@ _MEANINGS = {
     1704: "another publication came during each of the tries",
 }
 
+#: How long a session waits for one reply, and for a commit to be released.
+TIMEOUT_S = 30.0
+#: The pause before a line is sent again.
+_PAUSE_S = 0.001
+
 
 class Refused(Exception):
     """A refusal; ``number`` says which."""
 
     def __init__(self, number: int) -> None:
-        super().__init__(f"refused {number}: {_MEANINGS[number]}")
+        super().__init__(f"refused {number}: {_MEANINGS.get(number, 'see docs/FORMATS.md')}")
         self.number = number
 
 
@@ -72,6 +85,95 @@ class Reading(NamedTuple):
     def before(self, t_ns: int) -> bool:
         """Whether time ``t_ns`` has surely not arrived."""
         return t_ns > self.latest_ns
+
+
+class Interval(NamedTuple):
+    """The true time lies from ``earliest_ns`` to ``latest_ns``, both included."""
+
+    earliest_ns: int
+    latest_ns: int
+
+
+class Session:
+    """A session with the service: one line and its reply at a time, for one thread.
+
+    A call raises :class:`Refused` where the service refuses, and :class:`ConnectionError` or :class:`TimeoutError` where
+    the connection fails. After either of the last two nobody knows whether a commit was begun: close the session.
+    """
+
+    def __init__(self, address: Union[Tuple[str, int], str], timeout_s: float = TIMEOUT_S) -> None:
+        """Connects to a TCP address, or to the Unix socket at a path."""
+        self._timeout_s = timeout_s
+        if isinstance(address, str):
+            self._socket = socket.socket(socket.AF_UNIX)
+            self._socket.settimeout(timeout_s)
+            self._socket.connect(address)
+        else:
+            self._socket = socket.create_connection(address, timeout_s)
+            self._socket.setsockopt(socket.IPPROTO_TCP, socket.TCP_NODELAY, 1)
+        self._replies = self._socket.makefile("rb")
+        self._number = 0
+
+    def close(self) -> None:
+        """Ends the session. A commit that is not released then is never known as released."""
+        self._replies.close()
+        self._socket.close()
+
+    def __enter__(self) -> "Session":
+        return self
+
+    def __exit__(self, *_: object) -> None:
+        self.close()
+
+    def ask(self, line: str) -> str:
+        """Sends one line and gives its reply, both without the line feed. Raises nothing for ``refused N``."""
+        self._socket.sendall(line.encode("ascii") + b"\n")
+        reply = self._replies.readline()
+        if not reply.endswith(b"\n"):
+            raise ConnectionError("the service ended the session")
+        return reply[:-1].decode("ascii")
+
+    def now(self) -> Interval:
+        """The time now."""
+        _, earliest, latest = self._answered("now", "now")
+        return Interval(int(earliest), int(latest))
+
+    def after(self, t_ns: int) -> bool:
+        """Whether time ``t_ns`` has surely passed."""
+        return self._answered(f"after {t_ns}", "yes", "no")[0] == "yes"
+
+    def before(self, t_ns: int) -> bool:
+        """Whether time ``t_ns`` has surely not arrived."""
+        return self._answered(f"before {t_ns}", "yes", "no")[0] == "yes"
+
+    def begin(self, floor_ns: int = 0) -> int:
+        """Begins a commit and gives its timestamp, no less than ``floor_ns``. One commit at a time."""
+        self._number += 1
+        return int(self._answered(f"commit {self._number} {floor_ns}", "waiting", "committed")[2])
+
+    def wait(self) -> int:
+        """Waits until the timestamp of the commit has surely passed, and gives it."""
+        give_up = time.monotonic() + self._timeout_s
+        while True:
+            word, _, stamp = self._answered(f"commit {self._number} 0", "waiting", "committed")
+            if word == "committed":
+                return int(stamp)
+            if time.monotonic() > give_up:
+                raise TimeoutError("the commit is not released in time")
+            time.sleep(_PAUSE_S)
+
+    def commit(self, floor_ns: int = 0) -> int:
+        """Begins a commit, waits for its release, and gives its timestamp."""
+        self.begin(floor_ns)
+        return self.wait()
+
+    def _answered(self, line: str, *words: str) -> "list[str]":
+        reply = self.ask(line).split(" ")
+        if reply[0] == "refused":
+            raise Refused(int(reply[1]))
+        if reply[0] not in words:
+            raise ConnectionError(f"not a reply to {line!r}: {reply!r}")
+        return reply
 
 
 class Publication(NamedTuple):
