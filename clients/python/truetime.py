@@ -21,12 +21,13 @@ or later, and nothing but the standard library.
 """
 import mmap
 import os
+import re
 import socket
 import stat
 import struct
 import sys
 import time
-from typing import NamedTuple, Tuple, Union
+from typing import NamedTuple, NoReturn, Tuple, Union
 
 #: The greatest time and the greatest clock reading, in nanoseconds.
 MAX_TIME_NS = 4_000_000_000_000_000_000
@@ -57,6 +58,10 @@ _MEANINGS = {
 TIMEOUT_S = 30.0
 #: The pause before a line is sent again.
 _PAUSE_S = 0.001
+#: The most bytes of a line and of a reply, without the line feed.
+_LINE_BYTES = 64
+_LINE = re.compile("[ -~]{0,64}")
+_NUMBER = re.compile("0|[1-9][0-9]{0,18}")
 
 
 class Refused(Exception):
@@ -97,27 +102,30 @@ class Interval(NamedTuple):
 class Session:
     """A session with the service: one line and its reply at a time, for one thread.
 
-    A call raises :class:`Refused` where the service refuses, and :class:`ConnectionError` or :class:`TimeoutError` where
-    the connection fails. After either of the last two nobody knows whether a commit was begun: close the session.
+    A call raises :class:`Refused` where the service refuses, and an :class:`OSError` where the connection fails:
+    :class:`TimeoutError` where no reply came in time, :class:`ConnectionError` where the service ended the session or what
+    came is no reply. The session is closed then, and nobody knows whether a commit that was asked for was begun.
     """
 
     def __init__(self, address: Union[Tuple[str, int], str], timeout_s: float = TIMEOUT_S) -> None:
-        """Connects to a TCP address, or to the Unix socket at a path."""
+        """Connects to a TCP address, or to the Unix socket at a path.
+
+        ``timeout_s`` is how long connecting, sending, each receiving and the waiting for a release may take.
+        """
         self._timeout_s = timeout_s
-        if isinstance(address, str):
-            self._socket = socket.socket(socket.AF_UNIX)
-            self._socket.settimeout(timeout_s)
-            self._socket.connect(address)
-        else:
-            self._socket = socket.create_connection(address, timeout_s)
-            self._socket.setsockopt(socket.IPPROTO_TCP, socket.TCP_NODELAY, 1)
-        self._replies = self._socket.makefile("rb")
+        # The last commit that has a timestamp, counted from 1; whether there is one to wait for: "waiting", "committed", "".
         self._number = 0
+        self._stamp_ns = 0
+        self._state = ""
+        try:
+            self._socket = _connected(address, timeout_s)
+        except socket.timeout:
+            raise TimeoutError("no connection in time") from None
 
     def close(self) -> None:
         """Ends the session. A commit that is not released then is never known as released."""
-        self._replies.close()
         self._socket.close()
+        self._state = ""
 
     def __enter__(self) -> "Session":
         return self
@@ -126,54 +134,114 @@ class Session:
         self.close()
 
     def ask(self, line: str) -> str:
-        """Sends one line and gives its reply, both without the line feed. Raises nothing for ``refused N``."""
-        self._socket.sendall(line.encode("ascii") + b"\n")
-        reply = self._replies.readline()
-        if not reply.endswith(b"\n"):
-            raise ConnectionError("the service ended the session")
-        return reply[:-1].decode("ascii")
+        """Sends one line and gives its reply, both without the line feed. Raises nothing for ``refused N``.
+
+        Raises :class:`ValueError` where the line has more than 64 bytes, or a byte that is no printable ASCII.
+        """
+        if not _LINE.fullmatch(line):
+            raise ValueError(f"not a line: {line!r}")
+        self._check_open()
+        try:
+            self._socket.sendall(line.encode("ascii") + b"\n")
+            reply = self._received()
+        except socket.timeout:
+            self.close()
+            raise TimeoutError("no reply in time") from None
+        except BaseException:
+            self.close()
+            raise
+        return reply if _LINE.fullmatch(reply) else self._fail(line, reply)
 
     def now(self) -> Interval:
         """The time now."""
-        _, earliest, latest = self._answered("now", "now")
-        return Interval(int(earliest), int(latest))
+        _, (earliest_ns, latest_ns) = self._answered("now", {"now": 2})
+        if earliest_ns > latest_ns:
+            self._fail("now", f"{earliest_ns} {latest_ns}")
+        return Interval(earliest_ns, latest_ns)
 
     def after(self, t_ns: int) -> bool:
         """Whether time ``t_ns`` has surely passed."""
-        return self._answered(f"after {t_ns}", "yes", "no")[0] == "yes"
+        return self._answered(f"after {t_ns}", {"yes": 0, "no": 0})[0] == "yes"
 
     def before(self, t_ns: int) -> bool:
         """Whether time ``t_ns`` has surely not arrived."""
-        return self._answered(f"before {t_ns}", "yes", "no")[0] == "yes"
+        return self._answered(f"before {t_ns}", {"yes": 0, "no": 0})[0] == "yes"
 
     def begin(self, floor_ns: int = 0) -> int:
-        """Begins a commit and gives its timestamp, no less than ``floor_ns``. One commit at a time."""
-        self._number += 1
-        return int(self._answered(f"commit {self._number} {floor_ns}", "waiting", "committed")[2])
+        """Begins a commit and gives its timestamp, no less than ``floor_ns``.
+
+        One commit at a time: refuses with 1104 before the release of the last one. After another refusal begin again, with
+        the same floor: the service may have begun it.
+        """
+        if self._state == "waiting":
+            raise Refused(1104)
+        self._state = ""
+        self._send_commit(self._number + 1, floor_ns)
+        return self._stamp_ns
 
     def wait(self) -> int:
-        """Waits until the timestamp of the commit has surely passed, and gives it."""
+        """Waits until the timestamp of the commit has surely passed, and gives it.
+
+        Raises :class:`TimeoutError` where that takes longer than the time-out; as after a refusal, the session is still
+        open then, and may wait again. Raises :class:`RuntimeError` where no commit was begun.
+        """
         give_up = time.monotonic() + self._timeout_s
-        while True:
-            word, _, stamp = self._answered(f"commit {self._number} 0", "waiting", "committed")
-            if word == "committed":
-                return int(stamp)
-            if time.monotonic() > give_up:
-                raise TimeoutError("the commit is not released in time")
-            time.sleep(_PAUSE_S)
+        self._check_open()
+        if not self._state:
+            raise RuntimeError("no commit was begun")
+        while self._state == "waiting":
+            self._send_commit(self._number, 0)
+            if self._state == "waiting":
+                if time.monotonic() > give_up:
+                    raise TimeoutError("the commit is not released in time")
+                time.sleep(_PAUSE_S)
+        return self._stamp_ns
 
     def commit(self, floor_ns: int = 0) -> int:
         """Begins a commit, waits for its release, and gives its timestamp."""
         self.begin(floor_ns)
         return self.wait()
 
-    def _answered(self, line: str, *words: str) -> "list[str]":
-        reply = self.ask(line).split(" ")
-        if reply[0] == "refused":
-            raise Refused(int(reply[1]))
-        if reply[0] not in words:
-            raise ConnectionError(f"not a reply to {line!r}: {reply!r}")
-        return reply
+    def _send_commit(self, number: int, floor_ns: int) -> None:
+        """Sends the line of a commit. The timestamp of one that has none so far has to be at least ``floor_ns``."""
+        line = f"commit {number} {floor_ns}"
+        word, (echo, stamp_ns) = self._answered(line, {"waiting": 2, "committed": 2})
+        is_right = stamp_ns == self._stamp_ns if number == self._number else stamp_ns >= floor_ns
+        if echo != number or not is_right:
+            self._fail(line, f"{word} {echo} {stamp_ns}")
+        self._number, self._stamp_ns, self._state = number, stamp_ns, word
+
+    def _answered(self, line: str, words: "dict[str, int]") -> "tuple[str, list[int]]":
+        """The reply as a word and its numbers; each word that is wanted has so many."""
+        reply = self.ask(line)
+        word, *texts = reply.split(" ")
+        if not all(map(_NUMBER.fullmatch, texts)):
+            self._fail(line, reply)
+        numbers = [int(text) for text in texts]
+        if word == "refused" and len(numbers) == 1 and 1 <= numbers[0] <= 65_535:
+            raise Refused(numbers[0])
+        if words.get(word) != len(numbers) or any(number > MAX_TIME_NS for number in numbers):
+            self._fail(line, reply)
+        return word, numbers
+
+    def _received(self) -> str:
+        received = b""
+        while not received.endswith(b"\n"):
+            if len(received) > _LINE_BYTES:
+                raise ConnectionError("the reply is too long")
+            piece = self._socket.recv(_LINE_BYTES + 1 - len(received))
+            if not piece:
+                raise ConnectionError("the service ended the session")
+            received += piece
+        return received[:-1].decode("latin-1")
+
+    def _check_open(self) -> None:
+        if self._socket.fileno() < 0:
+            raise ConnectionError("the session is closed")
+
+    def _fail(self, line: str, reply: str) -> NoReturn:
+        self.close()
+        raise ConnectionError(f"not a reply to {line!r}: {reply!r}")
 
 
 class Publication(NamedTuple):
@@ -257,6 +325,21 @@ class Client:
         except OSError:
             raise Refused(803) from None
         return published.read_at(clock_ns)
+
+
+def _connected(address: Union[Tuple[str, int], str], timeout_s: float) -> socket.socket:
+    if not isinstance(address, str):
+        made = socket.create_connection(address, timeout_s)
+        made.setsockopt(socket.IPPROTO_TCP, socket.TCP_NODELAY, 1)
+        return made
+    made = socket.socket(socket.AF_UNIX)
+    try:
+        made.settimeout(timeout_s)
+        made.connect(address)
+    except BaseException:
+        made.close()
+        raise
+    return made
 
 
 def _is_in_range(published: Publication) -> bool:
