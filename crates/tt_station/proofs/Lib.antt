@@ -1,0 +1,3 @@
+mod Stamping
+mod Receipts
+mod Serving
