@@ -1,3 +1,2 @@
-mod Stamping
 mod Receipts
 mod Serving

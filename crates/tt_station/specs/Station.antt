@@ -1,19 +1,18 @@
 -- The service of one session: each call is calls of the worker's watch and seat, and of the session's book, one after the other.
 use Rattle.std.specs.Prelude.{◌≡◌, ℕ, ◌+◌, ◌<◌, nat_lt, List, [], Bool, true, false, if◌then◌else◌, MatchBool, Option, Some, None, Result, Ok, Err}
-use Rattle.tt_span.specs.Interval.{Interval, Holds}
+use Rattle.tt_span.specs.Interval.{Interval}
 use Rattle.tt_publish.specs.Fault.{read_number_of}
 use Rattle.tt_publish.specs.Known.{WatchState}
 use Rattle.tt_publish.specs.Looks.{Looks}
 use Rattle.tt_publish.specs.declared.faults.ReadFault.{ReadFault}
 use Rattle.tt_stamp.specs.Fault.{number_of as stamp_number_of}
-use Rattle.tt_stamp.specs.Stamp.{IsTooFar, HasNoStamp, IsPastLease}
-use Rattle.tt_stamp.specs.Stamping.{SeatState, Gives, SeatLooks, stamps_of}
+use Rattle.tt_stamp.specs.Stamping.{SeatState}
+use Rattle.tt_stamp.specs.Steps.{Stamps}
 use Rattle.tt_stamp.specs.History.{waiting_of, release_of, with_receipts, receipt_of}
 use Rattle.tt_stamp.specs.declared.commits.Id.{Id}
 use Rattle.tt_stamp.specs.declared.commits.Entry.{Entry}
 use Rattle.tt_stamp.specs.declared.commits.Receipt.{Receipt}
 use Rattle.tt_stamp.specs.declared.faults.StampFault.{StampFault}
-use Rattle.tt_stamp.specs.declared.faults.StampFault.TheVariants.{UsedUp, FloorTooFar, LeaseOver}
 use Rattle.tt_stamp.specs.declared.faults.BookFault.{BookFault}
 use Rattle.tt_session.specs.Desk.{Queues, AnswersQueued}
 use Rattle.tt_session.specs.Session.{Serves, Breaks}
@@ -53,14 +52,6 @@ page_if _ book = book
 abbrev pub book_before : List Entry → List Entry
 book_before book = page_if (waiting_of book) book
 
--- one stamp of a seat, after a reading with this latest: it made of the seat `old` the seat `new`, and answered this
-abbrev pub Stamps : SeatState → ℕ → ℕ → Interval → Result ℕ StampFault → SeatState → Type 0
-Stamps old latest floor lease (Ok stamp) new = Gives old new latest floor lease stamp × Holds lease stamp
-Stamps old latest floor lease (Err FloorTooFar) new = IsTooFar latest floor × (new ≡ old)
-Stamps old latest floor lease (Err UsedUp) new = (¬ IsTooFar latest floor) × SeatLooks old new × HasNoStamp (stamps_of new.seen) latest floor lease
-Stamps old latest floor lease (Err LeaseOver) new = (¬ IsTooFar latest floor) × SeatLooks old new × IsPastLease (stamps_of new.seen) latest floor lease
-Stamps old latest floor lease (Err _) new = ⊥
-
 -- a call that begins with a reading, and then does this with it; the client and the terms stay
 pub record LooksThen {C V : Type 0} (gives : C → Option ℕ → C → Type 0) (failed : C → ℕ) (before : StationState C V) (Then : Result Interval ReadFault → Type 0) (after : StationState C V) : Type 0 where
   pub lease : after.post.lease ≡ before.post.lease
@@ -89,7 +80,7 @@ QueuesStamped before number answer after (Err fault) = (answer ≡ Err (stamp_nu
 -- a commit whose reading was taken is stamped and queued
 abbrev pub CommitsAt : {C V : Type 0} → StationState C V → ℕ → ℕ → Interval → Result ℕ ℕ → StationState C V → Type 0
 CommitsAt before number floor reading answer after =
-    (stamped : Result ℕ StampFault) × Stamps before.post.seat reading.hi floor before.post.lease stamped after.post.seat
+    (stamped : Result ℕ StampFault) × Stamps floor before.post.lease reading before.post.seat stamped after.post.seat
     × QueuesStamped before.book number answer after.book stamped
 
 -- a floor further ahead of the latest than the terms allow is refused

@@ -4,7 +4,8 @@ ghost use Rattle.std.specs.Prelude.{◌≡◌, ◌≢◌, ◌+◌, nat_lt, Err, 
 ghost use Rattle.std.specs.Io.KnownBytes.{IsAtEnd};
 ghost use Rattle.tt_publish.specs.Looks.{Looks};
 ghost use Rattle.tt_session.specs.declared.serving.Served.{Served};
-ghost use Rattle.tt_station.specs.Station.{Stamps, ServesSession, BreaksSession};
+ghost use Rattle.tt_stamp.specs.Steps.{Stamps};
+ghost use Rattle.tt_station.specs.Station.{ServesSession, BreaksSession};
 
 use crate::clients::Presence;
 use crate::stations::Station;
@@ -132,7 +133,7 @@ impl<'a, R: Wait, C: Clock> Post<'a, R, C> {
 
     /// One [`Sequencer::stamp`] in the lease.
     pub(crate) fn stamp(&mut self, reading: &Reading, floor: u64) -> Result<u64, StampFault>
-        ensures stamps { Stamps self.old.seat reading.now.hi floor self.old.lease result self.new.seat }
+        ensures stamps { Stamps floor self.old.lease reading.now self.old.seat result self.new.seat }
         ensures same { self.new ≡ record self.old { seat = self.new.seat } }
     {
         self.sequencer
