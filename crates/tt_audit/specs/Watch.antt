@@ -128,7 +128,7 @@ pub record WatchState : Type 0 where
 
 -- what is kept before the first event
 abbrev pub nothing_watched : WatchState
-nothing_watched = record { packet_note = []; lies = replicate 8 (replicate 16 false); paces = replicate 8 no_moment }
+nothing_watched = record { carried = []; lies = replicate 8 (replicate 16 false); paces = replicate 8 no_moment }
 
 -- what is kept after an event that was not bad, with its reply
 abbrev pub watch_after : List Configuration → WatchState → Event → Reply → WatchState
