@@ -48,6 +48,7 @@ public final class TrueTime {
     private static final Map<Integer, String> MEANINGS = Map.of(
         801, "the daemon has published nothing so far",
         802, "the clock is below that of the publication, or above the greatest time",
+        803, "the clock gave no reading",
         1701, "the file cannot be opened or mapped",
         1702, "not such a file, or of another owner, writable by others, of another boot or another clock",
         1703, "no daemon wrote what stands there",
@@ -64,8 +65,8 @@ public final class TrueTime {
         private static final long serialVersionUID = 1;
         private final int number;
 
-        private Refused(int number) {
-            super("refused " + number + ": " + MEANINGS.get(number), null, false, false);
+        Refused(int number) {
+            super("refused " + number + ": " + MEANINGS.getOrDefault(number, "see docs/FORMATS.md"), null, false, false);
             this.number = number;
         }
 

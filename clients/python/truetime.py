@@ -1,4 +1,4 @@
-"""The time with an error bound, read from shared memory.
+"""The time with an error bound, and timestamps for commits, from the time service of this machine.
 
 The time daemon of a machine keeps its last publication in a file of 192 bytes. A client maps that file once and reads
 it as often as it likes, without a lock and without waiting::
@@ -9,16 +9,25 @@ it as often as it likes, without a lock and without waiting::
         now = client.now()
         print(now.earliest_ns, now.latest_ns)   # the true time lies between them, in nanoseconds
 
+Timestamps come from the service itself, over TCP or its Unix socket::
+
+    with truetime.Session(("127.0.0.1", 5601)) as session:
+        stamp = session.begin()      # no other commit of this machine has this timestamp
+        ...                          # write and commit locally, under this timestamp
+        session.wait()               # only now may anybody be told of the commit
+
 Reads version 1 of the format (its first four bytes are TTS1). Needs Linux on a little-endian 64-bit machine, Python 3.9
 or later, and nothing but the standard library.
 """
 import mmap
 import os
+import re
+import socket
 import stat
 import struct
 import sys
 import time
-from typing import NamedTuple
+from typing import NamedTuple, NoReturn, Tuple, Union
 
 #: The greatest time and the greatest clock reading, in nanoseconds.
 MAX_TIME_NS = 4_000_000_000_000_000_000
@@ -45,12 +54,21 @@ _MEANINGS = {
     1704: "another publication came during each of the tries",
 }
 
+#: How long a session waits for one reply, and for a commit to be released.
+TIMEOUT_S = 30.0
+#: The pause before a line is sent again.
+_PAUSE_S = 0.001
+#: The most bytes of a line and of a reply, without the line feed.
+_LINE_BYTES = 64
+_LINE = re.compile("[ -~]{0,64}")
+_NUMBER = re.compile("0|[1-9][0-9]{0,18}")
+
 
 class Refused(Exception):
     """A refusal; ``number`` says which."""
 
     def __init__(self, number: int) -> None:
-        super().__init__(f"refused {number}: {_MEANINGS[number]}")
+        super().__init__(f"refused {number}: {_MEANINGS.get(number, 'see docs/FORMATS.md')}")
         self.number = number
 
 
@@ -72,6 +90,158 @@ class Reading(NamedTuple):
     def before(self, t_ns: int) -> bool:
         """Whether time ``t_ns`` has surely not arrived."""
         return t_ns > self.latest_ns
+
+
+class Interval(NamedTuple):
+    """The true time lies from ``earliest_ns`` to ``latest_ns``, both included."""
+
+    earliest_ns: int
+    latest_ns: int
+
+
+class Session:
+    """A session with the service: one line and its reply at a time, for one thread.
+
+    A call raises :class:`Refused` where the service refuses, and an :class:`OSError` where the connection fails:
+    :class:`TimeoutError` where no reply came in time, :class:`ConnectionError` where the service ended the session or what
+    came is no reply. The session is closed then, and nobody knows whether a commit that was asked for was begun.
+    """
+
+    def __init__(self, address: Union[Tuple[str, int], str], timeout_s: float = TIMEOUT_S) -> None:
+        """Connects to a TCP address, or to the Unix socket at a path.
+
+        ``timeout_s`` is how long connecting, sending, each receiving and the waiting for a release may take.
+        """
+        self._timeout_s = timeout_s
+        # The last commit that has a timestamp, counted from 1; whether there is one to wait for: "waiting", "committed", "".
+        self._number = 0
+        self._stamp_ns = 0
+        self._state = ""
+        try:
+            self._socket = _connected(address, timeout_s)
+        except socket.timeout:
+            raise TimeoutError("no connection in time") from None
+
+    def close(self) -> None:
+        """Ends the session. A commit that is not released then is never known as released."""
+        self._socket.close()
+        self._state = ""
+
+    def __enter__(self) -> "Session":
+        return self
+
+    def __exit__(self, *_: object) -> None:
+        self.close()
+
+    def ask(self, line: str) -> str:
+        """Sends one line and gives its reply, both without the line feed. Raises nothing for ``refused N``.
+
+        Raises :class:`ValueError` where the line has more than 64 bytes, or a byte that is no printable ASCII.
+        """
+        if not _LINE.fullmatch(line):
+            raise ValueError(f"not a line: {line!r}")
+        self._check_open()
+        try:
+            self._socket.sendall(line.encode("ascii") + b"\n")
+            reply = self._received()
+        except socket.timeout:
+            self.close()
+            raise TimeoutError("no reply in time") from None
+        except BaseException:
+            self.close()
+            raise
+        return reply if _LINE.fullmatch(reply) else self._fail(line, reply)
+
+    def now(self) -> Interval:
+        """The time now."""
+        _, (earliest_ns, latest_ns) = self._answered("now", {"now": 2})
+        if earliest_ns > latest_ns:
+            self._fail("now", f"{earliest_ns} {latest_ns}")
+        return Interval(earliest_ns, latest_ns)
+
+    def after(self, t_ns: int) -> bool:
+        """Whether time ``t_ns`` has surely passed."""
+        return self._answered(f"after {t_ns}", {"yes": 0, "no": 0})[0] == "yes"
+
+    def before(self, t_ns: int) -> bool:
+        """Whether time ``t_ns`` has surely not arrived."""
+        return self._answered(f"before {t_ns}", {"yes": 0, "no": 0})[0] == "yes"
+
+    def begin(self, floor_ns: int = 0) -> int:
+        """Begins a commit and gives its timestamp, no less than ``floor_ns``.
+
+        One commit at a time: refuses with 1104 before the release of the last one. After another refusal begin again, with
+        the same floor: the service may have begun it.
+        """
+        if self._state == "waiting":
+            raise Refused(1104)
+        self._state = ""
+        self._send_commit(self._number + 1, floor_ns)
+        return self._stamp_ns
+
+    def wait(self) -> int:
+        """Waits until the timestamp of the commit has surely passed, and gives it.
+
+        Raises :class:`TimeoutError` where that takes longer than the time-out; as after a refusal, the session is still
+        open then, and may wait again. Raises :class:`RuntimeError` where no commit was begun.
+        """
+        give_up = time.monotonic() + self._timeout_s
+        self._check_open()
+        if not self._state:
+            raise RuntimeError("no commit was begun")
+        while self._state == "waiting":
+            self._send_commit(self._number, 0)
+            if self._state == "waiting":
+                if time.monotonic() > give_up:
+                    raise TimeoutError("the commit is not released in time")
+                time.sleep(_PAUSE_S)
+        return self._stamp_ns
+
+    def commit(self, floor_ns: int = 0) -> int:
+        """Begins a commit, waits for its release, and gives its timestamp."""
+        self.begin(floor_ns)
+        return self.wait()
+
+    def _send_commit(self, number: int, floor_ns: int) -> None:
+        """Sends the line of a commit. The timestamp of one that has none so far has to be at least ``floor_ns``."""
+        line = f"commit {number} {floor_ns}"
+        word, (echo, stamp_ns) = self._answered(line, {"waiting": 2, "committed": 2})
+        is_right = stamp_ns == self._stamp_ns if number == self._number else stamp_ns >= floor_ns
+        if echo != number or not is_right:
+            self._fail(line, f"{word} {echo} {stamp_ns}")
+        self._number, self._stamp_ns, self._state = number, stamp_ns, word
+
+    def _answered(self, line: str, words: "dict[str, int]") -> "tuple[str, list[int]]":
+        """The reply as a word and its numbers; each word that is wanted has so many."""
+        reply = self.ask(line)
+        word, *texts = reply.split(" ")
+        if not all(map(_NUMBER.fullmatch, texts)):
+            self._fail(line, reply)
+        numbers = [int(text) for text in texts]
+        if word == "refused" and len(numbers) == 1 and 1 <= numbers[0] <= 65_535:
+            raise Refused(numbers[0])
+        if words.get(word) != len(numbers) or any(number > MAX_TIME_NS for number in numbers):
+            self._fail(line, reply)
+        return word, numbers
+
+    def _received(self) -> str:
+        received = b""
+        while not received.endswith(b"\n"):
+            if len(received) > _LINE_BYTES:
+                raise ConnectionError("the reply is too long")
+            piece = self._socket.recv(_LINE_BYTES + 1 - len(received))
+            if not piece:
+                raise ConnectionError("the service ended the session")
+            received += piece
+        return received[:-1].decode("latin-1")
+
+    def _check_open(self) -> None:
+        if self._socket.fileno() < 0:
+            raise ConnectionError("the session is closed")
+
+    def _fail(self, line: str, reply: str) -> NoReturn:
+        self.close()
+        raise ConnectionError(f"not a reply to {line!r}: {reply!r}")
 
 
 class Publication(NamedTuple):
@@ -155,6 +325,21 @@ class Client:
         except OSError:
             raise Refused(803) from None
         return published.read_at(clock_ns)
+
+
+def _connected(address: Union[Tuple[str, int], str], timeout_s: float) -> socket.socket:
+    if not isinstance(address, str):
+        made = socket.create_connection(address, timeout_s)
+        made.setsockopt(socket.IPPROTO_TCP, socket.TCP_NODELAY, 1)
+        return made
+    made = socket.socket(socket.AF_UNIX)
+    try:
+        made.settimeout(timeout_s)
+        made.connect(address)
+    except BaseException:
+        made.close()
+        raise
+    return made
 
 
 def _is_in_range(published: Publication) -> bool:

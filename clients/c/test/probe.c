@@ -2,10 +2,15 @@
  *
  *     probe vectors < LINES    for each line `CLOCK LO HI DRIFT NOW`, the reading `EARLIEST LATEST`, or `refused N`
  *     probe open PATH          `published CLOCK LO HI VALID_UNTIL EPOCH NUMBER DRIFT` of the file, or `refused N`
+ *     probe session < CALLS    for each call of a session, what it gives, `refused N`, `timed out`, `invalid` or `failed`.
+ *                              The calls are `open tcp PORT MILLISECONDS`, `open unix PATH MILLISECONDS`, `now`, `after T`,
+ *                              `before T`, `begin FLOOR`, `wait`, `commit FLOOR`, `ask LINE`, `close`
  */
+#include "../truetime_session.h"
+
 #include "../truetime.h"
 
-#include <inttypes.h>
+#include <stdlib.h>
 
 static void print_reading_at(const tt_publication *published, uint64_t now_ns) {
     tt_reading reading;
@@ -40,9 +45,73 @@ static int try_file(const char *path) {
     return 0;
 }
 
+static int open_session(tt_session *session, const char *address) {
+    char kind[5], where[108];
+    int timeout_ms;
+    if (sscanf(address, "%4s %107s %d", kind, where, &timeout_ms) != 3) return -EINVAL;
+    if (strcmp(kind, "unix") == 0) return tt_session_open_unix(session, where, timeout_ms);
+    return tt_session_open_tcp(session, "127.0.0.1", (uint16_t)strtoul(where, NULL, 10), timeout_ms);
+}
+
+/* Makes a call, and prints what it gives into `said`. One that does not answer 0 counts as 0 where what it gives tells a
+ * caller that does not look more than nothing. */
+static int call_session(tt_session *session, const char *name, const char *rest, char said[TT_LINE_BYTES + 1]) {
+    const size_t most = TT_LINE_BYTES + 1;
+    uint64_t number = strtoull(rest, NULL, 10), stamp_ns = 7;
+    tt_interval now = {7, 7};
+    bool is_so = true;
+    int failed = -EINVAL;
+    if (strcmp(name, "ask") == 0) return tt_session_ask(session, rest, said);
+    if (strcmp(name, "now") == 0) {
+        failed = tt_session_now(session, &now);
+        snprintf(said, most, "%" PRIu64 " %" PRIu64, now.earliest_ns, now.latest_ns);
+        return failed == 0 || (now.earliest_ns == 0 && now.latest_ns == TT_MAX_TIME_NS) ? failed : 0;
+    }
+    if (strcmp(name, "after") == 0 || strcmp(name, "before") == 0) {
+        bool is_after = strcmp(name, "after") == 0;
+        failed = is_after ? tt_session_after(session, number, &is_so) : tt_session_before(session, number, &is_so);
+        snprintf(said, most, "%s", is_so ? "yes" : "no");
+        return failed == 0 || !is_so ? failed : 0;
+    }
+    if (strcmp(name, "begin") == 0) failed = tt_session_begin(session, number, &stamp_ns);
+    if (strcmp(name, "wait") == 0) failed = tt_session_wait(session, &stamp_ns);
+    if (strcmp(name, "commit") == 0) failed = tt_session_commit(session, number, &stamp_ns);
+    snprintf(said, most, "%" PRIu64, stamp_ns);
+    return failed == 0 || stamp_ns == 0 ? failed : 0;
+}
+
+static int try_sessions(void) {
+    tt_session session;
+    char call[256], said[TT_LINE_BYTES + 1];
+    memset(&session, 0, sizeof session);
+    session.socket = -1;
+    while (fgets(call, sizeof call, stdin) != NULL) {
+        call[strcspn(call, "\n")] = '\0';
+        size_t length = strcspn(call, " ");
+        const char *rest = call[length] == ' ' ? call + length + 1 : "";
+        call[length] = '\0';
+        int failed = 0;
+        strcpy(said, strcmp(call, "open") == 0 ? "open" : "closed");
+        if (strcmp(call, "open") == 0)
+            failed = open_session(&session, rest);
+        else if (strcmp(call, "close") == 0)
+            tt_session_close(&session);
+        else
+            failed = call_session(&session, call, rest, said);
+        if (failed == 0)
+            puts(said);
+        else if (failed > 0)
+            printf("refused %d\n", failed);
+        else
+            puts(failed == -ETIMEDOUT ? "timed out" : failed == -EINVAL ? "invalid" : "failed");
+    }
+    return 0;
+}
+
 int main(int count, char **words) {
     if (count == 2 && strcmp(words[1], "vectors") == 0) return try_vectors();
     if (count == 3 && strcmp(words[1], "open") == 0) return try_file(words[2]);
-    fprintf(stderr, "usage: probe vectors | probe open PATH\n");
+    if (count == 2 && strcmp(words[1], "session") == 0) return try_sessions();
+    fprintf(stderr, "usage: probe vectors | probe open PATH | probe session\n");
     return 2;
 }

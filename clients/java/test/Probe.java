@@ -1,8 +1,12 @@
 import java.io.BufferedReader;
 import java.io.IOException;
 import java.io.InputStreamReader;
+import java.net.InetSocketAddress;
+import java.net.SocketTimeoutException;
+import java.net.UnixDomainSocketAddress;
 import java.nio.charset.StandardCharsets;
 import java.nio.file.Path;
+import java.time.Duration;
 
 /** What the reader answers, for the tests: as ../../c/test/probe.c. */
 public final class Probe {
@@ -35,13 +39,75 @@ public final class Probe {
         }
     }
 
+    private static Session opened(String address) throws IOException {
+        String[] words = address.split(" ");
+        Duration timeout = Duration.ofMillis(Long.parseLong(words[2]));
+        return words[0].equals("unix")
+            ? Session.connect(UnixDomainSocketAddress.of(words[1]), timeout)
+            : Session.connect(new InetSocketAddress("127.0.0.1", Integer.parseInt(words[1])), timeout);
+    }
+
+    /** What a call of a session gives. */
+    private static String given(Session session, String name, String rest) throws IOException {
+        switch (name) {
+            case "now":
+                Session.Interval now = session.now();
+                return now.earliestNs() + " " + now.latestNs();
+            case "after":
+                return session.after(Long.parseLong(rest)) ? "yes" : "no";
+            case "before":
+                return session.before(Long.parseLong(rest)) ? "yes" : "no";
+            case "begin":
+                return Long.toString(session.begin(Long.parseLong(rest)));
+            case "wait":
+                return Long.toString(session.awaitRelease());
+            case "commit":
+                return Long.toString(session.commit(Long.parseLong(rest)));
+            case "ask":
+                return session.ask(rest);
+            default:
+                session.close();
+                return "closed";
+        }
+    }
+
+    private static void trySessions(BufferedReader calls) throws IOException {
+        Session session = null;
+        for (String call = calls.readLine(); call != null; call = calls.readLine()) {
+            String[] words = call.split(" ", 2);
+            String rest = words.length == 2 ? words[1] : "";
+            String said;
+            try {
+                if (words[0].equals("open")) {
+                    session = opened(rest);
+                    said = "open";
+                } else {
+                    said = given(session, words[0], rest);
+                }
+            } catch (TrueTime.Refused refused) {
+                said = "refused " + refused.number();
+            } catch (SocketTimeoutException late) {
+                said = "timed out";
+            } catch (IOException failed) {
+                said = "failed";
+            } catch (IllegalStateException | IllegalArgumentException invalid) {
+                said = "invalid";
+            }
+            System.out.println(said);
+        }
+    }
+
     public static void main(String[] words) throws IOException {
         if (words.length == 2 && words[0].equals("open")) {
             System.out.println(published(words[1]));
             return;
         }
-        StringBuilder answers = new StringBuilder();
         BufferedReader lines = new BufferedReader(new InputStreamReader(System.in, StandardCharsets.US_ASCII));
+        if (words.length == 1 && words[0].equals("session")) {
+            trySessions(lines);
+            return;
+        }
+        StringBuilder answers = new StringBuilder();
         for (String line = lines.readLine(); line != null; line = lines.readLine()) {
             answers.append(reading(line)).append('\n');
         }

@@ -3,7 +3,9 @@ use std::env;
 use std::fs;
 use std::io::{self, BufWriter, Write};
 use std::os::unix::fs::MetadataExt;
-use truetime::{Client, Publication, Refused};
+use std::time::Duration;
+use truetime::session::Error;
+use truetime::{Client, Publication, Refused, Session};
 
 fn answer_vectors() -> io::Result<()> {
     let mut out = BufWriter::new(io::stdout().lock());
@@ -24,6 +26,57 @@ fn read_file(path: &str) -> Result<Publication, Refused> {
     Client::open(path, user)?.read()
 }
 
+fn open_session(address: &str) -> Result<Session, Error> {
+    let words: Vec<&str> = address.split(' ').collect();
+    let [kind, place, milliseconds] = words[..] else { panic!("three words") };
+    let timeout = Duration::from_millis(milliseconds.parse().expect("a number"));
+    match kind {
+        "unix" => Session::connect_unix(place, timeout),
+        _ => Session::connect_tcp(([127, 0, 0, 1], place.parse::<u16>().expect("a port")), timeout),
+    }
+}
+
+/// Makes a call, and gives what it gives.
+fn call_session(open: &mut Option<Session>, name: &str, rest: &str) -> Result<String, Error> {
+    if name == "open" {
+        *open = Some(open_session(rest)?);
+        return Ok("open".to_string());
+    }
+    let session = open.as_mut().ok_or(Error::NoCommit)?;
+    let number = || rest.parse().expect("a number");
+    let yes_or_no = |answer| String::from(if answer { "yes" } else { "no" });
+    match name {
+        "now" => session.now().map(|now| format!("{} {}", now.earliest_ns, now.latest_ns)),
+        "after" => session.after(number()).map(yes_or_no),
+        "before" => session.before(number()).map(yes_or_no),
+        "begin" => session.begin(number()).map(|stamp| stamp.to_string()),
+        "wait" => session.wait().map(|stamp| stamp.to_string()),
+        "commit" => session.commit(number()).map(|stamp| stamp.to_string()),
+        "ask" => session.ask(rest),
+        _ => {
+            *open = None;
+            Ok("closed".to_string())
+        }
+    }
+}
+
+fn try_sessions() -> io::Result<()> {
+    let mut session = None;
+    for line in io::stdin().lines() {
+        let line = line?;
+        let (name, rest) = line.split_once(' ').unwrap_or((&line, ""));
+        match call_session(&mut session, name, rest) {
+            Ok(said) => println!("{said}"),
+            Err(Error::Refused(number)) => println!("refused {number}"),
+            Err(Error::Failed(error)) if error.kind() == io::ErrorKind::TimedOut => println!("timed out"),
+            Err(Error::Failed(_)) => println!("failed"),
+            Err(Error::NotReleased) => println!("timed out"),
+            Err(Error::NoCommit | Error::BadLine) => println!("invalid"),
+        }
+    }
+    Ok(())
+}
+
 fn main() -> io::Result<()> {
     let words: Vec<String> = env::args().skip(1).collect();
     match words.iter().map(String::as_str).collect::<Vec<_>>()[..] {
@@ -38,6 +91,7 @@ fn main() -> io::Result<()> {
             }
             Ok(())
         }
-        _ => panic!("usage: probe vectors | probe open PATH"),
+        ["session"] => try_sessions(),
+        _ => panic!("usage: probe vectors | probe open PATH | probe session"),
     }
 }

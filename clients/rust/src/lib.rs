@@ -1,4 +1,4 @@
-//! The time with an error bound, read from shared memory.
+//! The time with an error bound, read from shared memory; timestamps for commits are in [`session`].
 //!
 //! The time daemon of a machine keeps its last publication in a file of 192 bytes. A client maps that file once and reads
 //! it as often as it likes, without a lock and without waiting.
@@ -15,6 +15,10 @@
 
 #[cfg(not(all(target_os = "linux", target_endian = "little", target_pointer_width = "64")))]
 compile_error!("truetime needs Linux on a little-endian 64-bit machine");
+
+pub mod session;
+
+pub use session::Session;
 
 use std::ffi::{c_int, c_long, c_void};
 use std::fmt;

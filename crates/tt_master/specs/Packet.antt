@@ -6,7 +6,7 @@ use Rattle.tt_poll.specs.declared.messages.Message.{Message}
 use Rattle.tt_poll.specs.declared.messages.Message.TheVariants as message
 use Rattle.tt_poll.specs.declared.messages.Message2.{Message2}
 use Rattle.tt_poll.specs.declared.messages.Message2.TheVariants as message2
-use Rattle.tt_poll.specs.Message.{PollRequest, PollAnswer, IsAnswer, PollRequest2, PollAnswer2, IsAnswer2}
+use Rattle.tt_poll.specs.Message.{PollRequest, PollAnswer, IsAnswer, answer_to, PollRequest2, PollAnswer2, IsAnswer2, answer_to2}
 use Rattle.tt_poll.specs.Spelling.{spelling_of, spelling_of2}
 use Rattle.tt_poll.specs.Reading.{read_of, read_of2}
 use Rattle.tt_master.specs.declared.faults.MasterFault.{MasterFault}
@@ -47,15 +47,7 @@ request_to source bytes = request_heard source (heard_in heard_as (read_of bytes
 abbrev pub request_to2 : ℕ → List ℕ → Result PollRequest2 MasterFault
 request_to2 source bytes = request_heard source (heard_in heard_as2 (read_of2 bytes))
 
--- the answer to the request that the true time lies in the span
-abbrev pub answer_to : PollRequest → Interval → PollAnswer
-answer_to request span = record { machine = request.machine; source = request.source; nonce = request.nonce; span = span }
-
--- the answer to a request with an epoch: it has the same epoch
-abbrev pub answer_to2 : PollRequest2 → Interval → PollAnswer2
-answer_to2 request span = record { machine = request.machine; source = request.source; nonce = request.nonce; epoch = request.epoch; span = span }
-
--- that answer as a packet
+-- the answer to the request that the true time lies in the span, as a packet
 abbrev pub packet_to : PollRequest → Interval → List ℕ
 packet_to request span = spelling_of (message.Answer (answer_to request span))
 

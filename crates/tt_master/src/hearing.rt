@@ -5,8 +5,8 @@ ghost use Rattle.tt_master.specs.Packet.{heard_as, heard_as2, request_heard, req
 
 use crate::faults::MasterFault;
 use tt_poll::{
-    ANSWER_LEN, ANSWER2_LEN, Answer, Answer2, Message, Message2, Request, Request2, decode,
-    decode2, encode_answer, encode_answer2,
+    ANSWER_LEN, ANSWER2_LEN, Message, Message2, Request, Request2, decode, decode2, encode_answer,
+    encode_answer2,
 };
 use tt_span::Span;
 
@@ -83,20 +83,12 @@ pub(crate) fn request_to2(source: u8, bytes: &[u8]) -> Result<Request2, MasterFa
 pub(crate) fn packet(request: &Request, span: Span) -> [u8; ANSWER_LEN]
     ensures { result ≡ packet_to request.now span }
 {
-    let answer = Answer::new(request.machine(), request.source(), request.nonce(), span);
-    encode_answer(&answer.unwrap())
+    encode_answer(&request.answered(span))
 }
 
 /// The packet that answers the request with the span, in the epoch of the request.
 pub(crate) fn packet2(request: &Request2, span: Span) -> [u8; ANSWER2_LEN]
     ensures { result ≡ packet_to2 request.now span }
 {
-    let answer = Answer2::new(
-        request.machine(),
-        request.source(),
-        request.nonce(),
-        request.epoch(),
-        span,
-    );
-    encode_answer2(&answer.unwrap())
+    encode_answer2(&request.answered(span))
 }

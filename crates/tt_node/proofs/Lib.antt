@@ -2,4 +2,4 @@ pub mod Failing
 pub mod Leading
 pub mod Listing
 pub mod Fusings
-pub mod Reading
+pub mod Pacing

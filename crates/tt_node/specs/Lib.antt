@@ -7,3 +7,4 @@ pub mod Course
 pub mod Making
 pub mod Lists
 pub mod Working
+pub mod Pacing

@@ -2,19 +2,18 @@
 use Rattle.std.specs.Prelude.{◌≡◌, ◌≢◌, ℕ, ◌⊎◌, List, [], ◌∷◌, ◌++◌, Bool, true, false, Option, Some, None, is_some, Result, Ok, Err, IfOk, IfErr, IsOk, IsOkAnd, OnErr}
 use mathlib.Core.List.{IsPrefix}
 use Rattle.tt_stream.specs.Counts.{HasFailed, count_after}
-use Rattle.tt_span.specs.Interval.{Interval, Holds}
+use Rattle.tt_span.specs.Interval.{Interval}
 use Rattle.tt_publish.specs.Fault.{read_number_of}
 use Rattle.tt_publish.specs.Known.{WatchState}
 use Rattle.tt_publish.specs.Looks.{Looks}
 use Rattle.tt_publish.specs.declared.faults.ReadFault.{ReadFault}
-use Rattle.tt_stamp.specs.Fault.{number_of as stamp_number_of, book_number_of}
+use Rattle.tt_stamp.specs.Fault.{begin_number_of, book_number_of}
 use Rattle.tt_stamp.specs.History.{waiting_of, release_of, with_receipts, receipt_of}
-use Rattle.tt_stamp.specs.Stamp.{IsTooFar, HasNoStamp, IsPastLease}
-use Rattle.tt_stamp.specs.Stamping.{SeatState, Gives, SeatLooks, stamps_of}
+use Rattle.tt_stamp.specs.Stamping.{SeatState}
+use Rattle.tt_stamp.specs.Steps.{Stamps, Begins}
 use Rattle.tt_stamp.specs.declared.commits.Id.{Id}
 use Rattle.tt_stamp.specs.declared.commits.Entry.{Entry}
-use Rattle.tt_stamp.specs.declared.faults.StampFault.{StampFault}
-use Rattle.tt_stamp.specs.declared.faults.StampFault.TheVariants.{UsedUp, FloorTooFar, LeaseOver}
+use Rattle.tt_stamp.specs.declared.faults.BeginFault.{BeginFault}
 use Rattle.tt_stamp.specs.declared.faults.BookFault.{BookFault}
 use Rattle.tt_audit.specs.declared.live.LiveNote.{LiveNote}
 use Rattle.tt_node.specs.declared.workers.Step.{Step}
@@ -69,23 +68,14 @@ pub data GivesNone {C G : Type 0} (gives : C → Option ℕ → C → Type 0) (f
   FailedAfter : (first : ℕ) (clock later : C) (reading : Interval) → number ≡ 803 → gives before.clock (Some first) clock
       → Looks gives failed before.watch clock (Ok reading) after.watch later → gives later None after.clock → HasFailed (failed later) (failed after.clock) → GivesNone gives failed before number after
 
--- one stamp of a seat, after a reading with this latest: it made of the seat `old` the seat `new`, and answered this
-abbrev pub Stamps : SeatState → ℕ → ℕ → Interval → Result ℕ StampFault → SeatState → Type 0
-Stamps old latest floor lease (Ok stamp) new = Gives old new latest floor lease stamp × Holds lease stamp
-Stamps old latest floor lease (Err FloorTooFar) new = IsTooFar latest floor × (new ≡ old)
-Stamps old latest floor lease (Err UsedUp) new = (¬ IsTooFar latest floor) × SeatLooks old new × HasNoStamp (stamps_of new.seen) latest floor lease
-Stamps old latest floor lease (Err LeaseOver) new = (¬ IsTooFar latest floor) × SeatLooks old new × IsPastLease (stamps_of new.seen) latest floor lease
-Stamps old latest floor lease (Err _) new = ⊥
+-- the answer to a commit that has begun, and that a book takes which others change too: its stamp, or the number of a refusal of the book; where it has not begun, the number of that refusal
+abbrev pub AnswersBegun : Result ℕ BeginFault → Result ℕ ℕ → Type 0
+AnswersBegun (Ok stamp) answer = (answer ≡ Ok stamp) ⊎ ((fault : BookFault) × (answer ≡ Err (book_number_of fault)))
+AnswersBegun (Err fault) answer = answer ≡ Err (begin_number_of fault)
 
--- the stamp is the answer, or the number of a refusal of the book, which others change too; where there is no stamp, the number of its refusal
-abbrev pub AnswersStamp : Result ℕ StampFault → Result ℕ ℕ → Type 0
-AnswersStamp (Ok stamp) answer = (answer ≡ Ok stamp) ⊎ ((fault : BookFault) × (answer ≡ Err (book_number_of fault)))
-AnswersStamp (Err fault) answer = answer ≡ Err (stamp_number_of fault)
-
--- the answer to a commit whose reading was taken, and to one whose reading was refused
+-- a commit whose reading was taken is stamped by the seat; where it was refused, the seat stays; and this is the answer
 abbrev pub BeginsAt : SeatState → ℕ → Interval → Result Interval ReadFault → Result ℕ ℕ → SeatState → Type 0
-BeginsAt old floor lease (Ok reading) answer new = (stamped : Result ℕ StampFault) × Stamps old reading.hi floor lease stamped new × AnswersStamp stamped answer
-BeginsAt old floor lease (Err fault) answer new = (answer ≡ Err (read_number_of fault)) × (new ≡ old)
+BeginsAt old floor lease looked answer new = (begun : Result ℕ BeginFault) × Begins (Stamps floor lease) looked old begun new × AnswersBegun begun answer
 
 -- a release step on a book: what has surely passed at the reading is released, and told are whether the commit is and the reading's earliest; where the reading was refused, so is the step, and the book stays
 abbrev pub StepsOn : Result Interval ReadFault → List Entry → Id → Result Step ReadFault → List Entry → Type 0

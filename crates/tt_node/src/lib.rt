@@ -7,7 +7,8 @@
 //!
 //! - `links`: the trait `Link`, by which packets are sent and received. `datagrams`: links over UDP, for a daemon and for
 //!   a master.
-//! - `rounds`: `daemon_rounds`, and what one call of it did. `masters`: `master_rounds`.
+//! - `paces`: the trait `Pace`, which says how long a daemon goes on, and one that counts. `rounds`: `daemon_while`,
+//!   `daemon_rounds`, and what one call of them did. `masters`: `master_rounds`.
 //! - `gates`: the trait `Gate`, which may hold the calls of a worker, and one that holds none. `workers`: `Worker`.
 //! - `nodes`: `run_node`, with its clocks, its limits and its end.
 //! - `faults`: what is answered where a call refuses.
@@ -19,6 +20,7 @@ mod gates;
 mod links;
 mod masters;
 mod nodes;
+mod paces;
 mod rounds;
 mod workers;
 
@@ -28,5 +30,6 @@ pub use gates::{Gate, OpenGate};
 pub use links::{Link, PACKET_LEN};
 pub use masters::master_rounds;
 pub use nodes::{Clocks, Limits, NodeEnd, WorkerEnd, run_node};
-pub use rounds::{Rounds, course_laws, daemon_rounds};
+pub use paces::{CountedPace, Pace};
+pub use rounds::{Rounds, course_laws, daemon_rounds, daemon_while};
 pub use workers::{MAX_PAUSE, MAX_TURNS, Worker};

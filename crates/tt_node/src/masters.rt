@@ -7,9 +7,7 @@ use crate::faults::NodeFault;
 use crate::links::{Link, PACKET_LEN};
 use crate::rounds::receive;
 use tt_master::{Act, Master, MasterFault, Reference};
-
-/// The bytes that a packet of TTP2 begins with.
-const TTP2: &[u8] = b"TTP2";
+use tt_poll::Format;
 
 /// Receives `turns` times, and does one act for each request that comes: the first act for the first request, and so
 /// on, and the last one for all further requests. What an act sends goes to the peer that the request came from. It
@@ -56,10 +54,9 @@ fn master_turn<L: Link, R: Reference>(
         return Ok(false);
     };
     let bytes = &buffer[..length];
-    if bytes.starts_with(TTP2) {
-        answer2(link, master, act, peer, bytes)
-    } else {
-        answer(link, master, act, peer, bytes)
+    match Format::of(bytes) {
+        Format::Ttp1 => answer(link, master, act, peer, bytes),
+        Format::Ttp2 => answer2(link, master, act, peer, bytes),
     }
 }
 

@@ -9,9 +9,11 @@ ghost use Rattle.tt_node.specs.Course.{Stand, Part, poll_at, poll_all as polls_a
 ghost use Rattle.tt_node.specs.Lists.{GivesInTurn, Line, MovesInTurn, IsCourse};
 ghost use Rattle.tt_node.specs.declared.faults.NodeFault.{NodeFault};
 ghost use Rattle.tt_node.specs.Making.{Makes, MakesByLink, MakesByMemory, stand_of, answer_of};
+ghost use Rattle.tt_node.specs.Pacing.{LetsBegin, EndsAfter};
 
 use crate::faults::NodeFault;
 use crate::links::{Link, PACKET_LEN};
+use crate::paces::{CountedPace, Pace};
 use std::sync::Wait;
 use tt_daemon::Daemon;
 use tt_publish::{Clock, Teller};
@@ -214,40 +216,47 @@ fn round<R: Wait, L: Link, C: Clock>(
     fuse(rt, daemon, teller, now, counts)
 }
 
-/// So many rounds.
-fn all_rounds<R: Wait, L: Link, C: Clock>(
+/// Rounds, for as long as the pace says so.
+fn paced_rounds<R: Wait, L: Link, C: Clock, P: Pace>(
     rt: &R,
     daemon: &mut Daemon,
     link: &mut L,
     clock: &mut C,
     teller: &mut Teller,
-    rounds: u32,
+    pace: &mut P,
     turns: u32,
     counts: &mut Rounds,
 ) -> Result<(), NodeFault>
     requires done { counts.old.done ≡ 0 }
     requires published { counts.old.published ≡ 0 }
     requires refused { counts.old.refused ≡ 0 }
-    ensures course { Makes C.gives L.does (rounds_of rounds turns) clock.old clock.new link.old link.new
+    ensures course { (rounds : ℕ) × Makes C.gives L.does (rounds_of rounds turns) clock.old clock.new link.old link.new
         (stand_of daemon.old (fusions_in teller.old.items) 0)
-        (stand_of daemon.new (fusions_in teller.new.items) counts.new.refused) result }
+        (stand_of daemon.new (fusions_in teller.new.items) counts.new.refused) result
+        × OnOk result (counts.new.done ≡ rounds) × OnErr result (LetsBegin P.says pace.old rounds pace.new) }
+    ensures paced { OnOk result (EndsAfter P.says pace.old counts.new pace.new) }
     ensures grew { Grows teller.old.items teller.new.items 0 counts.new.published }
     ensures link_fails { FailsBy result NodeFault.LinkFailed (L.failed link.old) (L.failed link.new) }
     ensures clock_fails { FailsBy result NodeFault.ClockFailed (C.failed clock.old) (C.failed clock.new) }
     ensures rounds_fault { IfErr result IsRoundsFault }
-    ensures done { OnOk result (counts.new.done ≡ rounds) }
     ensures source { teller.new.source ≡ teller.old.source }
 {
-    for _ in 0..rounds {
+    for _ in 0..u32::MAX {
+        if !pace.goes_on(daemon, counts) {
+            return Ok(());
+        }
         round(rt, daemon, link, clock, teller, turns, counts)?;
         counts.done += 1;
     }
     Ok(())
 }
 
-/// Does so many rounds. Each reads the clock and polls every source, in the order of their numbers; then receives so
-/// many times, and takes each packet that came at the next reading of the clock; then fuses what is known at the next
-/// reading, and publishes the fusion.
+/// Does rounds, one after the other, for as long as the pace says so, and 2^32 - 1 at most. The pace is asked before
+/// each round, with what was done so far in this call; where it says no, the rounds end.
+///
+/// Each round reads the clock and polls every source, in the order of their numbers; then receives `turns` times, and
+/// takes each packet that came at the next reading of the clock; then fuses what is known at the next reading, and
+/// publishes the fusion.
 ///
 /// A poll that the daemon refuses sends nothing. A packet or a fusion that is refused is counted. A call that receives
 /// nothing is a turn too. Times are in nanoseconds.
@@ -257,6 +266,43 @@ fn all_rounds<R: Wait, L: Link, C: Clock>(
 /// steps before it stand: the daemon has what it took, and what was published stays. The call may be made again.
 ///
 /// It may wait, as `publish` does.
+pub fn daemon_while<R: Wait, L: Link, C: Clock, P: Pace>(
+    rt: &R,
+    daemon: &mut Daemon,
+    link: &mut L,
+    clock: &mut C,
+    teller: &mut Teller,
+    pace: &mut P,
+    turns: u32,
+) -> Result<Rounds, NodeFault>
+    // What was done is the course of some number of rounds, by what the clock, the link and the memory gave in this
+    // call. The pace let each of them begin; where a fault ended them, it ended the last one.
+    ensures course { (rounds refused : ℕ) × Makes C.gives L.does (rounds_of rounds turns) clock.old clock.new link.old link.new
+        (stand_of daemon.old (fusions_in teller.old.items) 0)
+        (stand_of daemon.new (fusions_in teller.new.items) refused) (answer_of result)
+        × IfOk result (λ did. (did.refused ≡ refused) × (did.done ≡ rounds)) × OnErr result (LetsBegin P.says pace.old rounds pace.new) }
+    // Without a fault the pace ended the rounds.
+    ensures paced { IfOk result (λ did. EndsAfter P.says pace.old did pace.new) }
+    // What is published grew, by publications with their certificates.
+    ensures grew { (published : ℕ) × Grows teller.old.items teller.new.items 0 published × IfOk result (λ did. did.published ≡ published) }
+    // A device's fault is answered exactly where it failed.
+    ensures link_fails { FailsBy result NodeFault.LinkFailed (L.failed link.old) (L.failed link.new) }
+    ensures clock_fails { FailsBy result NodeFault.ClockFailed (C.failed clock.old) (C.failed clock.new) }
+    ensures rounds_fault { IfErr result IsRoundsFault }
+    ensures source { teller.new.source ≡ teller.old.source }
+{
+    let mut counts = Rounds {
+        done: 0,
+        published: 0,
+        refused: 0,
+    };
+    match paced_rounds(rt, daemon, link, clock, teller, pace, turns, &mut counts) {
+        Ok(()) => Ok(counts),
+        Err(fault) => Err(fault),
+    }
+}
+
+/// Does `rounds` rounds, as [`daemon_while`] does, with the same refusals.
 pub fn daemon_rounds<R: Wait, L: Link, C: Clock>(
     rt: &R,
     daemon: &mut Daemon,
@@ -280,15 +326,8 @@ pub fn daemon_rounds<R: Wait, L: Link, C: Clock>(
     ensures rounds_fault { IfErr result IsRoundsFault }
     ensures source { teller.new.source ≡ teller.old.source }
 {
-    let mut counts = Rounds {
-        done: 0,
-        published: 0,
-        refused: 0,
-    };
-    match all_rounds(rt, daemon, link, clock, teller, rounds, turns, &mut counts) {
-        Ok(()) => Ok(counts),
-        Err(fault) => Err(fault),
-    }
+    let mut pace = CountedPace { rounds };
+    daemon_while(rt, daemon, link, clock, teller, &mut pace, turns)
 }
 
 /// A law of all parts of the course, the rounds of [`daemon_rounds`] among them: over a clock and a link that keep

@@ -11,6 +11,8 @@ use Rattle.tt_poll.specs.declared.messages.Message.TheVariants.{Request, Answer}
 use Rattle.tt_poll.specs.declared.messages.Message2.{Message2}
 use Rattle.tt_poll.specs.declared.messages.Message2.TheVariants as two
 use Rattle.tt_poll.specs.Message.{max_machine, max_source, PollRequest, IsRequest, PollAnswer, IsAnswer, PollRequest2, IsRequest2, PollAnswer2, IsAnswer2}
+use Rattle.tt_poll.specs.declared.format.Format.TheVariants.{Ttp1, Ttp2}
+use Rattle.tt_poll.specs.Format.{format_of}
 use Rattle.tt_poll.specs.Spelling.{IsMessage, IsMessage2, spelling_of, spelling_of2}
 use Rattle.tt_poll.specs.Reading.{number_at, ends_at, are_no_span, first_poll_fault, first_poll_fault2, read_of, read_of2}
 use Rattle.tt_poll.proofs.Refusing.{read_of-fields, read_of2-fields}
@@ -108,3 +110,14 @@ pub read_of-spelling_of2 : (m : Message2) → read_of (spelling_of2 m) ≡ Err L
 unfolding spelling_of2 read_of first_poll_fault
 read_of-spelling_of2 (two.Request r) = refl
 read_of-spelling_of2 (two.Answer a) = refl
+
+-- the spelling of a message is read in its format
+pub format_of-spelling_of : (m : Message) → format_of (spelling_of m) ≡ Ttp1
+unfolding spelling_of
+format_of-spelling_of (Request r) = refl
+format_of-spelling_of (Answer a) = refl
+
+pub format_of-spelling_of2 : (m : Message2) → format_of (spelling_of2 m) ≡ Ttp2
+unfolding spelling_of2
+format_of-spelling_of2 (two.Request r) = refl
+format_of-spelling_of2 (two.Answer a) = refl

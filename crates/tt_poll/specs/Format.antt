@@ -1,5 +1,6 @@
 -- The two formats of poll messages: TTP1, and TTP2, whose messages have an epoch too.
-use Rattle.std.specs.Prelude.{ℕ, ◌+◌, List, codes, ◌==◌, if◌then◌else◌}
+use Rattle.std.specs.Prelude.{ℕ, ◌+◌, List, codes, ◌==◌, nat_eq, if◌then◌else◌}
+use Rattle.std.specs.List.{starts_with}
 use Rattle.tt_poll.specs.declared.format.Format.{Format}
 use Rattle.tt_poll.specs.declared.format.Format.TheVariants.{Ttp1, Ttp2}
 
@@ -7,6 +8,10 @@ use Rattle.tt_poll.specs.declared.format.Format.TheVariants.{Ttp1, Ttp2}
 abbrev pub magic_of : Format → List ℕ
 magic_of Ttp1 = codes "TTP1"
 magic_of Ttp2 = codes "TTP2"
+
+-- the format in which bytes are read: TTP2 where they begin with its four bytes, else TTP1
+abbrev pub format_of : List ℕ → Format
+format_of bytes = if starts_with nat_eq bytes (magic_of Ttp2) then Ttp2 else Ttp1
 
 -- how many bytes a request has
 abbrev pub request_len_of : Format → ℕ

@@ -44,6 +44,10 @@ pub record IsAnswer (a : PollAnswer) : Type 0 where
   pub poll : IsPoll a.machine a.source a.nonce
   pub span_in : IsInterval a.span
 
+-- the answer to the request that the true time lies in the span
+abbrev pub answer_to : PollRequest → Interval → PollAnswer
+answer_to request span = record { machine = request.machine; source = request.source; nonce = request.nonce; span = span }
+
 -- a request that also names the machine's life, its epoch
 pub record PollRequest2 : Type 0 where
   pub machine : ℕ
@@ -69,3 +73,7 @@ pub record IsAnswer2 (a : PollAnswer2) : Type 0 where
   pub poll : IsPoll a.machine a.source a.nonce
   pub epoch_in : IsEpoch a.epoch
   pub span_in : IsInterval a.span
+
+-- the answer to a request with an epoch: it has the same epoch
+abbrev pub answer_to2 : PollRequest2 → Interval → PollAnswer2
+answer_to2 request span = record { machine = request.machine; source = request.source; nonce = request.nonce; epoch = request.epoch; span = span }

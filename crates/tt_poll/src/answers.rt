@@ -1,7 +1,7 @@
 //! Answers, with their ranges in their type.
 
 ghost use Rattle.std.specs.Prelude.{◌≡◌, ◌<◌, ◌≤◌, ◌↔◌, ◌⊎◌, IsOk, IfOk, IsErrOf};
-ghost use Rattle.tt_poll.specs.Message.{max_machine, max_source, PollRequest, PollAnswer, IsAnswer};
+ghost use Rattle.tt_poll.specs.Message.{max_machine, max_source, PollRequest, PollAnswer, IsAnswer, answer_to};
 
 use crate::faults::PollFault;
 use crate::requests::Request;
@@ -28,6 +28,21 @@ impl Model for Answer {
     ghost inverse = { λ a. record { request = record { machine = a.machine; source = a.source; nonce = a.nonce }; span = a.span } };
 }
 
+impl Request {
+    /// The answer to this request that the true time lies in `span`: it has the machine, the source and the nonce of
+    /// the request.
+    pub fn answered(&self, span: Span) -> Answer
+        ensures value { result ≡ answer_to self.now span }
+    {
+        prove!(self.nonce() > 0);
+        prove!(span.lo() <= span.hi());
+        Answer {
+            request: *self,
+            span,
+        }
+    }
+}
+
 impl Answer {
     /// The answer of `source` to `machine` under `nonce`, that the true time lies in `span`. Refuses, in this
     /// order: 205 `Number` where the machine is above 7 or the source is above 15, 206 `Nonce` where the nonce
@@ -39,16 +54,7 @@ impl Answer {
         ensures no_nonce { IsErrOf result PollFault.Nonce ↔ ((machine ≤ max_machine) × (source ≤ max_source) × (nonce ≡ 0)) }
     {
         let request = Request::new(machine, source, nonce)?;
-        Ok(Answer::to_request(request, span))
-    }
-
-    /// The answer to `request` that the true time lies in `span`.
-    pub(crate) fn to_request(request: Request, span: Span) -> Answer
-        ensures { result ≡ record { machine = request.machine; source = request.source; nonce = request.nonce; span = span } }
-    {
-        prove!(request.nonce() > 0);
-        prove!(span.lo() <= span.hi());
-        Answer { request, span }
+        Ok(request.answered(span))
     }
 
     /// The request that is answered.

@@ -1,7 +1,7 @@
 //! Answers with an epoch, with their ranges in their type.
 
 ghost use Rattle.std.specs.Prelude.{◌≡◌, ◌<◌, ◌≤◌, ◌↔◌, ◌⊎◌, IsOk, IfOk, IsErrOf};
-ghost use Rattle.tt_poll.specs.Message.{max_machine, max_source, PollRequest2, PollAnswer2, IsAnswer2};
+ghost use Rattle.tt_poll.specs.Message.{max_machine, max_source, PollRequest2, PollAnswer2, IsAnswer2, answer_to2};
 
 use crate::faults::PollFault;
 use crate::requests2::Request2;
@@ -28,6 +28,21 @@ impl Model for Answer2 {
     ghost inverse = { λ a. record { request = record { machine = a.machine; source = a.source; nonce = a.nonce; epoch = a.epoch }; span = a.span } };
 }
 
+impl Request2 {
+    /// The answer to this request that the true time lies in `span`: it has the machine, the source, the nonce and the
+    /// epoch of the request.
+    pub fn answered(&self, span: Span) -> Answer2
+        ensures value { result ≡ answer_to2 self.now span }
+    {
+        prove!(self.nonce() > 0);
+        prove!(span.lo() <= span.hi());
+        Answer2 {
+            request: *self,
+            span,
+        }
+    }
+}
+
 impl Answer2 {
     /// The answer of `source` to `machine` under `nonce` in the life `epoch`, that the true time lies in `span`.
     /// Refuses, in this order: 205 `Number` where the machine is above 7 or the source is above 15, 206 `Nonce` where
@@ -46,16 +61,7 @@ impl Answer2 {
         ensures no_epoch { IsErrOf result PollFault.Epoch ↔ ((machine ≤ max_machine) × (source ≤ max_source) × (0 < nonce) × (epoch ≡ 0)) }
     {
         let request = Request2::new(machine, source, nonce, epoch)?;
-        Ok(Answer2::to_request(request, span))
-    }
-
-    /// The answer to `request` that the true time lies in `span`.
-    pub(crate) fn to_request(request: Request2, span: Span) -> Answer2
-        ensures { result ≡ record { machine = request.machine; source = request.source; nonce = request.nonce; epoch = request.epoch; span = span } }
-    {
-        prove!(request.nonce() > 0);
-        prove!(span.lo() <= span.hi());
-        Answer2 { request, span }
+        Ok(request.answered(span))
     }
 
     /// The request that is answered.

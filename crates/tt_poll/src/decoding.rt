@@ -4,12 +4,10 @@ ghost use Rattle.std.specs.Prelude.{◌≡◌, ◌+◌, ◌≤◌, ◌↔◌, �
 ghost use Rattle.tt_poll.specs.declared.messages.Message.{Message};
 ghost use Rattle.tt_poll.specs.declared.messages.Message2.{Message2};
 ghost use Rattle.tt_poll.specs.declared.faults.PollFault.{PollFault};
-ghost use Rattle.tt_poll.specs.Format.{kind_of, request_len_of, answer_len_of};
+ghost use Rattle.tt_poll.specs.Format.{format_of, kind_of, request_len_of, answer_len_of};
 ghost use Rattle.tt_poll.specs.Spelling.{IsMessage, IsMessage2, spelling_of, spelling_of2};
 ghost use Rattle.tt_poll.specs.Reading.{IsBytes, number_at as number_at_place, ends_at, are_no_span, head_read_of, first_poll_fault, read_of, first_poll_fault2, read_of2};
 
-use crate::answers::Answer;
-use crate::answers2::Answer2;
 use crate::faults::PollFault;
 use crate::format::{ANSWER_KIND, Format, REQUEST_KIND, REQUEST_LEN, REQUEST2_LEN};
 use crate::messages::{Message, Message2};
@@ -78,7 +76,7 @@ fn read(bytes: &[u8]) -> Result<Message, PollFault>
         return Ok(Message::Request(request));
     }
     let span = span_at(bytes, REQUEST_LEN)?;
-    Ok(Message::Answer(Answer::to_request(request, span)))
+    Ok(Message::Answer(request.answered(span)))
 }
 
 /// The message of TTP2 whose fields the bytes have, or the first refusal.
@@ -92,7 +90,7 @@ fn read2(bytes: &[u8]) -> Result<Message2, PollFault>
         return Ok(Message2::Request(request));
     }
     let span = span_at(bytes, REQUEST2_LEN)?;
-    Ok(Message2::Answer(Answer2::to_request(request, span)))
+    Ok(Message2::Answer(request.answered(span)))
 }
 
 /// The message of TTP1 whose spelling the bytes are. Refuses, in this order: 201 `Length` where the length is neither
@@ -137,12 +135,13 @@ pub fn one_spelling2()
 {}
 
 /// What bytes say in TTP1: the message of which they are the spelling, and else the first refusal that applies. The
-/// spelling of a message is always bytes.
+/// spelling of a message is always bytes, which are read in TTP1.
 pub fn reading_laws()
     ensures found { (bytes : List ℕ) (m : Message) → IsBytes bytes → read_of bytes ≡ Ok m → IsMessage m × (bytes ≡ spelling_of m) }
     ensures taken { (m : Message) → IsMessage m → read_of (spelling_of m) ≡ Ok m }
     ensures refused { (bytes : List ℕ) (e : PollFault) → (read_of bytes ≡ Err e) ↔ (first_poll_fault bytes ≡ Some e) }
     ensures bytes { (m : Message) → IsMessage m → IsBytes (spelling_of m) }
+    ensures format { (m : Message) → format_of (spelling_of m) ≡ Format.Ttp1 }
 {}
 
 /// The same of TTP2; and no message of one format is one of the other.
@@ -153,4 +152,5 @@ pub fn reading_laws2()
     ensures bytes { (m : Message2) → IsMessage2 m → IsBytes (spelling_of2 m) }
     ensures no_first_format { (m : Message) → read_of2 (spelling_of m) ≡ Err PollFault.Length }
     ensures no_second_format { (m : Message2) → read_of (spelling_of2 m) ≡ Err PollFault.Length }
+    ensures format { (m : Message2) → format_of (spelling_of2 m) ≡ Format.Ttp2 }
 {}

@@ -20,12 +20,12 @@
 //!
 //! Each message has one spelling. [`encode_request`] and [`encode_answer`] write it; [`decode`] gives a message
 //! back exactly where the bytes are its spelling, and else the first refusal that applies. [`encode_request2`],
-//! [`encode_answer2`] and [`decode2`] are the same for TTP2.
+//! [`encode_answer2`] and [`decode2`] are the same for TTP2. [`Format::of`] tells in which of the two bytes are read.
 //!
 //! - `requests`: requests, and the greatest numbers of machines and sources. `answers`: answers. `requests2` and
 //!   `answers2`: the same of TTP2.
 //! - `messages`: `Message` and `Message2`, each of which is a request or an answer.
-//! - `format`: how long messages are, what they begin with, and their kinds.
+//! - `format`: the two formats: how long their messages are, what they begin with, and their kinds.
 //! - `encoding`: requests and answers as bytes.
 //! - `decoding`: bytes as messages, and what is known of spellings.
 //! - `faults`: why bytes are not a message.
@@ -48,7 +48,7 @@ pub use answers2::Answer2;
 pub use decoding::{decode, decode2, one_spelling, one_spelling2, reading_laws, reading_laws2};
 pub use encoding::{encode_answer, encode_answer2, encode_request, encode_request2};
 pub use faults::PollFault;
-pub use format::{ANSWER_LEN, ANSWER2_LEN, REQUEST_LEN, REQUEST2_LEN};
+pub use format::{ANSWER_LEN, ANSWER2_LEN, Format, REQUEST_LEN, REQUEST2_LEN};
 pub use messages::{Message, Message2};
 pub use requests::{MAX_MACHINE, MAX_SOURCE, Request};
 pub use requests2::Request2;

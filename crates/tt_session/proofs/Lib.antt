@@ -5,3 +5,4 @@ pub mod Releasing
 pub mod Hearing
 pub mod Stepping
 pub mod Spelling
+pub mod Asking

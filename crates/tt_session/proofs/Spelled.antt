@@ -1,5 +1,5 @@
 -- Numbers that a line can hold.
-use Rattle.std.proofs.Common.{ℕ, ◌≤◌, [], ◌∷◌, arith}
+use Rattle.std.proofs.Common.{ℕ, [], ◌∷◌, arith}
 use Rattle.std.proofs.lemmas.List.Elements.{All-cons, All-nil}
 use Rattle.tt_text.specs.Reading.{AreNumbers, IsNumber}
 

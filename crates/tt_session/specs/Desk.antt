@@ -1,17 +1,17 @@
 -- The service of one thread: each call is calls of a watch, a row of stamps and a book, one after the other.
-use Rattle.std.specs.Prelude.{◌≡◌, ℕ, List, ◌∷◌, Bool, is_some, MatchOption, Option, Some, Result, Ok, Err, IfOk, OnOk, OnErr, IsOkUnless}
+use Rattle.std.specs.Prelude.{◌≡◌, ℕ, List, ◌∷◌, Bool, is_some, MatchOption, Option, Result, Ok, Err, OnOk, OnErr, IsOkUnless}
 use Rattle.tt_span.specs.Interval.{Interval}
 use Rattle.tt_publish.specs.Fault.{read_number_of}
 use Rattle.tt_publish.specs.Known.{WatchState}
 use Rattle.tt_publish.specs.Looks.{Looks}
 use Rattle.tt_publish.specs.declared.faults.ReadFault.{ReadFault}
-use Rattle.tt_stamp.specs.Fault.{number_of, book_number_of}
-use Rattle.tt_stamp.specs.Stamp.{stamp_of, greatest_of}
+use Rattle.tt_stamp.specs.Fault.{begin_number_of, book_number_of}
+use Rattle.tt_stamp.specs.Steps.{StampsRow, Begins}
 use Rattle.tt_stamp.specs.History.{waiting_of, release_of, with_receipts, receipt_of, first_queue_fault}
 use Rattle.tt_stamp.specs.declared.commits.Id.{Id}
 use Rattle.tt_stamp.specs.declared.commits.Entry.{Entry}
 use Rattle.tt_stamp.specs.declared.commits.Entry.TheVariants.{Queued}
-use Rattle.tt_stamp.specs.declared.faults.StampFault.{StampFault}
+use Rattle.tt_stamp.specs.declared.faults.BeginFault.{BeginFault}
 use Rattle.tt_stamp.specs.declared.faults.BookFault.{BookFault}
 use Rattle.tt_stamp.specs.declared.faults.BookFault.TheVariants.{Memory}
 use Rattle.tt_session.specs.declared.calls.Call.{Call}
@@ -29,13 +29,6 @@ pub record DeskState (C : Type 0) : Type 0 where
 -- the id of the commit with this number
 abbrev pub id_at : {C : Type 0} → DeskState C → ℕ → Id
 id_at desk number = record { session = desk.session; number = number }
-
--- one stamp of a row: it made of the row `old` the row `new`, and answered this
-pub record Stamps (old : Option ℕ) (reading : Interval) (floor : ℕ) (lease : Interval) (answer : Result ℕ StampFault) (new : Option ℕ) : Type 0 where
-  -- whatever stamps were given before, as long as the row's value is the greatest of them
-  pub value : (given : List ℕ) → greatest_of given ≡ old → answer ≡ stamp_of given reading.hi floor lease
-  pub last : IfOk answer (λ stamp. new ≡ Some stamp)
-  pub err : OnErr answer (new ≡ old)
 
 -- one queueing in a book: it made of the book `old` the book `new`, and answered this
 pub record Queues (old : List Entry) (id : Id) (stamp : ℕ) (answer : Result (Unit {0}) BookFault) (new : List Entry) : Type 0 where
@@ -62,17 +55,16 @@ abbrev pub AnswersQueued : ℕ → Result ℕ ℕ → Result (Unit {0}) BookFaul
 AnswersQueued stamp answer (Ok done) = answer ≡ Ok stamp
 AnswersQueued stamp answer (Err fault) = answer ≡ Err (book_number_of fault)
 
--- a commit that has its stamp is queued; where it has none, the number of the refusal is the answer
-abbrev pub QueuesStamped : {C : Type 0} → DeskState C → ℕ → Result ℕ ℕ → DeskState C → Result ℕ StampFault → Type 0
-QueuesStamped before number answer after (Ok stamp) =
+-- a commit that has begun is queued; where it has not, the number of the refusal is the answer
+abbrev pub QueuesBegun : {C : Type 0} → DeskState C → ℕ → Result ℕ ℕ → DeskState C → Result ℕ BeginFault → Type 0
+QueuesBegun before number answer after (Ok stamp) =
     (queued : Result (Unit {0}) BookFault) × Queues before.book (id_at before number) stamp queued after.book × AnswersQueued stamp answer queued
-QueuesStamped before number answer after (Err fault) = (answer ≡ Err (number_of fault)) × (after.book ≡ before.book)
+QueuesBegun before number answer after (Err fault) = (answer ≡ Err (begin_number_of fault)) × (after.book ≡ before.book)
 
--- a commit whose reading was taken is stamped and queued; where there is none, the number of the refusal is the answer
+-- a commit whose reading was taken is stamped by the row and queued; where there is no reading, the row stays
 abbrev pub BeginsAt : {C : Type 0} → DeskState C → ℕ → ℕ → Result ℕ ℕ → DeskState C → Result Interval ReadFault → Type 0
-BeginsAt before number floor answer after (Ok reading) =
-    (stamped : Result ℕ StampFault) × Stamps before.row reading floor before.lease stamped after.row × QueuesStamped before number answer after stamped
-BeginsAt before number floor answer after (Err fault) = (answer ≡ Err (read_number_of fault)) × (after.row ≡ before.row) × (after.book ≡ before.book)
+BeginsAt before number floor answer after looked =
+    (begun : Result ℕ BeginFault) × Begins (StampsRow floor before.lease) looked before.row begun after.row × QueuesBegun before number answer after begun
 
 -- what has surely passed at the reading is released, and the answer is whether the commit is; where there is no reading, the number of the refusal
 abbrev pub PassesAt : {C : Type 0} → DeskState C → ℕ → Result Bool ℕ → DeskState C → Result Interval ReadFault → Type 0

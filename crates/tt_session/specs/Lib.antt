@@ -7,3 +7,5 @@ pub mod Answers
 pub mod Session
 pub mod Talks
 pub mod Desk
+pub mod Deadline
+pub mod Timed

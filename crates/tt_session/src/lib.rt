@@ -12,11 +12,14 @@
 //! - `answers`: which calls a request takes, and the reply to it; `begun`: what is kept of the last commit.
 //! - `talks`: from bytes to lines. `serving`: `serve`, with its faults in `faults`.
 //! - `desks`: `Desk`.
+//! - `timed`: devices whose calls may end before anything came. `deadlines`: a reader and a writer over them, that end
+//!   a session at a time of its clock.
 #![tactic(auto)]
 
 mod answers;
 mod begun;
 mod calls;
+mod deadlines;
 mod desks;
 mod faults;
 mod replies;
@@ -24,12 +27,15 @@ mod requests;
 mod services;
 mod serving;
 mod talks;
+mod timed;
 
 pub use begun::Begun;
 pub use calls::Call;
+pub use deadlines::{Deadline, DeadlineReader, DeadlineWriter};
 pub use desks::Desk;
 pub use faults::{LineFault, ServeFault};
 pub use replies::LineReply;
 pub use requests::{Request, request_laws};
 pub use services::Service;
 pub use serving::{Served, Turns, line_laws, serve};
+pub use timed::{Timed, TimedReader, TimedWriter};

@@ -63,6 +63,11 @@ pub record IsSameSeat (old new : SeatState) : Type 0 where
   pub legal : IsLegalRun new.seats new.seen
   pub mine : entries_of new.numbers new.seen ≡ new.own
 
+-- what the seat has seen is legal, and has just its own entries under its numbers
+pub record IsLegalSeat (seat : SeatState) : Type 0 where
+  pub legal : IsLegalRun seat.seats seat.seen
+  pub mine : entries_of seat.numbers seat.seen ≡ seat.own
+
 -- the seat has looked: it may have seen more, and gave no stamp
 pub record SeatLooks (old new : SeatState) : Type 0 where
   pub same : IsSameSeat old new

@@ -6,6 +6,7 @@ ghost use Rattle.tt_span.specs.Time.{max_time};
 ghost use Rattle.tt_span.specs.Interval.{Holds};
 ghost use Rattle.tt_stamp.specs.Stamp.{IsTooFar, HasNoStamp, IsPastLease, least_above};
 ghost use Rattle.tt_stamp.specs.Stamping.{IsLegalRun, SeatLooks, Gives, Unites, new_seat, stamps_of, last_of, is_in, entries_of, max_seats};
+ghost use Rattle.tt_stamp.specs.Steps.{Stamps};
 ghost use Rattle.tt_stamp.specs.Sequencing.{joined_view};
 ghost use Rattle.tt_stamp.specs.declared.stampings.Stamping.{Stamping};
 
@@ -117,15 +118,7 @@ impl Sequencer {
         lease: &Span,
     ) -> Result<u64, StampFault>
         requires { seat.old.table ≡ self.now }
-        ensures given { IfOk result (λ s. Gives seat.old seat.new reading.now.hi floor lease.now s) }
-        ensures in_lease { IfOk result (λ s. Holds lease.now s) }
-        ensures too_far { IsErrOf result StampFault.FloorTooFar ↔ IsTooFar reading.now.hi floor }
-        ensures too_far_keeps { IsTooFar reading.now.hi floor → seat.new ≡ seat.old }
-        ensures used_up { IsErrOf result StampFault.UsedUp →
-            SeatLooks seat.old seat.new × HasNoStamp (stamps_of seat.new.seen) reading.now.hi floor lease.now }
-        ensures lease_over { IsErrOf result StampFault.LeaseOver →
-            SeatLooks seat.old seat.new × IsPastLease (stamps_of seat.new.seen) reading.now.hi floor lease.now }
-        ensures faults { IfErr result (λ e. (e ≡ StampFault.FloorTooFar) ⊎ (e ≡ StampFault.UsedUp) ⊎ (e ≡ StampFault.LeaseOver)) }
+        ensures stamps { Stamps floor lease.now reading.now seat.old result seat.new }
         ensures legal { IsLegalRun seat.new.seats seat.new.seen }
         ensures mine { entries_of seat.new.numbers seat.new.seen ≡ seat.new.own }
     {

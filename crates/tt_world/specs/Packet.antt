@@ -2,6 +2,7 @@
 use Rattle.std.specs.Prelude.{ℕ, Bool, true, false, List, [], ◌∷◌, Option, Some}
 use Rattle.tt_span.specs.Interval.{Interval}
 use Rattle.tt_poll.specs.declared.messages.Message2.TheVariants.{Request, Answer}
+use Rattle.tt_poll.specs.Message.{answer_to2}
 use Rattle.tt_poll.specs.Spelling.{spelling_of2}
 use Rattle.tt_world.specs.declared.packets.Packet.{Packet}
 use Rattle.tt_world.specs.declared.packets.Packet.TheVariants.{Asked, Answered, Forged}
@@ -31,6 +32,5 @@ is_asked _ = false
 
 -- the answer of this span to a packet, if that is there and is a request
 abbrev pub answer_to : Option Packet → Interval → List Packet
-answer_to (Some (Asked request)) span =
-    Answered (record { machine = request.machine; source = request.source; nonce = request.nonce; epoch = request.epoch; span = span }) ∷ []
+answer_to (Some (Asked request)) span = Answered (answer_to2 request span) ∷ []
 answer_to _ span = []

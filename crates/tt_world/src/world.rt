@@ -22,7 +22,7 @@ use crate::workers::Arrival;
 use std::alloc::Global;
 use std::marker::Model;
 use tt_daemon::Config;
-use tt_poll::{Answer2, Request2};
+use tt_poll::Request2;
 use tt_span::{MAX_TIME, Span};
 
 /// How many machines a run has at most.
@@ -151,14 +151,7 @@ impl World {
         let Some(Packet::Asked(request)) = self.packets.get(packet as usize) else {
             return Err(WorldFault::NoPacket);
         };
-        let answer = Answer2::new(
-            request.machine(),
-            request.source(),
-            request.nonce(),
-            request.epoch(),
-            span,
-        )
-        .unwrap();
+        let answer = request.answered(span);
         let number = self.packets.len() as u64;
         self.packets.push(Packet::Answered(answer))?;
         self.time = at;

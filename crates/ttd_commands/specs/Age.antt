@@ -1,14 +1,17 @@
 -- What `age` answers to its words and its input.
 use Rattle.std.specs.Prelude.{ℕ, List, [], ◌∷◌, ◌++◌, ◌-◌, length, take, nat_eq, nat_lt, ◌||◌, Result, Ok, Err, codes, decimal, if◌then◌else◌}
-use Rattle.std.specs.List.{starts_with, ends_with}
+use Rattle.std.specs.List.{ends_with}
 use Rattle.hex.specs.Hex.{decode_of}
 use Rattle.tt_span.specs.Time.{max_time}
 use Rattle.tt_span.specs.Interval.{Interval}
+use Rattle.tt_poll.specs.declared.format.Format.{Format}
+use Rattle.tt_poll.specs.declared.format.Format.TheVariants.{Ttp1, Ttp2}
 use Rattle.tt_poll.specs.declared.messages.Message.{Message}
 use Rattle.tt_poll.specs.declared.messages.Message.TheVariants.{Request, Answer}
 use Rattle.tt_poll.specs.declared.messages.Message2.{Message2}
 use Rattle.tt_poll.specs.declared.messages.Message2.TheVariants as two
 use Rattle.tt_poll.specs.declared.faults.PollFault.{PollFault}
+use Rattle.tt_poll.specs.Format.{format_of}
 use Rattle.tt_poll.specs.Reading.{read_of, read_of2}
 use Rattle.tt_source.specs.declared.faults.SourceFault.TheVariants.{ClockBack, NotMine}
 use Rattle.tt_source.specs.Statement.{statement_at}
@@ -39,9 +42,14 @@ answered_in2 (Ok (two.Answer answer)) = Ok answer.span
 answered_in2 (Ok (two.Request request)) = Err (Source NotMine)
 answered_in2 (Err fault) = Err (Poll fault)
 
--- The span of the answer that the bytes spell, in TTP2 where they begin with its name, else in TTP1.
+-- The span of the answer that the bytes spell in a format.
+abbrev pub answer_span_in : Format → List ℕ → Result Interval Fault
+answer_span_in Ttp1 bytes = answered_in (read_of bytes)
+answer_span_in Ttp2 bytes = answered_in2 (read_of2 bytes)
+
+-- The span of the answer that the bytes spell, in the format in which they are read.
 abbrev pub answer_span_of : List ℕ → Result Interval Fault
-answer_span_of bytes = if starts_with nat_eq bytes (codes "TTP2") then answered_in2 (read_of2 bytes) else answered_in (read_of bytes)
+answer_span_of bytes = answer_span_in (format_of bytes) bytes
 
 -- The aged span of an answer, or its refusal.
 abbrev pub aged_answer : Ageing → Result Interval Fault → Result Interval Fault

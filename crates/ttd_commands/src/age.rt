@@ -10,7 +10,7 @@ ghost use Rattle.ttd_commands.specs.Command.{HasReply};
 use crate::faults::Fault;
 use hex::FromHexError;
 use std::alloc::Global;
-use tt_poll::{Message, Message2, decode, decode2};
+use tt_poll::{Format, Message, Message2, decode, decode2};
 use tt_source::{SourceFault, Statement};
 use tt_span::{Drift, Span};
 
@@ -38,22 +38,22 @@ fn without_line_feed(text: &[u8]) -> &[u8]
     }
 }
 
-/// The span of the answer that the bytes spell: in TTP2 where they begin with its name, else in TTP1. What is not a
-/// message is refused with the decoder's number, a request with 405.
+/// The span of the answer that the bytes spell, in the format in which they are read. What is not a message is refused
+/// with the decoder's number, a request with 405.
 fn answer_span_of(bytes: &[u8]) -> Result<Span, Fault>
     ensures value { result ≡ answered_of bytes.now }
     ensures no_device { result ≢ Err Fault.ReadFailed }
     ensures no_run { (live : LiveFault) → result ≢ Err (Fault.Live live) }
 {
-    if bytes.starts_with(b"TTP2") {
-        return match decode2(bytes).map_err(Fault::Poll)? {
+    match Format::of(bytes) {
+        Format::Ttp1 => match decode(bytes).map_err(Fault::Poll)? {
+            Message::Answer(answer) => Ok(answer.span()),
+            Message::Request(_) => Err(Fault::Source(SourceFault::NotMine)),
+        },
+        Format::Ttp2 => match decode2(bytes).map_err(Fault::Poll)? {
             Message2::Answer(answer) => Ok(answer.span()),
             Message2::Request(_) => Err(Fault::Source(SourceFault::NotMine)),
-        };
-    }
-    match decode(bytes).map_err(Fault::Poll)? {
-        Message::Answer(answer) => Ok(answer.span()),
-        Message::Request(_) => Err(Fault::Source(SourceFault::NotMine)),
+        },
     }
 }
 

@@ -1,7 +1,7 @@
 use Rattle.tt_poll.proofs.Bytes.{IsBytes-spelling_of2}
 use Rattle.tt_poll.proofs.Refusing.{read_of2-refused}
 use Rattle.tt_poll.proofs.Finding.{spelling_of2-read}
-use Rattle.tt_poll.proofs.Taking.{read_of2-spelling_of2, read_of2-spelling_of, read_of-spelling_of2}
+use Rattle.tt_poll.proofs.Taking.{read_of2-spelling_of2, read_of2-spelling_of, read_of-spelling_of2, format_of-spelling_of2}
 use Rattle.tt_poll.proofs.decoding.reading_laws2.Goals as goal
 
 pub returns-clause-found : goal.returns-clause-found
@@ -21,3 +21,6 @@ returns-clause-no_first_format c = read_of2-spelling_of
 
 pub returns-clause-no_second_format : goal.returns-clause-no_second_format
 returns-clause-no_second_format c = read_of-spelling_of2
+
+pub returns-clause-format : goal.returns-clause-format
+returns-clause-format c = format_of-spelling_of2

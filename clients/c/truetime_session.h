@@ -1,0 +1,293 @@
+/* truetime_session.h: the time with an error bound, and timestamps for commits, from the time service of this machine.
+ *
+ *     tt_session session;
+ *     uint64_t stamp_ns;
+ *     if (tt_session_open_tcp(&session, "127.0.0.1", 5601, 30000) != 0) ...
+ *     if (tt_session_begin(&session, 0, &stamp_ns) != 0) ...   no other commit of this machine has this timestamp
+ *     ...                                                      write and commit locally, under this timestamp
+ *     if (tt_session_wait(&session, &stamp_ns) != 0) ...       only now may anybody be told of the commit
+ *     tt_session_close(&session);
+ *
+ * Calls answer 0, the number of a refusal, which is above 0, or the negative of an error number where the connection
+ * fails: -ECONNRESET where the service ended it, -ETIMEDOUT where no reply came in time, -EPROTO where what came is no
+ * reply, or that of the system. The session is closed then, and all later calls answer -ENOTCONN; nobody knows whether a
+ * commit that was asked for was begun. A caller that does not look is told nothing wrong: a call that does not answer 0
+ * gives the interval of all times, false, or the timestamp 0.
+ *
+ * A session is for one thread, and takes no memory but its own. Needs POSIX and GCC or Clang: C11 or later (-std=gnu11, or
+ * -std=c11 -D_POSIX_C_SOURCE=200809L), or C++17.
+ */
+#ifndef TRUETIME_SESSION_H
+#define TRUETIME_SESSION_H
+
+#include <arpa/inet.h>
+#include <errno.h>
+#include <inttypes.h>
+#include <netinet/in.h>
+#include <netinet/tcp.h>
+#include <stdbool.h>
+#include <stddef.h>
+#include <stdint.h>
+#include <stdio.h>
+#include <string.h>
+#include <sys/socket.h>
+#include <sys/time.h>
+#include <sys/types.h>
+#include <sys/un.h>
+#include <time.h>
+#include <unistd.h>
+
+#ifdef __cplusplus
+extern "C" {
+#endif
+
+/* The greatest time, in nanoseconds. */
+#define TT_MAX_TIME_NS UINT64_C(4000000000000000000)
+
+/* The most bytes of a line and of a reply, without the line feed; and of a number that is at most the greatest time. */
+enum { TT_LINE_BYTES = 64, TT_NUMBER_DIGITS = 19 };
+
+/* The refusal of a commit before the one that was begun is known as released. */
+enum { TT_COMMIT_PENDING = 1104 };
+
+/* The true time lies in [earliest_ns, latest_ns], both ends included. */
+typedef struct tt_interval {
+    uint64_t earliest_ns, latest_ns;
+} tt_interval;
+
+typedef enum tt_commit_state { TT_NO_COMMIT, TT_WAITING, TT_COMMITTED } tt_commit_state;
+
+/* A session. Set it by tt_session_open_tcp or tt_session_open_unix. */
+typedef struct tt_session {
+    int socket; /* below 0: not open */
+    int timeout_ms;
+    uint64_t number, stamp_ns; /* the last commit that has a timestamp, counted from 1, and its timestamp */
+    tt_commit_state state;     /* whether there is a commit to wait for */
+} tt_session;
+
+/* Ends the session; a commit that is not released by then is never known as released. One that is not open stays so. */
+static inline void tt_session_close(tt_session *session) {
+    if (session->socket >= 0) close(session->socket);
+    session->socket = -1;
+    session->state = TT_NO_COMMIT;
+}
+
+/* Closes a session whose connection failed. */
+static inline int tt_session_failed(tt_session *session, int error) {
+    tt_session_close(session);
+    return error == EAGAIN || error == EWOULDBLOCK || error == EINPROGRESS ? -ETIMEDOUT : -error;
+}
+
+/* Connects to an address; NULL is none. */
+static inline int tt_session_open(tt_session *session, const struct sockaddr *address, socklen_t length, int timeout_ms) {
+    struct timeval timeout;
+    memset(session, 0, sizeof *session);
+    session->socket = -1;
+    session->timeout_ms = timeout_ms;
+    if (address == NULL || timeout_ms <= 0) return -EINVAL;
+    timeout.tv_sec = timeout_ms / 1000;
+    timeout.tv_usec = timeout_ms % 1000 * 1000;
+    session->socket = socket(address->sa_family, SOCK_STREAM | SOCK_CLOEXEC, 0);
+    if (session->socket < 0) return -errno;
+    /* The time-out for sending is that of connecting, too. */
+    if (setsockopt(session->socket, SOL_SOCKET, SO_SNDTIMEO, &timeout, sizeof timeout) != 0 ||
+        setsockopt(session->socket, SOL_SOCKET, SO_RCVTIMEO, &timeout, sizeof timeout) != 0 ||
+        connect(session->socket, address, length) != 0)
+        return tt_session_failed(session, errno);
+    return 0;
+}
+
+/* Connects to an IPv4 address in digits, as "127.0.0.1". `timeout_ms` is how long connecting, sending, each receiving and
+ * the waiting for a release may take, above 0. Answers -EINVAL where an argument is wrong. */
+static inline int tt_session_open_tcp(tt_session *session, const char *host, uint16_t port, int timeout_ms) {
+    struct sockaddr_in address;
+    int at_once = 1;
+    memset(&address, 0, sizeof address);
+    address.sin_family = AF_INET;
+    address.sin_port = htons(port);
+    const struct sockaddr *valid = inet_pton(AF_INET, host, &address.sin_addr) == 1 ? (struct sockaddr *)&address : NULL;
+    int failed = tt_session_open(session, valid, sizeof address, timeout_ms);
+    if (failed == 0) setsockopt(session->socket, IPPROTO_TCP, TCP_NODELAY, &at_once, sizeof at_once);
+    return failed;
+}
+
+/* Connects to the Unix socket at this path, as tt_session_open_tcp. */
+static inline int tt_session_open_unix(tt_session *session, const char *path, int timeout_ms) {
+    struct sockaddr_un address;
+    size_t length = strlen(path);
+    memset(&address, 0, sizeof address);
+    address.sun_family = AF_UNIX;
+    if (length >= sizeof address.sun_path) return tt_session_open(session, NULL, 0, timeout_ms);
+    memcpy(address.sun_path, path, length);
+    return tt_session_open(session, (const struct sockaddr *)&address, sizeof address, timeout_ms);
+}
+
+static inline int tt_session_send(tt_session *session, const char *bytes, size_t length) {
+    while (length > 0) {
+        ssize_t sent = send(session->socket, bytes, length, MSG_NOSIGNAL);
+        if (sent < 0 && errno == EINTR) continue;
+        if (sent < 0) return tt_session_failed(session, errno);
+        bytes += sent;
+        length -= (size_t)sent;
+    }
+    return 0;
+}
+
+static inline int tt_session_receive(tt_session *session, char reply[TT_LINE_BYTES + 1]) {
+    size_t length = 0;
+    while (length == 0 || reply[length - 1] != '\n') {
+        if (length > TT_LINE_BYTES) return tt_session_failed(session, EPROTO);
+        ssize_t received = recv(session->socket, reply + length, TT_LINE_BYTES + 1 - length, 0);
+        if (received < 0 && errno == EINTR) continue;
+        if (received <= 0) return tt_session_failed(session, received < 0 ? errno : ECONNRESET);
+        length += (size_t)received;
+    }
+    reply[--length] = '\0';
+    for (size_t place = 0; place < length; place++)
+        if (reply[place] < ' ' || reply[place] > '~') return tt_session_failed(session, EPROTO);
+    return 0;
+}
+
+/* Sends one line and gives its reply, both without the line feed; `refused N` is a reply like another. Answers -EINVAL
+ * where the line has more than 64 bytes or a line feed, and then nothing was sent. */
+static inline int tt_session_ask(tt_session *session, const char *line, char reply[TT_LINE_BYTES + 1]) {
+    char bytes[TT_LINE_BYTES + 1];
+    size_t length = strlen(line);
+    reply[0] = '\0';
+    if (session->socket < 0) return -ENOTCONN;
+    if (length > TT_LINE_BYTES || strchr(line, '\n') != NULL) return -EINVAL;
+    memcpy(bytes, line, length);
+    bytes[length] = '\n';
+    int failed = tt_session_send(session, bytes, length + 1);
+    return failed != 0 ? failed : tt_session_receive(session, reply);
+}
+
+/* Takes a space and a number off a reply, and gives what is behind; NULL where something else stands there. A number has
+ * one spelling, and is at most the greatest time. */
+static inline const char *tt_take_number(const char *rest, uint64_t *number) {
+    if (*rest != ' ') return NULL;
+    const char *digit = ++rest;
+    *number = 0;
+    while (digit - rest < TT_NUMBER_DIGITS && *digit >= '0' && *digit <= '9')
+        *number = *number * 10 + (uint64_t)(*digit++ - '0');
+    bool is_spelling = digit - rest == 1 || (digit != rest && *rest != '0');
+    return is_spelling && *number <= TT_MAX_TIME_NS ? digit : NULL;
+}
+
+/* Whether a reply is this word and so many numbers. */
+static inline bool tt_is_reply(const char *reply, const char *word, int count, uint64_t *numbers) {
+    size_t length = strlen(word);
+    if (strncmp(reply, word, length) != 0) return false;
+    reply += length;
+    for (int place = 0; place < count && reply != NULL; place++) reply = tt_take_number(reply, &numbers[place]);
+    return reply != NULL && *reply == '\0';
+}
+
+/* Sends one line and gives its reply, which is not that of a refusal. */
+static inline int tt_session_question(tt_session *session, const char *line, char reply[TT_LINE_BYTES + 1]) {
+    uint64_t number;
+    int failed = tt_session_ask(session, line, reply);
+    if (failed == 0 && tt_is_reply(reply, "refused", 1, &number) && number >= 1 && number <= UINT16_MAX) return (int)number;
+    return failed;
+}
+
+/* The time now; where it does not answer 0, the interval of all times. */
+static inline int tt_session_now(tt_session *session, tt_interval *now) {
+    char reply[TT_LINE_BYTES + 1];
+    uint64_t numbers[2];
+    now->earliest_ns = 0;
+    now->latest_ns = TT_MAX_TIME_NS;
+    int failed = tt_session_question(session, "now", reply);
+    if (failed != 0) return failed;
+    if (!tt_is_reply(reply, "now", 2, numbers) || numbers[0] > numbers[1]) return tt_session_failed(session, EPROTO);
+    now->earliest_ns = numbers[0];
+    now->latest_ns = numbers[1];
+    return 0;
+}
+
+static inline int tt_session_compare(tt_session *session, const char *word, uint64_t t_ns, bool *is_so) {
+    char line[TT_LINE_BYTES + 1], reply[TT_LINE_BYTES + 1];
+    *is_so = false;
+    snprintf(line, sizeof line, "%s %" PRIu64, word, t_ns);
+    int failed = tt_session_question(session, line, reply);
+    if (failed != 0) return failed;
+    *is_so = strcmp(reply, "yes") == 0;
+    return *is_so || strcmp(reply, "no") == 0 ? 0 : tt_session_failed(session, EPROTO);
+}
+
+/* Whether time t has surely passed. */
+static inline int tt_session_after(tt_session *session, uint64_t t_ns, bool *has_passed) {
+    return tt_session_compare(session, "after", t_ns, has_passed);
+}
+
+/* Whether time t has surely not arrived. */
+static inline int tt_session_before(tt_session *session, uint64_t t_ns, bool *is_ahead) {
+    return tt_session_compare(session, "before", t_ns, is_ahead);
+}
+
+/* Sends the line of a commit. The timestamp of one that has none so far has to be at least `floor_ns`. */
+static inline int tt_session_send_commit(tt_session *session, uint64_t number, uint64_t floor_ns) {
+    char line[TT_LINE_BYTES + 1], reply[TT_LINE_BYTES + 1];
+    uint64_t numbers[2] = {0, 0}; /* the commit and its timestamp */
+    snprintf(line, sizeof line, "commit %" PRIu64 " %" PRIu64, number, floor_ns);
+    int failed = tt_session_question(session, line, reply);
+    if (failed != 0) return failed;
+    bool is_committed = tt_is_reply(reply, "committed", 2, numbers);
+    bool is_reply = is_committed || tt_is_reply(reply, "waiting", 2, numbers);
+    bool is_right = number == session->number ? numbers[1] == session->stamp_ns : numbers[1] >= floor_ns;
+    if (!is_reply || numbers[0] != number || !is_right) return tt_session_failed(session, EPROTO);
+    session->number = number;
+    session->stamp_ns = numbers[1];
+    session->state = is_committed ? TT_COMMITTED : TT_WAITING;
+    return 0;
+}
+
+/* Begins a commit and gives its timestamp, no less than `floor_ns`. One commit at a time: refuses with 1104 before the
+ * release of the last one. After another refusal begin again, with the same floor: the service may have begun it. */
+static inline int tt_session_begin(tt_session *session, uint64_t floor_ns, uint64_t *stamp_ns) {
+    *stamp_ns = 0;
+    if (session->state == TT_WAITING) return TT_COMMIT_PENDING;
+    session->state = TT_NO_COMMIT;
+    int failed = tt_session_send_commit(session, session->number + 1, floor_ns);
+    if (failed == 0) *stamp_ns = session->stamp_ns;
+    return failed;
+}
+
+/* The machine's clock in milliseconds. */
+static inline int64_t tt_session_clock_ms(void) {
+    struct timespec now;
+    clock_gettime(CLOCK_MONOTONIC, &now);
+    return (int64_t)now.tv_sec * 1000 + now.tv_nsec / 1000000;
+}
+
+/* Waits until the timestamp of the commit has surely passed, and gives it. Answers -ETIMEDOUT where that takes longer than
+ * the time-out; as after a refusal, the session is still open then, and may wait again. Answers -EINVAL where no commit
+ * was begun. */
+static inline int tt_session_wait(tt_session *session, uint64_t *stamp_ns) {
+    const struct timespec pause = {0, 1000000};
+    int64_t give_up_ms = tt_session_clock_ms() + session->timeout_ms;
+    *stamp_ns = 0;
+    if (session->socket < 0) return -ENOTCONN;
+    if (session->state == TT_NO_COMMIT) return -EINVAL;
+    while (session->state == TT_WAITING) {
+        int failed = tt_session_send_commit(session, session->number, 0);
+        if (failed != 0) return failed;
+        if (session->state == TT_COMMITTED) break;
+        if (tt_session_clock_ms() > give_up_ms) return -ETIMEDOUT;
+        nanosleep(&pause, NULL);
+    }
+    *stamp_ns = session->stamp_ns;
+    return 0;
+}
+
+/* Begins a commit, waits for its release, and gives its timestamp, as tt_session_begin and tt_session_wait. */
+static inline int tt_session_commit(tt_session *session, uint64_t floor_ns, uint64_t *stamp_ns) {
+    int failed = tt_session_begin(session, floor_ns, stamp_ns);
+    return failed != 0 ? failed : tt_session_wait(session, stamp_ns);
+}
+
+#ifdef __cplusplus
+}
+#endif
+
+#endif

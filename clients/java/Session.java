@@ -1,0 +1,275 @@
+import java.io.EOFException;
+import java.io.IOException;
+import java.io.InterruptedIOException;
+import java.net.SocketAddress;
+import java.net.SocketTimeoutException;
+import java.net.StandardSocketOptions;
+import java.net.UnixDomainSocketAddress;
+import java.nio.ByteBuffer;
+import java.nio.channels.ClosedChannelException;
+import java.nio.channels.SelectionKey;
+import java.nio.channels.Selector;
+import java.nio.channels.SocketChannel;
+import java.nio.charset.StandardCharsets;
+import java.time.Duration;
+import java.util.Map;
+import java.util.regex.Pattern;
+
+/**
+ * The time with an error bound, and timestamps for commits, by a session with the time service of this machine:
+ *
+ * <pre>{@code
+ * var address = new InetSocketAddress("127.0.0.1", 5601); // or UnixDomainSocketAddress.of(path)
+ * try (Session session = Session.connect(address, Duration.ofSeconds(30))) {
+ *     long stampNs = session.begin(0); // no other commit of this machine has this timestamp
+ *     // write and commit locally, under this timestamp
+ *     session.awaitRelease(); // only now may anybody be told of the commit
+ * }
+ * }</pre>
+ *
+ * <p>A session has one line and its reply at a time, and is for one thread. A call throws {@link TrueTime.Refused} where the
+ * service refuses, and an {@link IOException} where the connection fails: {@link SocketTimeoutException} where no reply came
+ * in time, {@link EOFException} where the service ended the session. The session is closed then, and nobody knows whether
+ * a commit that was asked for was begun.
+ */
+public final class Session implements AutoCloseable {
+    /** The most bytes of a line and of a reply, without the line feed. */
+    private static final int LINE_BYTES = 64;
+    private static final int COMMIT_PENDING = 1104;
+    private static final long PAUSE_MS = 1;
+    private static final Pattern LINE = Pattern.compile("[ -~]{0,64}");
+    private static final Pattern NUMBER = Pattern.compile("0|[1-9][0-9]{0,18}");
+    private static final Map<String, Integer> YES_OR_NO = Map.of("yes", 0, "no", 0);
+    private static final Map<String, Integer> COMMITTED_OR_WAITING = Map.of("committed", 2, "waiting", 2);
+
+    private enum State { NO_COMMIT, WAITING, COMMITTED }
+
+    private final SocketChannel channel;
+    private final Selector selector;
+    private final Duration timeout;
+    /** The last commit that has a timestamp, counted from 1, and its timestamp. */
+    private long number;
+    private long stampNs;
+    private State state = State.NO_COMMIT;
+
+    private Session(SocketChannel channel, Selector selector, Duration timeout) {
+        this.channel = channel;
+        this.selector = selector;
+        this.timeout = timeout;
+    }
+
+    /** The true time lies from earliestNs to latestNs, both included. */
+    public record Interval(long earliestNs, long latestNs) {}
+
+    private record Reply(String word, long[] numbers) {}
+
+    /**
+     * Connects to a TCP address or a Unix socket. The time-out is how long connecting, sending, each receiving and the
+     * waiting for a release may take, at least a millisecond; connecting to a Unix socket has none.
+     */
+    public static Session connect(SocketAddress address, Duration timeout) throws IOException {
+        int timeoutMs = Math.toIntExact(timeout.toMillis());
+        if (timeoutMs <= 0) {
+            throw new IllegalArgumentException("a time-out below a millisecond");
+        }
+        boolean isUnix = address instanceof UnixDomainSocketAddress;
+        SocketChannel channel = isUnix ? SocketChannel.open(address) : SocketChannel.open();
+        try {
+            if (!isUnix) {
+                channel.socket().connect(address, timeoutMs);
+                channel.setOption(StandardSocketOptions.TCP_NODELAY, true);
+            }
+            channel.configureBlocking(false);
+            Selector selector = Selector.open();
+            channel.register(selector, SelectionKey.OP_READ);
+            return new Session(channel, selector, timeout);
+        } catch (IOException | RuntimeException failed) {
+            channel.close();
+            throw failed;
+        }
+    }
+
+    /** Ends the session. A commit that is not released then is never known as released. */
+    @Override
+    public void close() throws IOException {
+        state = State.NO_COMMIT;
+        try (selector) {
+            channel.close();
+        }
+    }
+
+    /**
+     * Sends one line and gives its reply, both without the line feed; {@code refused N} is a reply like another. Throws
+     * {@link IllegalArgumentException} where the line has more than 64 bytes, or a byte that is no printable ASCII.
+     */
+    public String ask(String line) throws IOException {
+        if (!LINE.matcher(line).matches()) {
+            throw new IllegalArgumentException("not a line: " + line);
+        }
+        try {
+            send(line + "\n");
+            String reply = receive();
+            if (!LINE.matcher(reply).matches()) {
+                throw new IOException("not a reply to " + line);
+            }
+            return reply;
+        } catch (IOException failed) {
+            close();
+            throw failed;
+        }
+    }
+
+    /** The time now. */
+    public Interval now() throws IOException {
+        long[] numbers = answered("now", Map.of("now", 2)).numbers;
+        if (numbers[0] > numbers[1]) {
+            throw closed("now");
+        }
+        return new Interval(numbers[0], numbers[1]);
+    }
+
+    /** Whether time {@code tNs} has surely passed. */
+    public boolean after(long tNs) throws IOException {
+        return answered("after " + tNs, YES_OR_NO).word.equals("yes");
+    }
+
+    /** Whether time {@code tNs} has surely not arrived. */
+    public boolean before(long tNs) throws IOException {
+        return answered("before " + tNs, YES_OR_NO).word.equals("yes");
+    }
+
+    /**
+     * Begins a commit and gives its timestamp, no less than {@code floorNs}. One commit at a time: refuses with 1104 before
+     * the release of the last one. After another refusal begin again, with the same floor: the service may have begun it.
+     */
+    public long begin(long floorNs) throws IOException {
+        if (state == State.WAITING) {
+            throw new TrueTime.Refused(COMMIT_PENDING);
+        }
+        state = State.NO_COMMIT;
+        sendCommit(number + 1, floorNs);
+        return stampNs;
+    }
+
+    /**
+     * Waits until the timestamp of the commit has surely passed, and gives it. Throws {@link SocketTimeoutException} where
+     * that takes longer than the time-out; as after a refusal, the session is still open then, and may wait again. Throws
+     * {@link IllegalStateException} where no commit was begun.
+     */
+    public long awaitRelease() throws IOException {
+        long began = System.nanoTime();
+        if (!channel.isOpen()) {
+            throw new ClosedChannelException();
+        }
+        if (state == State.NO_COMMIT) {
+            throw new IllegalStateException("no commit was begun");
+        }
+        while (state == State.WAITING) {
+            sendCommit(number, 0);
+            if (state == State.WAITING) {
+                if (System.nanoTime() - began > timeout.toNanos()) {
+                    throw new SocketTimeoutException("the commit is not released in time");
+                }
+                pause();
+            }
+        }
+        return stampNs;
+    }
+
+    /** Begins a commit, waits for its release, and gives its timestamp, as {@link #begin} and {@link #awaitRelease}. */
+    public long commit(long floorNs) throws IOException {
+        begin(floorNs);
+        return awaitRelease();
+    }
+
+    /** Sends the line of a commit. The timestamp of one that has none so far has to be at least {@code floorNs}. */
+    private void sendCommit(long commit, long floorNs) throws IOException {
+        String line = "commit " + commit + " " + floorNs;
+        Reply reply = answered(line, COMMITTED_OR_WAITING);
+        long stamp = reply.numbers[1];
+        boolean isRight = commit == number ? stamp == stampNs : stamp >= floorNs;
+        if (reply.numbers[0] != commit || !isRight) {
+            throw closed(line);
+        }
+        number = commit;
+        stampNs = stamp;
+        state = reply.word.equals("committed") ? State.COMMITTED : State.WAITING;
+    }
+
+    /** The reply as a word and its numbers; each word that is wanted has so many. */
+    private Reply answered(String line, Map<String, Integer> wanted) throws IOException {
+        String[] words = ask(line).split(" ", -1);
+        long[] numbers = new long[words.length - 1];
+        for (int place = 0; place < numbers.length; place++) {
+            numbers[place] = number(line, words[place + 1]);
+        }
+        if (words[0].equals("refused") && numbers.length == 1 && numbers[0] >= 1 && numbers[0] <= 65_535) {
+            throw new TrueTime.Refused((int) numbers[0]);
+        }
+        if (wanted.getOrDefault(words[0], -1) != numbers.length) {
+            throw closed(line);
+        }
+        return new Reply(words[0], numbers);
+    }
+
+    /** A number has one spelling, and is at most the greatest time. */
+    private long number(String line, String text) throws IOException {
+        // One of 19 digits is below 2^64.
+        long value = NUMBER.matcher(text).matches() ? Long.parseUnsignedLong(text) : -1;
+        if (value < 0 || value > TrueTime.MAX_TIME_NS) {
+            throw closed(line);
+        }
+        return value;
+    }
+
+    private IOException closed(String line) throws IOException {
+        close();
+        return new IOException("not a reply to " + line);
+    }
+
+    private void send(String line) throws IOException {
+        ByteBuffer bytes = ByteBuffer.wrap(line.getBytes(StandardCharsets.US_ASCII));
+        while (bytes.hasRemaining()) {
+            if (channel.write(bytes) == 0) {
+                awaitChannel(SelectionKey.OP_WRITE);
+            }
+        }
+    }
+
+    private String receive() throws IOException {
+        ByteBuffer bytes = ByteBuffer.allocate(LINE_BYTES + 1);
+        while (bytes.position() == 0 || bytes.get(bytes.position() - 1) != '\n') {
+            if (!bytes.hasRemaining()) {
+                throw new IOException("the reply is too long");
+            }
+            int received = channel.read(bytes);
+            if (received < 0) {
+                throw new EOFException("the service ended the session");
+            }
+            if (received == 0) {
+                awaitChannel(SelectionKey.OP_READ);
+            }
+        }
+        return new String(bytes.array(), 0, bytes.position() - 1, StandardCharsets.ISO_8859_1);
+    }
+
+    private void awaitChannel(int operation) throws IOException {
+        channel.keyFor(selector).interestOps(operation);
+        int ready = selector.select(timeout.toMillis());
+        selector.selectedKeys().clear();
+        if (ready == 0) {
+            throw Thread.currentThread().isInterrupted()
+                ? new InterruptedIOException("interrupted")
+                : new SocketTimeoutException("no reply in time");
+        }
+    }
+
+    private static void pause() throws InterruptedIOException {
+        try {
+            Thread.sleep(PAUSE_MS);
+        } catch (InterruptedException interrupted) {
+            Thread.currentThread().interrupt();
+            throw new InterruptedIOException("interrupted");
+        }
+    }
+}

@@ -1,0 +1,284 @@
+//! The time with an error bound, and timestamps for commits, by a session with the time service of this machine.
+//!
+//! ```no_run
+//! use std::time::Duration;
+//!
+//! let mut session = truetime::Session::connect_tcp(([127, 0, 0, 1], 5601), Duration::from_secs(30))?;
+//! let stamp_ns = session.begin(0)?; // no other commit of this machine has this timestamp
+//! // write and commit locally, under this timestamp
+//! session.wait()?; // only now may anybody be told of the commit
+//! # Ok::<(), truetime::session::Error>(())
+//! ```
+use crate::MAX_TIME_NS;
+use std::fmt;
+use std::io::{self, ErrorKind, Read, Write};
+use std::net::{SocketAddr, TcpStream};
+use std::os::unix::net::UnixStream;
+use std::path::Path;
+use std::thread;
+use std::time::{Duration, Instant};
+
+/// The most bytes of a line and of a reply, without the line feed.
+const LINE_BYTES: usize = 64;
+/// The pause before a line is sent again.
+const PAUSE: Duration = Duration::from_millis(1);
+/// The refusal of a commit before the last one is released.
+const COMMIT_PENDING: u16 = 1104;
+
+/// Why a call of a session has no answer.
+#[derive(Debug)]
+pub enum Error {
+    /// The service refuses, by this number. The session goes on.
+    Refused(u16),
+    /// The connection failed: no reply came in time (`TimedOut`), the service ended the session (`UnexpectedEof`), or what
+    /// came is no reply (`InvalidData`). The session is closed, and all later calls fail (`NotConnected`); nobody knows
+    /// whether a commit that was asked for was begun.
+    Failed(io::Error),
+    /// The commit is not released in time. The session goes on, and may wait again.
+    NotReleased,
+    /// No commit was begun that could be waited for.
+    NoCommit,
+    /// The line has more than 64 bytes or a line feed, and was not sent.
+    BadLine,
+}
+
+impl fmt::Display for Error {
+    fn fmt(&self, out: &mut fmt::Formatter<'_>) -> fmt::Result {
+        match self {
+            Error::Refused(number) => write!(out, "refused {number}"),
+            Error::Failed(error) => write!(out, "the connection failed: {error}"),
+            Error::NotReleased => out.write_str("the commit is not released in time"),
+            Error::NoCommit => out.write_str("no commit was begun"),
+            Error::BadLine => out.write_str("the line is too long or has a line feed"),
+        }
+    }
+}
+
+impl std::error::Error for Error {
+    fn source(&self) -> Option<&(dyn std::error::Error + 'static)> {
+        match self {
+            Error::Failed(error) => Some(error),
+            _ => None,
+        }
+    }
+}
+
+impl From<io::Error> for Error {
+    fn from(error: io::Error) -> Error {
+        Error::Failed(error)
+    }
+}
+
+/// The true time lies from `earliest_ns` to `latest_ns`, both included.
+#[derive(Clone, Copy, Debug, PartialEq, Eq)]
+pub struct Interval {
+    /// The earliest that it may be, in nanoseconds.
+    pub earliest_ns: u64,
+    /// The latest that it may be, in nanoseconds.
+    pub latest_ns: u64,
+}
+
+trait Stream: Read + Write + Send + fmt::Debug {}
+
+impl Stream for TcpStream {}
+impl Stream for UnixStream {}
+
+/// The last commit that has a timestamp. Commits are counted from 1.
+#[derive(Clone, Copy, Debug)]
+struct Commit {
+    number: u64,
+    stamp_ns: u64,
+    is_released: bool,
+}
+
+/// A session with the service: one line and its reply at a time. It ends when it is dropped; a commit that is not released
+/// then is never known as released.
+#[derive(Debug)]
+pub struct Session {
+    stream: Option<Box<dyn Stream>>,
+    timeout: Duration,
+    last: Commit,
+    /// Whether there is a commit to wait for, which is the last one.
+    is_begun: bool,
+}
+
+impl Session {
+    /// Connects to a TCP address. `timeout` is how long connecting, sending, each receiving and the waiting for a release
+    /// may take; it may not be zero.
+    pub fn connect_tcp(address: impl Into<SocketAddr>, timeout: Duration) -> Result<Session, Error> {
+        let stream = TcpStream::connect_timeout(&address.into(), timeout)?;
+        stream.set_nodelay(true)?;
+        stream.set_read_timeout(Some(timeout))?;
+        stream.set_write_timeout(Some(timeout))?;
+        Ok(Session::over(Box::new(stream), timeout))
+    }
+
+    /// Connects to the Unix socket at this path, as `connect_tcp`; connecting itself has no time-out.
+    pub fn connect_unix(path: impl AsRef<Path>, timeout: Duration) -> Result<Session, Error> {
+        let stream = UnixStream::connect(path)?;
+        stream.set_read_timeout(Some(timeout))?;
+        stream.set_write_timeout(Some(timeout))?;
+        Ok(Session::over(Box::new(stream), timeout))
+    }
+
+    fn over(stream: Box<dyn Stream>, timeout: Duration) -> Session {
+        let last = Commit { number: 0, stamp_ns: 0, is_released: true };
+        Session { stream: Some(stream), timeout, last, is_begun: false }
+    }
+
+    /// Sends one line and gives its reply, both without the line feed; `refused N` is a reply like another.
+    pub fn ask(&mut self, line: &str) -> Result<String, Error> {
+        if line.len() > LINE_BYTES || line.contains('\n') {
+            return Err(Error::BadLine);
+        }
+        // The stream comes back after a whole reply alone.
+        let mut stream = self.stream.take().ok_or(ErrorKind::NotConnected).map_err(io::Error::from)?;
+        stream.write_all(format!("{line}\n").as_bytes()).map_err(named)?;
+        let reply = receive(&mut *stream).map_err(named)?;
+        self.stream = Some(stream);
+        Ok(reply)
+    }
+
+    /// The time now.
+    pub fn now(&mut self) -> Result<Interval, Error> {
+        match self.question("now")?.numbers_behind("now") {
+            Some([earliest_ns, latest_ns]) if earliest_ns <= latest_ns => Ok(Interval { earliest_ns, latest_ns }),
+            _ => self.fail(),
+        }
+    }
+
+    /// Whether time `t_ns` has surely passed.
+    pub fn after(&mut self, t_ns: u64) -> Result<bool, Error> {
+        self.compare(&format!("after {t_ns}"))
+    }
+
+    /// Whether time `t_ns` has surely not arrived.
+    pub fn before(&mut self, t_ns: u64) -> Result<bool, Error> {
+        self.compare(&format!("before {t_ns}"))
+    }
+
+    /// Begins a commit and gives its timestamp, no less than `floor_ns`. One commit at a time: refuses with 1104 before the
+    /// release of the last one. After another refusal begin again, with the same floor: the service may have begun it.
+    pub fn begin(&mut self, floor_ns: u64) -> Result<u64, Error> {
+        if self.stream.is_some() && self.is_begun && !self.last.is_released {
+            return Err(Error::Refused(COMMIT_PENDING));
+        }
+        self.is_begun = false;
+        self.send_commit(self.last.number + 1, floor_ns)?;
+        Ok(self.last.stamp_ns)
+    }
+
+    /// Waits until the timestamp of the commit has surely passed, and gives it. After a refusal the session may wait again.
+    pub fn wait(&mut self) -> Result<u64, Error> {
+        let began = Instant::now();
+        if self.stream.is_none() {
+            return Err(Error::Failed(ErrorKind::NotConnected.into()));
+        }
+        if !self.is_begun {
+            return Err(Error::NoCommit);
+        }
+        while !self.last.is_released {
+            self.send_commit(self.last.number, 0)?;
+            if !self.last.is_released {
+                if began.elapsed() > self.timeout {
+                    return Err(Error::NotReleased);
+                }
+                thread::sleep(PAUSE);
+            }
+        }
+        Ok(self.last.stamp_ns)
+    }
+
+    /// Begins a commit, waits for its release, and gives its timestamp, as `begin` and `wait`.
+    pub fn commit(&mut self, floor_ns: u64) -> Result<u64, Error> {
+        self.begin(floor_ns)?;
+        self.wait()
+    }
+
+    /// Sends the line of a commit. The timestamp of one that has none so far has to be at least `floor_ns`.
+    fn send_commit(&mut self, number: u64, floor_ns: u64) -> Result<(), Error> {
+        let reply = self.question(&format!("commit {number} {floor_ns}"))?;
+        let released = reply.numbers_behind("committed");
+        let Some([echo, stamp_ns]) = released.or_else(|| reply.numbers_behind("waiting")) else { return self.fail() };
+        let is_right = if number == self.last.number { stamp_ns == self.last.stamp_ns } else { stamp_ns >= floor_ns };
+        if echo != number || !is_right {
+            return self.fail();
+        }
+        self.last = Commit { number, stamp_ns, is_released: released.is_some() };
+        self.is_begun = true;
+        Ok(())
+    }
+
+    fn compare(&mut self, line: &str) -> Result<bool, Error> {
+        match self.question(line)?.0.as_str() {
+            "yes" => Ok(true),
+            "no" => Ok(false),
+            _ => self.fail(),
+        }
+    }
+
+    /// Sends one line and gives its reply, which is not that of a refusal.
+    fn question(&mut self, line: &str) -> Result<Reply, Error> {
+        let reply = Reply(self.ask(line)?);
+        match reply.numbers_behind("refused").map(|[number]| u16::try_from(number)) {
+            Some(Ok(number)) if number > 0 => Err(Error::Refused(number)),
+            _ => Ok(reply),
+        }
+    }
+
+    /// Closes the session, since what came is no reply.
+    fn fail<T>(&mut self) -> Result<T, Error> {
+        self.stream = None;
+        Err(Error::Failed(ErrorKind::InvalidData.into()))
+    }
+}
+
+struct Reply(String);
+
+impl Reply {
+    /// The numbers of a reply that is this word and so many numbers.
+    fn numbers_behind<const COUNT: usize>(&self, word: &str) -> Option<[u64; COUNT]> {
+        let rest = self.0.strip_prefix(word)?;
+        let mut texts = rest.split(' ');
+        if texts.next() != Some("") {
+            return None;
+        }
+        let numbers: Vec<u64> = texts.map(number_of).collect::<Option<_>>()?;
+        numbers.try_into().ok()
+    }
+}
+
+/// A number has one spelling, and is at most the greatest time.
+fn number_of(text: &str) -> Option<u64> {
+    text.parse().ok().filter(|number: &u64| *number <= MAX_TIME_NS && number.to_string() == text)
+}
+
+fn receive(stream: &mut dyn Stream) -> io::Result<String> {
+    let mut bytes = [0; LINE_BYTES + 1];
+    let mut length = 0;
+    while !bytes[..length].ends_with(b"\n") {
+        if length > LINE_BYTES {
+            return Err(ErrorKind::InvalidData.into());
+        }
+        match stream.read(&mut bytes[length..]) {
+            Ok(0) => return Err(ErrorKind::UnexpectedEof.into()),
+            Ok(received) => length += received,
+            Err(error) if error.kind() == ErrorKind::Interrupted => {}
+            Err(error) => return Err(error),
+        }
+    }
+    let reply = &bytes[..length - 1];
+    if !reply.iter().all(|byte| matches!(byte, b' '..=b'~')) {
+        return Err(ErrorKind::InvalidData.into());
+    }
+    Ok(reply.iter().copied().map(char::from).collect())
+}
+
+/// The kind of a time-out is `WouldBlock` on Linux.
+fn named(error: io::Error) -> io::Error {
+    if error.kind() == ErrorKind::WouldBlock {
+        ErrorKind::TimedOut.into()
+    } else {
+        error
+    }
+}

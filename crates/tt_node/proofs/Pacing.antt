@@ -1,0 +1,62 @@
+-- How a pace lets rounds begin.
+use Rattle.std.proofs.Common.{◌≡◌, ◌↔◌, ℕ, zero, suc, ◌+◌, ◌<◌, ◌≤◌, ◌⊎◌, inl, inr, Bool, true, false, IsTrue, List, Option, Result, Ok, Err, IfOk, OnErr, refl, sym, ◌∙◌, subst, arith, add-one}
+use Rattle.tt_node.specs.Link.{Call, Gift, Exchange}
+use Rattle.tt_node.specs.Course.{Stand, each_below, round_of, rounds_of}
+use Rattle.tt_node.specs.Making.{Makes, answer_of}
+use Rattle.tt_node.specs.Pacing.{LetsBegin, EndsAfter}
+use Rattle.tt_node.specs.declared.faults.NodeFault.{NodeFault}
+use Rattle.tt_node.specs.declared.rounds.Rounds.{Rounds}
+use Rattle.tt_node.specs.declared.paces.CountedPace.{CountedPace}
+use Rattle.tt_node.proofs.Leading.{Makes-ends_below}
+
+-- one more round
+pub Lets-more : {P : Type 0} (says : P → Rounds → Bool → P → Type 0) (before mid after : P) (n : ℕ) (did : Rounds) (goes : Bool)
+    → LetsBegin says before n mid → did.done ≡ n → says mid did goes after → goes ≡ true → LetsBegin says before (n + 1) after
+Lets-more says before mid after n did goes lets is said on =
+    rw add-one (mid, did, lets, is, subst (λ b. says mid did b after) on said)
+
+-- a pace that counts
+abbrev pub counts : CountedPace → Rounds → Bool → CountedPace → Type 0
+counts pace did goes after = (IsTrue goes ↔ did.done < pace.rounds) × (after ≡ pace)
+
+-- it lets so many rounds begin at most, and stays as it is
+pub counts-few : (n : ℕ) (before after : CountedPace) → LetsBegin counts before n after → (after ≡ before) × (n ≤ before.rounds)
+counts-few zero before after is = (is, omega arith)
+counts-few (suc n) before after (mid, did, lets, done, said) =
+    let (unchanged, few) = counts-few n before mid lets in
+    (said.1 ∙ unchanged, omega (arith, subst (λ p. did.done < p.rounds) unchanged (said.0.0 refl), done))
+
+untrue : IsTrue false → ⊥
+untrue is = cc
+
+-- and ends after just so many
+pub counts-all : (rounds : ℕ) (before after : CountedPace) (did : Rounds) → before.rounds ≡ rounds → rounds ≤ 4294967295 → EndsAfter counts before did after → did.done ≡ rounds
+counts-all rounds before after did is most (mid, lets, inl said) =
+    let (unchanged, few) = counts-few did.done before mid lets in
+    omega (arith, few, is, subst (λ p. did.done < p.rounds → ⊥) unchanged (λ below. untrue (said.0.1 below)))
+counts-all rounds before after did is most (mid, lets, inr (full, same)) =
+    let (unchanged, few) = counts-few did.done before mid lets in
+    omega (arith, few, is, full, most)
+
+-- what is told of the refusals, and how many rounds it lets
+pub told-refused : (refused n : ℕ) (result : Result Rounds NodeFault) → IfOk result (λ did. (did.refused ≡ refused) × (did.done ≡ n)) → IfOk result (λ did. did.refused ≡ refused)
+told-refused refused n (Ok did) told = told.0
+told-refused refused n (Err fault) told = tt
+
+pub counted-done : (rounds : ℕ) (pace pace' : CountedPace) (result : Result Rounds NodeFault) → pace.rounds ≡ rounds → rounds ≤ 4294967295
+    → IfOk result (λ did. EndsAfter counts pace did pace') → IfOk result (λ did. did.done ≡ rounds)
+counted-done rounds pace pace' (Ok did) is most ends = counts-all rounds pace pace' did is most ends
+counted-done rounds pace pace' (Err fault) is most ends = tt
+
+-- so many rounds that this pace let begin are the course of the rounds that it counts
+module _ {C L : Type 0} (gives : C → Option ℕ → C → Type 0) (does : L → Call → Gift → L → Type 0) where
+  pub counted-course : (rounds turns n refused : ℕ) (pace pace' : CountedPace) (clock clock' : C) (link link' : L) (from to : List Exchange → Stand) (result : Result Rounds NodeFault)
+      → pace.rounds ≡ rounds → rounds ≤ 4294967295 → IfOk result (λ did. (did.refused ≡ refused) × (did.done ≡ n)) → OnErr result (LetsBegin counts pace n pace')
+      → IfOk result (λ did. EndsAfter counts pace did pace')
+      → Makes gives does (rounds_of n turns) clock clock' link link' from to (answer_of result)
+      → Makes gives does (rounds_of rounds turns) clock clock' link link' from to (answer_of result)
+  unfolding rounds_of
+  counted-course rounds turns n refused pace pace' clock clock' link link' from to (Ok did) is most done lets ends made =
+      subst (λ k. Makes gives does (each_below k (λ _. round_of turns)) clock clock' link link' from to (Ok tt)) (sym done.1 ∙ counts-all rounds pace pace' did is most ends) made
+  counted-course rounds turns n refused pace pace' clock clock' link link' from to (Err fault) is most done lets ends made =
+      Makes-ends_below gives does n rounds _ _ _ _ _ _ _ _ (omega (arith, (counts-few n pace pace' lets).1, is)) made

@@ -1,0 +1,99 @@
+//! Machines, spans and events, in few words. Times and clocks are in nanoseconds.
+
+use tt_daemon::{Config, Fused};
+use tt_span::{Drift, Span};
+use tt_stamp::Id;
+use tt_world::{Action, Event};
+
+/// A machine of so many sources, of which so many may be faulty, with a drift in parts per million, and so many workers;
+/// none where there is no such machine.
+pub fn machine(sources: usize, faulty: usize, drift: u32, workers: usize) -> Option<Config> {
+    Config::new(sources, faulty, Drift::new(drift)?, workers).ok()
+}
+
+/// The span of these ends, or the whole of time where it has none such.
+pub fn span(lo: u64, hi: u64) -> Span {
+    Span::new(lo, hi).unwrap_or(Span::whole())
+}
+
+/// The fusion of one source that states this span, at clock 0.
+pub fn fused(lo: u64, hi: u64) -> Option<Fused> {
+    Fused::make(0, &[span(lo, hi)], 0).ok()
+}
+
+/// A machine polls a source.
+pub fn send(at: u64, machine: u8, source: u8, clock: u64) -> Event {
+    let action = Action::Send {
+        machine,
+        source,
+        clock,
+    };
+    Event { at, action }
+}
+
+/// The source of a request answers it by a span.
+pub fn answer(at: u64, packet: u64, lo: u64, hi: u64) -> Event {
+    let action = Action::Answer {
+        packet,
+        span: span(lo, hi),
+    };
+    Event { at, action }
+}
+
+/// A packet reaches its machine.
+pub fn deliver(at: u64, packet: u64, clock: u64) -> Event {
+    let action = Action::Deliver { packet, clock };
+    Event { at, action }
+}
+
+/// A machine fuses and publishes.
+pub fn fuse(at: u64, machine: u8, clock: u64) -> Event {
+    let action = Action::Fuse { machine, clock };
+    Event { at, action }
+}
+
+/// A worker reads from a publication.
+pub fn read(at: u64, machine: u8, worker: u8, clock: u64, publication: u64) -> Event {
+    let action = Action::Read {
+        machine,
+        worker,
+        clock,
+        publication,
+    };
+    Event { at, action }
+}
+
+/// A commit of session 0 arrives at a worker.
+pub fn arrive(at: u64, machine: u8, worker: u8, number: u64, floor: u64) -> Event {
+    let action = Action::Arrive {
+        machine,
+        worker,
+        id: Id { session: 0, number },
+        floor,
+    };
+    Event { at, action }
+}
+
+/// A worker stamps the commit that arrived.
+pub fn stamp(at: u64, machine: u8, worker: u8) -> Event {
+    let action = Action::Stamp { machine, worker };
+    Event { at, action }
+}
+
+/// A worker queues the commit that it stamped.
+pub fn queue(at: u64, machine: u8, worker: u8) -> Event {
+    let action = Action::Queue { machine, worker };
+    Event { at, action }
+}
+
+/// A worker releases what its last reading allows.
+pub fn release(at: u64, machine: u8, worker: u8) -> Event {
+    let action = Action::Release { machine, worker };
+    Event { at, action }
+}
+
+/// A machine begins a new life, with its clock anywhere.
+pub fn restart(at: u64, machine: u8, clock: u64) -> Event {
+    let action = Action::Restart { machine, clock };
+    Event { at, action }
+}

@@ -1,0 +1,25 @@
+-- Refusals: their numbers, and the first of several.
+use Rattle.std.specs.Prelude.{◌≡◌, ◌⊎◌, ℕ, Result, Ok, Err}
+use Rattle.tt_settings.specs.declared.keys.Key.{Key}
+use Rattle.tt_settings.specs.declared.faults.SettingsFault.{SettingsFault}
+use Rattle.tt_settings.specs.declared.faults.SettingsFault.TheVariants.{NotToml, UnknownKey, MissingKey, WrongValue, NotLocal, TooManyFaulty, Memory}
+
+-- the number of each refusal
+abbrev pub number_of : SettingsFault → ℕ
+number_of NotToml = 1801
+number_of UnknownKey = 1802
+number_of (MissingKey key) = 1803
+number_of (WrongValue key) = 1804
+number_of (NotLocal key) = 1805
+number_of (TooManyFaulty masters faulty most) = 1806
+number_of Memory = 1
+
+-- the second step, where the first was not refused: so the first line of a `do` that refuses is the answer
+infixl 10 ◌>>=◌
+abbrev pub ◌>>=◌ : {A B : Type 0} → Result A SettingsFault → (A → Result B SettingsFault) → Result B SettingsFault
+Ok x >>= f = f x
+Err fault >>= f = Err fault
+
+-- why there is no answer: the defined refusal, or an allocation failed
+abbrev pub IsRefusal : {A : Type 0} → Result A SettingsFault → SettingsFault → Type 0
+IsRefusal defined fault = (fault ≡ Memory) ⊎ (defined ≡ Err fault)

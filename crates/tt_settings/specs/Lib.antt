@@ -1,0 +1,9 @@
+pub mod Fault
+pub mod Key
+pub mod Numeral
+pub mod Duration
+pub mod Lookup
+pub mod Address
+pub mod Text
+pub mod Plan
+pub mod Settings

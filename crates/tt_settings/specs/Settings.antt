@@ -1,0 +1,60 @@
+-- What a configuration file means.
+use Rattle.std.specs.Prelude.{ℕ, Bool, true, false, if◌then◌else◌, List, Option, Some, None, Result, Ok, Err}
+use Rattle.toml.specs.Data.{Members}
+use Rattle.toml.specs.Parse.{parse_document}
+use Rattle.tt_span.specs.Interval.{Interval}
+use Rattle.tt_daemon.specs.Config.{Configuration}
+use Rattle.tt_settings.specs.declared.keys.Key.TheVariants.{Machine, Listen, State, Socket, Shared, Status}
+use Rattle.tt_settings.specs.declared.faults.SettingsFault.{SettingsFault}
+use Rattle.tt_settings.specs.declared.faults.SettingsFault.TheVariants.{NotToml, UnknownKey}
+use Rattle.tt_settings.specs.declared.plans.Pauses.{Pauses}
+use Rattle.tt_settings.specs.Fault.{◌>>=◌}
+use Rattle.tt_settings.specs.Key.{are_keys}
+use Rattle.tt_settings.specs.Lookup.{number_at, count_of, each}
+use Rattle.tt_settings.specs.Address.{address_at, master_items_in, master_in}
+use Rattle.tt_settings.specs.Plan.{configuration_in, pauses_in, lease_in}
+use Rattle.tt_settings.specs.Text.{text_at, optional_text}
+
+-- what a machine is set up with; addresses are the ports of this host
+pub record Meaning : Type 0 where
+  pub machine : ℕ
+  pub config : Configuration
+  pub pauses : Pauses
+  pub lease : Interval
+  pub listen : ℕ
+  pub masters : List ℕ
+  pub state : List ℕ
+  pub socket : Option (List ℕ)
+  pub shared : Option (List ℕ)
+  pub status : Option (List ℕ)
+
+-- names that are all keys
+abbrev pub keys_if : Bool → Result (Unit {0}) SettingsFault
+keys_if true = Ok tt
+keys_if false = Err UnknownKey
+
+-- what a document means
+abbrev pub settings_of : Members → Result Meaning SettingsFault
+settings_of t = do
+  all_known ← keys_if (are_keys t)
+  machine ← number_at Machine 0 7 t
+  items ← master_items_in t
+  config ← configuration_in (count_of items) t
+  pauses ← pauses_in t
+  lease ← lease_in t
+  listen ← address_at Listen t
+  masters ← each master_in items
+  state ← text_at State t
+  socket ← optional_text Socket t
+  shared ← optional_text Shared t
+  status ← optional_text Status t
+  Ok (record { machine = machine; config = config; pauses = pauses; lease = lease; listen = listen; masters = masters; state = state; socket = socket; shared = shared; status = status })
+
+-- a text that is no document is refused first
+abbrev pub settings_if : Option Members → Result Meaning SettingsFault
+settings_if None = Err NotToml
+settings_if (Some t) = settings_of t
+
+-- what a text means, or the first refusal
+abbrev pub settings_in : List ℕ → Result Meaning SettingsFault
+settings_in text = settings_if (parse_document text)

@@ -1,0 +1,78 @@
+//! Why a configuration is refused, and where.
+
+ghost use Rattle.std.specs.Prelude.{◌≡◌};
+ghost use Rattle.tt_settings.specs.Fault.{number_of};
+
+use crate::keys::Key;
+use std::alloc::{AllocError, AllocFailed};
+use std::fmt::{self, Display, Formatter, Write};
+use thiserror::Error;
+
+impl Display for Key {
+    fn fmt<W: Write>(&self, f: &mut Formatter<W>) -> fmt::Result {
+        f.write_str(self.text())
+    }
+}
+
+/// Why a configuration is refused. The message begins with the key, where there is one.
+#[derive(Clone, Copy, Debug, PartialEq, Eq, Error)]
+pub enum SettingsFault {
+    #[error("the text is not TOML")]
+    NotToml,
+    #[error("a key is not known")]
+    UnknownKey,
+    #[error("{0}: the key is missing")]
+    MissingKey(Key),
+    #[error("{0}: the value has another type, or is out of range")]
+    WrongValue(Key),
+    #[error("{0}: not an address of this host, as 127.0.0.1:7001")]
+    NotLocal(Key),
+    #[error("faulty: {faulty} of {masters} masters may be faulty at most {most}")]
+    TooManyFaulty {
+        masters: u64,
+        faulty: u64,
+        most: u64,
+    },
+    #[error("out of memory")]
+    Memory,
+}
+
+impl SettingsFault {
+    /// The fault's number: 1801 `NotToml`, 1802 `UnknownKey`, 1803 `MissingKey`, 1804 `WrongValue`, 1805 `NotLocal`,
+    /// 1806 `TooManyFaulty`, 1 `Memory`.
+    pub fn number(&self) -> u16
+        ensures { result ≡ number_of self.now }
+    {
+        match self {
+            SettingsFault::NotToml => 1801,
+            SettingsFault::UnknownKey => 1802,
+            SettingsFault::MissingKey(_) => 1803,
+            SettingsFault::WrongValue(_) => 1804,
+            SettingsFault::NotLocal(_) => 1805,
+            SettingsFault::TooManyFaulty { .. } => 1806,
+            SettingsFault::Memory => 1,
+        }
+    }
+}
+
+impl From<AllocError> for SettingsFault {
+    ghost use Rattle.std.specs.Prelude.{◌≡◌};
+    ghost use Rattle.tt_settings.specs.declared.faults.SettingsFault.TheVariants.{Memory};
+
+    ghost from_gives = { λ _ e. e ≡ Memory };
+
+    fn from(_error: AllocError) -> SettingsFault {
+        SettingsFault::Memory
+    }
+}
+
+impl<T: Drop> From<AllocFailed<T>> for SettingsFault {
+    ghost use Rattle.std.specs.Prelude.{◌≡◌};
+    ghost use Rattle.tt_settings.specs.declared.faults.SettingsFault.TheVariants.{Memory};
+
+    ghost from_gives = { λ _ e. e ≡ Memory };
+
+    fn from(_error: AllocFailed<T>) -> SettingsFault {
+        SettingsFault::Memory
+    }
+}

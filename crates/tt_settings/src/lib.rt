@@ -1,0 +1,28 @@
+//! The settings of a machine: what its configuration file means.
+//!
+//! The file is a TOML document (toml.io, version 1.1), and [`read`] gives the settings that a text says, or the first
+//! refusal in a fixed order. It opens no file and no socket.
+//!
+//! - `settings`: [`Settings`], and [`read`].
+//! - `plans`: the settings that are numbers. `texts`: those that are paths.
+//! - `addresses`: addresses of this host. `durations`: lengths of time with a unit. `numerals`: decimal numbers.
+//! - `keys`: the keys of the file. `lookups`: values of a table by their keys.
+//! - `faults`: why a text is refused, with the place.
+#![tactic(auto)]
+
+mod addresses;
+mod durations;
+mod faults;
+mod keys;
+mod lookups;
+mod numerals;
+mod plans;
+mod settings;
+mod texts;
+
+pub use durations::duration_of;
+pub use faults::SettingsFault;
+pub use keys::Key;
+pub use plans::Pauses;
+pub use settings::{Settings, read};
+pub use texts::FilePath;

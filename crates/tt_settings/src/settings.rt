@@ -1,0 +1,172 @@
+//! The settings of a machine.
+
+ghost use Rattle.std.specs.Prelude.{◌≡◌, option_copied, IfOk, IfErr, Ok, MatchResult};
+ghost use Rattle.toml.specs.View.{table_view};
+ghost use Rattle.tt_settings.specs.Fault.{IsRefusal};
+ghost use Rattle.tt_settings.specs.Settings.{settings_of, settings_in};
+
+use crate::addresses::{address_at, master_items_in, masters_of};
+use crate::faults::SettingsFault;
+use crate::keys::Key;
+use crate::lookups::{are_keys, count_of, number_at};
+use crate::plans::{Pauses, configuration_in, lease_in, pauses_in};
+use crate::texts::{FilePath, optional_path, path_at};
+use std::alloc::Global;
+use std::marker::Model;
+use toml::Table;
+use tt_daemon::Config;
+use tt_span::Span;
+
+/// The settings of a machine. Contracts see what each of them is.
+#[derive(Debug, Drop)]
+pub struct Settings {
+    machine: u8,
+    config: Config,
+    pauses: Pauses,
+    lease: Span,
+    listen: u16,
+    masters: Vec<u16>,
+    state: FilePath,
+    socket: Option<FilePath>,
+    shared: Option<FilePath>,
+    status: Option<FilePath>,
+}
+
+impl Model for Settings {
+    ghost use Rattle.tt_settings.specs.Settings.{Meaning};
+
+    ghost Value = { Meaning };
+
+    ghost view = { λ s. record { machine = s.machine; config = s.config; pauses = s.pauses; lease = s.lease; listen = s.listen; masters = s.masters.items; state = s.state; socket = s.socket; shared = s.shared; status = s.status } };
+}
+
+impl Settings {
+    /// The number of the machine, from 0 to 7.
+    pub fn machine(&self) -> u8
+        ensures value { result ≡ self.now.machine }
+    {
+        self.machine
+    }
+
+    /// How many masters it asks, how many of them may be faulty, the drift of its clock, and its workers.
+    pub fn config(&self) -> Config
+        ensures value { result ≡ self.now.config }
+    {
+        self.config
+    }
+
+    /// How long its parts wait.
+    pub fn pauses(&self) -> Pauses
+        ensures value { result ≡ self.now.pauses }
+    {
+        self.pauses
+    }
+
+    /// The lease that stamps lie in, in nanoseconds: the whole of time where none is given.
+    pub fn lease(&self) -> Span
+        ensures value { result ≡ self.now.lease }
+    {
+        self.lease
+    }
+
+    /// The port of 127.0.0.1 that it serves clients at.
+    pub fn listen(&self) -> u16
+        ensures value { result ≡ self.now.listen }
+    {
+        self.listen
+    }
+
+    /// The ports of 127.0.0.1 that its masters answer at, in the order of the sources.
+    pub fn masters(&self) -> &[u16]
+        ensures value { result.now ≡ self.now.masters }
+    {
+        self.masters.as_slice()
+    }
+
+    /// The folder of its epoch.
+    pub fn state(&self) -> &str
+        ensures value { result.now ≡ self.now.state }
+    {
+        self.state.as_str()
+    }
+
+    /// The path of the Unix socket that it serves clients at, if there is one.
+    pub fn socket(&self) -> Option<&FilePath>
+        ensures value { option_copied result ≡ self.now.socket }
+    {
+        self.socket.as_ref()
+    }
+
+    /// The file that it publishes into for readers of shared memory, if there is one.
+    pub fn shared(&self) -> Option<&FilePath>
+        ensures value { option_copied result ≡ self.now.shared }
+    {
+        self.shared.as_ref()
+    }
+
+    /// The file that it writes its status into, if there is one.
+    pub fn status(&self) -> Option<&FilePath>
+        ensures value { option_copied result ≡ self.now.status }
+    {
+        self.status.as_ref()
+    }
+}
+
+/// The settings that a text says.
+///
+/// The keys `machine` (0 to 7), `masters` (from one to 16 addresses), `listen` (an address) and `state` (a folder) have to
+/// be there. The others may be absent: `faulty` (default: as many as the number of masters allows), `workers` (1 to 32;
+/// default 32), `drift` (parts per million; default 200), `poll` (default `"1s"`), `wait` (default `"50ms"`), `floor_ahead`
+/// (default `"1s"`), `idle` (default `"60s"`), `lease_lo` and `lease_hi` (nanoseconds; default: the whole of time),
+/// `socket`, `shared` and `status` (paths). An address is `127.0.0.1:` and a port; a length of time is as
+/// [`duration_of`](crate::duration_of) reads it.
+///
+/// Refuses with the first that applies, in this order:
+///
+/// - 1801 `NotToml`: the text is not TOML.
+/// - 1802 `UnknownKey`: a key has another name.
+/// - Of the keys, in the order `machine`, `masters` (their number), `faulty`, `workers`, `drift`, `poll`, `wait`,
+///   `floor_ahead`, `idle`, `lease_lo`, `lease_hi`, `listen`, `masters` (each of them), `state`, `socket`, `shared`,
+///   `status`: 1803 `MissingKey` where the key is absent, 1804 `WrongValue` where its value has another type or is out of
+///   range, 1805 `NotLocal` where a text is not an address of this host; and behind `drift`, 1806 `TooManyFaulty` where
+///   fewer than `2 * faulty + 1` masters are listed. A lease that ends before it begins is refused with 1804 at `lease_hi`.
+///
+/// In place of each of these it may refuse with 1 `Memory`, where an allocation failed.
+pub fn read(alloc: Global, text: &str) -> Result<Settings, SettingsFault>
+    ensures found { IfOk result (λ settings. settings_in text.now ≡ Ok settings) }
+    ensures refused { IfErr result (IsRefusal (settings_in text.now)) }
+{
+    match toml::table_from_str(alloc, text) {
+        Ok(table) => settings_of(alloc, &table),
+        Err(error) if error.is_memory() => Err(SettingsFault::Memory),
+        Err(_) => Err(SettingsFault::NotToml),
+    }
+}
+
+/// The settings of a document.
+fn settings_of(alloc: Global, table: &Table) -> Result<Settings, SettingsFault>
+    ensures { let defined = settings_of (table_view table.now) in
+        MatchResult result (λ settings. defined ≡ Ok settings) (IsRefusal defined) }
+{
+    if !are_keys(table) {
+        return Err(SettingsFault::UnknownKey);
+    }
+    let machine = number_at(table, Key::Machine, 0, 7)? as u8;
+    let items = master_items_in(table)?;
+    let config = configuration_in(table, count_of(items))?;
+    let pauses = pauses_in(table)?;
+    let lease = lease_in(table)?;
+    let listen = address_at(table, Key::Listen)?;
+    Ok(Settings {
+        machine,
+        config,
+        pauses,
+        lease,
+        listen,
+        masters: masters_of(alloc, items)?,
+        state: path_at(alloc, table, Key::State)?,
+        socket: optional_path(alloc, table, Key::Socket)?,
+        shared: optional_path(alloc, table, Key::Shared)?,
+        status: optional_path(alloc, table, Key::Status)?,
+    })
+}

@@ -1,0 +1,2 @@
+mod Receipts
+mod Serving

@@ -1,0 +1,27 @@
+//! What a station refuses beside what its watch, its seat and its book refuse.
+
+ghost use Rattle.std.specs.Prelude.{◌≡◌};
+ghost use Rattle.tt_station.specs.Fault.{number_of};
+
+use thiserror::Error;
+
+/// What a station refuses beside what its watch, its seat and its book refuse.
+#[derive(Clone, Copy, Debug, PartialEq, Eq, Error)]
+pub enum StationFault {
+    #[error("the floor is further ahead than this server allows")]
+    FloorAboveCap,
+    #[error("the client has left")]
+    ClientLeft,
+}
+
+impl StationFault {
+    /// The fault's number: 1821 `FloorAboveCap`, 1822 `ClientLeft`.
+    pub fn number(&self) -> u16
+        ensures { result ≡ number_of self.now }
+    {
+        match self {
+            StationFault::FloorAboveCap => 1821,
+            StationFault::ClientLeft => 1822,
+        }
+    }
+}

@@ -1,0 +1,149 @@
+//! What a worker keeps from one session to the next.
+
+ghost use Rattle.std.specs.Prelude.{◌≡◌, ◌≢◌, ◌+◌, nat_lt, Err, OnOk, IfOk, IsErrOf};
+ghost use Rattle.std.specs.Io.KnownBytes.{IsAtEnd};
+ghost use Rattle.tt_publish.specs.Looks.{Looks};
+ghost use Rattle.tt_session.specs.declared.serving.Served.{Served};
+ghost use Rattle.tt_stamp.specs.Steps.{Stamps};
+ghost use Rattle.tt_station.specs.Station.{ServesSession, BreaksSession};
+
+use crate::clients::Presence;
+use crate::stations::Station;
+use std::alloc::Global;
+use std::marker::Model;
+use std::sync::Wait;
+use std::thread::Parker;
+use std::time::Duration;
+use tt_publish::{Clock, ReadFault, Reading, Watch};
+use tt_session::{ServeFault, Served, Turns, serve};
+use tt_span::Span;
+use tt_stamp::{Seat, Sequencer, StampFault};
+use tt_stream::{ByteReader, ByteWriter};
+
+/// The longest pause of one release step, in nanoseconds: a twentieth of a second.
+pub const MAX_PAUSE: u64 = 50_000_000;
+
+/// By how much a pause is longer than what is missing, in nanoseconds: the clock may be slow.
+const MARGIN: u64 = 1_000;
+
+/// What commits are stamped by.
+#[derive(Clone, Copy, Debug, PartialEq, Eq)]
+pub struct Terms {
+    /// The lease that stamps lie in.
+    pub lease: Span,
+    /// How far a floor may lie ahead of the latest of a reading, in nanoseconds. A bound above that of the rule
+    /// ([`tt_stamp::MAX_AHEAD`]) allows no more than the rule.
+    pub ahead: u64,
+}
+
+/// What a worker keeps from one session to the next: it reads through a watch of its own by a clock of its own, and
+/// draws its stamps with a seat of its own from the sequencer that all workers share. Contracts see its parts.
+#[derive(Drop)]
+pub struct Post<'a, R, C> {
+    rt: &'a R,
+    alloc: Global,
+    watch: Watch,
+    clock: C,
+    seat: Seat,
+    sequencer: &'a Sequencer,
+    terms: Terms,
+    /// What its pauses are made by. Nothing ends one before its time.
+    parker: Parker,
+}
+
+impl<'a, R, C> Model for Post<'a, R, C> {
+    ghost use Rattle.std.specs.Prelude.{◌≡◌};
+    ghost use Rattle.tt_station.specs.Station.{PostState};
+
+    ghost Value = { PostState C };
+
+    ghost view = { λ p. record { watch = p.watch; clock = p.clock; seat = p.seat; lease = p.terms.lease; ahead = p.terms.ahead } };
+
+    ghost invariant = { λ p. p.seat.table ≡ p.sequencer.now };
+}
+
+impl<'a, R: Wait, C: Clock> Post<'a, R, C> {
+    /// The post of a worker that has served no session. Requires: the seat is of the sequencer.
+    pub fn new(
+        rt: &'a R,
+        alloc: Global,
+        watch: Watch,
+        clock: C,
+        seat: Seat,
+        sequencer: &'a Sequencer,
+        terms: Terms,
+    ) -> Self
+        requires of_it { seat.table ≡ sequencer.now }
+        ensures made { result ≡ record { watch = watch; clock = clock; seat = seat; lease = terms.lease; ahead = terms.ahead } }
+    {
+        Post {
+            rt,
+            alloc,
+            watch,
+            clock,
+            seat,
+            sequencer,
+            terms,
+            parker: Parker::new(),
+        }
+    }
+
+    /// Serves one session of this client, as [`serve`] does: its service is a [`Station`] in whose book nothing has
+    /// happened. It answers the post for the next session, and what the session did.
+    ///
+    /// Refused as `serve` is: 1105 `ReadFailed`, 1106 `WriteFailed`. The post is there for the next session all the same.
+    pub fn serve<I: ByteReader, O: ByteWriter, V: Presence>(
+        self,
+        client: &V,
+        reader: &mut I,
+        writer: &mut O,
+        turns: Turns,
+    ) -> (Self, Result<Served, ServeFault>)
+        ensures served { IfOk result.1 (λ served. ServesSession C.gives C.failed V.says turns.waits (I.left reader.old) (I.left reader.new)
+            (O.taken writer.old) (O.taken writer.new) client.now self.entry result.0 served) }
+        ensures end { OnOk result.1 (IsAtEnd (I.left reader.new)) }
+        ensures read_failed { IsErrOf result.1 ServeFault.ReadFailed → (served : Served) × ServesSession C.gives C.failed V.says turns.waits
+            (I.left reader.old) (I.left reader.new) (O.taken writer.old) (O.taken writer.new) client.now self.entry result.0 served }
+        ensures write_failed { IsErrOf result.1 ServeFault.WriteFailed → BreaksSession C.gives C.failed V.says turns.waits
+            (I.left reader.old) (I.left reader.new) (O.taken writer.old) (O.taken writer.new) client.now self.entry result.0 }
+        ensures sound_read { (result.1 ≢ Err ServeFault.ReadFailed) → I.failed reader.new ≡ I.failed reader.old }
+        ensures sound_write { (result.1 ≢ Err ServeFault.WriteFailed) → O.failed writer.new ≡ O.failed writer.old }
+    {
+        let alloc = self.alloc;
+        let mut station = Station::open(self, alloc, client);
+        let served = serve(reader, writer, &mut station, turns);
+        let post = station.close();
+        (post, served)
+    }
+
+    /// One [`Watch::now`].
+    pub(crate) fn read(&mut self) -> Result<Reading, ReadFault>
+        ensures looks { Looks C.gives C.failed self.old.watch self.old.clock result self.new.watch self.new.clock }
+        ensures same { self.new ≡ record self.old { watch = self.new.watch; clock = self.new.clock } }
+    {
+        self.watch.now(&mut self.clock)
+    }
+
+    /// Whether a floor is further ahead of the reading's latest than it may be here.
+    pub(crate) fn is_above_cap(&self, reading: &Reading, floor: u64) -> bool
+        ensures { result ≡ nat_lt (reading.now.hi + self.now.ahead) floor }
+    {
+        floor.saturating_sub(reading.latest()) > self.terms.ahead
+    }
+
+    /// One [`Sequencer::stamp`] in the lease.
+    pub(crate) fn stamp(&mut self, reading: &Reading, floor: u64) -> Result<u64, StampFault>
+        ensures stamps { Stamps floor self.old.lease reading.now self.old.seat result self.new.seat }
+        ensures same { self.new ≡ record self.old { seat = self.new.seat } }
+    {
+        self.sequencer
+            .stamp(self.rt, &mut self.seat, reading, floor, &self.terms.lease)
+    }
+
+    /// Waits until a reading is past the stamp, or for the longest pause.
+    pub(crate) fn pause(&self, stamp: u64, earliest: u64) {
+        let left = stamp.saturating_sub(earliest).min(MAX_PAUSE);
+        self.parker
+            .park_timeout(self.rt, Duration::from_nanos(left + MARGIN));
+    }
+}

@@ -1,0 +1,158 @@
+//! The service of one session.
+
+ghost use Rattle.std.specs.Prelude.{◌≡◌, ◌<◌, [], None, IfSome};
+ghost use Rattle.tt_stamp.specs.History.{waiting_of, release_of, with_receipts, receipt_of};
+ghost use Rattle.tt_station.specs.Station.{Allows, AnswersReceipt, CommitsAt, book_before, id_at};
+
+use crate::clients::Presence;
+use crate::faults::StationFault;
+use crate::posts::Post;
+use std::alloc::Global;
+use std::marker::Model;
+use std::sync::Wait;
+use tt_publish::{Clock, Reading};
+use tt_session::Service;
+use tt_stamp::{Book, Id, Receipt};
+
+/// The service of one session: the post of its worker, its client, and a book of its own. Contracts see these.
+///
+/// A commit is queued into a book in which nothing has happened wherever none is pending. So a session, of whose commits
+/// one is pending at most, keeps two entries at most, however long it goes on.
+#[derive(Drop)]
+pub struct Station<'a, 'c, R, C, V> {
+    post: Post<'a, R, C>,
+    alloc: Global,
+    client: &'c V,
+    book: Book,
+    /// The stamp of the commit that was begun last, in nanoseconds.
+    stamp: u64,
+}
+
+impl<'a, 'c, R, C, V> Model for Station<'a, 'c, R, C, V> {
+    ghost use Rattle.tt_station.specs.Station.{StationState};
+
+    ghost Value = { StationState C V };
+
+    ghost view = { λ s. record { post = s.post; client = s.client.now; book = s.book } };
+}
+
+impl<'a, 'c, R: Wait, C: Clock, V: Presence> Station<'a, 'c, R, C, V> {
+    /// The service of this client's session, at its beginning.
+    pub fn open(post: Post<'a, R, C>, alloc: Global, client: &'c V) -> Self
+        ensures opened { result ≡ record { post = post.entry; client = client.now; book = [] } }
+    {
+        Station {
+            post,
+            alloc,
+            client,
+            book: Book::new(alloc),
+            stamp: 0,
+        }
+    }
+
+    /// The post, once the session has ended.
+    pub fn close(self) -> Post<'a, R, C>
+        ensures post { result ≡ self.entry.post }
+    {
+        let Station { post, .. } = self;
+        post
+    }
+
+    /// Makes the book ready for a commit: where none is pending, a new one begins.
+    fn turn_page(&mut self)
+        ensures { self.new ≡ record self.old { book = book_before self.old.book } }
+    {
+        if self.book.waiting() == 0 {
+            self.book = Book::new(self.alloc);
+        }
+    }
+
+    /// A commit whose reading was taken is stamped and queued.
+    fn commit(&mut self, number: u64, floor: u64, reading: &Reading) -> Result<u64, u16>
+        ensures commits { CommitsAt self.old number floor reading.now result self.new }
+        ensures same { self.new ≡ record self.old { post = record self.old.post { seat = self.new.post.seat }; book = self.new.book } }
+    {
+        let stamp = match self.post.stamp(reading, floor) {
+            Ok(stamp) => stamp,
+            Err(fault) => return Err(fault.number()),
+        };
+        self.turn_page();
+        match self.book.queue(Id { session: 0, number }, stamp) {
+            Ok(()) => {
+                self.stamp = stamp;
+                Ok(stamp)
+            }
+            Err(fault) => Err(fault.number()),
+        }
+    }
+
+    /// What a pending commit is answered: no, after a pause, or a refusal where the client has left.
+    fn put_off(&self, earliest: u64) -> Result<bool, u16>
+        ensures { AnswersReceipt V.says self.now.client result None }
+    {
+        if self.client.has_left() {
+            return Err(StationFault::ClientLeft.number());
+        }
+        self.post.pause(self.stamp, earliest);
+        Ok(false)
+    }
+
+    /// Releases what has surely passed at the reading, and answers the receipt of the commit, if it is released then.
+    #[tactic(auto, using(crate::proofs::Receipts::sure))]
+    fn release(&mut self, number: u64, reading: &Reading) -> Option<Receipt>
+        ensures same { self.new ≡ record self.old { book = with_receipts (release_of (waiting_of self.old.book) reading.now.lo) self.old.book } }
+        ensures receipt { result ≡ receipt_of self.new.book (id_at number) }
+        ensures sure { IfSome result (λ receipt. receipt.stamp < receipt.earliest) }
+    {
+        self.book.release(reading);
+        // Its law: the history is legal.
+        let _ = self.book.history();
+        self.book.is_released(Id { session: 0, number })
+    }
+}
+
+impl<'a, 'c, R: Wait, C: Clock, V: Presence> Service for Station<'a, 'c, R, C, V> {
+    ghost allows = { Allows C.gives C.failed V.says };
+
+    /// One [`Watch::now`](tt_publish::Watch::now). Refuses as that does: 801, 803, 802.
+    fn now(&mut self) -> Result<Reading, u16> {
+        match self.post.read() {
+            Ok(reading) => Ok(reading),
+            Err(fault) => Err(fault.number()),
+        }
+    }
+
+    /// One [`Watch::now`](tt_publish::Watch::now), then one [`Sequencer::stamp`](tt_stamp::Sequencer::stamp) by its reading
+    /// and in the lease, then one [`Book::queue`] of the number with the stamp, which it answers.
+    ///
+    /// Refuses, in this order: 801, 803, 802 where there is no reading, 1821 where the floor is further ahead of the
+    /// reading's latest than the terms allow, 902, 901, 903 where there is no stamp, 1001, 1002, 1003, 1 where it is not
+    /// queued: then the stamp is lost. After any other refusal the seat gave no stamp, and the book is as it was.
+    fn begin(&mut self, number: u64, floor: u64) -> Result<u64, u16> {
+        let reading = match self.post.read() {
+            Ok(reading) => reading,
+            Err(fault) => return Err(fault.number()),
+        };
+        if self.post.is_above_cap(&reading, floor) {
+            return Err(StationFault::FloorAboveCap.number());
+        }
+        self.commit(number, floor, &reading)
+    }
+
+    /// One [`Watch::now`](tt_publish::Watch::now), then one [`Book::release`] by its reading, and whether the commit is
+    /// released then. Where it is not, a pause follows: for as long as the stamp of the commit that was begun last is above
+    /// the earliest of the reading, at most [`MAX_PAUSE`](crate::MAX_PAUSE).
+    ///
+    /// Refuses with 801, 803, 802 where there is no reading, and with 1822 where the commit is pending and the client has
+    /// left.
+    fn pass(&mut self, number: u64) -> Result<bool, u16> {
+        let reading = match self.post.read() {
+            Ok(reading) => reading,
+            Err(fault) => return Err(fault.number()),
+        };
+        match self.release(number, &reading) {
+            Some(_) => Ok(true),
+            None => self.put_off(reading.earliest()),
+        }
+    }
+}

@@ -1,0 +1,3 @@
+pub mod Limit
+pub mod Status
+pub mod Event

@@ -1,0 +1,100 @@
+//! The lines of a log.
+
+ghost use Rattle.std.specs.Prelude.{◌≡◌, ◌++◌, OnOk, string_bytes};
+ghost use Rattle.tt_status.specs.Event.{event_line, field, name_of, numbers_of};
+
+use std::alloc::AllocError;
+
+/// What an operator may have to act on, or wants to see.
+#[derive(Clone, Copy, Debug, PartialEq, Eq)]
+pub enum Event {
+    /// The machine has started in this epoch, and serves clients at this port.
+    Started { machine: u64, epoch: u64, port: u64 },
+    /// The first publication of this life, with its width in nanoseconds.
+    FirstPublication { width: u64 },
+    /// No statement of this source is known any more.
+    SourceSilent { source: u64 },
+    /// The fusion speaks against this source.
+    SourceSuspect { source: u64 },
+    /// A fusion was refused with this number. 504 says that more sources are faulty than may be.
+    FusionRefused { number: u64 },
+    /// The clock could not be read, or went back.
+    ClockBack,
+    /// So many answers of sources were refused in a round.
+    AnswersRefused { count: u64 },
+    /// A connection was not accepted.
+    NotAccepted,
+    /// The machine ends in order.
+    Ended,
+}
+
+impl Event {
+    /// How the event is called in a line, with its level.
+    fn name(self) -> &'static str
+        ensures { result.now ≡ name_of self }
+    {
+        match self {
+            Event::Started { .. } => "level=info event=started",
+            Event::FirstPublication { .. } => "level=info event=first_publication",
+            Event::SourceSilent { .. } => "level=warn event=source_silent",
+            Event::SourceSuspect { .. } => "level=warn event=source_suspect",
+            Event::FusionRefused { .. } => "level=warn event=fusion_refused",
+            Event::ClockBack => "level=warn event=clock_back",
+            Event::AnswersRefused { .. } => "level=warn event=answers_refused",
+            Event::NotAccepted => "level=warn event=not_accepted",
+            Event::Ended => "level=info event=ended",
+        }
+    }
+}
+
+/// Adds the line of an event to a text: when it was, in nanoseconds since 1970, its level and its name, its numbers, how
+/// many of its kind were left out before it where some were, and a line feed. Refuses only where memory runs out; then the
+/// text may have a part of the line at its end.
+pub fn push_event(
+    text: &mut String,
+    time: u64,
+    event: Event,
+    left_out: u64,
+) -> Result<(), AllocError>
+    ensures written { OnOk result (string_bytes text.new ≡ string_bytes text.old ++ event_line time event left_out) }
+{
+    push_field(text, "time=", time)?;
+    text.push_str(" ")?;
+    text.push_str(event.name())?;
+    push_numbers(text, event)?;
+    if left_out > 0 {
+        push_field(text, " left_out=", left_out)?;
+    }
+    text.push_str("\n")
+}
+
+/// Adds a name and its number.
+fn push_field(text: &mut String, name: &str, value: u64) -> Result<(), AllocError>
+    ensures { OnOk result (string_bytes text.new ≡ string_bytes text.old ++ field name.now value) }
+{
+    text.push_str(name)?;
+    write!(text, "{value}")
+}
+
+/// Adds the numbers of an event.
+fn push_numbers(text: &mut String, event: Event) -> Result<(), AllocError>
+    ensures { OnOk result (string_bytes text.new ≡ string_bytes text.old ++ numbers_of event) }
+{
+    match event {
+        Event::Started {
+            machine,
+            epoch,
+            port,
+        } => {
+            push_field(text, " machine=", machine)?;
+            push_field(text, " epoch=", epoch)?;
+            push_field(text, " port=", port)
+        }
+        Event::FirstPublication { width } => push_field(text, " width=", width),
+        Event::SourceSilent { source } => push_field(text, " source=", source),
+        Event::SourceSuspect { source } => push_field(text, " source=", source),
+        Event::FusionRefused { number } => push_field(text, " number=", number),
+        Event::AnswersRefused { count } => push_field(text, " count=", count),
+        Event::ClockBack | Event::NotAccepted | Event::Ended => Ok(()),
+    }
+}
