@@ -36,4 +36,4 @@ pub use audits::audit;
 pub use faults::AuditFault;
 pub use live::{LiveNote, LiveReport, audit_live, live_laws};
 pub use reports::{Broken, Report, Suspect};
-pub use writing::report_text;
+pub use writing::{push_verdict, report_text};

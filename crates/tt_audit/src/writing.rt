@@ -67,8 +67,9 @@ fn push_suspects(text: &mut String, suspects: &[Suspect]) -> Result<(), AllocErr
     Ok(())
 }
 
-/// Writes the last line at the end.
-fn push_verdict(text: &mut String, broken: &Option<Broken>) -> Result<(), AllocError>
+/// Writes the last line of a report at the end of the text: `premise kept`, or `premise broken EVENT MACHINE drift` (or
+/// `false`). Refuses only where an allocation fails; then the text may have a part of the line at its end.
+pub fn push_verdict(text: &mut String, broken: &Option<Broken>) -> Result<(), AllocError>
     ensures { OnOk result (string_bytes text.new ≡ string_bytes text.old ++ verdict_line broken.now) }
 {
     match broken {

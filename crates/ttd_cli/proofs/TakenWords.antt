@@ -12,7 +12,7 @@ use Rattle.ttd_cli.specs.CommandLine.{age_app, faults_of, max_number, named_by, 
 use Rattle.ttd_cli.specs.Reading.{HasNumbers, age_by, age_of, command_named, command_of, number_at, side_of, twin_by}
 use Rattle.ttd_cli.specs.declared.words.Side.{Side}
 use Rattle.ttd_cli.specs.declared.words.Command.{Command}
-use Rattle.ttd_cli.specs.declared.words.Command.TheVariants.{Age, Fuse, Check, Run as RunScript, Twin, Picture, Live}
+use Rattle.ttd_cli.specs.declared.words.Command.TheVariants.{Age, Fuse, Check, Run as RunScript, Trace, Twin, Picture, Live, Judge}
 use Rattle.ttd_cli.specs.declared.words.WordsFault.{WordsFault}
 use Rattle.ttd_cli.specs.declared.words.WordsFault.TheVariants.{BadWords}
 use Rattle.ttd_cli.proofs.RowLemmas.{Each, HasDefault, IsPlainRule, find_has}
@@ -150,8 +150,14 @@ all_taken = (
       (
         plain_taken _ RunScript (λ rows. refl) refl refl,
         (
-          twin_taken _ refl refl refl,
-          (plain_taken _ Picture (λ rows. refl) refl refl, (plain_taken _ Live (λ rows. refl) refl refl, (help_taken _ refl refl, tt))),
+          plain_taken _ Trace (λ rows. refl) refl refl,
+          (
+            twin_taken _ refl refl refl,
+            (
+              plain_taken _ Picture (λ rows. refl) refl refl,
+              (plain_taken _ Live (λ rows. refl) refl refl, (plain_taken _ Judge (λ rows. refl) refl refl, (help_taken _ refl refl, tt))),
+            ),
+          ),
         ),
       ),
     ),

@@ -48,13 +48,13 @@ bare_app = on_top (λ s. record s { has_version = true; no_binary_name = true; s
 abbrev pub sources_app : App
 sources_app = with_subcommand (with_subcommand (with_subcommand bare_app age_app.top) (new_app (codes "fuse")).top) (new_app (codes "check")).top
 
--- The program with these and the commands that judge a script's run.
+-- The program with these and the commands that tell of a script's run.
 abbrev pub runs_app : App
-runs_app = with_subcommand (with_subcommand sources_app (new_app (codes "run")).top) twin_app.top
+runs_app = with_subcommand (with_subcommand (with_subcommand sources_app (new_app (codes "run")).top) (new_app (codes "trace")).top) twin_app.top
 
 -- The program with all its commands.
 unfoldable pub ttd_app : App
-ttd_app = with_subcommand (with_subcommand runs_app (new_app (codes "picture")).top) (new_app (codes "live")).top
+ttd_app = with_subcommand (with_subcommand (with_subcommand runs_app (new_app (codes "picture")).top) (new_app (codes "live")).top) (new_app (codes "judge")).top
 
 -- What clap finds wrong with the words: nothing where it takes them, and else the kinds of error that it may answer.
 unfoldable pub faults_of : List Text → Kinds

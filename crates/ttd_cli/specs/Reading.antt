@@ -13,7 +13,7 @@ use Rattle.ttd_cli.specs.CommandLine.{faults_of, max_number, named_by}
 use Rattle.ttd_cli.specs.declared.words.Asked.{Asked}
 use Rattle.ttd_cli.specs.declared.words.Asked.TheVariants.{Run, Help}
 use Rattle.ttd_cli.specs.declared.words.Command.{Command}
-use Rattle.ttd_cli.specs.declared.words.Command.TheVariants.{Age, Fuse, Check, Run as RunScript, Twin, Picture, Live}
+use Rattle.ttd_cli.specs.declared.words.Command.TheVariants.{Age, Fuse, Check, Run as RunScript, Trace, Twin, Picture, Live, Judge}
 use Rattle.ttd_cli.specs.declared.words.Side.{Side}
 use Rattle.ttd_cli.specs.declared.words.Side.TheVariants.{Low, High}
 use Rattle.ttd_cli.specs.declared.words.WordsFault.{WordsFault}
@@ -56,9 +56,11 @@ command_of name rows = if bytes_eq name (codes "age") then age_of rows
     else (if bytes_eq name (codes "fuse") then Ok Fuse
     else (if bytes_eq name (codes "check") then Ok Check
     else (if bytes_eq name (codes "run") then Ok RunScript
+    else (if bytes_eq name (codes "trace") then Ok Trace
     else (if bytes_eq name (codes "twin") then twin_of rows
     else (if bytes_eq name (codes "picture") then Ok Picture
-    else (if bytes_eq name (codes "live") then Ok Live else Err BadWords))))))
+    else (if bytes_eq name (codes "live") then Ok Live
+    else (if bytes_eq name (codes "judge") then Ok Judge else Err BadWords))))))))
 
 -- The command that is named, and bad words where none is.
 abbrev pub command_named : Option (Text × List Row) → Result Command WordsFault

@@ -7,8 +7,8 @@ ghost use Rattle.clap.specs.declared.builder.command.Command.TheViews.{out-Comma
 ghost use Rattle.ttd_cli.specs.CommandLine.{age_app, bare_app, drift_rule, given_rule, runs_app, sources_app, text_rule, ttd_app, twin_app};
 
 use crate::help::{
-    ABOUT_AGE, ABOUT_ANSWERS, ABOUT_CHECK, ABOUT_FUSE, ABOUT_LIVE, ABOUT_PICTURE, ABOUT_RUN,
-    ABOUT_TWIN,
+    ABOUT_AGE, ABOUT_ANSWERS, ABOUT_CHECK, ABOUT_FUSE, ABOUT_JUDGE, ABOUT_LIVE, ABOUT_PICTURE,
+    ABOUT_RUN, ABOUT_TRACE, ABOUT_TWIN,
 };
 use clap::{Arg, Command, value_parser};
 use std::alloc::{AllocError, Global};
@@ -141,7 +141,7 @@ fn sources_command<'a>(alloc: Global) -> Result<Command<'a>, AllocError>
     with_fuse.subcommand(check)
 }
 
-/// The program with these commands and those that judge a script's run: `run` and `twin`.
+/// The program with these commands and those that tell of a script's run: `run`, `trace` and `twin`.
 fn runs_command<'a>(alloc: Global) -> Result<Command<'a>, AllocError>
     ensures app { IfOk result (λ c. app_of c ≡ runs_app) }
 {
@@ -153,11 +153,18 @@ fn runs_command<'a>(alloc: Global) -> Result<Command<'a>, AllocError>
         ABOUT_RUN,
     );
     let with_run = with_sources.subcommand(run)?;
+    let trace = plain_command(
+        alloc,
+        "trace",
+        "Runs the script that is read, and prints each event with its reply",
+        ABOUT_TRACE,
+    );
+    let with_trace = with_run.subcommand(trace)?;
     let twin = twin_command(alloc)?;
-    with_run.subcommand(twin)
+    with_trace.subcommand(twin)
 }
 
-/// The whole command line: these commands, `picture` and `live`.
+/// The whole command line: these commands, `picture`, `live` and `judge`.
 pub(crate) fn ttd_command<'a>(alloc: Global) -> Result<Command<'a>, AllocError>
     ensures app { IfOk result (λ c. app_of c ≡ ttd_app) }
 {
@@ -175,5 +182,12 @@ pub(crate) fn ttd_command<'a>(alloc: Global) -> Result<Command<'a>, AllocError>
         "Runs a machine live on this host, by the script that is read",
         ABOUT_LIVE,
     );
-    with_picture.subcommand(live)
+    let with_live = with_picture.subcommand(live)?;
+    let judge = plain_command(
+        alloc,
+        "judge",
+        "Judges whether the history of commits that is read is externally consistent",
+        ABOUT_JUDGE,
+    );
+    with_live.subcommand(judge)
 }

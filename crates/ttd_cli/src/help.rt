@@ -2,7 +2,8 @@
 
 /// What every command does with what it reads.
 pub(crate) const ABOUT_ANSWERS: &str = "\
-Each command reads standard input to its end, at most 1048576 bytes: ttd run < FILE
+Each command reads standard input to its end, at most 1048576 bytes (judge: 1 GiB):
+  ttd run < FILE
 It prints its answer, or the one line `refused N`; standard error says what N means.
 Times and clock readings are nanoseconds. `ttd <COMMAND> --help` says more of a command.
 
@@ -10,7 +11,7 @@ Exit status:
   0  the answer, this help or the version was printed
   1  out of memory: `refused 1`
   2  the arguments or the input were refused
-  3  run: the run breaks an assumption; live: a reading was wrong
+  3  run: the run breaks an assumption; live: a reading was wrong; judge: a commit is violated
   4  a device failed: 1604 in reading, 1605 in writing; live: also 1501 a link, 1502 a clock,
      304 a reference
 
@@ -91,6 +92,22 @@ Refused:
   1304  an event's `do` is no known word
   1305  there are more than 4096 events";
 
+/// What `trace` reads and prints.
+pub(crate) const ABOUT_TRACE: &str = "\
+Reads standard input: ttd trace < FILE
+A script, as `run` reads it.
+
+Prints a line for each event of its run: the event's number, counted from 0, the event with its
+true time and its numbers, ` -> `, and the reply: its name and its numbers, or `Refused N`. Behind a
+reading that does not hold the true time of its event stands ` wrong`.
+
+Example:
+  ttd trace < examples/one-liar.toml
+prints as its last line
+  10 read 50 0 0 0 1 -> Read 45 55
+
+Refused: as `run`.";
+
 /// What `twin` reads and prints.
 pub(crate) const ABOUT_TWIN: &str = "\
 Reads standard input: ttd twin --event K --side low < FILE
@@ -138,3 +155,23 @@ Refused:
   1302                also: there is no table `[live]`
   1303                also: not one machine, one master per source and one session per worker
   1, 802, 804         out of memory, a fusion was refused, no place for a reader";
+
+/// What `judge` reads and prints.
+pub(crate) const ABOUT_JUDGE: &str = "\
+Reads standard input, at most 1 GiB: ttd judge < FILE
+A history: a line `commit BEGAN ENDED STAMP` for each commit, in any order; the times at which it
+began and ended are by one clock, and BEGAN is at most ENDED.
+
+Prints `commits N` and `violations N`, how many commits have a stamp that is not above that of some
+commit that ended before they began; and where there is one `first LATER EARLIER`: the line of the
+one that began first, and the line of the one that it contradicts. The status is 3 then.
+
+Example:
+  printf 'commit 10 20 7\\ncommit 30 40 6\\n' | ttd judge
+prints
+  commits 2
+  violations 1
+  first 2 1
+
+Refused:
+  1603  a line is not such a line; standard error says which is the first";

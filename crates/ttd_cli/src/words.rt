@@ -34,6 +34,8 @@ pub enum Command {
     Check,
     /// `run`: runs the script that is read, and reports on the run.
     Run,
+    /// `trace`: runs the script that is read, and tells each event with its reply.
+    Trace,
     /// `twin`: gives the twin of a reading in the run of the script that is read.
     Twin {
         /// The place of the reading's event among the events, counted from 0.
@@ -45,6 +47,8 @@ pub enum Command {
     Picture,
     /// `live`: runs a machine live, by the script that is read.
     Live,
+    /// `judge`: judges whether the history of commits that is read is externally consistent.
+    Judge,
 }
 
 /// An end of a reading.
@@ -154,9 +158,11 @@ fn command_asked(matches: &ArgMatches<'_>) -> Result<Command, WordsFault>
         Some(("fuse", _)) => Ok(Command::Fuse),
         Some(("check", _)) => Ok(Command::Check),
         Some(("run", _)) => Ok(Command::Run),
+        Some(("trace", _)) => Ok(Command::Trace),
         Some(("twin", options)) => twin_asked(options),
         Some(("picture", _)) => Ok(Command::Picture),
         Some(("live", _)) => Ok(Command::Live),
+        Some(("judge", _)) => Ok(Command::Judge),
         _ => Err(WordsFault::BadWords),
     }
 }

@@ -6,4 +6,7 @@ pub mod Pictured
 pub mod Lines
 pub mod Suspects
 pub mod Checking
-pub mod Lived
+pub mod Traced
+pub mod Judged
+pub mod Asked
+pub mod Endings

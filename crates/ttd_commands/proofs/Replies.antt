@@ -9,8 +9,8 @@ use Rattle.ttd_commands.specs.declared.faults.Fault.TheVariants.{BadInput, BadWo
 use Rattle.std.specs.Result.{result_map_both}
 use Rattle.ttd_commands.specs.declared.ending.Status.{Status}
 use Rattle.ttd_commands.specs.Answer.{Answer, answer_of, fine}
-use Rattle.ttd_commands.specs.Command.{HasReply, IsCommandReply, IsReply, IsReplyRead}
-use Rattle.ttd_commands.specs.Input.{IsInputFault, most_input}
+use Rattle.ttd_commands.specs.Command.{HasReply, IsCommandReply, IsReply, IsReplyRead, most_of}
+use Rattle.ttd_commands.specs.Input.{IsInputFault}
 use Rattle.ttd_commands.specs.Run.{Answers, Gives, GivesHelp, Input, Output, RefusesOrHelps}
 
 -- an input that has more bytes than some number has some bytes that are more
@@ -23,12 +23,12 @@ longer_input None most long = (replicate {A = ℕ} (most + 1) 0, tt, (let zero :
 pub fault_replied : {T : Type 0} (shows : T → Answer) (command : Command) (old new : Input) (fault : Fault) (result : Result T Fault)
     → result ≡ Err fault → IsInputFault fault
     → (fault ≡ ReadFailed → HasFailed old.failed new.failed)
-    → (fault ≡ BadInput → IfSome old.left (λ all. most_input < length all))
+    → (fault ≡ BadInput → IfSome old.left (λ all. most_of command < length all))
     → (fault ≢ ReadFailed → new.failed ≡ old.failed)
-    → IsReplyRead shows (IsReply command) old new result
+    → IsReplyRead (most_of command) shows (IsReply command) old new result
 fault_replied shows command old new fault result is (inl failed) cause long sound = inr (inl (cc, cause failed))
 fault_replied shows command old new fault result is (inr (inl too_long)) cause long sound =
-    let more = longer_input old.left most_input (long too_long) in
+    let more = longer_input old.left (most_of command) (long too_long) in
     let refused : result ≡ Err BadInput = cc in
     inl (
       more.0,
@@ -43,21 +43,21 @@ fault_replied shows command old new fault result is (inr (inr memory)) cause lon
 
 -- what is replied where it was read
 pub command_replied : {T : Type 0} (shows : T → Answer) (command : Command) (bytes : List ℕ) (old new : Input) (result : Result T Fault)
-    → IfSome old.left (λ all. all ≡ bytes) → length bytes ≤ most_input → IsAtEnd new.left → new.failed ≡ old.failed
+    → IfSome old.left (λ all. all ≡ bytes) → length bytes ≤ most_of command → IsAtEnd new.left → new.failed ≡ old.failed
     → HasReply shows (IsCommandReply command bytes) result
-    → IsReplyRead shows (IsReply command) old new result
+    → IsReplyRead (most_of command) shows (IsReply command) old new result
 command_replied shows command bytes old new result whole short end sound (inl is) =
     inl (bytes, record { whole = whole; end = inl end; sound = sound }, inr (short, is))
 command_replied shows command bytes old new result whole short end sound (inr memory) = inr (inr (memory, sound))
 
 -- what is written of it
-pub answered : {T : Type 0} (shows : T → Answer) (IsReplyOf : List ℕ → Result Answer Fault → Type 0) (old new : Input) (result : Result T Fault)
-    (before after : Output) (status : Status) → IsReplyRead shows IsReplyOf old new result
+pub answered : {T : Type 0} (most : ℕ) (shows : T → Answer) (IsReplyOf : List ℕ → Result Answer Fault → Type 0) (old new : Input) (result : Result T Fault)
+    (before after : Output) (status : Status) → IsReplyRead most shows IsReplyOf old new result
     → Gives (answer_of (result_map_both shows (λ fault. fault) result)) before after status
-    → Answers IsReplyOf old new before after status
-answered shows IsReplyOf old new result before after status (inl read) gives = inl (read.0, result_map_both shows (λ fault. fault) result, read.1, read.2, gives)
-answered shows IsReplyOf old new result before after status (inr (inl failed)) gives = inr (inl (failed.1, rw failed.0 at gives))
-answered shows IsReplyOf old new result before after status (inr (inr memory)) gives = inr (inr (memory.1, rw memory.0 at gives))
+    → Answers most IsReplyOf old new before after status
+answered most shows IsReplyOf old new result before after status (inl read) gives = inl (read.0, result_map_both shows (λ fault. fault) result, read.1, read.2, gives)
+answered most shows IsReplyOf old new result before after status (inr (inl failed)) gives = inr (inl (failed.1, rw failed.0 at gives))
+answered most shows IsReplyOf old new result before after status (inr (inr memory)) gives = inr (inr (memory.1, rw memory.0 at gives))
 
 -- what is written where help was asked for
 pub help_given : {T : Type 0} (shows : T → Answer) (old new : Input) (result : Result T Fault) (before after : Output) (status : Status)

@@ -2,7 +2,7 @@
 use Rattle.std.proofs.Common.{◌≡◌, ℕ, List, [], ◌∷◌, length, Result, Ok, Err, refl, arith}
 use Rattle.std.specs.Prelude.{◌++◌, OnOk, codes, if◌then◌else◌}
 use Rattle.std.specs.Result.{is_ok}
-use Rattle.tt_cert.specs.Text.{line_of}
+use Rattle.tt_text.specs.Line.{line_of}
 use Rattle.ttd_commands.specs.Fuse.{suspects_line, suspects_word}
 
 -- the line of suspects, where there are none, and where there are some

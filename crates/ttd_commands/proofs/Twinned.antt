@@ -30,12 +30,3 @@ pub twin_told : (script : Scenario) (k : ℕ) (found : Result (List Event) TwinF
     → TellsFound script k found (Ok (fine text))
 twin_told script k found twin reading text is replied same =
     subst (λ (r : Result (List Event) TwinFault). TellsFound script k r (Ok (fine text))) (sym is) (record { reading = reading; replied = replied; is = rw same refl })
-
-pub twin_replied : {T : Type 0} (shows : T → Answer) (k : ℕ) (side : Side) (input text : List ℕ) (script : Scenario) (result : Result T Fault)
-    → text ≡ input → IsUtf8 input → script_in text ≡ Ok script
-    → HasReply shows (TellsFound script k (twin_of script.configs script.events k (twin_side side))) result
-    → HasReply shows (IsTwinReply k side input) result
-twin_replied shows k side input text script result same utf8 is (inr memory) = inr memory
-twin_replied shows k side input text script result same utf8 is (inl told) =
-    let found : script_in input ≡ Ok script = rw same at is in
-    inl (record { bad = λ no. absurd (no utf8); read = λ yes. subst (λ (s : Result Scenario ScriptFault). TellsTwinOf k side s (result_map_both shows (λ fault. fault) result)) (sym found) told })

@@ -9,6 +9,10 @@ use Rattle.ttd_commands.specs.declared.faults.Fault.TheVariants.{BadInput, ReadF
 abbrev pub most_input : ℕ
 most_input = 1048576
 
+-- The bytes of a history that are allowed at most: 1 GiB.
+abbrev pub most_history : ℕ
+most_history = 1073741824
+
 -- What the program says of an input that could not be read whole.
 abbrev pub input_fault_of : ReadFault → Fault
 input_fault_of Failed = ReadFailed

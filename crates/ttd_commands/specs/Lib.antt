@@ -6,8 +6,11 @@ pub mod Age
 pub mod SpansText
 pub mod Fuse
 pub mod Check
+pub mod Scripted
 pub mod Running
+pub mod Tracing
+pub mod Judging
 pub mod Twinning
 pub mod Picturing
-pub mod Command
 pub mod Living
+pub mod Command

@@ -9,7 +9,6 @@ use Rattle.ttd_commands.specs.declared.ending.Status.TheVariants.{Device}
 use Rattle.ttd_commands.specs.declared.faults.Fault.{Fault}
 use Rattle.ttd_commands.specs.declared.faults.Fault.TheVariants.{BadWords, ReadFailed, Memory}
 use Rattle.ttd_commands.specs.Answer.{Answer, answer_of, fine}
-use Rattle.ttd_commands.specs.Input.{most_input}
 
 -- What the input shows: the bytes that are still to come, where the device keeps them, and its failures and reads so far.
 pub record Input : Type 0 where
@@ -70,17 +69,17 @@ abbrev pub RefusesOrHelps : Input → Input → Output → Output → Status →
 RefusesOrHelps old_in new_in old_out new_out status =
     RefusesWords old_in new_in old_out new_out status ⊎ GivesHelp old_in new_in old_out new_out status
 
--- These are the bytes that the input still had, and it is read to its end, unless they are too many; no read failed.
-pub record IsRead (bytes : List ℕ) (old new : Input) : Type 0 where
+-- These are the bytes that the input still had, and it is read to its end, unless they are more than are allowed; no read failed.
+pub record IsRead (most : ℕ) (bytes : List ℕ) (old new : Input) : Type 0 where
   pub whole : IfSome old.left (λ all. all ≡ bytes)
-  pub end : IsAtEnd new.left ⊎ (most_input < length bytes)
+  pub end : IsAtEnd new.left ⊎ (most < length bytes)
   pub sound : new.failed ≡ old.failed
 
--- The input was read, and the answer is the one for a reply to its bytes; or reading failed, and that is the answer; or memory ran out
--- before there was a reply, with no read that failed, and that is the answer.
-abbrev pub Answers : (List ℕ → Result Answer Fault → Type 0) → Input → Input → Output → Output → Status → Type 0
-Answers IsReplyOf old_in new_in old_out new_out status =
-    ((bytes : List ℕ) × (reply : Result Answer Fault) × IsRead bytes old_in new_in × IsReplyOf bytes reply
+-- The input, of which so many bytes are allowed, was read, and the answer is the one for a reply to its bytes; or reading failed, and that is the
+-- answer; or memory ran out before there was a reply, with no read that failed, and that is the answer.
+abbrev pub Answers : ℕ → (List ℕ → Result Answer Fault → Type 0) → Input → Input → Output → Output → Status → Type 0
+Answers most IsReplyOf old_in new_in old_out new_out status =
+    ((bytes : List ℕ) × (reply : Result Answer Fault) × IsRead most bytes old_in new_in × IsReplyOf bytes reply
     × Gives (answer_of reply) old_out new_out status)
     ⊎ ((HasFailed old_in.failed new_in.failed × Gives (answer_of (Err ReadFailed)) old_out new_out status)
     ⊎ ((new_in.failed ≡ old_in.failed) × Gives memory_answer old_out new_out status))

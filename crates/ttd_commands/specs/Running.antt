@@ -1,26 +1,20 @@
 -- What `run` answers to its input.
-use Rattle.std.specs.Prelude.{◌≡◌, ℕ, List, Option, Some, None, Result, Ok, Err, IsUtf8}
+use Rattle.std.specs.Prelude.{◌≡◌, ℕ, List, Option, Some, None, Result, Ok}
 use Rattle.tt_audit.specs.declared.faults.AuditFault.{AuditFault}
 use Rattle.tt_audit.specs.declared.faults.AuditFault.TheVariants.{Memory as NoMemoryToAudit}
 use Rattle.tt_audit.specs.declared.reports.Broken.{Broken as Breaking}
 use Rattle.tt_audit.specs.Report.{IsReportOf, RunReport}
 use Rattle.tt_audit.specs.Text.{report_text_of}
-use Rattle.tt_script.specs.declared.faults.ScriptFault.{ScriptFault}
-use Rattle.tt_script.specs.declared.faults.ScriptFault.TheVariants.{Memory as NoMemoryToRead}
-use Rattle.tt_script.specs.Script.{Scenario, script_in}
+use Rattle.tt_script.specs.Script.{Scenario}
 use Rattle.tt_world.specs.declared.faults.WorldFault.{WorldFault}
 use Rattle.tt_world.specs.declared.faults.WorldFault.TheVariants.{Memory as NoMemoryToRun}
 use Rattle.tt_world.specs.Trace.{IsTraceOf, RunTrace}
 use Rattle.ttd_commands.specs.Answer.{Answer}
+use Rattle.ttd_commands.specs.Scripted.{IsScriptReply}
 use Rattle.ttd_commands.specs.declared.ending.Status.{Status}
 use Rattle.ttd_commands.specs.declared.ending.Status.TheVariants.{Fine, Broken}
 use Rattle.ttd_commands.specs.declared.faults.Fault.{Fault}
-use Rattle.ttd_commands.specs.declared.faults.Fault.TheVariants.{BadInput, Memory, Script, World}
-
--- What the program says of a refused script.
-abbrev pub script_fault_of : ScriptFault → Fault
-script_fault_of NoMemoryToRead = Memory
-script_fault_of fault = Script fault
+use Rattle.ttd_commands.specs.declared.faults.Fault.TheVariants.{Memory, World}
 
 -- What the program says of a refused run.
 abbrev pub world_fault_of : WorldFault → Fault
@@ -44,12 +38,6 @@ pub record TellsRun (script : Scenario) (reply : Result Answer Fault) : Type 0 w
   pub exact : IsReportOf script.configs script.events trace report
   pub is : reply ≡ Ok (record { text = report_text_of report; status = status_after report.broken })
 
--- The reply to what a text says: the first refusal of its script, or the report on the script's run.
-abbrev pub TellsScript : Result Scenario ScriptFault → Result Answer Fault → Type 0
-TellsScript (Err fault) reply = reply ≡ Err (script_fault_of fault)
-TellsScript (Ok script) reply = TellsRun script reply
-
--- What `run` answers to an input: that it is no text, or what the text says.
-pub record IsRunReply (input : List ℕ) (reply : Result Answer Fault) : Type 0 where
-  pub bad : ¬ (IsUtf8 input) → reply ≡ Err BadInput
-  pub read : IsUtf8 input → TellsScript (script_in input) reply
+-- What `run` answers to an input.
+abbrev pub IsRunReply : List ℕ → Result Answer Fault → Type 0
+IsRunReply = IsScriptReply TellsRun

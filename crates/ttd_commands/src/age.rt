@@ -3,6 +3,7 @@
 ghost use Rattle.std.specs.Prelude.{◌≡◌, ◌≢◌, Err, string_bytes};
 ghost use Rattle.hex.specs.Hex.{decode_of};
 ghost use Rattle.ttd_cli.specs.Reading.{IsUnlessMemory};
+ghost use Rattle.tt_live.specs.declared.faults.LiveFault.{LiveFault};
 ghost use Rattle.ttd_commands.specs.Age.{age_of, aged_hex, aged_of, answer_span_of as answered_of, without_line_feed as without_line_feed_of};
 ghost use Rattle.ttd_commands.specs.Command.{HasReply};
 
@@ -42,6 +43,7 @@ fn without_line_feed(text: &[u8]) -> &[u8]
 fn answer_span_of(bytes: &[u8]) -> Result<Span, Fault>
     ensures value { result ≡ answered_of bytes.now }
     ensures no_device { result ≢ Err Fault.ReadFailed }
+    ensures no_run { (live : LiveFault) → result ≢ Err (Fault.Live live) }
 {
     match Format::of(bytes) {
         Format::Ttp1 => match decode(bytes).map_err(Fault::Poll)? {
@@ -59,6 +61,7 @@ fn answer_span_of(bytes: &[u8]) -> Result<Span, Fault>
 fn aged(ageing: &Ageing, span: Span) -> Result<Span, Fault>
     ensures value { result ≡ aged_of ageing.now span }
     ensures no_device { result ≢ Err Fault.ReadFailed }
+    ensures no_run { (live : LiveFault) → result ≢ Err (Fault.Live live) }
 {
     let statement = Statement::new(span, ageing.sent, ageing.got).map_err(Fault::Source)?;
     statement
@@ -70,6 +73,7 @@ fn aged(ageing: &Ageing, span: Span) -> Result<Span, Fault>
 fn aged_from_hex(alloc: Global, ageing: &Ageing, text: &[u8]) -> Result<Span, Fault>
     ensures value { IsUnlessMemory Fault.Memory (aged_hex ageing.now (decode_of text.now)) result }
     ensures no_device { result ≢ Err Fault.ReadFailed }
+    ensures no_run { (live : LiveFault) → result ≢ Err (Fault.Live live) }
 {
     let bytes = match hex::decode(alloc, text) {
         Ok(bytes) => bytes,
@@ -88,6 +92,7 @@ fn aged_from_hex(alloc: Global, ageing: &Ageing, text: &[u8]) -> Result<Span, Fa
 pub(crate) fn age_text(alloc: Global, ageing: &Ageing, input: &[u8]) -> Result<String, Fault>
     ensures value { HasReply string_bytes (λ reply. reply ≡ age_of ageing.now input.now) result }
     ensures no_device { result ≢ Err Fault.ReadFailed }
+    ensures no_run { (live : LiveFault) → result ≢ Err (Fault.Live live) }
 {
     let span = aged_from_hex(alloc, ageing, without_line_feed(input))?;
     let low = span.lo();

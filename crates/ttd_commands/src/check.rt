@@ -3,6 +3,7 @@
 ghost use Rattle.std.specs.Prelude.{◌≡◌, ◌≢◌, ◌≤◌, ◌<◌, ◌↔◌, length, Err, IfErr, IfOk, IsTrue, string_bytes};
 ghost use Rattle.std.specs.Result.{result_map_both};
 ghost use Rattle.tt_cert.specs.Valid.{IsVerdict};
+ghost use Rattle.tt_live.specs.declared.faults.LiveFault.{LiveFault};
 ghost use Rattle.ttd_commands.specs.Command.{HasReply};
 ghost use Rattle.ttd_commands.specs.Check.{IsCheckReply, IsClaimLine, IsClaimPlace, JudgesText, valid_line};
 
@@ -21,6 +22,7 @@ use tt_span::Span;
 pub(crate) fn check_text(alloc: Global, input: &[u8]) -> Result<String, Fault>
     ensures value { HasReply string_bytes (IsCheckReply input.now) result }
     ensures no_device { result ≢ Err Fault.ReadFailed }
+    ensures no_run { (live : LiveFault) → result ≢ Err (Fault.Live live) }
 {
     let (front, rest) = input.split_at(claim_place(input));
     let read = read_spans(alloc, front)?;
@@ -37,7 +39,7 @@ fn valid_text(alloc: Global) -> Result<String, Fault>
 }
 
 /// The place of the first line that begins with `claim`, or the end of the text where there is none.
-fn claim_place(text: &[u8]) -> usize
+pub(crate) fn claim_place(text: &[u8]) -> usize
     ensures place { IsClaimPlace text.now result }
     ensures within { result ≤ length text.now }
 {
@@ -60,7 +62,7 @@ fn is_claim_line(text: &[u8], at: usize) -> bool
 /// Whether the text is that of a certificate which proves its claim for the spans.
 fn judge(read: &SpansText, text: &[u8]) -> Result<(), Fault>
     ensures judged { JudgesText read.now.spans.items read.now.faulty text.now (result_map_both (λ _. valid_line) (λ fault. fault) result) }
-    ensures refused { IfErr result (λ fault. (fault ≢ Fault.ReadFailed) × (fault ≢ Fault.Memory)) }
+    ensures refused { IfErr result (λ fault. (fault ≢ Fault.ReadFailed) × ((live : LiveFault) → fault ≢ Fault.Live live) × (fault ≢ Fault.Memory)) }
 {
     let (claim, certificate) = read_text(text)?;
     verdict_on(read, &claim, &certificate)?;

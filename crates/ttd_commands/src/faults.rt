@@ -2,12 +2,14 @@
 
 ghost use Rattle.std.specs.Prelude.{◌≡◌};
 ghost use Rattle.ttd_commands.specs.declared.faults.Fault.TheVariants.{Certificate, Fusion};
-ghost use Rattle.ttd_commands.specs.Fault.{number_of, status_of};
+ghost use Rattle.ttd_commands.specs.Fault.{number_of, status_at, status_of};
 
 use crate::ending::Status;
 use thiserror::Error;
 use tt_cert::CertFault;
 use tt_fuse::FuseFault;
+use tt_judge::HistoryFault;
+use tt_live::LiveFault;
 use tt_poll::PollFault;
 use tt_script::ScriptFault;
 use tt_source::SourceFault;
@@ -41,6 +43,9 @@ pub enum Fault {
     /// The certificate does not prove its claim, or the text is not that of a certificate.
     #[error("not a valid certificate: {0}")]
     Certificate(CertFault),
+    /// The text is not that of a history.
+    #[error("not a history: {0}")]
+    History(HistoryFault),
     /// The text is not that of a script.
     #[error("not a valid script: {0}")]
     Script(ScriptFault),
@@ -50,6 +55,9 @@ pub enum Fault {
     /// The machines can't be run. No script gives such machines.
     #[error("no run: {0}")]
     World(WorldFault),
+    /// The script is not run in threads, or its run ended.
+    #[error("no run in threads: {0}")]
+    Live(LiveFault),
     /// Out of memory: an allocation failed.
     #[error("out of memory")]
     Memory,
@@ -73,7 +81,7 @@ impl From<CertFault> for Fault {
 
 impl Fault {
     /// The number of the refusal: 1601 `BadWords`, 1602 `BadHex`, 1603 `BadInput`, 1604 `ReadFailed`, the numbers of
-    /// the fault within for `Poll`, `Source`, `Fusion`, `Certificate`, `Script`, `Twin` and `World`, and 1 for `Memory`.
+    /// the fault within for `Poll`, `Source`, `Fusion`, `Certificate`, `History`, `Script`, `Twin`, `World` and `Live`, and 1 for `Memory`.
     pub fn number(&self) -> u16
         ensures { result ≡ number_of self.now }
     {
@@ -86,9 +94,11 @@ impl Fault {
             Fault::Source(fault) => fault.number(),
             Fault::Fusion(fault) => fault.number(),
             Fault::Certificate(fault) => fault.number(),
+            Fault::History(fault) => fault.number(),
             Fault::Script(fault) => fault.number(),
             Fault::Twin(fault) => fault.number(),
             Fault::World(fault) => fault.number(),
+            Fault::Live(fault) => fault.number(),
             Fault::Memory => 1,
         }
     }
@@ -100,7 +110,19 @@ impl Fault {
         match self {
             Fault::ReadFailed => Status::Device,
             Fault::Memory => Status::Memory,
+            Fault::Live(fault) => status_at(fault.number()),
             _ => Status::Bad,
         }
+    }
+}
+
+/// How the program ends after a run in threads that was refused with this number.
+fn status_at(number: u16) -> Status
+    ensures { result ≡ status_at number }
+{
+    match number {
+        1 => Status::Memory,
+        304 | 1501 | 1502 => Status::Device,
+        _ => Status::Bad,
     }
 }

@@ -1,8 +1,8 @@
 //! The command `fuse`: the fusion of the spans that are read, with its certificate.
 
 ghost use Rattle.std.specs.Prelude.{◌≡◌, ◌≢◌, ◌++◌, length, Err, IfErr, IfOk, OnOk, string_bytes};
-ghost use Rattle.tt_cert.specs.Text.{line_of};
 ghost use Rattle.tt_fuse.specs.Fusion.{CanBeFused, IsFusion};
+ghost use Rattle.tt_live.specs.declared.faults.LiveFault.{LiveFault};
 ghost use Rattle.ttd_commands.specs.Command.{HasReply};
 ghost use Rattle.ttd_commands.specs.Fuse.{IsFuseReply, IsFused, IsFusionText, suspects_line};
 
@@ -12,6 +12,7 @@ use std::alloc::{AllocError, Global};
 use tt_cert::{certify, write_text};
 use tt_fuse::{FuseFault, fuse, suspects};
 use tt_span::Span;
+use tt_text::push_line;
 
 /// What `fuse` answers to its input, a spans text: the text of the fusion with its canonical certificate, and then the line
 /// `suspects none`, or `suspects I I ..` with the numbers of the sources whose span does not meet the fusion, ascending.
@@ -20,6 +21,7 @@ use tt_span::Span;
 pub(crate) fn fuse_text(alloc: Global, input: &[u8]) -> Result<String, Fault>
     ensures value { HasReply string_bytes (IsFuseReply input.now) result }
     ensures no_device { result ≢ Err Fault.ReadFailed }
+    ensures no_run { (live : LiveFault) → result ≢ Err (Fault.Live live) }
 {
     let read = read_spans(alloc, input)?;
     let claim = fusion_of(&read)?;
@@ -55,18 +57,17 @@ fn push_suspects(alloc: Global, text: &mut String, suspects: &[u8]) -> Result<()
     if suspects.is_empty() {
         return text.push_str("suspects none\n");
     }
-    push_line(alloc, text, "suspects", suspects)
+    let numbers = numbers_of(alloc, suspects)?;
+    push_line(text, "suspects", numbers.as_slice())
 }
 
-/// Writes a line at the end: the word, and the numbers, each behind one space.
-fn push_line(alloc: Global, text: &mut String, word: &str, numbers: &[u8]) -> Result<(), AllocError>
-    ensures { OnOk result (string_bytes text.new ≡ string_bytes text.old ++ line_of word.now numbers.now) }
+/// The numbers of sources, as a line has them.
+fn numbers_of(alloc: Global, sources: &[u8]) -> Result<Vec<u64>, AllocError>
+    ensures { IfOk result (λ numbers. numbers.items ≡ sources.now) }
 {
-    text.push_str(word)?;
-    for number in numbers {
-        text.push_str(" ")?;
-        let digits = number.to_string(alloc)?;
-        text.push_str(digits.as_str())?;
+    let mut numbers = Vec::new(alloc);
+    for source in sources {
+        numbers.push(u64::from(*source))?;
     }
-    text.push_str("\n")
+    Ok(numbers)
 }

@@ -4,17 +4,17 @@ ghost use Rattle.std.specs.Prelude.{◌≡◌, ◌≢◌, ◌<◌, ◌≤◌, le
 ghost use Rattle.std.specs.Io.KnownBytes.{IsAtEnd};
 ghost use Rattle.tt_stream.specs.Counts.{HasFailed};
 ghost use Rattle.tt_stream.specs.DeviceBytes.{ReadsOn};
-ghost use Rattle.ttd_commands.specs.Input.{IsInputFault, input_fault_of, most_input};
+ghost use Rattle.ttd_commands.specs.Input.{IsInputFault, input_fault_of, most_history};
 
 use crate::faults::Fault;
 use std::alloc::Global;
 use tt_stream::{ByteReader, ReadFault, read_to_end};
 
-/// How many bytes of input are allowed.
+/// How many bytes of input are allowed to all commands but `judge`.
 pub const MOST_INPUT: usize = 1_048_576;
 
-/// How many reads are allowed. They can't be used up, since each but the last gives a byte, and there are fewer.
-pub const MOST_READS: u32 = 2_097_152;
+/// How many bytes of input are allowed to `judge`: 1 GiB.
+pub const MOST_HISTORY: usize = 1_073_741_824;
 
 impl From<ReadFault> for Fault {
     ghost from_gives = { λ read fault. fault ≡ input_fault_of read };
@@ -28,17 +28,22 @@ impl From<ReadFault> for Fault {
     }
 }
 
-/// Reads the input to its end. Refuses with 1603 `BadInput` more than [`MOST_INPUT`] bytes, with 1604 `ReadFailed`
-/// where the reader failed, and with 1 `Memory`.
-pub(crate) fn read_input<R: ByteReader>(alloc: Global, input: &mut R) -> Result<Vec<u8>, Fault>
+/// Reads the input to its end. Refuses with 1603 `BadInput` more than `most` bytes, with 1604 `ReadFailed` where the reader
+/// failed, and with 1 `Memory`. The reads can't be used up, since each but the last gives a byte.
+pub(crate) fn read_input<R: ByteReader>(
+    alloc: Global,
+    input: &mut R,
+    most: usize,
+) -> Result<Vec<u8>, Fault>
+    requires { most ≤ most_history }
     ensures whole { IfOk result (λ bytes. IfSome (R.left input.old) (λ all. all ≡ bytes.items)) }
-    ensures short { IfOk result (λ bytes. vec_len bytes ≤ most_input) }
+    ensures short { IfOk result (λ bytes. vec_len bytes ≤ most) }
     ensures end { OnOk result (IsAtEnd (R.left input.new)) }
     ensures failed { IsErrOf result Fault.ReadFailed → HasFailed (R.failed input.old) (R.failed input.new) }
-    ensures too_long { IsErrOf result Fault.BadInput → IfSome (R.left input.old) (λ all. most_input < length all) }
+    ensures too_long { IsErrOf result Fault.BadInput → IfSome (R.left input.old) (λ all. most < length all) }
     ensures faults { IfErr result IsInputFault }
     ensures sound { (result ≢ Err Fault.ReadFailed) → R.failed input.new ≡ R.failed input.old }
     ensures rest { ReadsOn (R.left input.old) (R.left input.new) }
 {
-    Ok(read_to_end(alloc, input, MOST_INPUT, MOST_READS)?)
+    Ok(read_to_end(alloc, input, most, most as u32 + 1)?)
 }

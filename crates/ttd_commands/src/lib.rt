@@ -5,25 +5,30 @@
 //! - `fuse` reads the spans of sources as text, and prints their fusion with its certificate and suspects.
 //! - `check` reads the same spans and a certificate, and prints `valid` where it proves its claim.
 //! - `run` reads a script, and prints the report on its run.
+//! - `trace` reads a script, and prints each event of its run with its reply.
 //! - `twin` reads a script, and prints the twin of one of its readings.
 //! - `picture` reads a script, and draws its run: a document in SVG.
 //! - `live` reads a script, runs its machine in threads, and prints how many readings there were and how many were wrong.
+//! - `judge` reads a history of commits, and prints how many of them contradict external consistency, and the first.
 //!
 //! What is refused is answered with the one line `refused N`, where N is the number of the first refusal in the order words (1601), input
 //! too long (1603), and those of the command: for `age` hex (1602), message (201 to 208), request (405) and clock readings (402); for
 //! `fuse` bad text (1603) and spans without a fusion (501 to 504); for `check` bad spans text (1603), bad certificate text (606), spans
 //! that can't be fused (501 to 503) and a certificate that proves nothing (601 to 605); for `run` no UTF-8 (1603) and no script (1301 to
-//! 1305); for `picture` these; for `twin` these, and no reading (1401) or one that is cut at the end (1402); for `live` those of `run`, no
-//! part for a run in threads (1302), a part that does not fit its machine (1303), and what the run refuses.
+//! 1305); for `trace` and `picture` these; for `twin` these, and no reading (1401) or one that is cut at the end (1402); for `live` those of
+//! `run`, no part for a run in threads (1302), a part that does not fit its machine (1303), and what the run refuses; for `judge` a bad line
+//! (1603).
 //!
 //! [`main_with`] is the whole program over any devices, and its contract says what is written for all words and all
-//! inputs: `specs/Run.antt` says what a run does to its devices, `specs/Command.antt`, `specs/Age.antt`, `specs/Fuse.antt`,
-//! `specs/Check.antt`, `specs/Running.antt`, `specs/Twinning.antt` and `specs/Picturing.antt` what the commands reply, `specs/SpansText.antt` what spans text is, and `specs/Answer.antt` has the lines and
-//! statuses of the replies. [`live_with`] is the same for `live`, with `specs/Living.antt`.
+//! inputs; it takes no threads, and rejects `live` as bad words. [`live_with`] is the same with threads, for `live` too. `specs/Run.antt` says
+//! what a run does to its devices, `specs/Command.antt` and the file of each command what the commands reply, `specs/Scripted.antt` what those
+//! reply that read a script, `specs/SpansText.antt` what spans text is, and `specs/Answer.antt` has the lines and statuses of the replies.
 //!
 //! - `program`: the program over any devices.
 //! - `input` reads, `output` writes; `ending` has the statuses and `faults` the refusals.
-//! - `age`, `fuse`, `check`, `running`, `twinning`, `picturing` and `living`: the commands. `spans_text`: the text that `fuse` and `check` read.
+//! - `places`: where an input is refused, for standard error.
+//! - `age`, `fuse`, `check`, `running`, `tracing`, `twinning`, `picturing`, `living` and `judging`: the commands. `spans_text`: the text that
+//!   `fuse` and `check` read; `scripts`: that of a script.
 #![tactic(auto)]
 
 mod age;
@@ -32,19 +37,21 @@ mod ending;
 mod faults;
 mod fuse;
 mod input;
+mod judging;
 mod living;
 mod output;
 mod picturing;
+mod places;
 mod program;
 mod running;
+mod scripts;
 mod spans_text;
+mod tracing;
 mod twinning;
 
-pub use ending::{Ended, CommandOutput, Status};
+pub use ending::{CommandOutput, Ended, Status};
 pub use faults::Fault;
-pub use input::{MOST_INPUT, MOST_READS};
-pub use living::{
-    LiveEnded, LiveRefusal, answer_live, explain_live, give_live, live_with, live_word_laws,
-};
+pub use input::{MOST_HISTORY, MOST_INPUT};
+pub use living::live_word_laws;
 pub use output::{explain, give};
-pub use program::{answer_with, main_with};
+pub use program::{answer_live, answer_with, live_with, main_with};

@@ -7,7 +7,7 @@ ghost use Rattle.tt_stream.specs.Counts.{HasFailed};
 ghost use Rattle.ttd_commands.specs.Answer.{answer_in, answer_of, refusal_line};
 ghost use Rattle.ttd_commands.specs.Run.{Gives, IsWritten, memory_answer, output_of};
 
-use crate::ending::{Ended, CommandOutput, Status};
+use crate::ending::{CommandOutput, Ended, Status};
 use crate::faults::Fault;
 use arrayvec::ArrayString;
 use itoa::Buffer;
@@ -28,7 +28,7 @@ fn write<W: ByteWriter>(output: &mut W, bytes: &[u8]) -> Result<(), DeviceFault>
 }
 
 /// Writes a text, after which the program ends with `status`, unless the writer fails.
-pub(crate) fn end_with<W: ByteWriter>(output: &mut W, text: &str, status: Status) -> Status
+fn end_with<W: ByteWriter>(output: &mut W, text: &str, status: Status) -> Status
     ensures { Gives (record { text = text.now; status = status }) (output_of W.ByteWriter output.old) (output_of W.ByteWriter output.new) result }
 {
     match write(output, text.as_bytes()) {
@@ -38,7 +38,7 @@ pub(crate) fn end_with<W: ByteWriter>(output: &mut W, text: &str, status: Status
 }
 
 /// The one line of a refusal: at most 14 bytes, since its number has at most five digits.
-pub(crate) fn refusal_line(number: u16) -> ArrayString<16>
+fn refusal_line(number: u16) -> ArrayString<16>
     ensures { result.bytes ≡ refusal_line number }
 {
     let mut line = ArrayString::new();

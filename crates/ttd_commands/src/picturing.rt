@@ -1,16 +1,17 @@
 //! The command `picture`: a script's run, drawn.
 
 ghost use Rattle.std.specs.Prelude.{◌≡◌, ◌≢◌, Err};
+ghost use Rattle.tt_live.specs.declared.faults.LiveFault.{LiveFault};
 ghost use Rattle.ttd_commands.specs.Answer.{answer_in};
 ghost use Rattle.ttd_commands.specs.Command.{HasReply};
 ghost use Rattle.ttd_commands.specs.Picturing.{IsPictureReply, ShowsRun, picture_fault_of};
 
 use crate::ending::CommandOutput;
 use crate::faults::Fault;
+use crate::scripts::script_from;
 use std::alloc::Global;
-use std::str;
 use tt_picture::{PictureFault, picture};
-use tt_script::{Script, read};
+use tt_script::Script;
 use tt_world::run;
 
 impl From<PictureFault> for Fault {
@@ -30,11 +31,9 @@ impl From<PictureFault> for Fault {
 pub(crate) fn picture_reply(alloc: Global, input: &[u8]) -> Result<CommandOutput, Fault>
     ensures value { HasReply answer_in (IsPictureReply input.now) result }
     ensures no_device { result ≢ Err Fault.ReadFailed }
+    ensures no_run { (live : LiveFault) → result ≢ Err (Fault.Live live) }
 {
-    let Ok(text) = str::from_utf8(input) else {
-        return Err(Fault::BadInput);
-    };
-    let script = read(alloc, text)?;
+    let script = script_from(alloc, input)?;
     shown(alloc, &script)
 }
 
@@ -42,6 +41,7 @@ pub(crate) fn picture_reply(alloc: Global, input: &[u8]) -> Result<CommandOutput
 fn shown(alloc: Global, script: &Script) -> Result<CommandOutput, Fault>
     ensures value { HasReply answer_in (ShowsRun script.now) result }
     ensures no_device { result ≢ Err Fault.ReadFailed }
+    ensures no_run { (live : LiveFault) → result ≢ Err (Fault.Live live) }
 {
     let trace = run(alloc, script.configs(), script.to_events())?;
     let text = picture(alloc, script.configs(), script.to_events(), &trace)?;

@@ -1,26 +1,36 @@
 //! The whole program, over any devices.
 
-ghost use Rattle.std.specs.Prelude.{◌≡◌, ◌≢◌, ◌⊎◌, ℕ, List, Ok, Err, IfSome, IsErrOf};
+ghost use Rattle.std.specs.Prelude.{◌≡◌, ◌≢◌, ◌≤◌, ◌⊎◌, ◌↔◌, ℕ, List, Ok, Err, Some, IfSome, IsErrOf, IsTrue};
 ghost use Rattle.std.specs.Result.{result_map_both};
 ghost use Rattle.clap.specs.Walk.{texts};
+ghost use Rattle.tt_live.specs.declared.faults.LiveFault.{LiveFault};
 ghost use Rattle.tt_stream.specs.Counts.{HasFailed};
 ghost use Rattle.tt_stream.specs.DeviceBytes.{ReadsOn};
 ghost use Rattle.ttd_cli.specs.Reading.{AreForHelp, AreMistaken, AreTaken, asked_of};
 ghost use Rattle.ttd_commands.specs.Answer.{answer_in, answer_of, fine};
-ghost use Rattle.ttd_commands.specs.Command.{HasReply, IsCommandReply, IsReply, IsReplyRead, IsReplyTo, words_fault_of};
+ghost use Rattle.ttd_commands.specs.Command.{HasReply, IsAskedBy, IsCommandReply, IsReply, IsReplyRead, IsReplyTo, most_of as most_input_of, most_to, words_fault_of};
+ghost use Rattle.ttd_commands.specs.Input.{most_history};
 ghost use Rattle.ttd_commands.specs.Run.{Answers, Gives, GivesHelp, IsWritten, RefusesOrHelps, RefusesWords, input_of, memory_answer, output_of};
 
 use crate::age::{Ageing, age_text};
 use crate::check::check_text;
-use crate::ending::{Ended, CommandOutput, Status, fine};
+use crate::ending::{CommandOutput, Ended, Status, fine};
 use crate::faults::Fault;
 use crate::fuse::fuse_text;
-use crate::input::read_input;
+use crate::input::{MOST_HISTORY, MOST_INPUT, read_input};
+use crate::judging::judge_reply;
+use crate::living::live_reply;
 use crate::output::give;
 use crate::picturing::picture_reply;
+use crate::places::note;
 use crate::running::run_reply;
+use crate::tracing::trace_reply;
 use crate::twinning::twin_reply;
 use std::alloc::Global;
+use std::net::{Net, TcpListener, TcpStream};
+use std::sync::Wait;
+use std::thread::Threads;
+use std::time::Clock;
 use tt_stream::{ByteReader, ByteWriter};
 use ttd_cli::{Asked, Command, WordsFault, help_text, read_words};
 
@@ -35,10 +45,23 @@ impl From<WordsFault> for Fault {
     }
 }
 
-/// What a command answers to its input.
-fn reply_to(alloc: Global, command: Command, input: &[u8]) -> Result<CommandOutput, Fault>
-    ensures value { HasReply answer_in (IsCommandReply command input.now) result }
+/// How many bytes of input are allowed to a command.
+fn most_of(command: &Command) -> usize
+    ensures value { result ≡ most_input_of command.now }
+    ensures few { result ≤ most_history }
+{
+    match command {
+        Command::Judge => MOST_HISTORY,
+        _ => MOST_INPUT,
+    }
+}
+
+/// What a command that takes no threads answers to its input.
+fn reply_to(alloc: Global, command: &Command, input: &[u8]) -> Result<CommandOutput, Fault>
+    requires { command.now ≢ Command.Live }
+    ensures value { HasReply answer_in (IsCommandReply command.now input.now) result }
     ensures no_device { result ≢ Err Fault.ReadFailed }
+    ensures no_run { (live : LiveFault) → result ≢ Err (Fault.Live live) }
 {
     match command {
         Command::Age {
@@ -48,44 +71,127 @@ fn reply_to(alloc: Global, command: Command, input: &[u8]) -> Result<CommandOutp
             clock,
         } => {
             let ageing = Ageing {
-                drift,
-                sent,
-                got,
-                clock,
+                drift: *drift,
+                sent: *sent,
+                got: *got,
+                clock: *clock,
             };
             fine(age_text(alloc, &ageing, input))
         }
         Command::Fuse => fine(fuse_text(alloc, input)),
         Command::Check => fine(check_text(alloc, input)),
         Command::Run => run_reply(alloc, input),
-        Command::Twin { event, side } => twin_reply(alloc, event, side, input),
+        Command::Trace => trace_reply(alloc, input),
+        Command::Twin { event, side } => twin_reply(alloc, *event, *side, input),
         Command::Picture => picture_reply(alloc, input),
-        Command::Live => Err(Fault::BadWords),
+        Command::Judge => judge_reply(alloc, input),
+        Command::Live => unreachable!(),
     }
 }
 
-/// Reads the input, and answers what the command says of it.
+/// Reads the input, and answers what a command that takes no threads says of it. The notes gain what is to be said on standard error.
 fn command_reply<R: ByteReader>(
     alloc: Global,
-    command: Command,
+    command: &Command,
     input: &mut R,
+    notes: &mut String,
 ) -> Result<CommandOutput, Fault>
-    ensures value { IsReplyRead answer_in (IsReply command) (input_of R.ByteReader input.old) (input_of R.ByteReader input.new) result }
+    requires { command.now ≢ Command.Live }
+    ensures value { IsReplyRead (most_input_of command.now) answer_in (IsReply command.now) (input_of R.ByteReader input.old) (input_of R.ByteReader input.new) result }
+    ensures failed { IsErrOf result Fault.ReadFailed → HasFailed (R.failed input.old) (R.failed input.new) }
+    ensures sound { (result ≢ Err Fault.ReadFailed) → R.failed input.new ≡ R.failed input.old }
+    ensures no_run { (live : LiveFault) → result ≢ Err (Fault.Live live) }
+    ensures rest { ReadsOn (R.left input.old) (R.left input.new) }
+{
+    let bytes = read_input(alloc, input, most_of(command))?;
+    let text = bytes.as_slice();
+    let reply = reply_to(alloc, command, text);
+    note(alloc, notes, command, text, &reply);
+    reply
+}
+
+/// Reads the input, and answers what `live` says of it. The notes gain what is to be said on standard error.
+fn live_command_reply<
+    H: Threads + Wait + Clock + Sync + Net<Listener = TcpListener, Stream = TcpStream>,
+    R: ByteReader,
+>(rt: &H, alloc: Global, input: &mut R, notes: &mut String) -> Result<CommandOutput, Fault>
+    ensures value { IsReplyRead (most_input_of Command.Live) answer_in (IsReply Command.Live)
+        (input_of R.ByteReader input.old) (input_of R.ByteReader input.new) result }
     ensures failed { IsErrOf result Fault.ReadFailed → HasFailed (R.failed input.old) (R.failed input.new) }
     ensures sound { (result ≢ Err Fault.ReadFailed) → R.failed input.new ≡ R.failed input.old }
     ensures rest { ReadsOn (R.left input.old) (R.left input.new) }
 {
-    let bytes = read_input(alloc, input)?;
-    reply_to(alloc, command, bytes.as_slice())
+    let bytes = read_input(alloc, input, MOST_INPUT)?;
+    let text = bytes.as_slice();
+    let reply = live_reply(rt, alloc, text);
+    note(alloc, notes, &Command::Live, text, &reply);
+    reply
 }
 
-/// What the program has to write: the text that the words ask for, or a refusal. The words are tested before the input is read.
-fn reply<R: ByteReader>(alloc: Global, words: &[&str], input: &mut R) -> Result<CommandOutput, Fault>
+/// What the words ask for.
+fn asked_by(alloc: Global, words: &[&str]) -> Result<Asked, WordsFault>
+    ensures { IsAskedBy (texts words.now) result }
+{
+    read_words(alloc, words)
+}
+
+/// Whether words that were read ask for `live`.
+fn asks_live(asked: &Result<Asked, WordsFault>) -> bool
+    ensures { IsTrue result ↔ (asked.now ≡ Ok (Asked.Run Command.Live)) }
+{
+    matches!(asked, Ok(Asked::Run(Command::Live)))
+}
+
+/// What the program has to write where the words were read: the text that they ask for, or a refusal. Words that ask for `live` are
+/// rejected as bad words are.
+fn reply<R: ByteReader>(
+    alloc: Global,
+    words: &[&str],
+    asked: &Result<Asked, WordsFault>,
+    input: &mut R,
+    notes: &mut String,
+) -> Result<CommandOutput, Fault>
+    requires { IsAskedBy (texts words.now) asked.now }
     ensures taken { AreTaken (texts words.now) → asked_of (texts words.now) ≢ Ok (Asked.Run Command.Live) →
-        IsReplyRead answer_in (IsReplyTo (asked_of (texts words.now)))
+        IsReplyRead (most_to (asked_of (texts words.now))) answer_in (IsReplyTo (asked_of (texts words.now)))
         (input_of R.ByteReader input.old) (input_of R.ByteReader input.new) result }
     ensures live { AreTaken (texts words.now) → asked_of (texts words.now) ≡ Ok (Asked.Run Command.Live) →
         (input_of R.ByteReader input.new ≡ input_of R.ByteReader input.old) × ((result ≡ Err Fault.BadWords) ⊎ (result ≡ Err Fault.Memory)) }
+    ensures mistaken { AreMistaken (texts words.now) → (input_of R.ByteReader input.new ≡ input_of R.ByteReader input.old)
+        × ((result ≡ Err Fault.BadWords) ⊎ (result ≡ Err Fault.Memory)) }
+    ensures helped { AreForHelp (texts words.now) → (input_of R.ByteReader input.new ≡ input_of R.ByteReader input.old)
+        × (((text : List ℕ) × (result_map_both answer_in (λ fault. fault) result ≡ Ok (fine text))) ⊎ (result ≡ Err Fault.Memory)) }
+    ensures untaken { ¬ (AreTaken (texts words.now)) → (input_of R.ByteReader input.new ≡ input_of R.ByteReader input.old)
+        × (((result ≡ Err Fault.BadWords) ⊎ (result ≡ Err Fault.Memory))
+        ⊎ ((text : List ℕ) × (result_map_both answer_in (λ fault. fault) result ≡ Ok (fine text)))) }
+    ensures memory { asked.now ≡ Err WordsFault.Memory → (input_of R.ByteReader input.new ≡ input_of R.ByteReader input.old) × (result ≡ Err Fault.Memory) }
+    ensures failed { IsErrOf result Fault.ReadFailed → HasFailed (R.failed input.old) (R.failed input.new) }
+    ensures sound { (result ≢ Err Fault.ReadFailed) → R.failed input.new ≡ R.failed input.old }
+    ensures no_run { (live : LiveFault) → result ≢ Err (Fault.Live live) }
+    ensures rest { ReadsOn (R.left input.old) (R.left input.new) }
+{
+    match asked {
+        Ok(Asked::Help) => fine(Ok(help_text(alloc, words)?)),
+        Ok(Asked::Run(Command::Live)) => Err(Fault::BadWords),
+        Ok(Asked::Run(command)) => command_reply(alloc, command, input, notes),
+        Err(fault) => Err(Fault::from(*fault)),
+    }
+}
+
+/// The same where there are threads, so that words which ask for `live` are answered too.
+fn reply_in_threads<
+    H: Threads + Wait + Clock + Sync + Net<Listener = TcpListener, Stream = TcpStream>,
+    R: ByteReader,
+>(
+    rt: &H,
+    alloc: Global,
+    words: &[&str],
+    input: &mut R,
+    notes: &mut String,
+) -> Result<CommandOutput, Fault>
+    ensures taken { AreTaken (texts words.now) →
+        IsReplyRead (most_to (asked_of (texts words.now))) answer_in (IsReplyTo (asked_of (texts words.now)))
+        (input_of R.ByteReader input.old) (input_of R.ByteReader input.new) result }
     ensures mistaken { AreMistaken (texts words.now) → (input_of R.ByteReader input.new ≡ input_of R.ByteReader input.old)
         × ((result ≡ Err Fault.BadWords) ⊎ (result ≡ Err Fault.Memory)) }
     ensures helped { AreForHelp (texts words.now) → (input_of R.ByteReader input.new ≡ input_of R.ByteReader input.old)
@@ -97,10 +203,11 @@ fn reply<R: ByteReader>(alloc: Global, words: &[&str], input: &mut R) -> Result<
     ensures sound { (result ≢ Err Fault.ReadFailed) → R.failed input.new ≡ R.failed input.old }
     ensures rest { ReadsOn (R.left input.old) (R.left input.new) }
 {
-    match read_words(alloc, words)? {
-        Asked::Help => fine(Ok(help_text(alloc, words)?)),
-        Asked::Run(Command::Live) => Err(Fault::BadWords),
-        Asked::Run(command) => command_reply(alloc, command, input),
+    let asked = asked_by(alloc, words);
+    if asks_live(&asked) {
+        live_command_reply(rt, alloc, input, notes)
+    } else {
+        reply(alloc, words, &asked, input, notes)
     }
 }
 
@@ -112,7 +219,7 @@ pub fn answer_with<R: ByteReader, W: ByteWriter>(
     output: &mut W,
 ) -> Ended
     ensures taken { AreTaken (texts words.now) → asked_of (texts words.now) ≢ Ok (Asked.Run Command.Live) →
-        Answers (IsReplyTo (asked_of (texts words.now)))
+        Answers (most_to (asked_of (texts words.now))) (IsReplyTo (asked_of (texts words.now)))
         (input_of R.ByteReader input.old) (input_of R.ByteReader input.new)
         (output_of W.ByteWriter output.old) (output_of W.ByteWriter output.new) result.status }
     ensures live { AreTaken (texts words.now) → asked_of (texts words.now) ≡ Ok (Asked.Run Command.Live) → RefusesWords
@@ -136,8 +243,45 @@ pub fn answer_with<R: ByteReader, W: ByteWriter>(
     ensures memory { result.status ≡ Status.Memory → IsWritten memory_answer (output_of W.ByteWriter output.old) (output_of W.ByteWriter output.new) result.status }
     ensures rest { ReadsOn (R.left input.old) (R.left input.new) }
     ensures refused { IfSome result.refusal (λ told. Gives (answer_of (Err told)) (output_of W.ByteWriter output.old) (output_of W.ByteWriter output.new) result.status) }
+    ensures no_run { (live : LiveFault) → result.refusal ≢ Some (Fault.Live live) }
 {
-    let reply = reply(alloc, words, input);
+    let asked = asked_by(alloc, words);
+    let mut notes = String::new(alloc);
+    let reply = reply(alloc, words, &asked, input, &mut notes);
+    give(output, reply)
+}
+
+/// Runs the program as [`live_with`] does, and says also what was refused. The notes gain lines for standard error: where the input was
+/// refused, and which keys of a script no rule names. A place is exact, or not said; the wording is not fixed.
+pub fn answer_live<
+    H: Threads + Wait + Clock + Sync + Net<Listener = TcpListener, Stream = TcpStream>,
+    R: ByteReader,
+    W: ByteWriter,
+>(rt: &H, alloc: Global, words: &[&str], input: &mut R, output: &mut W, notes: &mut String) -> Ended
+    ensures taken { AreTaken (texts words.now) →
+        Answers (most_to (asked_of (texts words.now))) (IsReplyTo (asked_of (texts words.now)))
+        (input_of R.ByteReader input.old) (input_of R.ByteReader input.new)
+        (output_of W.ByteWriter output.old) (output_of W.ByteWriter output.new) result.status }
+    ensures mistaken { AreMistaken (texts words.now) → RefusesWords
+        (input_of R.ByteReader input.old) (input_of R.ByteReader input.new)
+        (output_of W.ByteWriter output.old) (output_of W.ByteWriter output.new) result.status }
+    ensures helped { AreForHelp (texts words.now) → GivesHelp
+        (input_of R.ByteReader input.old) (input_of R.ByteReader input.new)
+        (output_of W.ByteWriter output.old) (output_of W.ByteWriter output.new) result.status }
+    ensures untaken { ¬ (AreTaken (texts words.now)) → RefusesOrHelps
+        (input_of R.ByteReader input.old) (input_of R.ByteReader input.new)
+        (output_of W.ByteWriter output.old) (output_of W.ByteWriter output.new) result.status }
+
+    // Whatever the words are. A run in threads may say of its own devices that one failed.
+    ensures device { result.status ≡ Status.Device → (HasFailed (R.failed input.old) (R.failed input.new)
+        ⊎ HasFailed (W.failed output.old) (W.failed output.new)) ⊎ ((live : LiveFault) × (result.refusal ≡ Some (Fault.Live live))) }
+    ensures sound { (result.status ≢ Status.Device) → (R.failed input.new ≡ R.failed input.old)
+        × (W.failed output.new ≡ W.failed output.old) }
+    ensures memory { result.status ≡ Status.Memory → IsWritten memory_answer (output_of W.ByteWriter output.old) (output_of W.ByteWriter output.new) result.status }
+    ensures rest { ReadsOn (R.left input.old) (R.left input.new) }
+    ensures refused { IfSome result.refusal (λ told. Gives (answer_of (Err told)) (output_of W.ByteWriter output.old) (output_of W.ByteWriter output.new) result.status) }
+{
+    let reply = reply_in_threads(rt, alloc, words, input, notes);
     give(output, reply)
 }
 
@@ -146,13 +290,14 @@ pub fn answer_with<R: ByteReader, W: ByteWriter>(
 /// `age --drift N --sent N --got N --clock N` (the drift in parts per million, 200 where it is left out, the others in nanoseconds)
 /// writes `aged LO HI` for the poll answer that the input gives in hex. `fuse` writes the fusion of the spans that the input gives as
 /// text, with its canonical certificate and its suspects. `check` writes `valid` where the certificate behind the spans proves its claim.
-/// `run` writes the report on the run of the script that the input gives. `twin --event K --side low` (or `high`) writes the events of the
+/// `run` writes the report on the run of the script that the input gives. `trace` writes a line for each event of that run, with its reply,
+/// and the last line of that report. `judge` writes how many commits of the history that the input gives are violated, and the first of them. `twin --event K --side low` (or `high`) writes the events of the
 /// twin of the reading of event K in that run, and that reading with the true time at the twin's end. Each ends with [`Status::Fine`] then, but a report ends with
-/// [`Status::Broken`] where the run did not keep the assumptions. `picture` writes the run of the script that the input gives as a
+/// [`Status::Broken`] where the run did not keep the assumptions, and `judge` where a commit is violated. `picture` writes the run of the script that the input gives as a
 /// document in SVG, and ends with [`Status::Fine`] whether the run kept the assumptions or not. `--help` writes the help.
 ///
 /// Each refusal is the one line `refused N`, with [`Status::Bad`], of the first number that applies: 1601 bad words, before any read; 1603
-/// more than 1,048,576 bytes of input; and then those of the command.
+/// more than 1,048,576 bytes of input (`judge`: 1,073,741,824); and then those of the command.
 /// - `age`: 1602 no hex, after which one line feed is allowed; 201 to 208 no poll message; 405 a request; 402 an answer that came before
 ///   its poll was sent, a clock reading before that, or one past the greatest time.
 /// - `fuse`: 1603 no spans text; 501 no source, 502 more than 16, 503 fewer than twice the number that may be wrong and one, 504 no
@@ -160,7 +305,8 @@ pub fn answer_with<R: ByteReader, W: ByteWriter>(
 /// - `check`: 1603 no spans text before the first line that begins with `claim`; 606 no certificate text from there on; 501 to 503 as
 ///   `fuse`; 601 to 605 a certificate that proves nothing.
 /// - `run`: 1603 no UTF-8; 1301 to 1305 no script.
-/// - `picture`: as `run`.
+/// - `trace` and `picture`: as `run`.
+/// - `judge`: 1603 a line that is not a commit's.
 /// - `twin`: as `run`, then 1401 no reading at event K, 1402 that end of it lies past the greatest time.
 ///
 /// [`Status::Device`] comes only where a device failed: the reader, which is told by `refused 1604`, or the writer (1605), which has then
@@ -175,7 +321,7 @@ pub fn main_with<R: ByteReader, W: ByteWriter>(
     output: &mut W,
 ) -> Status
     ensures taken { AreTaken (texts words.now) → asked_of (texts words.now) ≢ Ok (Asked.Run Command.Live) →
-        Answers (IsReplyTo (asked_of (texts words.now)))
+        Answers (most_to (asked_of (texts words.now))) (IsReplyTo (asked_of (texts words.now)))
         (input_of R.ByteReader input.old) (input_of R.ByteReader input.new)
         (output_of W.ByteWriter output.old) (output_of W.ByteWriter output.new) result }
     ensures live { AreTaken (texts words.now) → asked_of (texts words.now) ≡ Ok (Asked.Run Command.Live) → RefusesWords
@@ -200,4 +346,41 @@ pub fn main_with<R: ByteReader, W: ByteWriter>(
     ensures rest { ReadsOn (R.left input.old) (R.left input.new) }
 {
     answer_with(alloc, words, input, output).status
+}
+
+/// Runs the program as [`main_with`] does, and the command `live` too, whose only word is `live`: reads the input, a script, runs its machine
+/// in threads ([`tt_live::live`]), and writes `readings N` and `wrong N`, how many readings its workers gave and how many of them were wrong.
+/// It ends with [`Status::Fine`] then, or with [`Status::Broken`] where a reading was wrong. `live --help` writes the help.
+///
+/// `live` refuses, each by the one line `refused N` of the first number that applies: 1603 more than 1,048,576 bytes of input, 1604 reading
+/// failed; 1603 no UTF-8; 1301 to 1305 no script; 1302 no part for a run in threads; 1303 not exactly one machine, not one master for each
+/// source, or not one session for each worker; and then what the run refused. It ends with [`Status::Device`] after 1604, 1501, 1502 and 304,
+/// with [`Status::Memory`] after 1, and else with [`Status::Bad`].
+pub fn live_with<
+    H: Threads + Wait + Clock + Sync + Net<Listener = TcpListener, Stream = TcpStream>,
+    R: ByteReader,
+    W: ByteWriter,
+>(rt: &H, alloc: Global, words: &[&str], input: &mut R, output: &mut W) -> Status
+    ensures taken { AreTaken (texts words.now) →
+        Answers (most_to (asked_of (texts words.now))) (IsReplyTo (asked_of (texts words.now)))
+        (input_of R.ByteReader input.old) (input_of R.ByteReader input.new)
+        (output_of W.ByteWriter output.old) (output_of W.ByteWriter output.new) result }
+    ensures mistaken { AreMistaken (texts words.now) → RefusesWords
+        (input_of R.ByteReader input.old) (input_of R.ByteReader input.new)
+        (output_of W.ByteWriter output.old) (output_of W.ByteWriter output.new) result }
+    ensures helped { AreForHelp (texts words.now) → GivesHelp
+        (input_of R.ByteReader input.old) (input_of R.ByteReader input.new)
+        (output_of W.ByteWriter output.old) (output_of W.ByteWriter output.new) result }
+    ensures untaken { ¬ (AreTaken (texts words.now)) → RefusesOrHelps
+        (input_of R.ByteReader input.old) (input_of R.ByteReader input.new)
+        (output_of W.ByteWriter output.old) (output_of W.ByteWriter output.new) result }
+
+    // Whatever the words are.
+    ensures sound { (result ≢ Status.Device) → (R.failed input.new ≡ R.failed input.old)
+        × (W.failed output.new ≡ W.failed output.old) }
+    ensures memory { result ≡ Status.Memory → IsWritten memory_answer (output_of W.ByteWriter output.old) (output_of W.ByteWriter output.new) result }
+    ensures rest { ReadsOn (R.left input.old) (R.left input.new) }
+{
+    let mut notes = String::new(alloc);
+    answer_live(rt, alloc, words, input, output, &mut notes).status
 }

@@ -1,28 +1,18 @@
 //! The command `run`: what a script's run did, and whether it kept the assumptions.
 
 ghost use Rattle.std.specs.Prelude.{◌≡◌, ◌≢◌, Err};
+ghost use Rattle.tt_live.specs.declared.faults.LiveFault.{LiveFault};
 ghost use Rattle.ttd_commands.specs.Answer.{answer_in};
 ghost use Rattle.ttd_commands.specs.Command.{HasReply};
-ghost use Rattle.ttd_commands.specs.Running.{IsRunReply, TellsRun, audit_fault_of, script_fault_of, world_fault_of};
+ghost use Rattle.ttd_commands.specs.Running.{IsRunReply, TellsRun, audit_fault_of, world_fault_of};
 
 use crate::ending::CommandOutput;
 use crate::faults::Fault;
+use crate::scripts::script_from;
 use std::alloc::Global;
-use std::str;
 use tt_audit::{AuditFault, Report, audit, report_text};
-use tt_script::{Script, ScriptFault, read};
+use tt_script::Script;
 use tt_world::{WorldFault, run};
-
-impl From<ScriptFault> for Fault {
-    ghost from_gives = { λ script fault. fault ≡ script_fault_of script };
-
-    fn from(script: ScriptFault) -> Fault {
-        match script {
-            ScriptFault::Memory => Fault::Memory,
-            _ => Fault::Script(script),
-        }
-    }
-}
 
 impl From<WorldFault> for Fault {
     ghost from_gives = { λ world fault. fault ≡ world_fault_of world };
@@ -52,11 +42,9 @@ impl From<AuditFault> for Fault {
 pub(crate) fn run_reply(alloc: Global, input: &[u8]) -> Result<CommandOutput, Fault>
     ensures value { HasReply answer_in (IsRunReply input.now) result }
     ensures no_device { result ≢ Err Fault.ReadFailed }
+    ensures no_run { (live : LiveFault) → result ≢ Err (Fault.Live live) }
 {
-    let Ok(text) = str::from_utf8(input) else {
-        return Err(Fault::BadInput);
-    };
-    let script = read(alloc, text)?;
+    let script = script_from(alloc, input)?;
     told(alloc, &script)
 }
 
@@ -64,6 +52,7 @@ pub(crate) fn run_reply(alloc: Global, input: &[u8]) -> Result<CommandOutput, Fa
 fn told(alloc: Global, script: &Script) -> Result<CommandOutput, Fault>
     ensures value { HasReply answer_in (TellsRun script.now) result }
     ensures no_device { result ≢ Err Fault.ReadFailed }
+    ensures no_run { (live : LiveFault) → result ≢ Err (Fault.Live live) }
 {
     let trace = run(alloc, script.configs(), script.to_events())?;
     let report = audit(alloc, script.configs(), script.to_events(), &trace)?;

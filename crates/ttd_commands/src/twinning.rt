@@ -1,24 +1,24 @@
 //! The command `twin`: the twin of a reading in a script's run.
 
 ghost use Rattle.std.specs.Prelude.{◌≡◌, ◌≢◌, ◌++◌, ◌<◌, reverse, Err, IfOk, OnOk, Some, slice_get, string_bytes};
-ghost use Rattle.std.specs.List.{flat_map};
-ghost use Rattle.tt_cert.specs.Text.{line_of, spaced};
 ghost use Rattle.tt_span.specs.Interval.{Interval};
 ghost use Rattle.tt_twin.specs.Twin.{twin_of};
 ghost use Rattle.tt_world.specs.declared.events.Reply.TheVariants as replies;
 ghost use Rattle.tt_world.specs.Past.{time_of};
+ghost use Rattle.tt_live.specs.declared.faults.LiveFault.{LiveFault};
 ghost use Rattle.ttd_commands.specs.Answer.{answer_in};
 ghost use Rattle.ttd_commands.specs.Command.{HasReply};
-ghost use Rattle.ttd_commands.specs.Twinning.{IsTwinReply, TellsFound, event_line, forged_line, truth_line, twin_fault_of, twin_side, twin_text};
+ghost use Rattle.ttd_commands.specs.Twinning.{IsTwinReply, TellsFound, truth_line, twin_fault_of, twin_side, twin_text};
 
 use crate::ending::CommandOutput;
 use crate::faults::Fault;
+use crate::scripts::script_from;
 use std::alloc::{AllocError, Global};
-use std::str;
 use tt_publish::Reading;
-use tt_script::{Script, read};
+use tt_script::Script;
+use tt_trace::push_event;
 use tt_twin::{TwinFault, twin, twin_laws};
-use tt_world::{Action, Event, Payload, run};
+use tt_world::{Event, run};
 use ttd_cli::Side;
 
 impl From<TwinFault> for Fault {
@@ -47,14 +47,17 @@ fn side_of(side: Side) -> tt_twin::Side
 ///
 /// Refuses, in this order, with 1603 `BadInput` what is not UTF-8; with 1301 to 1305 what is no script; with 1401 where event `k` is not
 /// there or gives no reading; with 1402 where the chosen end lies past the greatest time; and with 1 `Memory`.
-pub(crate) fn twin_reply(alloc: Global, k: u64, side: Side, input: &[u8]) -> Result<CommandOutput, Fault>
+pub(crate) fn twin_reply(
+    alloc: Global,
+    k: u64,
+    side: Side,
+    input: &[u8],
+) -> Result<CommandOutput, Fault>
     ensures value { HasReply answer_in (IsTwinReply k side input.now) result }
     ensures no_device { result ≢ Err Fault.ReadFailed }
+    ensures no_run { (live : LiveFault) → result ≢ Err (Fault.Live live) }
 {
-    let Ok(text) = str::from_utf8(input) else {
-        return Err(Fault::BadInput);
-    };
-    let script = read(alloc, text)?;
+    let script = script_from(alloc, input)?;
     found(alloc, &script, k as usize, side)
 }
 
@@ -62,6 +65,7 @@ pub(crate) fn twin_reply(alloc: Global, k: u64, side: Side, input: &[u8]) -> Res
 fn found(alloc: Global, script: &Script, k: usize, side: Side) -> Result<CommandOutput, Fault>
     ensures value { HasReply answer_in (TellsFound script.now k (twin_of script.now.configs script.now.events k (twin_side side))) result }
     ensures no_device { result ≢ Err Fault.ReadFailed }
+    ensures no_run { (live : LiveFault) → result ≢ Err (Fault.Live live) }
 {
     let twin = twin(
         alloc,
@@ -98,7 +102,7 @@ fn text_of(alloc: Global, twin: &[Event], reading: &Reading) -> Result<String, A
     for event in twin {
         push_event(alloc, &mut text, event)?;
     }
-    push_truth(alloc, &mut text, reading, ended_at(twin))?;
+    push_truth(&mut text, reading, ended_at(twin))?;
     Ok(text)
 }
 
@@ -113,167 +117,9 @@ fn ended_at(events: &[Event]) -> u64
 }
 
 /// Writes the line of a reading and of the true time at it at the end.
-fn push_truth(
-    alloc: Global,
-    text: &mut String,
-    reading: &Reading,
-    truth: u64,
-) -> Result<(), AllocError>
+fn push_truth(text: &mut String, reading: &Reading, truth: u64) -> Result<(), AllocError>
     ensures { OnOk result (string_bytes text.new ≡ string_bytes text.old ++ truth_line reading.now truth) }
 {
-    let line = format!(in alloc;
-        "reading {} {} truth {}\n",
-        reading.earliest(),
-        reading.latest(),
-        truth
-    )?;
-    text.push_str(line.as_str())
-}
-
-/// Writes the line of an event at the end.
-fn push_event(alloc: Global, text: &mut String, event: &Event) -> Result<(), AllocError>
-    ensures { OnOk result (string_bytes text.new ≡ string_bytes text.old ++ event_line event.now) }
-{
-    let at = event.at;
-    match &event.action {
-        Action::Send {
-            machine,
-            source,
-            clock,
-        } => push_line(
-            alloc,
-            text,
-            "send",
-            &[at, u64::from(*machine), u64::from(*source), *clock],
-        ),
-        Action::Answer { packet, span } => {
-            push_line(alloc, text, "answer", &[at, *packet, span.lo(), span.hi()])
-        }
-        Action::Forge {
-            machine,
-            source,
-            payload,
-        } => push_forged(
-            alloc,
-            text,
-            &[at, u64::from(*machine), u64::from(*source)],
-            payload,
-        ),
-        Action::Deliver { packet, clock } => {
-            push_line(alloc, text, "deliver", &[at, *packet, *clock])
-        }
-        Action::Fuse { machine, clock } => {
-            push_line(alloc, text, "fuse", &[at, u64::from(*machine), *clock])
-        }
-        Action::Read {
-            machine,
-            worker,
-            clock,
-            publication,
-        } => push_line(
-            alloc,
-            text,
-            "read",
-            &[
-                at,
-                u64::from(*machine),
-                u64::from(*worker),
-                *clock,
-                *publication,
-            ],
-        ),
-        Action::Arrive {
-            machine,
-            worker,
-            id,
-            floor,
-        } => push_line(
-            alloc,
-            text,
-            "arrive",
-            &[
-                at,
-                u64::from(*machine),
-                u64::from(*worker),
-                u64::from(id.session),
-                id.number,
-                *floor,
-            ],
-        ),
-        Action::Stamp { machine, worker } => {
-            push_line(
-                alloc,
-                text,
-                "stamp",
-                &[at, u64::from(*machine), u64::from(*worker)],
-            )
-        }
-        Action::Queue { machine, worker } => {
-            push_line(
-                alloc,
-                text,
-                "queue",
-                &[at, u64::from(*machine), u64::from(*worker)],
-            )
-        }
-        Action::Restart { machine, clock } => {
-            push_line(alloc, text, "restart", &[at, u64::from(*machine), *clock])
-        }
-        Action::Lease { machine, lease } => push_line(
-            alloc,
-            text,
-            "lease",
-            &[at, u64::from(*machine), lease.lo(), lease.hi()],
-        ),
-        Action::Release { machine, worker } => {
-            push_line(
-                alloc,
-                text,
-                "release",
-                &[at, u64::from(*machine), u64::from(*worker)],
-            )
-        }
-    }
-}
-
-/// Writes the line of a forged packet at the end: three numbers, and its bytes in hex.
-fn push_forged(
-    alloc: Global,
-    text: &mut String,
-    numbers: &[u64; 3],
-    payload: &Payload,
-) -> Result<(), AllocError>
-    ensures { OnOk result (string_bytes text.new ≡ string_bytes text.old ++ forged_line numbers.now payload.now) }
-{
-    text.push_str("forge")?;
-    push_numbers(alloc, text, numbers)?;
-    let bytes = hex::encode(alloc, payload.as_slice())?;
-    let rest = format!(in alloc; " {bytes}\n")?;
-    text.push_str(rest.as_str())
-}
-
-/// Writes a line at the end: the word, and the numbers, each behind one space.
-fn push_line(
-    alloc: Global,
-    text: &mut String,
-    word: &str,
-    numbers: &[u64],
-) -> Result<(), AllocError>
-    ensures { OnOk result (string_bytes text.new ≡ string_bytes text.old ++ line_of word.now numbers.now) }
-{
-    text.push_str(word)?;
-    push_numbers(alloc, text, numbers)?;
-    text.push_str("\n")
-}
-
-/// Writes numbers at the end, each behind one space.
-fn push_numbers(alloc: Global, text: &mut String, numbers: &[u64]) -> Result<(), AllocError>
-    ensures { OnOk result (string_bytes text.new ≡ string_bytes text.old ++ flat_map spaced numbers.now) }
-{
-    for number in numbers {
-        text.push_str(" ")?;
-        let digits = number.to_string(alloc)?;
-        text.push_str(digits.as_str())?;
-    }
-    Ok(())
+    let (earliest, latest) = (reading.earliest(), reading.latest());
+    write!(text, "reading {earliest} {latest} truth {truth}\n")
 }

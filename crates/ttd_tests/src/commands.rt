@@ -8,7 +8,7 @@ use tt_source::SourceFault;
 use tt_stream::{MemoryReader, MemoryWriter};
 use tt_twin::{Side, twin};
 use tt_world::run;
-use ttd_commands::{Fault, MOST_INPUT, MOST_READS, Status, explain, give, main_with};
+use ttd_commands::{Fault, MOST_HISTORY, MOST_INPUT, Status, explain, give, main_with};
 
 const AGE: [&str; 7] = [
     "age",
@@ -133,7 +133,7 @@ fn refuses_an_input_that_is_too_long(rt: HostRuntime) -> Result<(), Fail> {
     let mut writer = MemoryWriter::new(alloc, 5, None);
     assert!(rt; main_with(alloc, &AGE, &mut reader, &mut writer) == Status::Bad);
     assert!(rt; writer.taken() == b"refused 201\n".as_slice());
-    assert!(rt; (MOST_INPUT, MOST_READS) == (1_048_576, 2_097_152));
+    assert!(rt; (MOST_INPUT, MOST_HISTORY) == (1_048_576, 1_073_741_824));
     Ok(())
 }
 

@@ -1,4 +1,4 @@
-use Rattle.std.proofs.Common.{sym, ◌∙◌, length}
+use Rattle.std.proofs.Common.{◌≡◌, sym, ◌∙◌, length}
 use Rattle.std.specs.Prelude.{codes, string_bytes}
 use Rattle.std.proofs.lemmas.Bool.{eqb-true, eqb-false}
 use Rattle.ttd_commands.proofs.Suspects.{on_ok-appended, suspects_line-none, suspects_line-some}
@@ -13,4 +13,5 @@ returns-then-is_empty c =
 pub returns : goal.returns
 returns c =
     let xs = c.args.suspects.now in
-    rw (suspects_line-some xs (eqb-false (length xs) 0 (sym c.is_empty.ensures ∙ c.if-is_empty.false))) c.push_line.ensures
+    let same : c.as_slice.result.now ≡ xs = c.as_slice.ensures.value ∙ c.in_ok-numbers.ensures in
+    rw (suspects_line-some xs (eqb-false (length xs) 0 (sym c.is_empty.ensures ∙ c.if-is_empty.false))) (rw same at c.push_line.ensures.written)

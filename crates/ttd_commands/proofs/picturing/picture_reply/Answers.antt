@@ -1,7 +1,13 @@
+use Rattle.std.proofs.lemmas.Result.{err_from_is_err_and}
 use Rattle.ttd_commands.specs.Answer.{answer_in}
-use Rattle.ttd_commands.proofs.Pictured.{picture_replied}
+use Rattle.ttd_commands.specs.Picturing.{ShowsRun}
+use Rattle.ttd_commands.proofs.Scripted.{script_refused, script_replied}
 use Rattle.ttd_commands.proofs.picturing.picture_reply.Goals as goal
 
+pub returns-in_err-script-clause-value : goal.returns-in_err-script-clause-value
+returns-in_err-script-clause-value c =
+    let p = err_from_is_err_and c.from_residual.result c.from_residual.ensures.1 in
+    script_refused answer_in ShowsRun c.args.input.now _ c.in_err-script.field-0.0 (cc (p.1, p.2)) c.in_err-script.ensures.refused
+
 pub returns-clause-value : goal.returns-clause-value
-returns-clause-value c =
-    picture_replied answer_in c.args.input.now c.in-Ok.text.now _ c.shown.result c.in-Ok.ensures.cases.0 c.in-Ok.ensures.cases.1 c.in_ok-script.ensures.found c.shown.ensures.value
+returns-clause-value c = script_replied answer_in ShowsRun c.args.input.now c.shown.result _ c.in_ok-script.ensures.found c.shown.ensures.value

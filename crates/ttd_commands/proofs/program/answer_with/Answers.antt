@@ -1,12 +1,25 @@
+use Rattle.std.proofs.Common.{inl, inr}
 use Rattle.ttd_commands.specs.Answer.{answer_in}
+use Rattle.ttd_commands.proofs.Endings.{device_told, told_no_run}
 use Rattle.ttd_commands.proofs.Replies.{answered, help_given, untaken_given}
 use Rattle.ttd_commands.proofs.program.answer_with.Goals as goal
 
 pub returns-clause-taken : goal.returns-clause-taken
-returns-clause-taken g c = λ taken other. answered answer_in _ _ _ c.reply-reply.result _ _ _ (c.reply-reply.ensures.taken taken other) c.give.ensures.gives
+returns-clause-taken g c = λ taken other. answered _ answer_in _ _ _ c.reply-reply.result _ _ _ (c.reply-reply.ensures.taken taken other) c.give.ensures.gives
 
 pub returns-clause-helped : goal.returns-clause-helped
 returns-clause-helped g c = λ asked. help_given answer_in _ _ c.reply-reply.result _ _ _ (c.reply-reply.ensures.helped asked) c.give.ensures.gives
 
 pub returns-clause-untaken : goal.returns-clause-untaken
 returns-clause-untaken g c = λ other. untaken_given answer_in _ _ c.reply-reply.result _ _ _ (c.reply-reply.ensures.untaken other) c.give.ensures.gives
+
+pub returns-clause-device : goal.returns-clause-device
+returns-clause-device g c = λ e.
+    elim (device_told c.reply-reply.result _ _ _ c.give.ensures.gives e) [
+      | inl written ↦ inr written
+      | inr (inl failed) ↦ inl (c.reply-reply.ensures.failed failed)
+      | inr (inr run) ↦ absurd (c.reply-reply.ensures.no_run run.0 run.1)
+    ]
+
+pub returns-clause-no_run : goal.returns-clause-no_run
+returns-clause-no_run g c = told_no_run c.reply-reply.result c.give.result.refusal c.give.ensures.refused c.give.ensures.none c.reply-reply.ensures.no_run

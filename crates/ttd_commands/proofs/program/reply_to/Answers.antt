@@ -15,3 +15,11 @@ returns-in-Twin-clause-value c =
 pub returns-in-Picture-clause-value : goal.returns-in-Picture-clause-value
 returns-in-Picture-clause-value c =
     subst (λ (command : Command). HasReply answer_in (IsCommandReply command c.args.input.now) c.picture_reply.result) (sym c.in-Picture.is) c.picture_reply.ensures.value
+
+pub returns-in-Trace-clause-value : goal.returns-in-Trace-clause-value
+returns-in-Trace-clause-value c =
+    subst (λ (command : Command). HasReply answer_in (IsCommandReply command c.args.input.now) c.trace_reply.result) (sym c.in-Trace.is) c.trace_reply.ensures.value
+
+pub returns-in-Judge-clause-value : goal.returns-in-Judge-clause-value
+returns-in-Judge-clause-value c =
+    subst (λ (command : Command). HasReply answer_in (IsCommandReply command c.args.input.now) c.judge_reply.result) (sym c.in-Judge.is) c.judge_reply.ensures.value

@@ -1,7 +1,7 @@
 use Rattle.std.proofs.Common.{◌≡◌, take}
 use Rattle.std.specs.Prelude.{string_bytes}
 use Rattle.std.specs.List.{flat_map}
-use Rattle.ttd_commands.specs.Twinning.{event_line}
+use Rattle.tt_trace.specs.Event.{event_line}
 use Rattle.ttd_commands.proofs.twinning.text_of.Given as goal
 
 abbrev pub invariant-loop-event : goal.invariant-loop-event

@@ -1,8 +1,0 @@
-use Rattle.std.proofs.Common.{◌≡◌, ◌++◌, take}
-use Rattle.std.specs.Prelude.{string_bytes}
-use Rattle.std.specs.List.{flat_map}
-use Rattle.tt_cert.specs.Text.{spaced}
-use Rattle.ttd_commands.proofs.fuse.push_line.Given as goal
-
-abbrev pub invariant-loop-number : goal.invariant-loop-number
-invariant-loop-number l = string_bytes l.text ≡ (string_bytes l.fn.text ++ l.word) ++ flat_map spaced (take l.number-index l.numbers)

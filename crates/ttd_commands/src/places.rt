@@ -1,0 +1,259 @@
+//! Where an input is refused, in lines for standard error. What such a line says is exact, or it is not said; its wording is not
+//! fixed. Where memory runs out, less is said.
+
+use crate::check::claim_place;
+use crate::ending::CommandOutput;
+use crate::faults::Fault;
+use crate::spans_text::{SpansText, read_spans};
+use std::alloc::{AllocError, Global};
+use std::str;
+use tt_cert::{CertFault, Certificate, Stretch, read_text};
+use tt_script::{refusal_of, unknown_keys};
+use tt_span::{Span, SpanFault};
+use tt_text::numbers_behind;
+use ttd_cli::Command;
+
+/// Adds to the notes where the command refused its input, and which keys of a script no rule names.
+pub(crate) fn note(
+    alloc: Global,
+    notes: &mut String,
+    command: &Command,
+    input: &[u8],
+    reply: &Result<CommandOutput, Fault>,
+) {
+    let _ = match command {
+        Command::Run | Command::Trace | Command::Twin { .. } | Command::Picture => {
+            note_script(alloc, notes, input, reply)
+        }
+        Command::Live => note_live(alloc, notes, input, reply),
+        Command::Fuse => note_spans(notes, input, reply),
+        Command::Check => note_check(alloc, notes, input, reply),
+        Command::Age { .. } | Command::Judge => Ok(()),
+    };
+}
+
+/// Adds what is noted of a script, and that its run in threads gave no reading, where it gave none.
+fn note_live(
+    alloc: Global,
+    notes: &mut String,
+    input: &[u8],
+    reply: &Result<CommandOutput, Fault>,
+) -> Result<(), AllocError> {
+    note_script(alloc, notes, input, reply)?;
+    match reply {
+        Ok(CommandOutput::Fine(text)) if text.as_str().starts_with("readings 0\n") => {
+            notes.push_str(
+                "ttd: no worker gave a reading: no line asked for one, or each was refused\n",
+            )
+        }
+        _ => Ok(()),
+    }
+}
+
+/// Adds where a script is refused, and its keys that no rule names.
+fn note_script(
+    alloc: Global,
+    notes: &mut String,
+    input: &[u8],
+    reply: &Result<CommandOutput, Fault>,
+) -> Result<(), AllocError> {
+    let Ok(text) = str::from_utf8(input) else {
+        return Ok(());
+    };
+    if let Err(Fault::Script(fault)) = reply {
+        if let Some(refusal) = refusal_of(alloc, text)? {
+            if refusal.fault() == *fault {
+                let place = refusal.place();
+                write!(notes, "ttd: {place}\n")?;
+            }
+        }
+    }
+    let keys = unknown_keys(alloc, text)?;
+    for key in keys.as_slice() {
+        let key = key.as_str();
+        write!(notes, "ttd: warning: {key} is ignored, no rule names it\n")?;
+    }
+    Ok(())
+}
+
+/// Adds which line of a spans text is bad, where it was refused for that.
+fn note_spans(
+    notes: &mut String,
+    text: &[u8],
+    reply: &Result<CommandOutput, Fault>,
+) -> Result<(), AllocError> {
+    if !matches!(reply, Err(Fault::BadInput)) {
+        return Ok(());
+    }
+    match bad_spans_line(text) {
+        Some((line, why)) => write!(notes, "ttd: line {line}: {why}\n"),
+        None => Ok(()),
+    }
+}
+
+/// Adds where the spans text or the certificate was refused.
+fn note_check(
+    alloc: Global,
+    notes: &mut String,
+    input: &[u8],
+    reply: &Result<CommandOutput, Fault>,
+) -> Result<(), AllocError> {
+    let (front, rest) = input.split_at(claim_place(input));
+    note_spans(notes, front, reply)?;
+    let Err(Fault::Certificate(fault)) = reply else {
+        return Ok(());
+    };
+    let Ok(read) = read_spans(alloc, front) else {
+        return Ok(());
+    };
+    let Ok((claim, certificate)) = read_text(rest) else {
+        return Ok(());
+    };
+    note_certificate(notes, &read, &claim, &certificate, *fault)
+}
+
+/// The first line of a text with its line feed, if there is one, and what comes behind it.
+fn first_line(text: &[u8]) -> (&[u8], &[u8]) {
+    match text.iter().position(|byte| *byte == b'\n') {
+        Some(at) => text.split_at(at + 1),
+        None => text.split_at(text.len()),
+    }
+}
+
+/// The number of the first bad line of a spans text, counted from 1, and what is wrong with it.
+fn bad_spans_line(text: &[u8]) -> Option<(u64, &str)> {
+    let (head, behind) = first_line(text);
+    let mut rest = behind;
+    let mut number: u64 = 1;
+    if !has_one_number(b"faulty", head) {
+        return Some((number, "it has to be `faulty N`"));
+    }
+    for _ in 0..text.len() {
+        if rest.is_empty() {
+            return None;
+        }
+        let (line, others) = first_line(rest);
+        number = number.saturating_add(1);
+        if let Some(why) = span_fault(line) {
+            return Some((number, why));
+        }
+        rest = others;
+    }
+    None
+}
+
+/// Whether a line is this word and one number.
+fn has_one_number(word: &[u8], line: &[u8]) -> bool {
+    match numbers_behind(word, line) {
+        Some(numbers) => numbers.len() == 1,
+        None => false,
+    }
+}
+
+/// What is wrong with the line of a span.
+fn span_fault(line: &[u8]) -> Option<&'static str> {
+    let Some(numbers) = numbers_behind(b"span", line) else {
+        return Some("it has to be `span LO HI`");
+    };
+    match numbers.as_slice() {
+        [lo, hi] => match Span::new(*lo, *hi) {
+            Ok(_) => None,
+            Err(SpanFault::Backwards) => Some("its ends are out of order"),
+            Err(SpanFault::PastMax) => Some("its upper end is past the greatest time"),
+        },
+        _ => Some("it has to be `span LO HI`"),
+    }
+}
+
+/// Adds the source or the stretch by which a certificate was refused.
+fn note_certificate(
+    notes: &mut String,
+    read: &SpansText,
+    claim: &Span,
+    certificate: &Certificate,
+    fault: CertFault,
+) -> Result<(), AllocError> {
+    let spans = read.spans.as_slice();
+    let need = spans.len().saturating_sub(read.faulty);
+    match fault {
+        CertFault::LeftSet => note_set(notes, "left", spans, need, claim.lo(), certificate.left()),
+        CertFault::RightSet => note_set(
+            notes,
+            "right",
+            spans,
+            need,
+            claim.hi(),
+            certificate.right(),
+        ),
+        CertFault::TooDeep | CertFault::Depth => {
+            let below = note_stretch(notes, "below", spans, need, certificate.below(), fault)?;
+            if !below {
+                note_stretch(notes, "above", spans, need, certificate.above(), fault)?;
+            }
+            Ok(())
+        }
+        _ => Ok(()),
+    }
+}
+
+/// Adds what is wrong with a set of sources.
+fn note_set(
+    notes: &mut String,
+    word: &str,
+    spans: &[Span],
+    need: usize,
+    end: u64,
+    set: &[u8],
+) -> Result<(), AllocError> {
+    for (place, source) in set.iter().enumerate() {
+        let Some(span) = spans.get(usize::from(*source)) else {
+            return write!(notes, "ttd: {word}: there is no source {source}\n");
+        };
+        if !span.contains(end) {
+            return write!(notes, "ttd: {word}: source {source} does not hold {end}\n");
+        }
+        if set.split_at(place).0.contains(source) {
+            return write!(notes, "ttd: {word}: source {source} is named twice\n");
+        }
+    }
+    let named = set.len();
+    write!(
+        notes,
+        "ttd: {word}: it names {named} sources, and has to name {need}\n"
+    )
+}
+
+/// Adds which stretch is too deep, or names another depth; whether there is one.
+fn note_stretch(
+    notes: &mut String,
+    word: &str,
+    spans: &[Span],
+    need: usize,
+    stretches: &[Stretch],
+    fault: CertFault,
+) -> Result<bool, AllocError> {
+    for stretch in stretches {
+        let (from, to, depth) = (stretch.from, stretch.to, stretch.depth);
+        let met = meeting(spans, from, to);
+        let is_it = match fault {
+            CertFault::TooDeep => met >= need,
+            _ => met != usize::from(depth),
+        };
+        if is_it {
+            write!(
+                notes,
+                "ttd: {word} {from} {to} {depth}: {met} sources meet it\n"
+            )?;
+            return Ok(true);
+        }
+    }
+    Ok(false)
+}
+
+/// How many of the spans meet a stretch of time.
+fn meeting(spans: &[Span], from: u64, to: u64) -> usize {
+    spans
+        .iter()
+        .filter(|span| span.lo() <= to && from <= span.hi())
+        .count()
+}
