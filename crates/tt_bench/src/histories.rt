@@ -5,8 +5,7 @@ use anyhow::{Context, Result};
 use std::alloc::Global;
 use std::fmt::Write;
 use tt_daemon::Config;
-use tt_span::{Drift, Span};
-use tt_stamp::Id;
+use tt_scenes::{answer, arrive, deliver, fuse, machine, queue, read, release, send, stamp};
 use tt_world::{Action, Event};
 
 /// How many sources the machine asks.
@@ -14,8 +13,7 @@ const SOURCES: u8 = 4;
 
 /// The machine.
 pub fn config() -> Result<Config> {
-    let drift = Drift::new(200).context("a drift")?;
-    Ok(Config::new(usize::from(SOURCES), 1, drift, 1)?)
+    machine(usize::from(SOURCES), 1, 200, 1).context("a machine")
 }
 
 /// The events of a run, as they are made.
@@ -37,70 +35,41 @@ impl History {
         }
     }
 
-    fn push(&mut self, action: Action) -> Result<()> {
-        Ok(
-            self.events.push(Event {
-                at: self.at,
-                action,
-            })?,
-        )
-    }
-
     /// A source is asked, and its answer comes.
     fn ask(&mut self, source: u8) -> Result<()> {
-        let clock = self.at;
-        let span = Span::new(clock.saturating_sub(10), clock.saturating_add(10))?;
-        let packet = self.packets;
+        let (at, packet) = (self.at, self.packets);
         self.packets = packet.saturating_add(2);
-        self.push(Action::Send {
-            machine: 0,
-            source,
-            clock,
-        })?;
-        self.push(Action::Answer { packet, span })?;
-        self.push(Action::Deliver {
-            packet: packet.saturating_add(1),
-            clock,
-        })
-    }
-
-    /// The worker reads the last publication.
-    fn read(&mut self) -> Result<()> {
-        self.push(Action::Read {
-            machine: 0,
-            worker: 0,
-            clock: self.at,
-            publication: self.cycles,
-        })
+        for event in [
+            send(at, 0, source, at),
+            answer(at, packet, at.saturating_sub(10), at.saturating_add(10)),
+            deliver(at, packet.saturating_add(1), at),
+        ] {
+            self.events.push(event)?;
+        }
+        Ok(())
     }
 
     /// One cycle of nineteen events.
     fn cycle(&mut self) -> Result<()> {
-        let (machine, worker) = (0, 0);
         self.at = self.at.saturating_add(1_000);
         self.cycles = self.cycles.saturating_add(1);
         for source in 0..SOURCES {
             self.ask(source)?;
         }
-        self.push(Action::Fuse {
-            machine,
-            clock: self.at,
-        })?;
-        self.push(Action::Arrive {
-            machine,
-            worker,
-            id: Id {
-                session: 0,
-                number: self.cycles,
-            },
-            floor: 0,
-        })?;
-        self.read()?;
-        self.push(Action::Stamp { machine, worker })?;
-        self.push(Action::Queue { machine, worker })?;
-        self.at = self.at.saturating_add(500);
-        self.read()?;
-        self.push(Action::Release { machine, worker })
+        let (at, last) = (self.at, self.cycles);
+        self.at = at.saturating_add(500);
+        for event in [
+            fuse(at, 0, at),
+            arrive(at, 0, 0, last, 0),
+            read(at, 0, 0, at, last),
+            stamp(at, 0, 0),
+            queue(at, 0, 0),
+            read(self.at, 0, 0, self.at, last),
+            release(self.at, 0, 0),
+        ] {
+            self.events.push(event)?;
+        }
+        Ok(())
     }
 
     /// Makes so many events, or somewhat more.
@@ -112,47 +81,66 @@ impl History {
     }
 }
 
+/// Writes a table of a script: the time, the machine, the word, and these keys.
+fn write_table(text: &mut String, at: u64, word: &str, keys: &[(&str, u64)]) -> Result<()> {
+    write!(text, "{{ at = {at}, machine = 0, do = \"{word}\"")?;
+    for (key, number) in keys {
+        write!(text, ", {key} = {number}")?;
+    }
+    Ok(text.push_str(" },\n")?)
+}
+
 /// A line of a script for this event.
 fn write_event(text: &mut String, event: &Event) -> Result<()> {
     let at = event.at;
-    write!(text, "{{ at = {at}, machine = 0, ")?;
     match &event.action {
         Action::Send { source, clock, .. } => {
-            write!(text, "do = \"send\", source = {source}, clock = {clock}")?;
+            let source = u64::from(*source);
+            write_table(text, at, "send", &[("source", source), ("clock", *clock)])
         }
         Action::Answer { packet, span } => {
             let (lo, hi) = (span.lo(), span.hi());
-            write!(
+            write_table(
                 text,
-                "do = \"answer\", packet = {packet}, lo = {lo}, hi = {hi}"
-            )?;
+                at,
+                "answer",
+                &[("packet", *packet), ("lo", lo), ("hi", hi)],
+            )
         }
         Action::Deliver { packet, clock } => {
-            write!(text, "do = \"deliver\", packet = {packet}, clock = {clock}")?;
+            write_table(
+                text,
+                at,
+                "deliver",
+                &[("packet", *packet), ("clock", *clock)],
+            )
         }
-        Action::Fuse { clock, .. } => write!(text, "do = \"fuse\", clock = {clock}")?,
+        Action::Fuse { clock, .. } => write_table(text, at, "fuse", &[("clock", *clock)]),
         Action::Read {
             clock,
             publication,
             ..
         } => {
-            write!(
-                text,
-                "do = \"read\", worker = 0, clock = {clock}, publication = {publication}"
-            )?;
+            let keys = [
+                ("worker", 0),
+                ("clock", *clock),
+                ("publication", *publication),
+            ];
+            write_table(text, at, "read", &keys)
         }
         Action::Arrive { id, .. } => {
-            let number = id.number;
-            write!(
-                text,
-                "do = \"arrive\", worker = 0, session = 0, number = {number}, floor = 0"
-            )?;
+            let keys = [
+                ("worker", 0),
+                ("session", 0),
+                ("number", id.number),
+                ("floor", 0),
+            ];
+            write_table(text, at, "arrive", &keys)
         }
-        Action::Stamp { .. } => text.push_str("do = \"stamp\", worker = 0")?,
-        Action::Queue { .. } => text.push_str("do = \"queue\", worker = 0")?,
-        _ => text.push_str("do = \"release\", worker = 0")?,
+        Action::Stamp { .. } => write_table(text, at, "stamp", &[("worker", 0)]),
+        Action::Queue { .. } => write_table(text, at, "queue", &[("worker", 0)]),
+        _ => write_table(text, at, "release", &[("worker", 0)]),
     }
-    Ok(text.push_str(" },\n")?)
 }
 
 /// The script of these events.

@@ -1,28 +1,18 @@
-//! Tests of runs of the model: their replies, twins, audits and pictures.
+//! Tests of runs of the model: the worked runs, and what no script can ask for. More runs are in `tests/cases`.
 //!
 //! They stand in a crate of their own, since a crate with tests is proved twice. They make public calls alone, and compare by
 //! `assert!(rt; a == b)`, which costs the prover less than `assert_eq!` does.
 //!
 //! Modules:
 //!
-//! - `events`: machines and events, in few words.
-//! - `worlds`, `commits`, `lives`: replies of a world (`tt_world`).
-//! - `twins`: twins of readings (`tt_twin`).
-//! - `audits`: what an audit counts (`tt_audit`).
-//! - `pictures`: how a run is drawn (`tt_picture`).
+//! - `worked`: the replies, the reports and the twins of the worked runs (`tt_world`, `tt_trace`, `tt_audit`, `tt_twin`).
+//! - `worlds`: events and machines that no script has (`tt_world`).
+//! - `audits`: readings of a run in threads (`tt_audit`).
 #![tactic(auto)]
 
 #[cfg(test)]
 mod audits;
 #[cfg(test)]
-mod commits;
-#[cfg(test)]
-mod events;
-#[cfg(test)]
-mod lives;
-#[cfg(test)]
-mod pictures;
-#[cfg(test)]
-mod twins;
+mod worked;
 #[cfg(test)]
 mod worlds;
