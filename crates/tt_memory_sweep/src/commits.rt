@@ -1,7 +1,6 @@
 //! Stamps, books, and the services that begin commits.
 
 use crate::outcomes::{MEMORY, Outcome};
-use crate::scenes;
 use std::alloc::Global;
 use std::sync::{Mutex, Wait};
 use tt_node::{OpenGate, Worker};
@@ -18,7 +17,7 @@ const CLOCK: [u64; 400] = [0; 400];
 
 /// A watch that has seen the publication [100, 200], made at clock 0, and whose teller is closed.
 fn watch_of<R: Wait>(rt: &R, alloc: Global) -> Option<Watch> {
-    let (fused, drift) = (scenes::fused(100, 200)?, Drift::new(0)?);
+    let (fused, drift) = (tt_scenes::fused(100, 200)?, Drift::new(0)?);
     let Ok((mut teller, mut watches)) = open(rt, alloc, drift, 1) else {
         return None;
     };
@@ -50,7 +49,7 @@ fn open_sequencer<R: Wait>(rt: &R, alloc: Global) -> Result<bool, u16> {
     let Some(mut seat) = seats.pop() else {
         return Ok(false);
     };
-    let reading = Reading::of(scenes::span(100, 200));
+    let reading = Reading::of(tt_scenes::span(100, 200));
     let stamp = sequencer.stamp(rt, &mut seat, &reading, 0, &Span::whole());
     Ok(count == 2 && stamp == Ok(200))
 }
@@ -75,7 +74,7 @@ pub(crate) fn book(alloc: Global) -> Outcome {
         }
     }
     // The stamps 1 to 40 are below 41.
-    let released = book.release(&Reading::of(scenes::span(41, 50)));
+    let released = book.release(&Reading::of(tt_scenes::span(41, 50)));
     let is_as_worked = released == 40 && book.waiting() == 0 && book.history().len() == 80;
     Outcome::of(is_as_worked, was_refused)
 }
@@ -135,7 +134,7 @@ pub(crate) fn worker_now<R: Wait>(rt: &R, alloc: Global) -> Outcome {
             }
             read = worker.now();
         }
-        if read != Ok(Reading::of(scenes::span(100, 200))) {
+        if read != Ok(Reading::of(tt_scenes::span(100, 200))) {
             return Outcome::Wrong;
         }
     }

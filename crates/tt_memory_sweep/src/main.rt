@@ -9,7 +9,8 @@
 //! `tools/sweep` runs it with each allocation failing in turn, until a run meets no failure.
 //!
 //! - `calls`: the calls, in their order. `outcomes`: what may come of one.
-//! - `texts`, `worlds`, `publications`, `commits` and `nodes` make them. `scenes`: the runs that they are made in.
+//! - `texts`, `worlds`, `publications`, `commits` and `nodes` make them. `replies`: replies of a run, to be
+//!   compared.
 //! - `devices`: links, gates and writers that take no memory.
 #![tactic(auto)]
 
@@ -19,7 +20,7 @@ mod devices;
 mod nodes;
 mod outcomes;
 mod publications;
-mod scenes;
+mod replies;
 mod texts;
 mod worlds;
 

@@ -2,7 +2,6 @@
 
 use crate::devices::{CountedLink, MasterLink, Page, PageWriter, SecondRoundGate};
 use crate::outcomes::{MEMORY, Outcome};
-use crate::scenes;
 use arrayvec::ArrayVec;
 use std::alloc::Global;
 use std::sync::atomic::AtomicU64;
@@ -61,7 +60,7 @@ fn run_one<R: Threads + Wait + std::time::Clock + Sync>(
     alloc: Global,
     page: &Page,
 ) -> Option<Result<NodeEnd, NodeFault>> {
-    let config = scenes::machine(1, 0)?;
+    let config = tt_scenes::machine(1, 0, 0, 1)?;
     let mut clocks = Clocks {
         daemon: MemoryClock::new(&CLOCK, None),
         workers: Vec::new(alloc),

@@ -2,7 +2,6 @@
 
 use crate::devices::MasterLink;
 use crate::outcomes::{MEMORY, Outcome};
-use crate::scenes;
 use std::alloc::Global;
 use std::sync::Wait;
 use tt_daemon::{Daemon, Fused};
@@ -71,7 +70,7 @@ fn publish_often<R: Wait>(rt: &R, teller: &mut Teller, watch: &mut Watch) -> Out
     let mut before = Err(801);
     let mut was_refused = false;
     for time in 1..MANY {
-        let Some(fused) = scenes::fused(time, 2 * time) else {
+        let Some(fused) = tt_scenes::fused(time, 2 * time) else {
             return Outcome::Wrong;
         };
         if publish_one(rt, teller, &fused) == Err(PublishFault::Memory) {
@@ -95,7 +94,7 @@ fn publish_one<R: Wait>(rt: &R, teller: &mut Teller, fused: &Fused) -> Result<()
 /// Does a round of a daemon, whose one source says 1000. Rounds that are refused for memory have published nothing, and
 /// publish when they are done again.
 pub(crate) fn rounds<R: Wait>(rt: &R, alloc: Global) -> Outcome {
-    let (Some(drift), Some(config)) = (Drift::new(0), scenes::machine(1, 0)) else {
+    let (Some(drift), Some(config)) = (Drift::new(0), tt_scenes::machine(1, 0, 0, 1)) else {
         return Outcome::Wrong;
     };
     let Ok((mut teller, mut watches)) = open(rt, alloc, drift, 1) else {

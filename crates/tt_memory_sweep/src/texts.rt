@@ -1,12 +1,12 @@
 //! Texts that are written and read.
 
 use crate::outcomes::Outcome;
-use crate::scenes;
 use std::alloc::Global;
 use tt_audit::{Report, audit, report_text};
 use tt_cert::{certify, write_text};
 use tt_daemon::Config;
 use tt_fuse::fuse;
+use tt_scenes::{ONE_LIAR, machine, one_liar, span};
 use tt_script::read;
 use tt_span::Span;
 use tt_world::{Action, Event, run};
@@ -40,10 +40,6 @@ uncertainty = 1000
 acts = [\"honest\", \"ahead 7\"]
 ";
 
-/// The report on one liar of three.
-const REPORT: &str =
-    "events 11\nrefused 0\nfusions 1\nreadings 1\nwrong 0\nreleased 0\nviolations 0\nsuspect 0 1 2\npremise kept\n";
-
 /// Writes the certificate.
 pub(crate) fn certificate(alloc: Global) -> Outcome {
     match Outcome::at_once(write_certificate(alloc)) {
@@ -53,11 +49,7 @@ pub(crate) fn certificate(alloc: Global) -> Outcome {
 }
 
 fn write_certificate(alloc: Global) -> Result<bool, u16> {
-    let spans = [
-        scenes::span(0, 10),
-        scenes::span(5, 15),
-        scenes::span(12, 20),
-    ];
+    let spans = [span(0, 10), span(5, 15), span(12, 20)];
     let spans: &[Span] = &spans;
     let claim = match fuse(spans, 1) {
         Ok(claim) => claim,
@@ -100,10 +92,10 @@ fn read_script(alloc: Global) -> Result<bool, u16> {
 
 /// Reports on one liar of three.
 pub(crate) fn audited(alloc: Global) -> Outcome {
-    let Some(config) = scenes::machine(3, 1) else {
+    let Some(config) = machine(3, 1, 0, 1) else {
         return Outcome::Wrong;
     };
-    let (configs, events) = ([config], scenes::one_liar());
+    let (configs, events) = ([config], one_liar());
     let (configs, events): (&[Config], &[Event]) = (&configs, &events);
     let Ok(trace) = run(alloc, configs, events) else {
         return Outcome::Unprepared;
@@ -134,10 +126,10 @@ fn is_as_worked(report: &Report) -> bool {
 
 /// Writes the report on one liar of three.
 pub(crate) fn report(alloc: Global) -> Outcome {
-    let Some(config) = scenes::machine(3, 1) else {
+    let Some(config) = machine(3, 1, 0, 1) else {
         return Outcome::Wrong;
     };
-    let (configs, events) = ([config], scenes::one_liar());
+    let (configs, events) = ([config], one_liar());
     let (configs, events): (&[Config], &[Event]) = (&configs, &events);
     let Ok(trace) = run(alloc, configs, events) else {
         return Outcome::Unprepared;
@@ -148,7 +140,7 @@ pub(crate) fn report(alloc: Global) -> Outcome {
     let mut was_refused = false;
     for _ in 0..2 {
         match report_text(alloc, &report) {
-            Ok(text) => return Outcome::of(text.as_str() == REPORT, was_refused),
+            Ok(text) => return Outcome::of(text.as_str() == ONE_LIAR.report, was_refused),
             Err(_) => was_refused = true,
         }
     }

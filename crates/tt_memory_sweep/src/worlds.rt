@@ -1,15 +1,17 @@
 //! Runs, event by event and whole, and the twin of a reading.
 
 use crate::outcomes::Outcome;
-use crate::scenes::{self, COMMIT_REPLIES, Said, said_of};
+use crate::replies::{COMMIT_REPLIES, said_of};
 use std::alloc::Global;
 use tt_daemon::Config;
+use tt_scenes::{commit_wait, machine, one_liar};
 use tt_twin::{Side, twin};
 use tt_world::{Event, Reply, World, WorldFault, run};
 
 /// The two machines of the run of two commits.
 fn machines() -> Option<[Config; 2]> {
-    Some([scenes::machine(1, 0)?, scenes::machine(1, 0)?])
+    let config = machine(1, 0, 0, 1)?;
+    Some([config; 2])
 }
 
 /// Makes a world of two machines.
@@ -41,7 +43,7 @@ pub(crate) fn steps(alloc: Global) -> Outcome {
         return Outcome::Unprepared;
     };
     let mut was_refused = false;
-    for (event, wanted) in scenes::commits().iter().zip(&COMMIT_REPLIES) {
+    for (event, wanted) in commit_wait().iter().zip(&COMMIT_REPLIES) {
         let reply = match world.step(event) {
             Err(WorldFault::Memory) => {
                 was_refused = true;
@@ -69,7 +71,7 @@ fn run_commits(alloc: Global) -> Result<bool, u16> {
     let Some(configs) = machines() else {
         return Ok(false);
     };
-    match run(alloc, &configs, &scenes::commits()) {
+    match run(alloc, &configs, &commit_wait()) {
         Ok(trace) => Ok(are_as_worked(trace.replies()) && trace.shown().len() == 2),
         Err(fault) => Err(fault.number()),
     }
@@ -93,10 +95,10 @@ pub(crate) fn low_twin(alloc: Global) -> Outcome {
 }
 
 fn make_twin(alloc: Global) -> Result<bool, u16> {
-    let Some(config) = scenes::machine(3, 1) else {
+    let Some(config) = machine(3, 1, 0, 1) else {
         return Ok(false);
     };
-    match twin(alloc, &[config], &scenes::one_liar(), 10, Side::Low) {
+    match twin(alloc, &[config], &one_liar(), 10, Side::Low) {
         Ok(events) => Ok(are_at(&events, 45)),
         Err(fault) => Err(fault.number()),
     }

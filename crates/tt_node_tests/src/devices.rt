@@ -132,6 +132,8 @@ pub(crate) struct Marks {
     pub(crate) first: AtomicU64,
     /// The calls of worker 1 that were answered.
     pub(crate) second: AtomicU64,
+    /// The calls of worker 2 that were answered.
+    pub(crate) third: AtomicU64,
 }
 
 impl Marks {
@@ -140,6 +142,7 @@ impl Marks {
             sent: AtomicU64::new(0),
             first: AtomicU64::new(0),
             second: AtomicU64::new(0),
+            third: AtomicU64::new(0),
         }
     }
 }
@@ -154,6 +157,9 @@ pub(crate) enum Plan {
     /// Worker 0 waits for the second request, worker 1 for two calls of worker 0, and call 2 of worker 0 for two of
     /// worker 1.
     InTurn,
+    /// Worker 1 waits for the second request, worker 0 for two calls of worker 1, worker 2 for two of worker 0, and call 2 of
+    /// the others for two of worker 2.
+    Relay,
 }
 
 /// A gate that follows a plan.
@@ -171,6 +177,7 @@ impl<'a, R: std::time::Clock> Gate for PlannedGate<'a, R> {
         let sent = self.marks.sent.load(Ordering::SeqCst);
         let first = self.marks.first.load(Ordering::SeqCst);
         let second = self.marks.second.load(Ordering::SeqCst);
+        let third = self.marks.third.load(Ordering::SeqCst);
         let open = match self.plan {
             Plan::Holds(held) => {
                 let other = if held == 0 { second } else { first };
@@ -183,6 +190,13 @@ impl<'a, R: std::time::Clock> Gate for PlannedGate<'a, R> {
                 (1, 0) => first > 1,
                 _ => true,
             },
+            Plan::Relay => match (worker, call) {
+                (1, 0) => sent > 1,
+                (0, 0) => second > 1,
+                (2, 0) => first > 1,
+                (0, 2) | (1, 2) => third > 1,
+                _ => true,
+            },
         };
         if !open {
             thread::sleep(self.rt, Duration::from_micros(PAUSE));
@@ -191,10 +205,10 @@ impl<'a, R: std::time::Clock> Gate for PlannedGate<'a, R> {
     }
 
     fn answered(&self, worker: u32, _call: u64) {
-        let calls = if worker == 0 {
-            &self.marks.first
-        } else {
-            &self.marks.second
+        let calls = match worker {
+            0 => &self.marks.first,
+            1 => &self.marks.second,
+            _ => &self.marks.third,
         };
         calls.fetch_add(1, Ordering::SeqCst);
     }

@@ -159,6 +159,32 @@ fn the_workers_share_a_sequencer_and_a_book(rt: HostRuntime) -> Result<(), Fail>
 }
 
 #[test]
+fn three_workers_relay_their_commits(rt: HostRuntime) -> Result<(), Fail> {
+    let pages = [nothing_written(), nothing_written(), nothing_written()];
+    let setting = Setting {
+        plan: Plan::Relay,
+        rounds: 2,
+        turns: 4,
+        sessions: &[
+            ("commit 1 0\ncommit 1 0\n", 0),
+            ("commit 1 0\ncommit 1 0\n", 0),
+            ("commit 1 0\n", 10),
+        ],
+    };
+    let _end = run(&rt, rt.alloc(), &setting, &pages).ok_or("a node")??;
+    // Workers 1 and 0 read [1000, 1000] in turn, so their stamps differ only if one sequencer gives both. Neither has passed
+    // until worker 2, which reads [1010, 1010], releases both from the one book.
+    for (page, text) in pages.iter().zip([
+        "waiting 1 1001\ncommitted 1 1001\n",
+        "waiting 1 1000\ncommitted 1 1000\n",
+        "waiting 1 1010\n",
+    ]) {
+        assert!(rt; says(&rt, page, text), "{text}");
+    }
+    Ok(())
+}
+
+#[test]
 fn a_node_wants_a_stream(rt: HostRuntime) -> Result<(), Fail> {
     let setting = Setting {
         plan: Plan::InTurn,

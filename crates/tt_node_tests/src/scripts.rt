@@ -1,25 +1,13 @@
-//! Scripts typed from worked examples, and bad scripts for each refusal at each place.
+//! Bad scripts for each refusal at each place, and the part of a script for a run in threads.
 
-use crate::texts::{
-    ANY_MAY_LIE, ANY_MAY_LIE_EVENTS, DRIFTS, DRIFTS_EVENTS, LEASED, LEASED_EVENTS, LIVE,
-    ONE_FORGES, ONE_FORGES_EVENTS, ONE_LIES, ONE_LIES_EVENTS, OUT_OF_ORDER, OUT_OF_ORDER_EVENTS,
-    RESTARTS, RESTARTS_EVENTS, TWO_LIE, TWO_LIE_EVENTS, WAITS_OUT, WAITS_OUT_EVENTS,
-};
 use std::alloc::{AllocError, Global};
 use std::test::Fail;
-use tt_daemon::Config;
 use tt_master::Act;
 use tt_script::{MAX_EVENTS, ScriptFault, read};
-use tt_span::{Drift, MAX_TIME, Span};
-use tt_world::{Action, Event};
+use tt_span::{MAX_TIME, Span};
 
 /// A machine with one source and one worker.
 const MACHINE: &str = "[[machine]]\nsources = 1\nfaulty = 0\nworkers = 1\n";
-
-/// A machine with one worker.
-fn machine(sources: usize, faulty: usize, drift: u32) -> Result<Config, Fail> {
-    Ok(Config::new(sources, faulty, Drift::new(drift).ok_or("a drift")?, 1)?)
-}
 
 /// The number by which a text is refused, or 0 where it is read.
 fn number_of(alloc: Global, text: &str) -> u16 {
@@ -33,94 +21,6 @@ fn number_of(alloc: Global, text: &str) -> u16 {
 fn number_of_both(alloc: Global, head: &str, tail: &str) -> Result<u16, AllocError> {
     let text = format!(in alloc; "{head}\n{tail}")?;
     Ok(number_of(alloc, text.as_str()))
-}
-
-/// An event as a line: its word, its true time, and the values of its keys in their order.
-fn line_of(alloc: Global, event: &Event) -> Result<String, AllocError> {
-    let at = event.at;
-    match &event.action {
-        Action::Send {
-            machine,
-            source,
-            clock,
-        } => format!(in alloc; "send {at} {machine} {source} {clock}"),
-        Action::Answer { packet, span } => {
-            let lo = span.lo();
-            let hi = span.hi();
-            format!(in alloc; "answer {at} {packet} {lo} {hi}")
-        }
-        Action::Forge {
-            machine,
-            source,
-            payload,
-        } => {
-            let bytes = hex::encode(alloc, payload.as_slice())?;
-            format!(in alloc; "forge {at} {machine} {source} {bytes}")
-        }
-        Action::Deliver { packet, clock } => format!(in alloc; "deliver {at} {packet} {clock}"),
-        Action::Fuse { machine, clock } => format!(in alloc; "fuse {at} {machine} {clock}"),
-        Action::Arrive {
-            machine,
-            worker,
-            id,
-            floor,
-        } => {
-            let session = id.session;
-            let number = id.number;
-            format!(in alloc; "arrive {at} {machine} {worker} {session} {number} {floor}")
-        }
-        Action::Read {
-            machine,
-            worker,
-            clock,
-            publication,
-        } => format!(in alloc; "read {at} {machine} {worker} {clock} {publication}"),
-        Action::Stamp { machine, worker } => format!(in alloc; "stamp {at} {machine} {worker}"),
-        Action::Queue { machine, worker } => format!(in alloc; "queue {at} {machine} {worker}"),
-        Action::Release { machine, worker } => format!(in alloc; "release {at} {machine} {worker}"),
-        Action::Lease { machine, lease } => {
-            let lo = lease.lo();
-            let hi = lease.hi();
-            format!(in alloc; "lease {at} {machine} {lo} {hi}")
-        }
-        Action::Restart { machine, clock } => format!(in alloc; "restart {at} {machine} {clock}"),
-    }
-}
-
-/// Whether the text is the script of these machines and events, without a part for a run in threads.
-fn is_script(alloc: Global, text: &str, machines: &[Config], lines: &[&str]) -> Result<bool, Fail> {
-    let script = read(alloc, text)?;
-    if script.configs() != machines || script.live().is_some() {
-        return Ok(false);
-    }
-    if script.to_events().len() != lines.len() {
-        return Ok(false);
-    }
-    for (event, line) in script.to_events().iter().zip(lines.iter()) {
-        if line_of(alloc, event)?.as_str() != *line {
-            return Ok(false);
-        }
-    }
-    Ok(true)
-}
-
-#[test]
-fn reads_the_worked_examples(rt: HostRuntime) -> Result<(), Fail> {
-    let alloc = rt.alloc();
-    let two = [machine(1, 0, 0)?, machine(1, 0, 0)?];
-    let three = [machine(3, 1, 200)?];
-    let one = [machine(1, 0, 200)?];
-    assert!(rt; is_script(alloc, WAITS_OUT, &two, &WAITS_OUT_EVENTS)?);
-    assert!(rt; is_script(alloc, ONE_LIES, &three, &ONE_LIES_EVENTS)?);
-    assert!(rt; is_script(alloc, TWO_LIE, &three, &TWO_LIE_EVENTS)?);
-    assert!(rt; is_script(alloc, ANY_MAY_LIE, &three, &ANY_MAY_LIE_EVENTS)?);
-    assert!(rt; is_script(alloc, DRIFTS, &one, &DRIFTS_EVENTS)?);
-    assert!(rt; is_script(alloc, OUT_OF_ORDER, &two, &OUT_OF_ORDER_EVENTS)?);
-    assert!(rt; is_script(alloc, ONE_FORGES, &three, &ONE_FORGES_EVENTS)?);
-    let still = [machine(1, 0, 0)?];
-    assert!(rt; is_script(alloc, RESTARTS, &still, &RESTARTS_EVENTS)?);
-    assert!(rt; is_script(alloc, LEASED, &still, &LEASED_EVENTS)?);
-    Ok(())
 }
 
 #[test]
@@ -395,6 +295,31 @@ fn takes_as_many_events_as_may(rt: HostRuntime) -> Result<(), Fail> {
     assert!(rt; number_of(alloc, none.as_str()) == 1303);
     Ok(())
 }
+
+/// A run in threads: two honest masters, one that is far ahead, and two sessions.
+const LIVE: &str = r#"[[machine]]
+sources = 3
+faulty = 1
+workers = 2
+
+[live]
+base = 1000000000000
+rounds = 50
+turns = 20
+sessions = [["now"], ["now", "commit 1 0"]]
+
+[[live.masters]]
+uncertainty = 1000
+acts = ["honest"]
+
+[[live.masters]]
+uncertainty = 1000
+acts = ["honest"]
+
+[[live.masters]]
+uncertainty = 1000
+acts = ["ahead 1000000000"]
+"#;
 
 /// A machine, and the part for a run in threads up to its masters.
 const UP_TO_MASTERS: &str =

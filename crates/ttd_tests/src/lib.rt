@@ -1,10 +1,12 @@
-//! Tests of the program's commands (`ttd_commands`), and of runs of a machine in threads (`tt_live`).
+//! Tests of the command line (`ttd_cli`), of the program's commands (`ttd_commands`), and of runs of a machine in threads
+//! (`tt_live`). What the commands answer beyond the worked examples is in `tests`.
 //!
 //! They stand in a crate of their own, since a crate with tests is proved twice.
 //!
 //! Modules:
 //!
-//! - `commands`: `age`, `fuse`, `check`, `run`, `twin` and `picture` over devices in memory.
+//! - `words`: command lines.
+//! - `commands`: the worked examples over devices in memory, and devices that fail.
 //! - `live`: the command `live`.
 //! - `lives`: runs of a machine in threads, and the replies that its clients take.
 #![tactic(auto)]
@@ -15,3 +17,5 @@ mod commands;
 mod live;
 #[cfg(test)]
 mod lives;
+#[cfg(test)]
+mod words;

@@ -133,44 +133,6 @@ fn gives_help(rt: HostRuntime) {
 }
 
 #[test]
-fn refuses_what_is_no_live_script(rt: HostRuntime) -> Result<(), Fail> {
-    let alloc = rt.alloc();
-    let refused: [(&[u8], &str); 5] = [
-        (b"machine = \xff", "refused 1603\n"),
-        (b"machine", "refused 1301\n"),
-        (b"", "refused 1302\n"),
-        (
-            b"live = 1\n[[machine]]\nsources = 1\nfaulty = 0\nworkers = 1\n",
-            "refused 1303\n",
-        ),
-        (
-            b"[[machine]]\nsources = 1\nfaulty = 0\nworkers = 1\n",
-            "refused 1302\n",
-        ),
-    ];
-    for (input, text) in refused {
-        assert!(rt; writes(&rt, alloc, &["live"], input, Status::Bad, text));
-    }
-    let two = TWO_SESSIONS.replacen(
-        alloc,
-        "[live]",
-        "[[machine]]\nsources = 3\nfaulty = 1\nworkers = 2\n[live]",
-        1,
-    )?;
-    assert!(rt;
-        writes(
-            &rt,
-            alloc,
-            &["live"],
-            two.as_bytes(),
-            Status::Bad,
-            "refused 1303\n"
-        )
-    );
-    Ok(())
-}
-
-#[test]
 fn a_reader_and_a_writer_fail(rt: HostRuntime) {
     let alloc = rt.alloc();
     let mut reader = MemoryReader::new(TWO_SESSIONS.as_bytes(), 7, Some(3));

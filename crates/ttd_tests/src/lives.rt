@@ -1,39 +1,10 @@
-//! Runs on this computer, scripts that are not run, and which replies may be given to a line.
+//! Runs on this computer, and which replies may be given to a line.
 
-use crate::live::TWO_SESSIONS;
 use std::alloc::{AllocError, Global};
 use std::test::Fail;
 use tt_audit::LiveReport;
-use tt_live::{LiveFault, live, may_answer};
+use tt_live::{live, may_answer};
 use tt_script::read;
-
-/// The number of the refusal, or 0.
-fn refusal(ended: Result<LiveReport, LiveFault>) -> u16 {
-    match ended {
-        Ok(_) => 0,
-        Err(fault) => fault.number(),
-    }
-}
-
-#[test]
-fn a_script_fits_its_machine(rt: HostRuntime) -> Result<(), Fail> {
-    let unfit = [
-        // Two machines.
-        (
-            "[[machine]]",
-            "[[machine]]\nsources = 1\nfaulty = 0\nworkers = 1\n[[machine]]",
-        ),
-        // One master more than sources, and one session fewer than workers.
-        ("sources = 3", "sources = 4"),
-        ("workers = 2", "workers = 3"),
-    ];
-    for (old, new) in unfit {
-        let text = TWO_SESSIONS.replacen(rt.alloc(), old, new, 1)?;
-        let script = read(rt.alloc(), text.as_str())?;
-        assert!(rt; refusal(live(&rt, rt.alloc(), &script)) == 1303);
-    }
-    Ok(())
-}
 
 /// What the seven false sources of the large machine do.
 const FALSE_ACTS: [&str; 7] = [
