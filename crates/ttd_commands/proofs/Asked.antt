@@ -1,5 +1,5 @@
 -- What words ask for, as it was read.
-use Rattle.std.proofs.Common.{◌≡◌, ◌≢◌, ◌⊎◌, ◌∙◌, ℕ, List, Result, Ok, inl, inr, sym, ap, subst}
+use Rattle.std.proofs.Common.{◌≡◌, ◌≢◌, ◌⊎◌, ◌∙◌, List, Result, Ok, inl, inr, sym, ap, subst}
 use Rattle.std.specs.Prelude.{Err}
 use Rattle.clap.specs.Walk.{Text}
 use Rattle.ttd_cli.specs.Reading.{AreForHelp, AreMistaken, AreTaken, asked_of}

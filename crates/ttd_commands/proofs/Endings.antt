@@ -1,6 +1,6 @@
 -- How the program ends, by what was refused.
 use Rattle.std.proofs.Common.{◌≡◌, ◌≢◌, ◌⊎◌, ◌∙◌, ℕ, Bool, true, false, Option, Some, None, Result, Ok, inl, inr, refl, sym, ap, subst, nat_eq}
-use Rattle.std.specs.Prelude.{Err, IfErr, IfOk, if◌then◌else◌, ◌||◌}
+use Rattle.std.specs.Prelude.{Err, IfErr, IfOk, IfSome, if◌then◌else◌, ◌||◌}
 use Rattle.std.specs.Result.{result_map_both}
 use Rattle.std.proofs.lemmas.Bool.{eqb-true}
 use Rattle.tt_live.specs.Fault.{number_of as live_number}
@@ -13,7 +13,7 @@ use Rattle.ttd_commands.specs.declared.ending.Status.TheVariants.{Fine, Memory a
 use Rattle.ttd_commands.specs.declared.faults.Fault.{Fault}
 use Rattle.ttd_commands.specs.declared.faults.Fault.TheVariants.{BadWords, BadHex, BadInput, ReadFailed, Poll, Source, Fusion, Certificate, History, Script, Twin, World, Live, Memory}
 use Rattle.ttd_commands.specs.Answer.{Answer, answer_in, answer_of, refusal_line}
-use Rattle.ttd_commands.specs.Fault.{number_of, status_at, status_of}
+use Rattle.ttd_commands.specs.Fault.{status_at, status_of}
 use Rattle.ttd_commands.specs.Run.{Gives, IsWritten, Output, memory_answer}
 
 -- a status at a number is that of out of memory at 1 alone
@@ -104,3 +104,11 @@ told_no_run (Err fault) refusal some none other live is =
     let same : Some fault ≡ Some (Live live) = sym some ∙ is in
     let fault_is : fault ≡ Live live = cc in
     other live (ap (λ (f : Fault). Err f) fault_is)
+
+-- what is said of a refusal is what was written
+pub told_given : (reply : Result CommandOutput Fault) (refusal : Option Fault) (before after : Output) (status : Status)
+    → Gives (answer_of (result_map_both answer_in (λ fault. fault) reply)) before after status
+    → IfErr reply (λ fault. refusal ≡ Some fault) → IfOk reply (λ text. refusal ≡ None)
+    → IfSome refusal (λ told. Gives (answer_of (Err told)) before after status)
+told_given (Ok text) refusal before after status gives some none = rw none tt
+told_given (Err fault) refusal before after status gives some none = rw some gives

@@ -1,5 +1,5 @@
 -- What is told of a history.
-use Rattle.std.proofs.Common.{◌≡◌, ℕ, List, Result, Ok, inl, inr, refl, sym, subst}
+use Rattle.std.proofs.Common.{◌≡◌, ℕ, List, Result, inl, inr, refl, sym, subst}
 use Rattle.std.specs.Prelude.{Err}
 use Rattle.std.specs.Result.{result_map_both}
 use Rattle.tt_judge.specs.HistoryText.{IsHistoryText, IsReadingFault}
@@ -7,7 +7,6 @@ use Rattle.tt_judge.specs.declared.faults.HistoryFault.{HistoryFault}
 use Rattle.tt_judge.specs.declared.faults.HistoryFault.TheVariants.{BadLine, Memory}
 use Rattle.tt_judge.specs.declared.history.Commit.{Commit}
 use Rattle.ttd_commands.specs.declared.faults.Fault.{Fault}
-use Rattle.ttd_commands.specs.declared.faults.Fault.TheVariants.{History}
 use Rattle.ttd_commands.specs.Answer.{Answer}
 use Rattle.ttd_commands.specs.Command.{HasReply}
 use Rattle.ttd_commands.specs.Judging.{IsJudgeReply, TellsJudgement, history_fault_of}

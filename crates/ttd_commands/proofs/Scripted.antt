@@ -23,13 +23,13 @@ module _ {T : Type 0} (shows : T → Answer) (Tells : Scenario → Result Answer
 
   -- why there is no script
   pub script_refused : (fault : Fault) → result ≡ Err fault → IsScriptFault input fault → HasReply shows (IsScriptReply Tells input) result
-  script_refused fault is (inl (no, bad)) =
+  script_refused fault is (inl (not_text, bad)) =
       let refused : result ≡ Err BadInput = cc in
-      inl (record { bad = λ not_utf8. rw refused refl; read = λ yes. absurd (no yes) })
-  script_refused fault is (inr (inl (yes, (script_fault, is_in, told)))) =
+      inl (record { bad = λ not_utf8. rw refused refl; read = λ utf8. absurd (not_text utf8) })
+  script_refused fault is (inr (inl (text, (script_fault, is_in, told)))) =
       let refused : result ≡ Err (script_fault_of script_fault) = cc in
       inl (record {
-        bad = λ no. absurd (no yes);
+        bad = λ not_text. absurd (not_text text);
         read = λ utf8. subst (λ (s : Result Scenario ScriptFault). TellsScript Tells s (result_map_both shows (λ fault. fault) result)) (sym is_in) (rw refused refl);
       })
   script_refused fault is (inr (inr memory)) = inr (let wrong : result ≡ Err fault = is in cc)

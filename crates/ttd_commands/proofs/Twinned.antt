@@ -1,24 +1,17 @@
 -- What is replied to a script of which a twin is asked.
-use Rattle.std.proofs.Common.{◌≡◌, ◌≤◌, ℕ, List, [], Result, Ok, Some, inl, inr, refl, sym, subst, slice_get}
-use Rattle.std.specs.Prelude.{IsUtf8}
-use Rattle.std.specs.Result.{result_map_both}
+use Rattle.std.proofs.Common.{◌≡◌, ◌≤◌, ℕ, List, [], Result, Ok, Some, refl, sym, subst, slice_get}
 use Rattle.tt_daemon.specs.Config.{Configuration}
 use Rattle.tt_span.specs.Interval.{Interval}
 use Rattle.tt_span.specs.Time.{max_time}
-use Rattle.tt_script.specs.declared.faults.ScriptFault.{ScriptFault}
-use Rattle.tt_script.specs.Script.{Scenario, script_in}
+use Rattle.tt_script.specs.Script.{Scenario}
 use Rattle.tt_twin.specs.declared.twins.Side.{Side as TwinSide}
 use Rattle.tt_twin.specs.declared.twin_faults.TwinFault.{TwinFault}
 use Rattle.tt_twin.specs.Alike.{HasReading}
-use Rattle.tt_twin.specs.Twin.{twin_of}
 use Rattle.tt_world.specs.declared.events.Event.{Event}
 use Rattle.tt_world.specs.declared.events.Reply.TheVariants as replies
 use Rattle.tt_world.specs.Reply.{replies_from}
-use Rattle.ttd_cli.specs.declared.words.Side.{Side}
-use Rattle.ttd_commands.specs.declared.faults.Fault.{Fault}
-use Rattle.ttd_commands.specs.Answer.{Answer, fine}
-use Rattle.ttd_commands.specs.Command.{HasReply}
-use Rattle.ttd_commands.specs.Twinning.{IsTwinReply, TellsFound, TellsTwinOf, twin_side, twin_text}
+use Rattle.ttd_commands.specs.Answer.{fine}
+use Rattle.ttd_commands.specs.Twinning.{TellsFound, twin_text}
 
 -- a reading that has a twin is the reply to its event
 pub reading_there : (configs : List Configuration) (events : List Event) (k : ℕ) (side : TwinSide) → (x : ℕ) × (x ≤ max_time) × HasReading configs events k side x

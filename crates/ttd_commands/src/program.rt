@@ -97,6 +97,8 @@ fn command_reply<R: ByteReader>(
     notes: &mut String,
 ) -> Result<CommandOutput, Fault>
     requires { command.now ≢ Command.Live }
+    // What it requires, for a caller that knows it by a match alone.
+    ensures other { command.now ≢ Command.Live }
     ensures value { IsReplyRead (most_input_of command.now) answer_in (IsReply command.now) (input_of R.ByteReader input.old) (input_of R.ByteReader input.new) result }
     ensures failed { IsErrOf result Fault.ReadFailed → HasFailed (R.failed input.old) (R.failed input.new) }
     ensures sound { (result ≢ Err Fault.ReadFailed) → R.failed input.new ≡ R.failed input.old }
@@ -170,11 +172,12 @@ fn reply<R: ByteReader>(
     ensures no_run { (live : LiveFault) → result ≢ Err (Fault.Live live) }
     ensures rest { ReadsOn (R.left input.old) (R.left input.new) }
 {
+    let asked = *asked;
     match asked {
         Ok(Asked::Help) => fine(Ok(help_text(alloc, words)?)),
         Ok(Asked::Run(Command::Live)) => Err(Fault::BadWords),
-        Ok(Asked::Run(command)) => command_reply(alloc, command, input, notes),
-        Err(fault) => Err(Fault::from(*fault)),
+        Ok(Asked::Run(command)) => command_reply(alloc, &command, input, notes),
+        Err(fault) => Err(Fault::from(fault)),
     }
 }
 

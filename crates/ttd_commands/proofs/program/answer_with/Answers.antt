@@ -1,6 +1,6 @@
 use Rattle.std.proofs.Common.{inl, inr}
 use Rattle.ttd_commands.specs.Answer.{answer_in}
-use Rattle.ttd_commands.proofs.Endings.{device_told, told_no_run}
+use Rattle.ttd_commands.proofs.Endings.{device_told, told_given, told_no_run}
 use Rattle.ttd_commands.proofs.Replies.{answered, help_given, untaken_given}
 use Rattle.ttd_commands.proofs.program.answer_with.Goals as goal
 
@@ -23,3 +23,6 @@ returns-clause-device g c = λ e.
 
 pub returns-clause-no_run : goal.returns-clause-no_run
 returns-clause-no_run g c = told_no_run c.reply-reply.result c.give.result.refusal c.give.ensures.refused c.give.ensures.none c.reply-reply.ensures.no_run
+
+pub returns-clause-refused : goal.returns-clause-refused
+returns-clause-refused g c = told_given c.reply-reply.result c.give.result.refusal _ _ c.give.result.status c.give.ensures.gives c.give.ensures.refused c.give.ensures.none

@@ -21,7 +21,7 @@ pub returns-then-asks_live-clause-untaken : goal.returns-then-asks_live-clause-u
 returns-then-asks_live-clause-untaken g c = λ other.
     absurd (other (c.asked_by-asked.ensures.commands Live (c.asks_live.ensures.0 c.if-asks_live.true)))
 
-pub returns-clause-taken : goal.returns-clause-taken
-returns-clause-taken g c = λ taken.
+pub returns-else-asks_live-clause-taken : goal.returns-else-asks_live-clause-taken
+returns-else-asks_live-clause-taken g c = λ taken.
     other_replied answer_in _ _ _ c.reply.result c.asked_by-asked.result c.asked_by-asked.ensures
     (λ is. both_ways c.asks_live.result c.if-asks_live.false (c.asks_live.ensures.1 is)) taken (c.reply.ensures.taken taken) c.reply.ensures.memory
