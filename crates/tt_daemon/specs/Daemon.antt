@@ -2,7 +2,8 @@
 use Rattle.std.specs.Prelude.{◌≡◌, ℕ, ◌-◌, ◌<◌, ◌≤◌, ◌⊎◌, List, length, map}
 use Rattle.tt_span.specs.Time.{max_time}
 use Rattle.tt_span.specs.Interval.{Interval}
-use Rattle.tt_source.specs.Table.{TableState, IsTable, new_table, known_of, stated_at}
+use Rattle.tt_source.specs.Table.{TableState, IsTable, new_table, source_at, known_of, stated_at}
+use Rattle.tt_fuse.specs.Stated.{Stated, statement_of}
 use Rattle.tt_daemon.specs.Config.{Configuration, IsConfiguration}
 
 -- what a machine is set up with, and what it knows of its sources
@@ -16,6 +17,11 @@ pub record IsDaemon (d : DaemonState) : Type 0 where
   pub table : IsTable d.table
   pub each_source : length d.table.sources ≡ d.config.sources
   pub same_drift : d.table.drift ≡ d.config.drift
+
+-- the ends are those of what the sources of the table stated last
+pub record AreEndsOfTable (table : TableState) (ends : Stated) : Type 0 where
+  pub same_drift : ends.drift ≡ table.drift
+  pub same_statements : (i : ℕ) → statement_of ends i ≡ (source_at table i).statement
 
 -- the daemon of a machine before its first poll in the life with this epoch
 abbrev pub new_daemon : ℕ → Configuration → ℕ → DaemonState

@@ -8,6 +8,8 @@ ghost use Rattle.tt_poll.specs.declared.messages.Message2.TheVariants as message
 ghost use Rattle.tt_source.specs.Table.{Sending, source_at, poll_of, take_of, known_of, is_known_of, CanBeCalled, IsAwaitedAnswer};
 ghost use Rattle.tt_fuse.specs.Fusion.{IsPossibleTime, HasNoPossibleTime};
 ghost use Rattle.tt_fuse.specs.Depth.{slow_fusion};
+ghost use Rattle.tt_fuse.specs.Stated.{IsStated, statement_of, with_statement};
+ghost use Rattle.tt_span.specs.Statement.{IsStatement};
 ghost use Rattle.tt_daemon.specs.Publication.{IsPublication};
 ghost use Rattle.tt_daemon.specs.Daemon.{IsDaemon, new_daemon, IsBack, IsForward, KnowsEnough, spans_of};
 
@@ -15,9 +17,9 @@ use crate::configs::Config;
 use crate::faults::DaemonFault;
 use crate::fusions::Fused;
 use std::marker::Model;
-use tt_fuse::{MAX_SOURCES, SortedEnds, fusion_laws};
+use tt_fuse::{Ends, MAX_SOURCES, fusion_laws};
 use tt_poll::REQUEST2_LEN;
-use tt_source::{SourceFault, Table};
+use tt_source::{SourceFault, Statement, Table};
 use tt_span::Span;
 
 /// One machine's daemon: what the machine is set up with, and what it knows of its sources, which are numbered
@@ -31,16 +33,19 @@ use tt_span::Span;
 pub struct Daemon {
     config: Config,
     table: Table,
+    /// The ends of what the table's sources stated last, by keys in order: an accepted answer changes one of either
+    /// kind, so that a fusion need not sort.
+    ends: Ends,
 }
 
 impl Model for Daemon {
-    ghost use Rattle.tt_daemon.specs.Daemon.{DaemonState, IsDaemon};
+    ghost use Rattle.tt_daemon.specs.Daemon.{DaemonState, IsDaemon, AreEndsOfTable};
 
     ghost Value = { DaemonState };
 
     ghost view = { λ d. record { config = d.config; table = d.table } };
 
-    ghost invariant = { λ d. IsDaemon (record { config = d.config; table = d.table }) };
+    ghost invariant = { λ d. IsDaemon (record { config = d.config; table = d.table }) × AreEndsOfTable d.table d.ends };
 }
 
 impl Daemon {
@@ -57,6 +62,7 @@ impl Daemon {
         Daemon {
             config: *config,
             table,
+            ends: Ends::new(config.drift()),
         }
     }
 
@@ -127,9 +133,13 @@ impl Daemon {
         ensures keeps_config { self.new.config ≡ self.old.config }
         ensures valid { IsDaemon self.new }
     {
-        let taken = self.table.take(i, clock, bytes);
+        let was_known = self.table.is_known(i);
+        self.table.take(i, clock, bytes)?;
         prove!(self.table.sources() > 0);
-        taken
+        if let Some(statement) = self.table.statement(i) {
+            take_up(&mut self.ends, i, &statement, was_known);
+        }
+        Ok(())
     }
 
     /// Fuses what is known when the clock shows `clock`: the statements of the sources, aged, where a source that
@@ -189,7 +199,7 @@ impl Daemon {
         fusion_laws();
         let all = self.spans_at(clock);
         let spans = &all[..self.table.sources()];
-        let ends = SortedEnds::of(spans);
+        let ends = self.ends.at(clock, self.table.sources());
         Fused::of(
             clock,
             spans,
@@ -210,5 +220,21 @@ impl Daemon {
             spans[source] = self.table.aged(source as u8, clock).unwrap();
         }
         spans
+    }
+}
+
+/// Takes up into the ends what source `i` stated last, in place of an earlier statement where it `was_known`.
+fn take_up(ends: &mut Ends, i: u8, statement: &Statement, was_known: bool)
+    requires there { i < 16 }
+    requires known { was_known ≡ is_some (statement_of ends.old i) }
+    requires valid { IsStatement statement.now }
+    ensures value { ends.new ≡ with_statement ends.old i statement.now }
+    ensures valid { IsStated ends.new }
+{
+    let span = statement.span();
+    if was_known {
+        ends.replace(i, &span, statement.sent(), statement.got());
+    } else {
+        ends.insert(i, &span, statement.sent(), statement.got());
     }
 }

@@ -17,7 +17,7 @@ loop-source-preserved c =
     let in_all : i < length (spans_of d c.args.clock) = omega (arith, length-map d.table.sources (λ (source : SourceState). stated_at d.config.drift source.statement c.args.clock)) in
     let here : get_or (spans_of d c.args.clock) i v ≡ v =
     get_or-spans d.config.drift d.table.sources i c.args.clock v in_table
-    ∙ ap (λ (n : ℕ). stated_at n (source_at d.table i).statement c.args.clock) (sym c.self.invariant.same_drift)
+    ∙ ap (λ (n : ℕ). stated_at n (source_at d.table i).statement c.args.clock) (sym c.self.invariant.0.same_drift)
     ∙ aged-ok d.table i c.args.clock v (sym c.aged.ensures.value ∙ c.unwrap.ensures) in
     let step = subst (λ (e : DaemonState). take i c.loop-source.spans ≡ take i (spans_of e c.args.clock) → take (i + 1) (set c.loop-source.spans i v) ≡ take (i + 1) (spans_of e c.args.clock))
     c.self.view_is
