@@ -16,6 +16,7 @@ TOP = os.path.dirname(os.path.dirname(os.path.realpath(__file__)))
 sys.path.insert(0, os.path.join(TOP, "clients/python"))
 import truetime  # noqa: E402  (it stands in the repository)
 
+WORKERS = 32
 PROGRAM = os.path.join(TOP, "crates/ttd/out/ttd")
 
 
@@ -136,6 +137,16 @@ class Machine(Process):
                 if time.monotonic() > end or self.running.poll() is not None:
                     raise Fault(f"no time from machine {self.name}: {fault}\n{self.end_of_log()}") from fault
             time.sleep(0.02)
+
+    def use_all_workers(self):
+        """Lets each worker serve a session, so that all has been taken that a machine keeps. Half of them serve the Unix socket."""
+        self.wait_until_ready()
+        sessions = [truetime.Session(where, 5) for where in (self.address, self.path("socket")) for _ in range(WORKERS // 2)]
+        for session in sessions:
+            session.commit()
+        for session in sessions:
+            session.close()
+        time.sleep(0.5)
 
     def client(self):
         return truetime.Client(self.path("shared"), os.geteuid())
