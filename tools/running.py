@@ -110,7 +110,7 @@ class Master(Process):
 
 
 class Machine(Process):
-    """A machine, with all files of its own in one folder."""
+    """A machine, with all files of its own in one folder. A setting that is None is left out."""
 
     def __init__(self, service, name, number, masters, settings):
         self.folder = os.path.join(service.room, name)
@@ -120,7 +120,7 @@ class Machine(Process):
         settings = {"machine": number, "masters": masters, "listen": f"127.0.0.1:{self.address[1]}",
                     **{key: self.path(key) for key in ("state", "socket", "shared", "status")}, **settings}
         with open(self.path("node.toml"), "w", encoding="utf-8") as file:
-            file.writelines(f"{key} = {json.dumps(value)}\n" for key, value in settings.items())
+            file.writelines(f"{key} = {json.dumps(value)}\n" for key, value in settings.items() if value is not None)
         super().__init__(service, name, ["serve", self.path("node.toml"), "--until-eof"])
 
     def path(self, name):
