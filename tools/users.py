@@ -138,7 +138,9 @@ def never_read(address, seconds):
     """Sends lines until no more are taken; then the service has to give up its writing."""
     end = time.monotonic() + seconds
     try:
-        with socket.create_connection(address, seconds) as door:
+        with socket.socket() as door:
+            door.setsockopt(socket.SOL_SOCKET, socket.SO_RCVBUF, 4096)  # soon full
+            door.connect(address)
             door.settimeout(0.2)
             while time.monotonic() < end:
                 try:
