@@ -3,8 +3,8 @@
  *     load KIND ADDRESS CONNECTIONS LINES SECONDS
  *
  * KIND is `now`, `visit` (the same in a connection of its own), `commit` (with one line in a piece; it ends with `committed`) or `ping`
- * (for redis), ADDRESS a port of 127.0.0.1 or the path of a Unix socket, and LINES how many lines a piece has. Prints `LINES_A_SECOND MEDIAN P99` of the pieces, in
- * microseconds, and ends with status 1 where a connection fails or a reply is none.
+ * (for redis), ADDRESS a port of 127.0.0.1 or the path of a Unix socket, and LINES how many lines a piece has. Prints
+ * `LINES_A_SECOND MEDIAN P99`, the last two of the pieces, in microseconds; the status is 1 where a connection fails or a reply is none.
  */
 #include <arpa/inet.h>
 #include <inttypes.h>
