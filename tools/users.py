@@ -1,5 +1,6 @@
 """Clients of the time service, good and bad ones, for the tools."""
 import collections
+import contextlib
 import dataclasses
 import os
 import random
@@ -136,6 +137,7 @@ def say_nothing(address, seconds, words=b""):
 
 def never_read(address, seconds):
     """Sends lines until no more are taken; then the service has to give up its writing."""
+    last = time.monotonic() + 5 * seconds
     end = time.monotonic() + seconds
     try:
         with socket.socket() as door:
@@ -143,10 +145,9 @@ def never_read(address, seconds):
             door.connect(address)
             door.settimeout(0.2)
             while time.monotonic() < end:
-                try:
+                with contextlib.suppress(TimeoutError):
                     door.send(b"now\n" * 10_000)
-                except TimeoutError:
-                    continue
+                    end = min(time.monotonic() + seconds, last)
     except OSError:
         return []
     return ["a client that never reads is not let go"]
