@@ -1,0 +1,164 @@
+"""Masters and machines of the time service as processes, for the tools and the demonstration.
+
+All is on ports of the loopback and in a folder of the caller's, and ends with the `with` block, each process by its id.
+"""
+import contextlib
+import json
+import os
+import random
+import signal
+import socket
+import subprocess
+import sys
+import time
+
+TOP = os.path.dirname(os.path.dirname(os.path.realpath(__file__)))
+sys.path.insert(0, os.path.join(TOP, "clients/python"))
+import truetime  # noqa: E402  (it stands in the repository)
+
+WORKERS = 32
+PROGRAM = os.path.join(TOP, "crates/ttd/out/ttd")
+
+
+class Fault(Exception):
+    """Why a tool cannot go on."""
+
+
+def free_port(kind):
+    """A free port, below those that the system gives to clients, so that nobody takes it while its owner is restarted."""
+    for port in random.SystemRandom().sample(range(20_000, 32_000), 100):
+        with socket.socket(socket.AF_INET, kind) as door, contextlib.suppress(OSError):
+            door.bind(("127.0.0.1", port))
+            return port
+    raise Fault("no port is free")
+
+
+class Service:
+    """The processes of the service."""
+
+    def __init__(self, program, room):
+        self.program, self.room, self.processes = os.path.realpath(program), room, contextlib.ExitStack()
+
+    def __enter__(self):
+        signal.signal(signal.SIGTERM, lambda *_: sys.exit(128 + signal.SIGTERM))
+        return self
+
+    def __exit__(self, *_):
+        self.processes.close()
+
+    def master(self, source, offset=0, uncertainty=1_000_000):
+        """Starts a master, whose time is off by so many nanoseconds."""
+        return self.processes.enter_context(contextlib.closing(Master(self, source, offset, uncertainty)))
+
+    def machine(self, name, number, masters, **settings):
+        """Starts a machine over the masters at these addresses, in the order of their sources."""
+        return self.processes.enter_context(contextlib.closing(Machine(self, name, number, masters, settings)))
+
+    def judge(self, history):
+        """How many commits of a history of (began, ended, stamp) are out of order, as the judge says."""
+        text = "".join(f"commit {began} {ended} {stamp}\n" for began, ended, stamp in history)
+        judged = subprocess.run([self.program, "judge"], input=text, capture_output=True, text=True, timeout=60)
+        if judged.returncode not in (0, 3):
+            raise Fault(f"the judge ends with status {judged.returncode}: {judged.stdout}{judged.stderr}")
+        return int(judged.stdout.split()[3])
+
+
+class Process:
+    """A command that runs until it is ended, and can be started again with the same words."""
+
+    def __init__(self, service, name, words):
+        self.name, self.program, self.words = name, service.program, words
+        self.log = os.path.join(service.room, f"{name}.log")
+        self.start()
+
+    def start(self):
+        with open(self.log, "ab") as log:
+            self.running = subprocess.Popen([self.program, *self.words], stdin=subprocess.PIPE, stdout=log, stderr=log)
+
+    def kill(self):
+        self.running.kill()
+        self.running.wait()
+        self.running.stdin.close()
+
+    def restart(self):
+        self.kill()
+        self.start()
+
+    close = kill
+
+    def end_of_log(self):
+        with open(self.log, encoding="utf-8", errors="replace") as log:
+            return log.read()[-2000:]
+
+    def said(self, event):
+        """The fields of each line of the log that tells of this event, over all lives."""
+        with open(self.log, encoding="utf-8", errors="replace") as log:
+            lines = [dict(part.partition("=")[::2] for part in line.split()) for line in log if line.startswith("time=")]
+        return [fields for fields in lines if fields.get("event") == event]
+
+
+class Master(Process):
+    def __init__(self, service, source, offset, uncertainty):
+        self.address = f"127.0.0.1:{free_port(socket.SOCK_DGRAM)}"
+        self.fixed = ["master", "--source", str(source), "--listen", self.address, "--uncertainty", str(uncertainty)]
+        super().__init__(service, f"master-{self.address[10:]}", [*self.fixed, f"--offset={offset}"])
+
+    def restart_with(self, offset):
+        """Starts it again at the same address, with its time off by so many nanoseconds."""
+        self.words = [*self.fixed, f"--offset={offset}"]
+        self.restart()
+
+
+class Machine(Process):
+    """A machine, with all files of its own in one folder. A setting that is None is left out."""
+
+    def __init__(self, service, name, number, masters, settings):
+        self.folder = os.path.join(service.room, name)
+        os.mkdir(self.folder)
+        os.mkdir(self.path("state"))
+        self.address = ("127.0.0.1", free_port(socket.SOCK_STREAM))
+        settings = {"machine": number, "masters": masters, "listen": f"127.0.0.1:{self.address[1]}",
+                    **{key: self.path(key) for key in ("state", "socket", "shared", "status")}, **settings}
+        with open(self.path("node.toml"), "w", encoding="utf-8") as file:
+            file.writelines(f"{key} = {json.dumps(value)}\n" for key, value in settings.items() if value is not None)
+        super().__init__(service, name, ["serve", self.path("node.toml"), "--until-eof"])
+
+    def path(self, name):
+        return os.path.join(self.folder, name)
+
+    def wait_until_ready(self, seconds=10):
+        """Returns once it has a time to show."""
+        end = time.monotonic() + seconds
+        while True:
+            try:
+                with truetime.Session(self.address, seconds) as session:
+                    return session.now()
+            except (OSError, truetime.Refused) as fault:
+                if time.monotonic() > end or self.running.poll() is not None:
+                    raise Fault(f"no time from machine {self.name}: {fault}\n{self.end_of_log()}") from fault
+            time.sleep(0.02)
+
+    def use_all_workers(self):
+        """Lets each worker serve a session, so that all has been taken that a machine keeps. Half of them serve the Unix socket."""
+        self.wait_until_ready()
+        sessions = [truetime.Session(where, 5) for where in (self.address, self.path("socket")) for _ in range(WORKERS // 2)]
+        for session in sessions:
+            session.commit()
+        for session in sessions:
+            session.close()
+        time.sleep(0.5)
+
+    def client(self):
+        return truetime.Client(self.path("shared"), os.geteuid())
+
+    def status(self):
+        """The numbers of its status file by their names."""
+        with open(self.path("status"), encoding="utf-8") as file:
+            return {name: int(value) for name, value in map(str.split, file)}
+
+    def resources(self):
+        """Its memory in KiB, its descriptors and its threads."""
+        process = f"/proc/{self.running.pid}"
+        with open(f"{process}/status", encoding="ascii") as file:
+            values = {name: rest.split()[0] for name, _, rest in (line.partition(":") for line in file) if name in ("VmRSS", "Threads")}
+        return int(values["VmRSS"]), len(os.listdir(f"{process}/fd")), int(values["Threads"])
