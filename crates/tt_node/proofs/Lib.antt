@@ -3,3 +3,4 @@ pub mod Leading
 pub mod Listing
 pub mod Fusings
 pub mod Pacing
+pub mod Gating

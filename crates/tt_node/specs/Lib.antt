@@ -6,5 +6,6 @@ pub mod Fusing
 pub mod Course
 pub mod Making
 pub mod Lists
+pub mod Gating
 pub mod Working
 pub mod Pacing

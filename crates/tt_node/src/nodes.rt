@@ -101,7 +101,7 @@ impl Promise<Result<Rounds, NodeFault>> for DoesRounds {
 }
 
 /// Serves a session as the worker that has these parts.
-fn work<'a, R: Wait, C: Clock + Drop, I: ByteReader, O: ByteWriter, G: Gate>(
+fn work<'a, R: Wait, C: Clock + Drop, I: ByteReader, O: ByteWriter, G: Gate + Copy>(
     shared: Shared<'a, R, G>,
     serving: Turns,
     lease: Span,
@@ -122,7 +122,7 @@ fn work<'a, R: Wait, C: Clock + Drop, I: ByteReader, O: ByteWriter, G: Gate>(
         seat,
         sequencer,
         shared.book,
-        shared.gate,
+        *shared.gate,
         lease,
     );
     let served = serve(reader, writer, &mut worker, serving);
@@ -140,7 +140,7 @@ fn start<
     C: Clock + Send + Drop + 's,
     I: ByteReader + Send + Drop + 's,
     O: ByteWriter + Send + Drop + 's,
-    G: Gate + Sync,
+    G: Gate + Copy + Sync,
 >(
     scope: &Scope<'s, E>,
     shared: Shared<'s, R, G>,
@@ -241,7 +241,7 @@ fn start_workers<
     C: Clock + Send + Drop + 's,
     I: ByteReader + Send + Drop + 's,
     O: ByteWriter + Send + Drop + 's,
-    G: Gate + Sync,
+    G: Gate + Copy + Sync,
 >(
     scope: &Scope<'s, E>,
     shared: Shared<'s, R, G>,
@@ -310,7 +310,7 @@ fn run_threads<
     C: Clock + Send + Drop + 's,
     I: ByteReader + Send + Drop + 's,
     O: ByteWriter + Send + Drop + 's,
-    G: Gate + Sync,
+    G: Gate + Copy + Sync,
 >(
     scope: &Scope<'s, E>,
     shared: Shared<'s, R, G>,
@@ -376,8 +376,8 @@ fn run_threads<
 /// Refuses, in this order: 1503 `BadLimits` where there is no stream, there are more than [`MAX_WATCHES`] streams, there
 /// is not one clock for each stream, or a limit is 0 (rounds, turns, reads or waits); 1 where an allocation failed; 804
 /// `Publish` where no place for a reader was given; 1 where a thread was not started; then what the daemon's rounds
-/// refused: 1501 `LinkFailed`, 1502 `ClockFailed`, 802 `Publish`. A fault of a session is no fault of the node. A call
-/// of a service that its gate never lets pass is refused by 1504 and does nothing.
+/// refused: 1501 `LinkFailed`, 1502 `ClockFailed`, 802 `Publish`. A fault of a session is no fault of the node. Each
+/// worker has a copy of the gate; a call that it never lets pass is refused by 1504 and does nothing.
 pub fn run_node<
     'n,
     R: Threads + Wait + Sync,
@@ -385,7 +385,7 @@ pub fn run_node<
     C: Clock + Send + Drop,
     I: ByteReader + Send + Drop,
     O: ByteWriter + Send + Drop,
-    G: Gate + Sync,
+    G: Gate + Copy + Sync,
 >(
     rt: &'n R,
     alloc: Global,
