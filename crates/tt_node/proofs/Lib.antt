@@ -3,4 +3,5 @@ pub mod Leading
 pub mod Listing
 pub mod Fusings
 pub mod Pacing
+pub mod Running
 pub mod Gating

@@ -5,6 +5,7 @@ pub mod Counting
 pub mod Fusing
 pub mod Course
 pub mod Making
+pub mod Running
 pub mod Lists
 pub mod Gating
 pub mod Working
