@@ -4,4 +4,5 @@ pub mod Listing
 pub mod Fusings
 pub mod Pacing
 pub mod Running
+pub mod Turns
 pub mod Gating
