@@ -42,7 +42,6 @@ struct Shared<'a, R> {
     alloc: Global,
     origin: Origin,
     ended: &'a AtomicBool,
-    gate: &'a OpenGate,
 }
 
 impl<'a, R> Clone for Shared<'a, R> {
@@ -52,7 +51,6 @@ impl<'a, R> Clone for Shared<'a, R> {
             alloc: self.alloc,
             origin: self.origin,
             ended: self.ended,
-            gate: self.gate,
         })
     }
 }
@@ -222,7 +220,7 @@ fn run_threads<'s, E, R: Threads + Wait + SystemClock + Sync>(
             link,
             clocks,
             workers,
-            shared.gate,
+            &OpenGate,
             limits,
         )
     } else {
@@ -253,13 +251,12 @@ fn run<
         base: live.base(),
         start,
     };
-    let (ended, gate) = (AtomicBool::new(false), OpenGate);
+    let ended = AtomicBool::new(false);
     let shared = Shared {
         rt,
         alloc,
         origin,
         ended: &ended,
-        gate: &gate,
     };
     let end = thread::scope(
         thread::scope_env(),

@@ -117,11 +117,11 @@ pub(crate) fn worker_now<R: Wait>(rt: &R, alloc: Global) -> Outcome {
     let Some(seat) = seats.pop() else {
         return Outcome::Wrong;
     };
-    let (book, gate) = (Mutex::new(Book::new(alloc)), OpenGate);
+    let book = Mutex::new(Book::new(alloc));
     let clock = MemoryClock::new(&CLOCK, None);
     let lease = Span::whole();
     let mut worker = Worker::new(
-        rt, alloc, 0, watch, clock, seat, &sequencer, &book, &gate, lease,
+        rt, alloc, 0, watch, clock, seat, &sequencer, &book, OpenGate, lease,
     );
     let mut was_refused = false;
     for _ in 0..MANY {
@@ -152,11 +152,11 @@ pub(crate) fn worker_begin<R: Wait>(rt: &R, alloc: Global) -> Outcome {
     let Some(seat) = seats.pop() else {
         return Outcome::Wrong;
     };
-    let (book, gate) = (Mutex::new(Book::new(alloc)), OpenGate);
+    let book = Mutex::new(Book::new(alloc));
     let clock = MemoryClock::new(&CLOCK, None);
     let lease = Span::whole();
     let mut worker = Worker::new(
-        rt, alloc, 0, watch, clock, seat, &sequencer, &book, &gate, lease,
+        rt, alloc, 0, watch, clock, seat, &sequencer, &book, OpenGate, lease,
     );
     let mut was_refused = false;
     for number in 1..MANY {

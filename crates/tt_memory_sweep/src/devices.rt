@@ -98,16 +98,28 @@ impl<'a> Link for CountedLink<'a> {
 }
 
 /// A gate that lets calls pass once two requests were sent: then what the first one asked is published.
-#[derive(Drop)]
 pub(crate) struct SecondRoundGate<'a, R> {
     pub(crate) rt: &'a R,
     pub(crate) sent: &'a AtomicU64,
 }
 
-impl<'a, R: std::time::Clock> Gate for SecondRoundGate<'a, R> {
-    ghost says = { λ _ _ _ _. Unit {0} };
+impl<'a, R> Clone for SecondRoundGate<'a, R> {
+    fn clone(&self) -> Result<Self, std::alloc::AllocError> {
+        Ok(SecondRoundGate {
+            rt: self.rt,
+            sent: self.sent,
+        })
+    }
+}
 
-    fn may_pass(&self, _worker: u32, _call: u64) -> bool {
+impl<'a, R> Copy for SecondRoundGate<'a, R> {}
+
+impl<'a, R: std::time::Clock> Gate for SecondRoundGate<'a, R> {
+    ghost says = { λ _ _ _ _ _. Unit {0} };
+
+    ghost hears = { λ _ _ _ _. Unit {0} };
+
+    fn may_pass(&mut self, _worker: u32, _call: u64) -> bool {
         let is_open = self.sent.load(Ordering::SeqCst) > 1;
         if !is_open {
             thread::sleep(self.rt, Duration::from_micros(PAUSE));
@@ -115,7 +127,7 @@ impl<'a, R: std::time::Clock> Gate for SecondRoundGate<'a, R> {
         is_open
     }
 
-    fn answered(&self, _worker: u32, _call: u64) {}
+    fn answered(&mut self, _worker: u32, _call: u64) {}
 }
 
 /// What a session writes.

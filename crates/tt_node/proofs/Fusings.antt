@@ -21,7 +21,8 @@ use Rattle.tt_node.specs.Course.{publish, publish_fused, fuse_at}
 use Rattle.tt_node.specs.Making.{before_rest, stand_of, MakesByMemory}
 use Rattle.tt_node.proofs.Leading.{Leads-count}
 use Rattle.tt_node.specs.declared.faults.NodeFault.{NodeFault}
-use Rattle.tt_node.specs.declared.faults.NodeFault.TheVariants.{Publish}
+use Rattle.tt_node.specs.Fault.{IsDeviceFault, IsRoundsFault}
+use Rattle.tt_node.specs.declared.faults.NodeFault.TheVariants.{LinkFailed, ClockFailed, Publish}
 
 -- ---- fusing
 
@@ -111,6 +112,23 @@ pub record Published (items after : List Publication) (p : Publication) (r : Res
 abbrev pub answered : Result (Unit {0}) PublishFault → Result (Unit {0}) NodeFault
 answered (Ok _) = Ok tt
 answered (Err fault) = Err (Publish fault)
+
+-- a fault of a publication is one of the rounds
+pub publish-ends : (items after : List Publication) (p : Publication) (fault : PublishFault) → Published items after p (Err fault) → IsRoundsFault after (Publish fault)
+publish-ends items after p publishes.ClockBack h = tt
+publish-ends items after p publishes.UsedUp h = ap length h.unchanged ∙ (h.used_up.0 refl).1
+publish-ends items after p publishes.Places h = absurd (h.no_places refl)
+publish-ends items after p publishes.Memory h = tt
+
+-- a device's fault is one of the rounds
+pub device-ends : (items : List Publication) (fault : NodeFault) → IsDeviceFault fault → IsRoundsFault items fault
+device-ends items LinkFailed is = tt
+device-ends items ClockFailed is = tt
+device-ends items _ is = absurd is
+
+-- what is published has so many more
+pub Grows-length : (old new : List Publication) (n : ℕ) → Grows old new 0 n → length new ≡ length old + n
+Grows-length old new n grew = omega (arith, ap length grew.grew, length-append old grew.added, grew.count)
 
 -- there was memory
 granted : (d : DaemonState) (items : List Publication) (refused : ℕ) (p : Publication) → goes_back (fusions_in items) p.clock ≡ false → nat_eq (length (fusions_in items)) 18446744073709551615 ≡ false

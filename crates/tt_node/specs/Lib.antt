@@ -5,6 +5,9 @@ pub mod Counting
 pub mod Fusing
 pub mod Course
 pub mod Making
+pub mod Running
+pub mod Turns
 pub mod Lists
+pub mod Gating
 pub mod Working
 pub mod Pacing

@@ -16,6 +16,7 @@ use Rattle.tt_stamp.specs.declared.commits.Entry.{Entry}
 use Rattle.tt_stamp.specs.declared.faults.BeginFault.{BeginFault}
 use Rattle.tt_stamp.specs.declared.faults.BookFault.{BookFault}
 use Rattle.tt_audit.specs.declared.live.LiveNote.{LiveNote}
+use Rattle.tt_node.specs.Gating.{Asks}
 use Rattle.tt_node.specs.declared.workers.Step.{Step}
 use Rattle.tt_session.specs.declared.calls.Call.{Call}
 use Rattle.tt_session.specs.declared.calls.Call.TheVariants.{Now, Begin, Pass}
@@ -31,11 +32,15 @@ pub record WorkerState (C G : Type 0) : Type 0 where
   pub lease : Interval
   pub notes : List LiveNote
 
--- the worker once its gate was asked about a call: the count stays at 2^64 - 1
-abbrev pub after_asking : {C G : Type 0} → WorkerState C G → WorkerState C G
-after_asking w = record w { calls = count_after w.calls 1 }
+-- the worker with this gate
+abbrev pub with_gate : {C G : Type 0} → WorkerState C G → G → WorkerState C G
+with_gate w gate = record w { gate = gate }
 
--- a call leaves the session and the gate, the source and the drift of the watch, and what it has seen never shrinks
+-- the worker once its gate was asked about a call, with the gate after that: the count of calls stays at 2^64 - 1
+abbrev pub after_asking : {C G : Type 0} → WorkerState C G → G → WorkerState C G
+after_asking w gate = record w { gate = gate; calls = count_after w.calls 1 }
+
+-- what is done where a gate lets a call pass leaves the session and the gate, the source and the drift of the watch, and what it has seen never shrinks
 pub record Works {C G : Type 0} (before after : WorkerState C G) : Type 0 where
   pub session : after.session ≡ before.session
   pub gate : after.gate ≡ before.gate
@@ -92,29 +97,45 @@ PassesAt (Err fault) answer = answer ≡ Err (read_number_of fault)
 abbrev pub LooksThen : {C G : Type 0} → (C → Option ℕ → C → Type 0) → (C → ℕ) → WorkerState C G → (Result Interval ReadFault → Type 0) → WorkerState C G → Type 0
 LooksThen gives failed before Then after = (looked : Result Interval ReadFault) × Looks gives failed before.watch before.clock looked after.watch after.clock × Then looked
 
--- what a worker promises of each call of its service: its gate is asked, where that says no the call is refused by 1504 and does nothing, and where it says yes this is done
-abbrev pub Allows : {C G : Type 0} → (C → Option ℕ → C → Type 0) → (C → ℕ) → (G → ℕ → ℕ → Bool → Type 0) → WorkerState C G → Call → WorkerState C G → Type 0
-Allows gives failed says before (Now answer) after = record {
-  works : Works (after_asking before) after;
-  closed : answer ≡ Err 1504 → says before.gate before.session before.calls false × (after ≡ after_asking before);
-  passed : answer ≢ Err 1504 → says before.gate before.session before.calls true;
-  seat : after.seat ≡ before.seat;
-  read : IfOk answer (λ reading. HasRead gives failed (after_asking before) reading after);
-  unread : OnErr answer (after.notes ≡ before.notes);
-  refused : answer ≢ Err 1504 → IfErr answer (λ number. GivesNone gives failed (after_asking before) number after);
-}
-Allows gives failed says before (Begin number floor answer) after = record {
-  works : Works (after_asking before) after;
-  closed : answer ≡ Err 1504 → says before.gate before.session before.calls false × (after ≡ after_asking before);
-  passed : answer ≢ Err 1504 → says before.gate before.session before.calls true;
-  notes : after.notes ≡ before.notes;
-  begins : answer ≢ Err 1504 → LooksThen gives failed (after_asking before) (λ looked. BeginsAt before.seat floor before.lease looked answer after.seat) after;
-}
-Allows gives failed says before (Pass number answer) after = record {
-  works : Works (after_asking before) after;
-  closed : answer ≡ Err 1504 → says before.gate before.session before.calls false × (after ≡ after_asking before);
-  passed : answer ≢ Err 1504 → says before.gate before.session before.calls true;
-  seat : after.seat ≡ before.seat;
-  notes : after.notes ≡ before.notes;
-  passes : answer ≢ Err 1504 → LooksThen gives failed (after_asking before) (λ looked. PassesAt looked answer) after;
-}
+-- what a worker does for a call whose gate says this: where it says no, the call is refused by 1504 and nothing is done; where it says yes, this is done, and no refusal of it is 1504
+abbrev pub DoesWhere : {C G A : Type 0} → Bool → (WorkerState C G → Result A ℕ → WorkerState C G → Type 0) → WorkerState C G → Result A ℕ → WorkerState C G → Type 0
+DoesWhere true Does before answer after = (answer ≢ Err 1504) × Does before answer after
+DoesWhere false Does before answer after = (answer ≡ Err 1504) × (after ≡ before)
+
+-- a call of a worker: its gate is asked about it, with the session and the number of the call; then it does what it does where the gate says this; and then the gate is told, once
+pub record PassesGate {C G A : Type 0} (says : G → ℕ → ℕ → Bool → G → Type 0) (hears : G → ℕ → ℕ → G → Type 0) (Does : WorkerState C G → Result A ℕ → WorkerState C G → Type 0)
+    (before : WorkerState C G) (answer : Result A ℕ) (after : WorkerState C G) : Type 0 where
+  pub passes : Bool
+  pub asked : G
+  pub done : WorkerState C G
+  pub asks : Asks says before.session before.calls before.gate passes asked
+  pub does : DoesWhere passes Does (after_asking before asked) answer done
+  pub told : hears done.gate before.session before.calls after.gate
+  pub kept : after ≡ with_gate done after.gate
+
+-- a `now` that the gate lets pass: a reading is given and noted, or there is a reason why none is, and nothing is noted
+pub record Reads {C G : Type 0} (gives : C → Option ℕ → C → Type 0) (failed : C → ℕ) (before : WorkerState C G) (answer : Result Interval ℕ) (after : WorkerState C G) : Type 0 where
+  pub works : Works before after
+  pub seat : after.seat ≡ before.seat
+  pub read : IfOk answer (λ reading. HasRead gives failed before reading after)
+  pub unread : OnErr answer (after.notes ≡ before.notes)
+  pub refused : IfErr answer (λ number. GivesNone gives failed before number after)
+
+-- a `begin` that the gate lets pass looks once, and then stamps once
+pub record Commits {C G : Type 0} (gives : C → Option ℕ → C → Type 0) (failed : C → ℕ) (floor : ℕ) (before : WorkerState C G) (answer : Result ℕ ℕ) (after : WorkerState C G) : Type 0 where
+  pub works : Works before after
+  pub notes : after.notes ≡ before.notes
+  pub begins : LooksThen gives failed before (λ looked. BeginsAt before.seat floor before.lease looked answer after.seat) after
+
+-- a `pass` that the gate lets pass looks once, and answers yes or no where that gave a reading
+pub record Releases {C G : Type 0} (gives : C → Option ℕ → C → Type 0) (failed : C → ℕ) (before : WorkerState C G) (answer : Result Bool ℕ) (after : WorkerState C G) : Type 0 where
+  pub works : Works before after
+  pub seat : after.seat ≡ before.seat
+  pub notes : after.notes ≡ before.notes
+  pub passes : LooksThen gives failed before (λ looked. PassesAt looked answer) after
+
+-- what a worker promises of each call of its service
+abbrev pub Allows : {C G : Type 0} → (C → Option ℕ → C → Type 0) → (C → ℕ) → (G → ℕ → ℕ → Bool → G → Type 0) → (G → ℕ → ℕ → G → Type 0) → WorkerState C G → Call → WorkerState C G → Type 0
+Allows gives failed says hears before (Now answer) after = PassesGate says hears (Reads gives failed) before answer after
+Allows gives failed says hears before (Begin number floor answer) after = PassesGate says hears (Commits gives failed floor) before answer after
+Allows gives failed says hears before (Pass number answer) after = PassesGate says hears (Releases gives failed) before answer after

@@ -1,7 +1,10 @@
 //! A master's turns: it receives requests and answers them.
 
-ghost use Rattle.std.specs.Prelude.{◌≡◌, ◌<◌, ◌≤◌, length, IfOk, IfErr, IsTrue};
+ghost use Rattle.std.specs.Prelude.{◌≡◌, ◌<◌, ◌≤◌, length, Ok, Some, IfOk, IfErr};
+ghost use Rattle.tt_poll.specs.declared.format.Format.TheVariants.{Ttp1, Ttp2};
 ghost use Rattle.tt_node.specs.Counting.{FailsBy};
+ghost use Rattle.tt_node.specs.Fault.{IsTurnsFault};
+ghost use Rattle.tt_node.specs.Turns.{DoesTurns, TakesTurn, Plays, SendsPlayed, act_at, counted};
 
 use crate::faults::NodeFault;
 use crate::links::{Link, PACKET_LEN};
@@ -25,19 +28,35 @@ pub fn master_rounds<L: Link, R: Reference>(
     turns: u32,
 ) -> Result<u32, NodeFault>
     requires some_act { 0 < length acts.now }
+    // What was done is the course of the turns: which act was played for which packet, and what was sent.
+    ensures course { DoesTurns R.gives L.does acts.now turns link.old master.old result link.new master.new }
     ensures few { IfOk result (λ played. played ≤ turns) }
+    ensures fault { IfErr result IsTurnsFault }
     // A device's fault is answered exactly where it failed.
     ensures link_fails { FailsBy result NodeFault.LinkFailed (L.failed link.old) (L.failed link.new) }
     ensures reference_fails { FailsBy result NodeFault.ReferenceFailed (R.failed master.old.reference) (R.failed master.new.reference) }
 {
     let mut played = 0;
     for _ in 0..turns {
-        let act = acts[(played as usize).min(acts.len() - 1)];
-        if master_turn(link, master, act)? {
-            played += 1;
-        }
+        played = count_act(played, master_turn(link, master, act_for(acts, played))?);
     }
     Ok(played)
+}
+
+/// The act for the next request, where so many were done.
+fn act_for(acts: &[Act], played: u32) -> Act
+    requires some_act { 0 < length acts.now }
+    ensures { result ≡ act_at acts.now played }
+{
+    acts[(played as usize).min(acts.len() - 1)]
+}
+
+/// How many acts are done after a turn.
+fn count_act(played: u32, did: bool) -> u32
+    requires room { played < 4294967295 }
+    ensures { result ≡ counted played did }
+{
+    if did { played + 1 } else { played }
 }
 
 /// One turn: whether a request came, for which the act was done.
@@ -46,6 +65,8 @@ fn master_turn<L: Link, R: Reference>(
     master: &mut Master<R>,
     act: Act,
 ) -> Result<bool, NodeFault>
+    ensures fault { IfErr result IsTurnsFault }
+    ensures course { TakesTurn R.gives L.does act link.old master.old result link.new master.new }
     ensures link_fails { FailsBy result NodeFault.LinkFailed (L.failed link.old) (L.failed link.new) }
     ensures reference_fails { FailsBy result NodeFault.ReferenceFailed (R.failed master.old.reference) (R.failed master.new.reference) }
 {
@@ -68,6 +89,8 @@ fn answer<L: Link, R: Reference>(
     peer: u8,
     bytes: &[u8],
 ) -> Result<bool, NodeFault>
+    ensures fault { IfErr result IsTurnsFault }
+    ensures course { Plays R.gives L.does Ttp1 act peer bytes.now link.old master.old result link.new master.new }
     ensures link_fails { FailsBy result NodeFault.LinkFailed (L.failed link.old) (L.failed link.new) }
     ensures reference_fails { FailsBy result NodeFault.ReferenceFailed (R.failed master.old.reference) (R.failed master.new.reference) }
 {
@@ -87,6 +110,8 @@ fn answer2<L: Link, R: Reference>(
     peer: u8,
     bytes: &[u8],
 ) -> Result<bool, NodeFault>
+    ensures fault { IfErr result IsTurnsFault }
+    ensures course { Plays R.gives L.does Ttp2 act peer bytes.now link.old master.old result link.new master.new }
     ensures link_fails { FailsBy result NodeFault.LinkFailed (L.failed link.old) (L.failed link.new) }
     ensures reference_fails { FailsBy result NodeFault.ReferenceFailed (R.failed master.old.reference) (R.failed master.new.reference) }
 {
@@ -100,7 +125,7 @@ fn answer2<L: Link, R: Reference>(
 
 /// Sends a packet, and answers yes.
 fn send<L: Link>(link: &mut L, peer: u8, packet: &[u8]) -> Result<bool, NodeFault>
-    ensures sends { IfOk result (λ sent. IsTrue sent) }
+    ensures sends { SendsPlayed L.does peer (Ok (Some packet.now)) link.old result link.new }
     ensures fault { IfErr result (λ fault. fault ≡ NodeFault.LinkFailed) }
     ensures link_fails { FailsBy result NodeFault.LinkFailed (L.failed link.old) (L.failed link.new) }
 {

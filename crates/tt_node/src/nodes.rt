@@ -1,7 +1,8 @@
 //! The running node: one daemon and many workers, each in a thread of its own.
 
-ghost use Rattle.std.specs.Prelude.{◌≡◌, ◌≢◌, ◌<◌, ◌≤◌, ◌↔◌, ◌⊎◌, ◌+◌, All, IfOk, IfErr, IfSome, IsErrOf, OnOk, IsTrue, vec_len, vec_capacity};
-ghost use Rattle.tt_node.specs.Fault.{IsRoundsFault, IsRunFault};
+ghost use Rattle.std.specs.Prelude.{◌≡◌, ◌≢◌, ◌<◌, ◌≤◌, ◌↔◌, ◌⊎◌, ◌+◌, [], All, Ok, Err, IfOk, IfErr, IfSome, IsErrOf, OnOk, IsTrue, vec_len, vec_capacity};
+ghost use Rattle.tt_node.specs.Fault.{IsRunFault, IsFirstFault};
+ghost use Rattle.tt_node.specs.Running.{RunsRounds, RunsNode};
 
 use crate::faults::NodeFault;
 use crate::gates::Gate;
@@ -9,6 +10,7 @@ use crate::links::Link;
 use crate::rounds::{Rounds, daemon_rounds};
 use crate::workers::Worker;
 use std::alloc::Global;
+use std::snapshot::Snapshot;
 use std::sync::{Mutex, Wait};
 use std::thread;
 use std::thread::{JoinHandle, Promise, PromisedHandle, Scope, Threads};
@@ -89,19 +91,41 @@ struct Place<'a> {
     ghost of_it: { seat.table ≡ sequencer.now },
 }
 
-/// That a daemon's thread did this many rounds, or ended as rounds end.
+/// What a thread of a daemon does: so many rounds of this daemon, by this link and this clock.
 #[derive(Drop)]
-struct DoesRounds(u32);
+struct DoesRounds<L, C> {
+    daemon: Snapshot<Daemon>,
+    link: Snapshot<L>,
+    clock: Snapshot<C>,
+    rounds: u32,
+    turns: u32,
+}
 
-impl Promise<Result<Rounds, NodeFault>> for DoesRounds {
-    ghost use Rattle.std.specs.Prelude.{◌≡◌, IfOk, IfErr};
-    ghost use Rattle.tt_node.specs.Fault.{IsRoundsFault};
+impl<L: Link, C: Clock> Promise<Result<Rounds, NodeFault>> for DoesRounds<L, C> {
+    ghost use Rattle.tt_node.specs.Running.{RunsRounds};
 
-    ghost kept_by = { λ promise result. IfOk result (λ did. did.done ≡ promise.0) × IfErr result IsRoundsFault };
+    ghost kept_by = { λ p result. RunsRounds C.gives C.failed L.does L.failed p.rounds p.turns p.daemon.value p.clock.value p.link.value result };
+}
+
+/// Does the first rounds of a daemon.
+fn first_rounds<R: Wait, L: Link + Drop, C: Clock + Drop>(
+    rt: &R,
+    daemon: Daemon,
+    link: L,
+    clock: C,
+    teller: &mut Teller,
+    rounds: u32,
+    turns: u32,
+) -> Result<Rounds, NodeFault>
+    requires nothing { teller.old.items ≡ [] }
+    ensures runs { RunsRounds C.gives C.failed L.does L.failed rounds turns daemon clock link result }
+{
+    let (mut daemon, mut link, mut clock) = (daemon, link, clock);
+    daemon_rounds(rt, &mut daemon, &mut link, &mut clock, teller, rounds, turns)
 }
 
 /// Serves a session as the worker that has these parts.
-fn work<'a, R: Wait, C: Clock + Drop, I: ByteReader, O: ByteWriter, G: Gate>(
+fn work<'a, R: Wait, C: Clock + Drop, I: ByteReader, O: ByteWriter, G: Gate + Copy>(
     shared: Shared<'a, R, G>,
     serving: Turns,
     lease: Span,
@@ -122,7 +146,7 @@ fn work<'a, R: Wait, C: Clock + Drop, I: ByteReader, O: ByteWriter, G: Gate>(
         seat,
         sequencer,
         shared.book,
-        shared.gate,
+        *shared.gate,
         lease,
     );
     let served = serve(reader, writer, &mut worker, serving);
@@ -140,7 +164,7 @@ fn start<
     C: Clock + Send + Drop + 's,
     I: ByteReader + Send + Drop + 's,
     O: ByteWriter + Send + Drop + 's,
-    G: Gate + Sync,
+    G: Gate + Copy + Sync,
 >(
     scope: &Scope<'s, E>,
     shared: Shared<'s, R, G>,
@@ -187,20 +211,26 @@ fn start_daemon<
     teller: &'s mut Teller,
     rounds: u32,
     turns: u32,
-) -> Option<PromisedHandle<Result<Rounds, NodeFault>, DoesRounds>>
-    ensures promise { IfSome result (λ handle. handle.promise ≡ record { 0 = rounds }) }
+) -> Option<PromisedHandle<Result<Rounds, NodeFault>, DoesRounds<L, C>>>
+    requires nothing { teller.old.items ≡ [] }
+    ensures promise { IfSome result (λ handle. (handle.promise.rounds ≡ rounds) × (handle.promise.turns ≡ turns)
+        × (handle.promise.daemon.value ≡ daemon) × (handle.promise.link.value ≡ link) × (handle.promise.clock.value ≡ clock)) }
 {
+    let promise = DoesRounds {
+        daemon: Snapshot::of(&daemon),
+        link: Snapshot::of(&link),
+        clock: Snapshot::of(&clock),
+        rounds,
+        turns,
+    };
     let lent = &mut *teller;
     scope
-        .spawn_with(
-            DoesRounds(rounds),
-            move || -> Result<Rounds, NodeFault>
-                ensures { IfOk result (λ did. did.done ≡ rounds) × IfErr result IsRoundsFault }
-            {
-                let (mut daemon, mut link, mut clock) = (daemon, link, clock);
-                daemon_rounds(rt, &mut daemon, &mut link, &mut clock, lent, rounds, turns)
-            },
-        )
+        .spawn_with(promise, move || -> Result<Rounds, NodeFault>
+            requires { lent.now.items ≡ [] }
+            ensures { RunsRounds C.gives C.failed L.does L.failed rounds turns daemon clock link result }
+        {
+            first_rounds(rt, daemon, link, clock, lent, rounds, turns)
+        })
         .ok()
 }
 
@@ -241,7 +271,7 @@ fn start_workers<
     C: Clock + Send + Drop + 's,
     I: ByteReader + Send + Drop + 's,
     O: ByteWriter + Send + Drop + 's,
-    G: Gate + Sync,
+    G: Gate + Copy + Sync,
 >(
     scope: &Scope<'s, E>,
     shared: Shared<'s, R, G>,
@@ -310,7 +340,7 @@ fn run_threads<
     C: Clock + Send + Drop + 's,
     I: ByteReader + Send + Drop + 's,
     O: ByteWriter + Send + Drop + 's,
-    G: Gate + Sync,
+    G: Gate + Copy + Sync,
 >(
     scope: &Scope<'s, E>,
     shared: Shared<'s, R, G>,
@@ -326,9 +356,10 @@ fn run_threads<
     watches: Vec<Watch>,
     streams: Vec<(I, O)>,
 ) -> Result<NodeEnd, NodeFault>
-    ensures done { IfOk result (λ end. end.rounds.done ≡ rounds) }
+    requires nothing { teller.old.items ≡ [] }
+    ensures runs { RunsNode C.gives C.failed L.does L.failed rounds turns daemon clocks.daemon link result }
     ensures all { IfOk result (λ end. vec_len end.workers ≡ vec_len streams) }
-    ensures fault { IfErr result (λ fault. IsRoundsFault fault ⊎ (fault ≡ NodeFault.Memory)) }
+    ensures fault { IfErr result (λ fault. IsFirstFault fault ⊎ (fault ≡ NodeFault.Memory)) }
 {
     let Clocks {
         daemon: clock,
@@ -376,8 +407,8 @@ fn run_threads<
 /// Refuses, in this order: 1503 `BadLimits` where there is no stream, there are more than [`MAX_WATCHES`] streams, there
 /// is not one clock for each stream, or a limit is 0 (rounds, turns, reads or waits); 1 where an allocation failed; 804
 /// `Publish` where no place for a reader was given; 1 where a thread was not started; then what the daemon's rounds
-/// refused: 1501 `LinkFailed`, 1502 `ClockFailed`, 802 `Publish`. A fault of a session is no fault of the node. A call
-/// of a service that its gate never lets pass is refused by 1504 and does nothing.
+/// refused: 1501 `LinkFailed`, 1502 `ClockFailed`, 802 `Publish`, 1; never 805. A fault of a session is no fault of the node. Each
+/// worker has a copy of the gate; a call that it never lets pass is refused by 1504 and does nothing.
 pub fn run_node<
     'n,
     R: Threads + Wait + Sync,
@@ -385,7 +416,7 @@ pub fn run_node<
     C: Clock + Send + Drop,
     I: ByteReader + Send + Drop,
     O: ByteWriter + Send + Drop,
-    G: Gate + Sync,
+    G: Gate + Copy + Sync,
 >(
     rt: &'n R,
     alloc: Global,
@@ -399,6 +430,9 @@ pub fn run_node<
     ensures bad_limits { IsErrOf result NodeFault.BadLimits ↔ ((vec_len streams ≡ 0) ⊎ (32 < vec_len streams) ⊎ (vec_len clocks.workers ≢ vec_len streams)
         ⊎ (limits.rounds ≡ 0) ⊎ (limits.turns ≡ 0) ⊎ (limits.serve.reads ≡ 0) ⊎ (limits.serve.waits ≡ 0)) }
     ensures fault { IfErr result IsRunFault }
+    // The daemon did its rounds: the course of them, by what its clock and its link gave, of which the end tells. A fault
+    // of a device, or 802, is the one that ended them: the count of that device rose.
+    ensures runs { RunsNode C.gives C.failed L.does L.failed limits.rounds limits.turns daemon clocks.daemon link result }
     ensures done { IfOk result (λ end. end.rounds.done ≡ limits.rounds) }
     ensures all { IfOk result (λ end. vec_len end.workers ≡ vec_len streams) }
 {
@@ -429,7 +463,9 @@ pub fn run_node<
     let ended = thread::scope(
         thread::scope_env(),
         rt,
-        move |scope| -> Result<NodeEnd, NodeFault> {
+        move |scope| -> Result<NodeEnd, NodeFault>
+            requires { lent.now.items ≡ [] }
+        {
             run_threads(
                 scope, shared, rounds, turns, serving, lease, daemon, link, clocks, lent, places,
                 watches, streams,

@@ -3,7 +3,7 @@
 ghost use Rattle.std.specs.Prelude.{◌≡◌, ℕ, ◌+◌, ◌<◌, ◌≤◌, ◌^◌, List, length, Option, Some, None, Result, IfOk, IfErr, IfSome, OnOk, OnErr, IsErrOf};
 ghost use Rattle.tt_node.specs.Link.{Exchange, Receive, came_as};
 ghost use Rattle.tt_node.specs.Counting.{FailsBy};
-ghost use Rattle.tt_node.specs.Fault.{IsRoundsFault};
+ghost use Rattle.tt_node.specs.Fault.{IsDeviceFault, IsRoundsFault};
 ghost use Rattle.tt_node.specs.Fusing.{Fusion, fusions_in, Grows};
 ghost use Rattle.tt_node.specs.Course.{Stand, Part, poll_at, poll_all as polls_all, each_below, turn as turn_of, fuse_at as fuses_at, round_of, rounds_of};
 ghost use Rattle.tt_node.specs.Lists.{GivesInTurn, Line, MovesInTurn, IsCourse};
@@ -40,7 +40,7 @@ fn poll_one<L: Link>(
         (stand_of daemon.old items refused) (stand_of daemon.new items refused) result }
     ensures fails { FailsBy result NodeFault.LinkFailed (L.failed link.old) (L.failed link.new) }
     ensures no_clock { ¬ IsErrOf result NodeFault.ClockFailed }
-    ensures rounds_fault { IfErr result IsRoundsFault }
+    ensures rounds_fault { IfErr result IsDeviceFault }
     ensures config { daemon.new.config ≡ daemon.old.config }
 {
     let Ok(request) = daemon.poll(source, clock) else {
@@ -58,7 +58,7 @@ fn poll_all<L: Link>(daemon: &mut Daemon, link: &mut L, clock: u64) -> Result<()
         (stand_of daemon.old items refused) (stand_of daemon.new items refused) result }
     ensures fails { FailsBy result NodeFault.LinkFailed (L.failed link.old) (L.failed link.new) }
     ensures no_clock { ¬ IsErrOf result NodeFault.ClockFailed }
-    ensures rounds_fault { IfErr result IsRoundsFault }
+    ensures rounds_fault { IfErr result IsDeviceFault }
 {
     for source in 0..daemon.config().sources() {
         poll_one(daemon, link, source as u8, clock)?;
@@ -108,7 +108,7 @@ fn turn<L: Link, C: Clock>(
         (stand_of daemon.old items counts.old.refused) (stand_of daemon.new items counts.new.refused) result }
     ensures link_fails { FailsBy result NodeFault.LinkFailed (L.failed link.old) (L.failed link.new) }
     ensures clock_fails { FailsBy result NodeFault.ClockFailed (C.failed clock.old) (C.failed clock.new) }
-    ensures rounds_fault { IfErr result IsRoundsFault }
+    ensures rounds_fault { IfErr result IsDeviceFault }
     ensures done { counts.new.done ≡ counts.old.done }
     ensures published { counts.new.published ≡ counts.old.published }
     ensures few { counts.new.refused ≤ counts.old.refused + 1 }
@@ -140,7 +140,7 @@ fn all_turns<L: Link, C: Clock>(
         (stand_of daemon.old items counts.old.refused) (stand_of daemon.new items counts.new.refused) result }
     ensures link_fails { FailsBy result NodeFault.LinkFailed (L.failed link.old) (L.failed link.new) }
     ensures clock_fails { FailsBy result NodeFault.ClockFailed (C.failed clock.old) (C.failed clock.new) }
-    ensures rounds_fault { IfErr result IsRoundsFault }
+    ensures rounds_fault { IfErr result IsDeviceFault }
     ensures done { counts.new.done ≡ counts.old.done }
     ensures published { counts.new.published ≡ counts.old.published }
     ensures few { counts.new.refused ≤ counts.old.refused + turns }
@@ -165,7 +165,7 @@ fn fuse<R: Wait>(
         (stand_of daemon.new (fusions_in teller.new.items) counts.new.refused) result }
     ensures grew { Grows teller.old.items teller.new.items counts.old.published counts.new.published }
     ensures no_device { (¬ IsErrOf result NodeFault.LinkFailed) × (¬ IsErrOf result NodeFault.ClockFailed) }
-    ensures rounds_fault { IfErr result IsRoundsFault }
+    ensures rounds_fault { IfErr result (IsRoundsFault teller.new.items) }
     ensures done { counts.new.done ≡ counts.old.done }
     ensures few { counts.new.refused ≤ counts.old.refused + 1 }
     ensures fewer { counts.new.published ≤ counts.old.published + 1 }
@@ -203,7 +203,7 @@ fn round<R: Wait, L: Link, C: Clock>(
     ensures grew { Grows teller.old.items teller.new.items counts.old.published counts.new.published }
     ensures link_fails { FailsBy result NodeFault.LinkFailed (L.failed link.old) (L.failed link.new) }
     ensures clock_fails { FailsBy result NodeFault.ClockFailed (C.failed clock.old) (C.failed clock.new) }
-    ensures rounds_fault { IfErr result IsRoundsFault }
+    ensures rounds_fault { IfErr result (IsRoundsFault teller.new.items) }
     ensures done { counts.new.done ≡ counts.old.done }
     ensures few { counts.new.refused ≤ counts.old.refused + turns + 1 }
     ensures fewer { counts.new.published ≤ counts.old.published + 1 }
@@ -238,7 +238,8 @@ fn paced_rounds<R: Wait, L: Link, C: Clock, P: Pace>(
     ensures grew { Grows teller.old.items teller.new.items 0 counts.new.published }
     ensures link_fails { FailsBy result NodeFault.LinkFailed (L.failed link.old) (L.failed link.new) }
     ensures clock_fails { FailsBy result NodeFault.ClockFailed (C.failed clock.old) (C.failed clock.new) }
-    ensures rounds_fault { IfErr result IsRoundsFault }
+    ensures rounds_fault { IfErr result (IsRoundsFault teller.new.items) }
+    ensures few { counts.new.published ≤ 4294967295 }
     ensures source { teller.new.source ≡ teller.old.source }
 {
     for _ in 0..u32::MAX {
@@ -262,8 +263,9 @@ fn paced_rounds<R: Wait, L: Link, C: Clock, P: Pace>(
 /// nothing is a turn too. Times are in nanoseconds.
 ///
 /// Refuses with 1501 `LinkFailed` or 1502 `ClockFailed` where the link or the clock failed, which ends the rounds, and
-/// with what [`Teller::publish`] refuses: 802 where the clock went back behind the last publication, 805, 1. Then the
-/// steps before it stand: the daemon has what it took, and what was published stays. The call may be made again.
+/// with what [`Teller::publish`] refuses: 802 where the clock went back behind the last publication, 805 where as many
+/// as may are published, 1. Then the steps before it stand: the daemon has what it took, and what was published stays.
+/// The call may be made again.
 ///
 /// It may wait, as `publish` does.
 pub fn daemon_while<R: Wait, L: Link, C: Clock, P: Pace>(
@@ -285,10 +287,11 @@ pub fn daemon_while<R: Wait, L: Link, C: Clock, P: Pace>(
     ensures paced { IfOk result (λ did. EndsAfter P.says pace.old did pace.new) }
     // What is published grew, by publications with their certificates.
     ensures grew { (published : ℕ) × Grows teller.old.items teller.new.items 0 published × IfOk result (λ did. did.published ≡ published) }
+    ensures few { length teller.new.items ≤ length teller.old.items + 4294967295 }
     // A device's fault is answered exactly where it failed.
     ensures link_fails { FailsBy result NodeFault.LinkFailed (L.failed link.old) (L.failed link.new) }
     ensures clock_fails { FailsBy result NodeFault.ClockFailed (C.failed clock.old) (C.failed clock.new) }
-    ensures rounds_fault { IfErr result IsRoundsFault }
+    ensures rounds_fault { IfErr result (IsRoundsFault teller.new.items) }
     ensures source { teller.new.source ≡ teller.old.source }
 {
     let mut counts = Rounds {
@@ -320,10 +323,11 @@ pub fn daemon_rounds<R: Wait, L: Link, C: Clock>(
     // What is published grew, by publications with their certificates.
     ensures grew { (published : ℕ) × Grows teller.old.items teller.new.items 0 published × IfOk result (λ did. did.published ≡ published) }
     ensures done { IfOk result (λ did. did.done ≡ rounds) }
+    ensures few { length teller.new.items ≤ length teller.old.items + 4294967295 }
     // A device's fault is answered exactly where it failed.
     ensures link_fails { FailsBy result NodeFault.LinkFailed (L.failed link.old) (L.failed link.new) }
     ensures clock_fails { FailsBy result NodeFault.ClockFailed (C.failed clock.old) (C.failed clock.new) }
-    ensures rounds_fault { IfErr result IsRoundsFault }
+    ensures rounds_fault { IfErr result (IsRoundsFault teller.new.items) }
     ensures source { teller.new.source ≡ teller.old.source }
 {
     let mut pace = CountedPace { rounds };

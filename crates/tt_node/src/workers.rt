@@ -5,7 +5,8 @@ ghost use Rattle.tt_stream.specs.Counts.{HasFailed};
 ghost use Rattle.tt_span.specs.Interval.{Interval};
 ghost use Rattle.tt_publish.specs.Looks.{Looks};
 ghost use Rattle.tt_publish.specs.declared.faults.ReadFault.{ReadFault};
-ghost use Rattle.tt_node.specs.Working.{Works, HasRead, GivesNone, LooksThen, BeginsAt, StepsOn, PassesAt, Allows, after_asking};
+ghost use Rattle.tt_node.specs.Gating.{Asks};
+ghost use Rattle.tt_node.specs.Working.{Works, HasRead, GivesNone, LooksThen, BeginsAt, StepsOn, PassesAt, DoesWhere, Reads, Commits, Releases, Allows, after_asking, with_gate};
 
 use crate::faults::NodeFault;
 use crate::gates::Gate;
@@ -50,8 +51,9 @@ struct Step {
 /// see its watch, its clock, its seat, its lease and its notes.
 ///
 /// Each call asks the gate first, with the session and the call's number, which counts from 0 and stays at 2^64 - 1
-/// once it is there; where the gate never lets the call pass, it is refused by 1504 and does nothing. After the call
-/// the gate is told that it was answered.
+/// once it is there, until the gate says yes. It is asked [`MAX_TURNS`] times at most; where it says no each time, the
+/// call is refused by 1504 and does nothing. After each call, refused or not, the gate is told once that it was
+/// answered.
 #[derive(Drop)]
 pub struct Worker<'a, R, C, G> {
     rt: &'a R,
@@ -61,7 +63,7 @@ pub struct Worker<'a, R, C, G> {
     seat: Seat,
     sequencer: &'a Sequencer,
     book: &'a Mutex<Book>,
-    gate: &'a G,
+    gate: G,
     lease: Span,
     calls: u64,
     notes: Vec<LiveNote>,
@@ -77,7 +79,7 @@ impl<'a, R, C, G> Model for Worker<'a, R, C, G> {
 
     ghost Value = { WorkerState C G };
 
-    ghost view = { λ w. record { session = w.session; gate = w.gate.now; calls = w.calls; watch = w.watch; clock = w.clock; seat = w.seat; lease = w.lease; notes = w.notes.items } };
+    ghost view = { λ w. record { session = w.session; gate = w.gate; calls = w.calls; watch = w.watch; clock = w.clock; seat = w.seat; lease = w.lease; notes = w.notes.items } };
 
     ghost invariant = { λ w. w.seat.table ≡ w.sequencer.now };
 }
@@ -93,11 +95,11 @@ impl<'a, R: Wait, C: Clock, G: Gate> Worker<'a, R, C, G> {
         seat: Seat,
         sequencer: &'a Sequencer,
         book: &'a Mutex<Book>,
-        gate: &'a G,
+        gate: G,
         lease: Span,
     ) -> Self
         requires of_it { seat.table ≡ sequencer.now }
-        ensures made { result ≡ record { session = session; gate = gate.now; calls = 0; watch = watch; clock = clock; seat = seat; lease = lease; notes = [] } }
+        ensures made { result ≡ record { session = session; gate = gate; calls = 0; watch = watch; clock = clock; seat = seat; lease = lease; notes = [] } }
     {
         Worker {
             rt,
@@ -124,7 +126,7 @@ impl<'a, R: Wait, C: Clock, G: Gate> Worker<'a, R, C, G> {
     }
 }
 
-impl<'a, R, C: Drop, G> Worker<'a, R, C, G> {
+impl<'a, R, C: Drop, G: Drop> Worker<'a, R, C, G> {
     /// Its notes, oldest first, once it has ended.
     pub fn into_notes(self) -> Vec<LiveNote>
         ensures notes { result.items ≡ self.entry.notes }
@@ -135,21 +137,60 @@ impl<'a, R, C: Drop, G> Worker<'a, R, C, G> {
 }
 
 impl<'a, R: Wait, C: Clock, G: Gate> Worker<'a, R, C, G> {
-    /// Whether the gate lets the next call pass, and the number of that call.
-    fn passes(&mut self) -> (bool, u64)
-        ensures after_asking { self.new ≡ after_asking self.old }
-        ensures said { G.says self.old.gate self.old.session self.old.calls result.0 }
+    /// Whether the gate lets the next call pass, with the session and the number of that call.
+    fn passes(&mut self) -> (bool, u32, u64)
+        ensures asks { Asks G.says self.old.session self.old.calls self.old.gate result.0 self.new.gate }
+        ensures counted { self.new ≡ after_asking self.old self.new.gate }
+        ensures session { result.1 ≡ self.old.session }
+        ensures call { result.2 ≡ self.old.calls }
     {
         let call = self.calls;
         self.calls = self.calls.saturating_add(1);
-        let mut passes = self.gate.may_pass(self.session, call);
-        for _ in 1..MAX_TURNS {
-            if passes {
-                break;
-            }
-            passes = self.gate.may_pass(self.session, call);
+        let passes = ask(&mut self.gate, self.session, call);
+        (passes, self.session, call)
+    }
+
+    /// The gate is told that a call was answered.
+    fn tell(&mut self, session: u32, call: u64)
+        ensures told { G.hears self.old.gate session call self.new.gate }
+        ensures kept { self.new ≡ with_gate self.old self.new.gate }
+    {
+        self.gate.answered(session, call);
+    }
+
+    /// A reading, where the gate is open.
+    fn read_where(&mut self, passes: bool) -> Result<Reading, u16>
+        ensures does { DoesWhere passes (Reads C.gives C.failed) self.old result self.new }
+    {
+        if passes {
+            self.read()
+        } else {
+            Err(NodeFault::GateClosed.number())
         }
-        (passes, call)
+    }
+
+    /// A commit is stamped and queued, where the gate is open.
+    fn commit_where(&mut self, passes: bool, number: u64, floor: u64) -> Result<u64, u16>
+        ensures does { DoesWhere passes (Commits C.gives C.failed floor) self.old result self.new }
+    {
+        if passes {
+            let answer = self.commit(number, floor);
+            self.remember(number, answer);
+            answer
+        } else {
+            Err(NodeFault::GateClosed.number())
+        }
+    }
+
+    /// One release step, where the gate is open.
+    fn release_where(&mut self, passes: bool, number: u64) -> Result<bool, u16>
+        ensures does { DoesWhere passes (Releases C.gives C.failed) self.old result self.new }
+    {
+        if passes {
+            self.release(number)
+        } else {
+            Err(NodeFault::GateClosed.number())
+        }
     }
 
     /// A reading, of which a note is kept.
@@ -258,20 +299,16 @@ impl<'a, R: Wait, C: Clock, G: Gate> Worker<'a, R, C, G> {
 }
 
 impl<'a, R: Wait, C: Clock, G: Gate> Service for Worker<'a, R, C, G> {
-    ghost allows = { Allows C.gives C.failed G.says };
+    ghost allows = { Allows C.gives C.failed G.says G.hears };
 
     /// One [`Watch::now`] between two readings of the clock, of which a note is kept.
     ///
     /// Refuses with 1504 where the gate is closed, 1 where there is no room for the note, and then, in this order, as
     /// the readings and `Watch::now` do: 803, 801, 803, 802, 803. Only an answer with a reading is noted.
     fn now(&mut self) -> Result<Reading, u16> {
-        let (passes, call) = self.passes();
-        let answer = if passes {
-            self.read()
-        } else {
-            Err(NodeFault::GateClosed.number())
-        };
-        self.gate.answered(self.session, call);
+        let (passes, session, call) = self.passes();
+        let answer = self.read_where(passes);
+        self.tell(session, call);
         answer
     }
 
@@ -281,14 +318,9 @@ impl<'a, R: Wait, C: Clock, G: Gate> Service for Worker<'a, R, C, G> {
     /// Refuses with 1504 where the gate is closed, and then with the number of the first that refuses: 801, 803, 802,
     /// 902, 901, 903, 1001, 1002, 1003, 1. A stamp that was given before a refused queueing is lost.
     fn begin(&mut self, number: u64, floor: u64) -> Result<u64, u16> {
-        let (passes, call) = self.passes();
-        let answer = if passes {
-            self.commit(number, floor)
-        } else {
-            Err(NodeFault::GateClosed.number())
-        };
-        self.remember(number, answer);
-        self.gate.answered(self.session, call);
+        let (passes, session, call) = self.passes();
+        let answer = self.commit_where(passes, number, floor);
+        self.tell(session, call);
         answer
     }
 
@@ -298,15 +330,23 @@ impl<'a, R: Wait, C: Clock, G: Gate> Service for Worker<'a, R, C, G> {
     ///
     /// Refuses with 1504 where the gate is closed, and then as the step does: 801, 803, 802.
     fn pass(&mut self, number: u64) -> Result<bool, u16> {
-        let (passes, call) = self.passes();
-        let answer = if passes {
-            self.release(number)
-        } else {
-            Err(NodeFault::GateClosed.number())
-        };
-        self.gate.answered(self.session, call);
+        let (passes, session, call) = self.passes();
+        let answer = self.release_where(passes, number);
+        self.tell(session, call);
         answer
     }
+}
+
+/// Whether a gate lets a call pass: it is asked until it says yes, at most [`MAX_TURNS`] times.
+fn ask<G: Gate>(gate: &mut G, worker: u32, call: u64) -> bool
+    ensures asks { Asks G.says worker call gate.old result gate.new }
+{
+    for _ in 0..MAX_TURNS {
+        if gate.may_pass(worker, call) {
+            return true;
+        }
+    }
+    false
 }
 
 /// What the clock shows.

@@ -163,17 +163,30 @@ pub(crate) enum Plan {
 }
 
 /// A gate that follows a plan.
-#[derive(Drop)]
 pub(crate) struct PlannedGate<'a, R> {
     pub(crate) rt: &'a R,
     pub(crate) marks: &'a Marks,
     pub(crate) plan: Plan,
 }
 
-impl<'a, R: std::time::Clock> Gate for PlannedGate<'a, R> {
-    ghost says = { λ _ _ _ _. Unit {0} };
+impl<'a, R> Clone for PlannedGate<'a, R> {
+    fn clone(&self) -> Result<Self, std::alloc::AllocError> {
+        Ok(PlannedGate {
+            rt: self.rt,
+            marks: self.marks,
+            plan: self.plan,
+        })
+    }
+}
 
-    fn may_pass(&self, worker: u32, call: u64) -> bool {
+impl<'a, R> Copy for PlannedGate<'a, R> {}
+
+impl<'a, R: std::time::Clock> Gate for PlannedGate<'a, R> {
+    ghost says = { λ _ _ _ _ _. Unit {0} };
+
+    ghost hears = { λ _ _ _ _. Unit {0} };
+
+    fn may_pass(&mut self, worker: u32, call: u64) -> bool {
         let sent = self.marks.sent.load(Ordering::SeqCst);
         let first = self.marks.first.load(Ordering::SeqCst);
         let second = self.marks.second.load(Ordering::SeqCst);
@@ -204,7 +217,7 @@ impl<'a, R: std::time::Clock> Gate for PlannedGate<'a, R> {
         open
     }
 
-    fn answered(&self, worker: u32, _call: u64) {
+    fn answered(&mut self, worker: u32, _call: u64) {
         let calls = match worker {
             0 => &self.marks.first,
             1 => &self.marks.second,

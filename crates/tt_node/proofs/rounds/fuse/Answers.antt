@@ -1,5 +1,5 @@
 use Rattle.std.proofs.Common.{Ok, Err, ap}
-use Rattle.tt_node.proofs.Fusings.{fusion-answered, fuse-published, fuse-refused}
+use Rattle.tt_node.proofs.Fusings.{fusion-answered, fuse-published, fuse-refused, publish-ends}
 use Rattle.tt_node.proofs.rounds.fuse.Goals as goal
 
 pub returns-in_default-clause-course : goal.returns-in_default-clause-course
@@ -20,4 +20,9 @@ returns-in-Err-clause-course g c =
     fuse-published c.args.daemon.now _ _ _ _ c.args.clock c.in-Ok.fused (Err c.in-Err.fault)
     (fusion-answered c.args.daemon.now c.args.clock (Ok c.in-Ok.fused) (record { fused = c.in-Ok.ensures.fused; back = c.in-Ok.ensures.clock_back.1; unknown = c.in-Ok.ensures.unknown.1; found = c.in-Ok.ensures.found_slowly }))
     c.in-Ok.ensures.unchanged
+    (record { published = tt; unchanged = ap (λ teller. teller.items) c.in-Err.ensures.unchanged; back = c.in-Err.ensures.clock_back; used_up = c.in-Err.ensures.used_up; no_places = c.in-Err.ensures.no_places })
+
+pub returns-in-Err-clause-rounds_fault : goal.returns-in-Err-clause-rounds_fault
+returns-in-Err-clause-rounds_fault g c =
+    publish-ends c.args.teller.now.items _ c.in-Ok.fused c.in-Err.fault
     (record { published = tt; unchanged = ap (λ teller. teller.items) c.in-Err.ensures.unchanged; back = c.in-Err.ensures.clock_back; used_up = c.in-Err.ensures.used_up; no_places = c.in-Err.ensures.no_places })

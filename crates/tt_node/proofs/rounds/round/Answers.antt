@@ -3,6 +3,7 @@ use Rattle.std.proofs.lemmas.Result.{err_from_is_err_and}
 use Rattle.tt_node.specs.Fusing.{fusions_in}
 use Rattle.tt_node.specs.declared.faults.NodeFault.TheVariants.{ClockFailed}
 use Rattle.tt_node.proofs.Leading.{round-unsent, round-unpolled, round-polled, turns-ended, turns-unread, turns-fused}
+use Rattle.tt_node.proofs.Fusings.{device-ends}
 use Rattle.tt_node.proofs.rounds.round.Goals as goal
 
 pub returns-in_err-sent-clause-course : goal.returns-in_err-sent-clause-course
@@ -50,13 +51,13 @@ pub returns-in_err-poll_all-clause-rounds_fault : goal.returns-in_err-poll_all-c
 returns-in_err-poll_all-clause-rounds_fault g c =
     let p = err_from_is_err_and c.from_residual-in_err-poll_all.result c.from_residual-in_err-poll_all.ensures.1 in
     let e : c.from_residual-in_err-poll_all.result ≡ Err c.in_err-poll_all.field-0.0 = cc (p.1, p.2) in
-    rw e c.in_err-poll_all.ensures.rounds_fault
+    rw e (device-ends _ _ c.in_err-poll_all.ensures.rounds_fault)
 
 pub returns-in_err-all_turns-clause-rounds_fault : goal.returns-in_err-all_turns-clause-rounds_fault
 returns-in_err-all_turns-clause-rounds_fault g c =
     let p = err_from_is_err_and c.from_residual-in_err-all_turns.result c.from_residual-in_err-all_turns.ensures.1 in
     let e : c.from_residual-in_err-all_turns.result ≡ Err c.in_err-all_turns.field-0.0 = cc (p.1, p.2) in
-    rw e c.in_err-all_turns.ensures.rounds_fault
+    rw e (device-ends _ _ c.in_err-all_turns.ensures.rounds_fault)
 
 pub returns-in_err-now-clause-rounds_fault : goal.returns-in_err-now-clause-rounds_fault
 returns-in_err-now-clause-rounds_fault g c =
