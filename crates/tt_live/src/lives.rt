@@ -42,6 +42,7 @@ struct Shared<'a, R> {
     alloc: Global,
     origin: Origin,
     ended: &'a AtomicBool,
+    gate: &'a OpenGate,
 }
 
 impl<'a, R> Clone for Shared<'a, R> {
@@ -51,6 +52,7 @@ impl<'a, R> Clone for Shared<'a, R> {
             alloc: self.alloc,
             origin: self.origin,
             ended: self.ended,
+            gate: self.gate,
         })
     }
 }
@@ -220,7 +222,7 @@ fn run_threads<'s, E, R: Threads + Wait + SystemClock + Sync>(
             link,
             clocks,
             workers,
-            &OpenGate,
+            shared.gate,
             limits,
         )
     } else {
@@ -251,12 +253,13 @@ fn run<
         base: live.base(),
         start,
     };
-    let ended = AtomicBool::new(false);
+    let (ended, gate) = (AtomicBool::new(false), OpenGate);
     let shared = Shared {
         rt,
         alloc,
         origin,
         ended: &ended,
+        gate: &gate,
     };
     let end = thread::scope(
         thread::scope_env(),
