@@ -4,3 +4,4 @@ pub mod Share
 pub mod Log
 pub mod Round
 pub mod Outline
+pub mod Session

@@ -1,5 +1,5 @@
 -- What the rounds of a machine come to.
-use Rattle.std.specs.Prelude.{ℕ, ◌-◌, ◌+◌, ◌^◌, nat_eq, min, if◌then◌else◌, Option, Some, None}
+use Rattle.std.specs.Prelude.{ℕ, ◌-◌, ◌+◌, ◌^◌, nat_eq, min, if◌then◌else◌, Bool, true, false, Option, Some, None}
 use Rattle.tt_daemon.specs.declared.faults.DaemonFault.TheVariants as daemon
 use Rattle.tt_daemon.specs.Fault.{number_of as daemon_number_of}
 use Rattle.tt_daemon.specs.Publication.{Publication}
@@ -58,10 +58,15 @@ abbrev pub shown_or_none : Option Shown → ℕ → Shown
 shown_or_none (Some shown) now = shown
 shown_or_none None now = record { clock = now; width = 0; suspects = 0 }
 
--- the numbers of a status
-abbrev pub status_with : ℕ → ℕ → ℕ → Tally → Shown → Work → ℕ → Status
-status_with epoch sources known t shown work now =
-    record { epoch = epoch; width = shown.width; age = now - shown.clock; sources = sources; known = known; suspects = shown.suspects; rounds = t.rounds; published = t.published; refused_answers = t.refused_answers; no_point = t.no_point; too_few = t.too_few; sessions = work.sessions; lines = work.lines; refused_lines = work.refused_lines }
+-- 1 where it is so, and else 0
+abbrev pub one_if : Bool → ℕ
+one_if true = 1
+one_if false = 0
 
-abbrev pub status_of : ℕ → ℕ → ℕ → Tally → Option Shown → Work → ℕ → Status
-status_of epoch sources known t shown work now = status_with epoch sources known t (shown_or_none shown now) work now
+-- the numbers of a status
+abbrev pub status_with : ℕ → ℕ → ℕ → Tally → Shown → Bool → Work → ℕ → Status
+status_with epoch sources known t shown sharing work now =
+    record { epoch = epoch; width = shown.width; age = now - shown.clock; sources = sources; known = known; suspects = shown.suspects; rounds = t.rounds; published = t.published; refused_answers = t.refused_answers; no_point = t.no_point; too_few = t.too_few; sharing = one_if sharing; sessions = work.sessions; lines = work.lines; refused_lines = work.refused_lines }
+
+abbrev pub status_of : ℕ → ℕ → ℕ → Tally → Option Shown → Bool → Work → ℕ → Status
+status_of epoch sources known t shown sharing work now = status_with epoch sources known t (shown_or_none shown now) sharing work now

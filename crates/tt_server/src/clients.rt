@@ -2,6 +2,7 @@
 
 ghost use Rattle.std.specs.Prelude.{◌≡◌, ◌+◌, nat_lt};
 ghost use Rattle.tt_stream.specs.Counts.{HasFailed};
+ghost use Rattle.tt_server.specs.Session.{deadline_at};
 
 use crate::clocks::MachineClock;
 use crate::doors::SLICE;
@@ -41,10 +42,12 @@ impl Counts {
 
 /// The deadline of a session that begins when the clock shows `now`, with clients that may be silent for `idle`, in
 /// nanoseconds: a day later, and as many looks as there are slices in the time that a client may be silent.
-pub(crate) fn deadline_at(now: u64, idle: u64) -> Deadline {
+pub(crate) fn deadline_at(now: u64, idle: u64) -> Deadline
+    ensures { result ≡ deadline_at now idle }
+{
     Deadline {
         at: now.saturating_add(DAY),
-        tries: u32::try_from(idle / SLICE + 1).unwrap_or(u32::MAX),
+        tries: (idle / SLICE + 1).min(u64::from(u32::MAX)) as u32,
     }
 }
 

@@ -220,6 +220,7 @@ fn show<R: Wait + SystemClock + Eprint + Files<File = File>, L>(
         desk.daemon.known() as u64,
         &desk.tally,
         desk.shown,
+        desk.share.teller.is_some(),
         &shared.hall.work(),
         now,
     );

@@ -1,7 +1,7 @@
 //! What the rounds of a machine come to: what they have done so far, what the log says of each, and the status.
 
 ghost use Rattle.std.specs.Prelude.{◌≡◌};
-ghost use Rattle.tt_server.specs.Tally.{tally_after, event_of, refused_answers, shown_of, status_of};
+ghost use Rattle.tt_server.specs.Tally.{tally_after, event_of, refused_answers, shown_of, status_of, one_if};
 
 use tt_daemon::{DaemonFault, Fused};
 use tt_node::{NodeFault, Rounds};
@@ -127,6 +127,13 @@ pub(crate) fn shown_of(fused: &Fused, suspects: u64) -> Shown
     }
 }
 
+/// 1 where it is so, and else 0.
+fn one_if(is_so: bool) -> u64
+    ensures { result ≡ one_if is_so }
+{
+    if is_so { 1 } else { 0 }
+}
+
 /// The status of a machine when the clock shows `now`, in nanoseconds.
 pub(crate) fn status_of(
     epoch: u64,
@@ -134,10 +141,11 @@ pub(crate) fn status_of(
     known: u64,
     tally: &Tally,
     shown: Option<Shown>,
+    sharing: bool,
     work: &Work,
     now: u64,
 ) -> Status
-    ensures { result ≡ status_of epoch sources known tally.now shown work.now now }
+    ensures { result ≡ status_of epoch sources known tally.now shown sharing work.now now }
 {
     let shown = match shown {
         Some(shown) => shown,
@@ -159,6 +167,7 @@ pub(crate) fn status_of(
         refused_answers: tally.refused_answers,
         no_point: tally.no_point,
         too_few: tally.too_few,
+        sharing: one_if(sharing),
         sessions: work.sessions,
         lines: work.lines,
         refused_lines: work.refused_lines,
