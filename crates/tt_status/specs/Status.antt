@@ -22,6 +22,7 @@ rows_of s =
     (codes "truetime_answers_refused_total", s.refused_answers) ∷
     (codes "truetime_fusions_refused_total{number=\"504\"}", s.no_point) ∷
     (codes "truetime_fusions_refused_total{number=\"701\"}", s.too_few) ∷
+    (codes "truetime_sharing", s.sharing) ∷
     (codes "truetime_sessions_total", s.sessions) ∷
     (codes "truetime_lines_total", s.lines) ∷
     (codes "truetime_lines_refused_total", s.refused_lines) ∷

@@ -32,6 +32,8 @@ pub struct Status {
     pub no_point: u64,
     /// How many fusions were refused with 701: too few sources are known.
     pub too_few: u64,
+    /// 1 as long as a shared file is written, and 0 where there is none or its writing has ended.
+    pub sharing: u64,
     /// How many sessions have ended.
     pub sessions: u64,
     /// How many lines of clients were answered.
@@ -65,6 +67,7 @@ pub fn push_status(text: &mut String, status: &Status) -> Result<(), AllocError>
                 "truetime_fusions_refused_total{number=\"701\"}",
                 status.too_few,
             ),
+            ("truetime_sharing", status.sharing),
             ("truetime_sessions_total", status.sessions),
             ("truetime_lines_total", status.lines),
             ("truetime_lines_refused_total", status.refused_lines),
