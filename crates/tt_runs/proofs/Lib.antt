@@ -4,4 +4,5 @@ pub mod Coursing
 pub mod Naming
 pub mod Running
 pub mod Holding
+pub mod Beginning
 pub mod Worked

@@ -127,7 +127,7 @@ module _ (configs : List Configuration) (past : List Event) (lasts : Lasts confi
   stepped (Release n w) good m stays room = ap kept_of (machine_of-release (config_at configs m) past at n w (life_at past m))
 
 -- a machine that restarts is a new daemon
-restarted : (configs : List Configuration) (past : List Event) (at : ℕ) (action : Action) (m : ℕ) → restarts m action ≡ true
+pub restarted : (configs : List Configuration) (past : List Event) (at : ℕ) (action : Action) (m : ℕ) → restarts m action ≡ true
     → kept_at configs (happens at action ∷ past) m ≡ new_kept (config_at configs m) m (life_of (happens at action ∷ past) m)
 restarted configs past at (Restart n clock) m is =
     let same : n ≡ m = eqb-true n m is in

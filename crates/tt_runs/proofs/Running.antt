@@ -135,7 +135,7 @@ module _ (configs : List Configuration) (m : ℕ) (there : m < length configs) (
   has-source : (s : ℕ) → s < (config_at configs m).sources → has_source configs m s ≡ true
   has-source s named = let a = lt-ltb m (length configs) there in let b = lt-ltb s (config_at configs m).sources named in rw (a, b) refl
 
-  kept_good : (past : List Event) (event : Event) → accepted configs past ≡ past → first_bad configs past event ≡ None → accepted configs (event ∷ past) ≡ event ∷ past
+  pub kept_good : (past : List Event) (event : Event) → accepted configs past ≡ past → first_bad configs past event ≡ None → accepted configs (event ∷ past) ≡ event ∷ past
   kept_good past event good goes =
       ap (λ (before : List Event). cond (is_some (first_bad configs before event)) before (event ∷ before)) good
       ∙ ap (λ o. cond (is_some o) past (event ∷ past)) goes

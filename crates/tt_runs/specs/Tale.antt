@@ -1,5 +1,5 @@
 -- What happened between a daemon and its sources, in the order of true time, and the events of the model that it is. Each list has the newest first.
-use Rattle.std.specs.Prelude.{◌≡◌, ◌⊎◌, ℕ, suc, ◌<◌, ◌≤◌, ◌==◌, ◌&&◌, Bool, true, false, if◌then◌else◌, List, [], ◌∷◌, ◌++◌, length, Option, Some, None}
+use Rattle.std.specs.Prelude.{◌≡◌, ◌⊎◌, ℕ, zero, suc, ◌<◌, ◌≤◌, ◌==◌, ◌&&◌, Bool, true, false, if◌then◌else◌, List, [], ◌∷◌, ◌++◌, length, Option, Some, None}
 use Rattle.std.specs.List.{AllByRecursion}
 use Rattle.std.specs.Option.{option_map, option_or}
 use Rattle.tt_span.specs.Time.{max_time}
@@ -7,15 +7,17 @@ use Rattle.tt_span.specs.Interval.{Interval, IsInterval, Holds}
 use Rattle.tt_span.specs.Drift.{Moment}
 use Rattle.tt_daemon.specs.Config.{Configuration}
 use Rattle.tt_publish.specs.declared.readings.FusedSpan.{FusedSpan}
+use Rattle.tt_world.specs.Assumptions.{FewLie}
 use Rattle.tt_world.specs.Bad.{accepted}
+use Rattle.tt_world.specs.Config.{config_at}
 use Rattle.tt_world.specs.Life.{Life, life_of, life_at}
 use Rattle.tt_world.specs.Packet.{bytes_of}
-use Rattle.tt_world.specs.Past.{packets_of, moments_of}
+use Rattle.tt_world.specs.Past.{time_of, clock_of, packets_of, moments_of, sends_now}
 use Rattle.tt_world.specs.declared.events.Event.{Event}
 use Rattle.tt_world.specs.declared.events.Action.TheVariants as action
 use Rattle.tt_world.specs.declared.packets.Packet.{Packet}
 use Rattle.tt_world.specs.declared.packets.Packet.TheVariants.{Asked, Answered}
-use Rattle.tt_runs.specs.Steps.{Step, Polls, Takes, Fuses, steps_in}
+use Rattle.tt_runs.specs.Steps.{Step, Polls, Takes, Fuses, kept_at, new_kept, steps_in}
 
 -- what happens: the daemon makes its next step, or a source gives an answer of this span to the request of this nonce
 pub data Happening : Type 0 where
@@ -167,3 +169,20 @@ IsOfTime (Answers source nonce span) = IsInterval span
 abbrev pub AreOfTime : List Timed → Type 0
 AreOfTime [] = Unit {0}
 AreOfTime (timed ∷ tale) = IsOfTime timed.happening × AreOfTime tale
+
+-- ---- how a life begins
+
+-- so many restarts of machine m, at one true time and one clock reading
+abbrev pub restarts_of : ℕ → ℕ → ℕ → ℕ → List Event
+restarts_of m at clock zero = []
+restarts_of m at clock (suc n) = record { at = at; action = action.Restart m clock } ∷ restarts_of m at clock n
+
+-- after these events machine m begins the life of this number: none is bad, its daemon is new, they end by this true time and show no later clock reading, the clock was read in this life at no other moment, nothing was polled in it, and nothing false was fused
+pub record BeginsLife (configs : List Configuration) (m number at clock : ℕ) (base : List Event) : Type 0 where
+  pub good : accepted configs base ≡ base
+  pub as_new : kept_at configs base m ≡ new_kept (config_at configs m) m number
+  pub by_time : time_of base ≤ at
+  pub by_clock : clock_of base (life_at base m) ≤ clock
+  pub one_moment : AllByRecursion (λ moment. moment ≡ record { clock = clock; time = at }) (moments_of base (life_at base m))
+  pub none_polled : sends_now base m ≡ 0
+  pub few_lie : FewLie configs base

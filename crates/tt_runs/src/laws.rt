@@ -1,7 +1,8 @@
 //! The laws of steps, of the courses of rounds, and of tales.
 
-ghost use Rattle.std.specs.Prelude.{◌≡◌, ℕ, ◌<◌, ◌^◌, List, [], ◌++◌, length, Result};
+ghost use Rattle.std.specs.Prelude.{◌≡◌, ℕ, ◌<◌, ◌≤◌, ◌+◌, ◌-◌, ◌^◌, List, [], ◌++◌, length, Result};
 ghost use Rattle.std.specs.List.{AllByRecursion};
+ghost use Rattle.tt_span.specs.Time.{max_time};
 ghost use Rattle.tt_span.specs.Drift.{KeepsDrift};
 ghost use Rattle.tt_daemon.specs.Config.{Configuration, IsConfiguration};
 ghost use Rattle.tt_node.specs.Course.{Given, Stand, rounds_of};
@@ -17,7 +18,7 @@ ghost use Rattle.tt_world.specs.Past.{time_of, clock_of, moments_of, sends_now};
 ghost use Rattle.tt_world.specs.declared.events.Event.{Event};
 ghost use Rattle.tt_runs.specs.CourseSteps.{IsMadeBy, kept_in, rounds_steps};
 ghost use Rattle.tt_runs.specs.Steps.{Step, after_steps, kept_at, new_kept, steps_in};
-ghost use Rattle.tt_runs.specs.Tale.{AreOf, AreOfTime, HeldTrueTime, IsRunOf, IsTale, Timed, events_of, moments_told, steps_told};
+ghost use Rattle.tt_runs.specs.Tale.{AreOf, AreOfTime, BeginsLife, HeldTrueTime, IsRunOf, IsTale, Timed, events_of, moments_told, restarts_of, steps_told};
 
 /// Laws of the steps of a machine's daemon in a run. A life has nonces for no more than 2^64 - 1 polls.
 pub fn step_laws()
@@ -51,6 +52,12 @@ pub fn round_laws()
 
 /// Laws of tales, of machines that are there, after a base: any events none of which is bad.
 pub fn tale_laws()
+    // There is a base for each life: after so many restarts, at one true time and one clock reading, a machine begins the
+    // life of the next number with a new daemon. A tale that begins then goes on from there.
+    ensures begins_life { (configs : List Configuration) (m at clock lives : ℕ) →
+        m < length configs → at ≤ max_time → clock ≤ max_time → lives < 2 ^ 64 - 1 →
+        BeginsLife configs m (lives + 1) at clock (restarts_of m at clock lives) }
+
     // A tale in which neither true times nor clock readings fall, those of the base included, is a run of the model: no
     // event of it is bad, and the machine makes just its steps, at just its moments. Nothing is assumed of what the
     // sources answer.

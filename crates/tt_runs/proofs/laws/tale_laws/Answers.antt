@@ -14,6 +14,7 @@ use Rattle.tt_world.specs.Private.Machine.{source_of}
 use Rattle.tt_runs.specs.CourseSteps.{kept_in, rounds_steps}
 use Rattle.tt_runs.specs.Steps.{Step, after_steps, kept_at}
 use Rattle.tt_runs.specs.Tale.{AreOf, IsRunOf, IsTale, Timed, events_of, steps_told, moments_told}
+use Rattle.tt_runs.proofs.Beginning.{begins-life}
 use Rattle.tt_runs.proofs.Coursing.{rounds-made}
 use Rattle.tt_runs.proofs.Holding.{publications-held}
 use Rattle.tt_runs.proofs.Naming.{size, names-rounds}
@@ -39,6 +40,7 @@ module _ (configs : List Configuration) (m : ℕ) (base : List Event) (tale : Li
 
 pub returns : goal.returns
 returns c = record {
+  begins_life = begins-life;
   is_run = tale-is_run;
   rounds_are_run = λ configs m base tale rounds turns given exchanges from to answer there good begins course are is room. (
     run configs m base tale rounds turns given exchanges from to answer there good begins course are is,
