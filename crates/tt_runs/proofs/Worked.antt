@@ -1,0 +1,75 @@
+-- A worked tale, in which every premise of the laws of tales holds: one source is polled, answers, and is fused.
+use Rattle.std.proofs.Common.{◌≡◌, ℕ, true, List, [], ◌∷◌, Some, refl, arith}
+use Rattle.tt_span.specs.Drift.{widening, KeepsDrift}
+use Rattle.tt_span.specs.Interval.{Interval}
+use Rattle.tt_poll.specs.Reading.{read_of2, first_poll_fault2}
+use Rattle.tt_poll.specs.Spelling.{spelling_of2}
+use Rattle.tt_poll.specs.declared.messages.Message2.TheVariants as message
+use Rattle.tt_daemon.specs.Config.{Configuration}
+use Rattle.tt_daemon.specs.Daemon.{new_daemon}
+use Rattle.tt_node.specs.Link.{Went, Came}
+use Rattle.tt_node.specs.Course.{Given, Stand, ◌>>=◌, each_below, next_reading, next_gift, send, receive, put_table, send_polled, poll_at, poll_all, put_taken, take_at, take_next, turn, count_refusal, publish, publish_fused, fuse_at, round_of, rounds_of}
+use Rattle.tt_world.specs.Assumptions.{false_count}
+use Rattle.tt_world.specs.declared.events.Event.{Event}
+use Rattle.tt_world.specs.declared.events.Action.TheVariants as action
+use Rattle.tt_runs.specs.Steps.{Polls, Takes, Fuses, kept_at}
+use Rattle.tt_runs.specs.CourseSteps.{steps_below, rounds_steps}
+use Rattle.tt_runs.specs.Tale.{Does, Answers, Timed, steps_told, moments_told, events_of, IsTale}
+
+abbrev span : Interval
+span = record { lo = 1000; hi = 1008 }
+
+-- the answer to the first poll of machine 0 in its first life
+abbrev bytes : List ℕ
+bytes = spelling_of2 (message.Answer (record { machine = 0; source = 0; nonce = 1; epoch = 1; span = span }))
+
+-- a machine with one source, whose clock may drift by 100 parts per million
+abbrev one : Configuration
+one = record { sources = 1; faulty = 0; drift = 100; workers = 1 }
+
+-- polled at the true time 1000, answered at 1005, taken at 1010 and fused at 1011
+abbrev tale : List Timed
+tale =
+    record { at = 1011; happening = Does (Fuses 111) }
+    ∷ record { at = 1010; happening = Does (Takes 0 bytes 110) }
+    ∷ record { at = 1005; happening = Answers 0 1 span }
+    ∷ record { at = 1000; happening = Does (Polls 0 100) }
+    ∷ []
+
+is_tale : IsTale 0 0 tale
+is_tale = (omega arith, omega arith, (omega arith, omega arith), (omega arith, omega arith, (omega arith, omega arith), (omega arith, omega arith, tt, (omega arith, omega arith, (omega arith, omega arith), tt))))
+
+keeps_drift : KeepsDrift 100 (moments_told tale)
+keeps_drift = ((omega arith, (omega arith, tt)), ((omega arith, tt), (tt, tt)))
+
+-- the events before the fusion
+abbrev before : List Event
+before =
+    record { at = 1010; action = action.Deliver 1 110 }
+    ∷ record { at = 1005; action = action.Answer 0 span }
+    ∷ record { at = 1000; action = action.Send 0 0 100 }
+    ∷ []
+
+events_are : events_of [] 0 tale ≡ record { at = 1011; action = action.Fuse 0 111 } ∷ before
+unfolding spelling_of2
+events_are = refl
+
+-- the answer was true when it was given
+none_false : false_count one before (record { machine = 0; number = 1 }) ≡ 0
+unfolding spelling_of2 read_of2 first_poll_fault2
+none_false = refl
+
+-- the course of one round of one turn, by a new daemon
+abbrev begin : Stand
+begin = record { daemon = new_daemon 0 one 1; published = []; exchanges = []; refused = 0 }
+
+abbrev given : Given
+given = record { readings = Some 100 ∷ Some 110 ∷ Some 111 ∷ []; gifts = Went ∷ Came (record { peer = 0; bytes = bytes }) ∷ []; grants = true ∷ [] }
+
+steps_are : steps_told tale ≡ rounds_steps 1 1 begin given
+unfolding spelling_of2 read_of2 first_poll_fault2 widening steps_below ◌>>=◌ each_below next_reading next_gift send receive put_table send_polled poll_at poll_all put_taken take_at take_next turn count_refusal publish publish_fused fuse_at round_of rounds_of
+steps_are = refl
+
+published_are : (kept_at (one ∷ []) (events_of [] 0 tale) 0).published ≡ record { clock = 111; span = record { lo = 1000; hi = 1020 } } ∷ []
+unfolding spelling_of2 read_of2 first_poll_fault2 widening
+published_are = refl

@@ -1,0 +1,94 @@
+//! The laws of steps, of the courses of rounds, and of tales.
+
+ghost use Rattle.std.specs.Prelude.{◌≡◌, ℕ, ◌<◌, ◌≤◌, ◌+◌, ◌-◌, ◌^◌, List, [], ◌++◌, length, Result};
+ghost use Rattle.std.specs.List.{AllByRecursion};
+ghost use Rattle.tt_span.specs.Time.{max_time};
+ghost use Rattle.tt_span.specs.Drift.{KeepsDrift};
+ghost use Rattle.tt_daemon.specs.Config.{Configuration, IsConfiguration};
+ghost use Rattle.tt_node.specs.Course.{Given, Stand, rounds_of};
+ghost use Rattle.tt_node.specs.Link.{Exchange};
+ghost use Rattle.tt_node.specs.Making.{Leads};
+ghost use Rattle.tt_node.specs.declared.faults.NodeFault.{NodeFault};
+ghost use Rattle.tt_world.specs.Assumptions.{FewLie};
+ghost use Rattle.tt_world.specs.Bad.{accepted};
+ghost use Rattle.tt_world.specs.Config.{config_at};
+ghost use Rattle.tt_world.specs.Headline.{IsAction};
+ghost use Rattle.tt_world.specs.Life.{life_of, life_at};
+ghost use Rattle.tt_world.specs.Past.{time_of, clock_of, moments_of, sends_now};
+ghost use Rattle.tt_world.specs.declared.events.Event.{Event};
+ghost use Rattle.tt_runs.specs.CourseSteps.{IsMadeBy, kept_in, rounds_steps};
+ghost use Rattle.tt_runs.specs.Steps.{Step, after_steps, kept_at, new_kept, steps_in};
+ghost use Rattle.tt_runs.specs.Tale.{AreOf, AreOfTime, BeginsLife, HeldTrueTime, IsRunOf, IsTale, Timed, events_of, moments_told, restarts_of, steps_told};
+
+/// Laws of the steps of a machine's daemon in a run. A life has nonces for no more than 2^64 - 1 polls.
+pub fn step_laws()
+    // After every list of events, of whatever actions, daemon and publications of a machine are what the steps of its
+    // life make of a new daemon that has published nothing. Nothing is assumed of times, clocks and sources.
+    ensures made_by_steps { (configs : List Configuration) (events : List Event) (m : ℕ) →
+        sends_now (accepted configs events) m < 2 ^ 64 →
+        kept_at configs (accepted configs events) m
+        ≡ after_steps (new_kept (config_at configs m) m (life_of (accepted configs events) m)) (steps_in (accepted configs events) m) }
+
+    // Events that follow others, in the same life of the machine and none of them bad, make of what was kept what their
+    // steps make of it.
+    ensures goes_on_by_steps { (configs : List Configuration) (base events : List Event) (m : ℕ) (steps : List Step) →
+        accepted configs (events ++ base) ≡ events ++ base → life_of (events ++ base) m ≡ life_of base m →
+        steps_in (events ++ base) m ≡ steps ++ steps_in base m → sends_now (events ++ base) m < 2 ^ 64 →
+        kept_at configs (events ++ base) m ≡ after_steps (kept_at configs base m) steps }
+{}
+
+/// Laws of the steps of the course of a daemon's rounds.
+pub fn round_laws()
+    // Wherever the rounds begin and whatever is given, failures included: what they leave of daemon and publications is
+    // what their steps make of it.
+    ensures made_by_steps { (rounds turns : ℕ) (stand : Stand) (given : Given) →
+        IsMadeBy (kept_in stand) (rounds_steps rounds turns stand given) (rounds_of rounds turns stand given) }
+
+    // So a call whose course the rounds are, as `daemon_rounds` says of itself, left what their steps make.
+    ensures call_made_by_steps { (rounds turns : ℕ) (given : Given) (exchanges : List Exchange) (from to : List Exchange → Stand)
+        (answer : Result (Unit {0}) NodeFault) → Leads (rounds_of rounds turns) given exchanges from to answer →
+        kept_in (to exchanges) ≡ after_steps (kept_in (from [])) (rounds_steps rounds turns (from []) given) }
+{}
+
+/// Laws of tales, of machines that are there, after a base: any events none of which is bad.
+pub fn tale_laws()
+    // There is a base for each life: after so many restarts, at one true time and one clock reading, a machine begins the
+    // life of the next number with a new daemon. A tale that begins then goes on from there.
+    ensures begins_life { (configs : List Configuration) (m at clock lives : ℕ) →
+        m < length configs → at ≤ max_time → clock ≤ max_time → lives < 2 ^ 64 - 1 →
+        BeginsLife configs m (lives + 1) at clock (restarts_of m at clock lives) }
+
+    // A tale in which neither true times nor clock readings fall, those of the base included, is a run of the model: no
+    // event of it is bad, and the machine makes just its steps, at just its moments. Nothing is assumed of what the
+    // sources answer.
+    ensures is_run { (configs : List Configuration) (m : ℕ) (base : List Event) (tale : List Timed) →
+        m < length configs → accepted configs base ≡ base → AreOf (config_at configs m).sources (steps_told tale) →
+        IsTale (time_of base) (clock_of base (life_at base m)) tale →
+        IsRunOf configs m base (events_of base m tale) (steps_told tale) (moments_told tale) }
+
+    // So the rounds of a call, told with any true times and any answers of the sources, are a run of the model that
+    // leaves the machine the same daemon and the same publications, where it had those with which the call began.
+    ensures rounds_are_run { (configs : List Configuration) (m : ℕ) (base : List Event) (tale : List Timed) (rounds turns : ℕ) (given : Given)
+        (exchanges : List Exchange) (from to : List Exchange → Stand) (answer : Result (Unit {0}) NodeFault) →
+        m < length configs → accepted configs base ≡ base → kept_at configs base m ≡ kept_in (from []) →
+        Leads (rounds_of rounds turns) given exchanges from to answer → steps_told tale ≡ rounds_steps rounds turns (from []) given →
+        IsTale (time_of base) (clock_of base (life_at base m)) tale →
+        sends_now (events_of base m tale ++ base) m < 2 ^ 64 →
+        IsRunOf configs m base (events_of base m tale) (steps_told tale) (moments_told tale)
+        × (kept_at configs (events_of base m tale ++ base) m ≡ kept_in (to exchanges)) }
+
+    // So, under the assumptions of the model, each publication of such a call held the true time at a moment of the
+    // machine's life at which the clock showed the reading of the publication. The assumptions: the clock keeps its drift
+    // bound over the moments of the tale and those of the life before; and at each fusion no more of the packets that were
+    // taken last, one for each source, were made up, or are answers that did not hold the true time when they were given,
+    // than may be false.
+    ensures publications_hold { (configs : List Configuration) (m : ℕ) (base : List Event) (tale : List Timed) (rounds turns : ℕ) (given : Given)
+        (exchanges : List Exchange) (from to : List Exchange → Stand) (answer : Result (Unit {0}) NodeFault) →
+        m < length configs → accepted configs base ≡ base → kept_at configs base m ≡ kept_in (from []) →
+        Leads (rounds_of rounds turns) given exchanges from to answer → steps_told tale ≡ rounds_steps rounds turns (from []) given →
+        IsTale (time_of base) (clock_of base (life_at base m)) tale → sends_now (events_of base m tale ++ base) m < 2 ^ 64 →
+        IsConfiguration (config_at configs m) → AreOfTime tale → AllByRecursion (λ event. IsAction event.action) base →
+        KeepsDrift (config_at configs m).drift (moments_told tale ++ moments_of base (life_at base m)) →
+        FewLie configs (events_of base m tale ++ base) →
+        AllByRecursion (HeldTrueTime (moments_told tale ++ moments_of base (life_at base m))) (kept_in (to exchanges)).published }
+{}
