@@ -2,6 +2,7 @@
 use Rattle.std.specs.Prelude.{◌≡◌, ℕ, ◌+◌, ◌<◌, ◌≤◌, ◌⊎◌, nat_lt, List, length, count_by, All, Contains}
 use Rattle.std.specs.List.Sorted.{IsNonDecreasing}
 use Rattle.tt_span.specs.Time.{max_time}
+use Rattle.tt_span.specs.Sources.{max_sources}
 use Rattle.tt_cert.specs.declared.certificate.Stretch.{Stretch}
 use Rattle.tt_cert.specs.Valid.{AreSideBySide}
 
@@ -11,8 +12,8 @@ count_before ends x = count_by (λ end. nat_lt end x) ends
 
 -- the lower and the upper ends of some spans, each in ascending order
 pub record AreEnds (lows highs : List ℕ) : Type 0 where
-  pub few_lows : length lows ≤ 16
-  pub few_highs : length highs ≤ 16
+  pub few_lows : length lows ≤ max_sources
+  pub few_highs : length highs ≤ max_sources
   pub lows_ascend : IsNonDecreasing lows
   pub highs_ascend : IsNonDecreasing highs
   pub in_time : All (λ high. high ≤ max_time) highs

@@ -3,6 +3,7 @@ use Rattle.std.specs.Prelude.{ℕ, ◌<◌, ◌≤◌, List, [], ◌∷◌, ◌+
 use Rattle.std.specs.List.{flat_map}
 use Rattle.tt_span.specs.Time.{max_time}
 use Rattle.tt_span.specs.Interval.{Interval, IsInterval}
+use Rattle.tt_span.specs.Sources.{max_sources}
 pub use Rattle.tt_text.specs.Line.{space_and_number, numbers_text, line_of, ends_of}
 use Rattle.tt_cert.specs.declared.certificate.Stretch.{Stretch}
 use Rattle.tt_cert.specs.Proof.{Proof}
@@ -47,7 +48,7 @@ text_of claim proof =
 -- source numbers that a line can hold
 pub record AreSources (sources : List ℕ) : Type 0 where
   pub some : 0 < length sources
-  pub few : length sources ≤ 16
+  pub few : length sources ≤ max_sources
   pub bytes : All (λ i. i ≤ 255) sources
 
 -- a stretch that a line can hold

@@ -3,6 +3,7 @@ use Rattle.std.specs.Prelude.{◌≡◌, ◌≢◌, ℕ, ◌+◌, ◌-◌, ◌*�
 use Rattle.std.specs.List.{HoldsAt}
 use Rattle.tt_span.specs.Time.{max_time}
 use Rattle.tt_span.specs.Interval.{Interval, Holds}
+use Rattle.tt_span.specs.Sources.{max_sources}
 use Rattle.tt_fuse.specs.Fusion.{CanBeFused}
 use Rattle.tt_cert.specs.declared.certificate.Stretch.{Stretch}
 use Rattle.tt_cert.specs.declared.faults.CertFault.{CertFault}
@@ -81,8 +82,8 @@ pub record IsCertificate (spans : List Interval) (f : ℕ) (claim : Interval) (p
 -- what is wrong with the certificate, and that nothing that is looked at before is
 abbrev pub IsFirstFault : List Interval → ℕ → Interval → Proof → CertFault → Type 0
 IsFirstFault spans f claim proof NoSource = length spans ≡ 0
-IsFirstFault spans f claim proof TooMany = 16 < length spans
-IsFirstFault spans f claim proof TooFew = (0 < length spans) × (length spans ≤ 16) × (length spans < 2 * f + 1)
+IsFirstFault spans f claim proof TooMany = max_sources < length spans
+IsFirstFault spans f claim proof TooFew = (0 < length spans) × (length spans ≤ max_sources) × (length spans < 2 * f + 1)
 IsFirstFault spans f claim proof LeftSet = CanBeFused (length spans) f × (HasLeftSet spans f claim proof → ⊥)
 IsFirstFault spans f claim proof RightSet =
     CanBeFused (length spans) f × HasLeftSet spans f claim proof × (HasRightSet spans f claim proof → ⊥)

@@ -1,6 +1,7 @@
 //! Certificates as values.
 
 ghost use Rattle.std.specs.Prelude.{◌≡◌, ◌≤◌, length};
+ghost use Rattle.tt_span.specs.Sources.{max_sources};
 
 use crate::inline_lists::InlineList;
 use arrayvec::ArrayVec;
@@ -71,7 +72,7 @@ impl Certificate {
     /// The numbers of the sources that are said to hold the lower end of the claim.
     pub fn left(&self) -> &[u8]
         ensures value { result.now ≡ self.now.left }
-        ensures few { length result.now ≤ 16 }
+        ensures few { length result.now ≤ max_sources }
     {
         self.left.as_slice()
     }
@@ -79,7 +80,7 @@ impl Certificate {
     /// The numbers of the sources that are said to hold the upper end of the claim.
     pub fn right(&self) -> &[u8]
         ensures value { result.now ≡ self.now.right }
-        ensures few { length result.now ≤ 16 }
+        ensures few { length result.now ≤ max_sources }
     {
         self.right.as_slice()
     }

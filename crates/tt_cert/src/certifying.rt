@@ -1,6 +1,7 @@
 //! The canonical certificate of a fusion.
 
 ghost use Rattle.std.specs.Prelude.{◌≡◌, ◌≤◌, [], length, take};
+ghost use Rattle.tt_span.specs.Sources.{max_sources};
 ghost use Rattle.tt_fuse.specs.Fusion.{IsFusion, CanBeFused};
 ghost use Rattle.tt_fuse.specs.Ends.{AreEndsOf};
 ghost use Rattle.tt_cert.specs.Valid.{IsCertificate};
@@ -53,7 +54,7 @@ pub fn certify_by(spans: &[Span], ends: &SortedEnds, faulty: usize, claim: &Span
 /// are fewer.
 fn name_least_sources(found: &mut InlineList<u8, 16>, spans: &[Span], need: usize, time: u64)
     requires empty { found.old ≡ [] }
-    requires few { length spans.now ≤ 16 }
+    requires few { length spans.now ≤ max_sources }
     ensures { found.new ≡ take need (sources_at spans.now time) }
 {
     for (source, span) in spans.iter().enumerate() {

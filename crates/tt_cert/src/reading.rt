@@ -3,6 +3,7 @@
 ghost use Rattle.std.specs.Prelude.{◌≡◌, ◌≤◌, length, drop, MatchOption, IfOk, IfErr, Ok};
 ghost use Rattle.std.specs.List.{flat_map};
 ghost use Rattle.tt_span.specs.Interval.{Interval, IsInterval};
+ghost use Rattle.tt_span.specs.Sources.{max_sources};
 ghost use Rattle.tt_cert.specs.declared.certificate.Stretch.{Stretch};
 ghost use Rattle.tt_cert.specs.Proof.{Proof};
 ghost use Rattle.tt_text.specs.Line.{line_of, ends_of};
@@ -87,7 +88,7 @@ fn sources_line_at(word: &[u8], text: &[u8], at: usize) -> Option<(ArrayVec<u8, 
 
 /// The numbers as source numbers, where there are some and each is one.
 fn sources_of(numbers: &[u64]) -> Option<ArrayVec<u8, 16>>
-    requires { length numbers.now ≤ 16 }
+    requires { length numbers.now ≤ max_sources }
     ensures { MatchOption result (AreSources numbers.now → ⊥) (λ sources. AreSources numbers.now × (sources.items ≡ numbers.now)) }
 {
     if numbers.is_empty() {

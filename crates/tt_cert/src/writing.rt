@@ -2,6 +2,7 @@
 
 ghost use Rattle.std.specs.Prelude.{◌≡◌, ℕ, ◌≤◌, List, length, ◌++◌, All, IfOk, IfErr, OnOk, string_bytes};
 ghost use Rattle.std.specs.List.{flat_map};
+ghost use Rattle.tt_span.specs.Sources.{max_sources};
 ghost use Rattle.tt_cert.specs.Text.{stretch_line, text_of, HasText, IsReadable};
 
 use crate::certificate::{Certificate, Stretch};
@@ -44,7 +45,7 @@ fn text_in(alloc: Global, claim: &Span, certificate: &Certificate) -> Result<Str
 
 /// Source numbers as numbers of a line, and that each of them is a byte.
 fn widened(sources: &[u8]) -> ArrayVec<u64, 16>
-    requires { length sources.now ≤ 16 }
+    requires { length sources.now ≤ max_sources }
     ensures same { result.items ≡ sources.now }
     ensures bytes { All (λ source. source ≤ 255) sources.now }
 {

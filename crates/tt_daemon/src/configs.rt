@@ -1,7 +1,8 @@
 //! What a machine is set up with.
 
 ghost use Rattle.std.specs.Prelude.{◌≡◌, ◌+◌, ◌*◌, ◌<◌, ◌≤◌, ◌↔◌, ◌⊎◌, IsOk, IfOk, IsErrOf};
-ghost use Rattle.tt_daemon.specs.Config.{IsConfiguration};
+ghost use Rattle.tt_span.specs.Sources.{max_sources};
+ghost use Rattle.tt_daemon.specs.Config.{IsConfiguration, max_workers};
 ghost use Rattle.tt_daemon.specs.Fault.{config_number_of, config_fault_of};
 
 use std::marker::Model;
@@ -84,13 +85,13 @@ impl Config {
         drift: Drift,
         workers: usize,
     ) -> Result<Config, ConfigFault>
-        ensures taken { IsOk result ↔ ((0 < sources) × (sources ≤ 16) × (2 * faulty + 1 ≤ sources) × (0 < workers) × (workers ≤ 32)) }
+        ensures taken { IsOk result ↔ ((0 < sources) × (sources ≤ max_sources) × (2 * faulty + 1 ≤ sources) × (0 < workers) × (workers ≤ max_workers)) }
         ensures value { IfOk result (λ c. c ≡ record { sources = sources; faulty = faulty; drift = drift; workers = workers }) }
         ensures no_source { IsErrOf result ConfigFault.NoSource ↔ (sources ≡ 0) }
-        ensures too_many { IsErrOf result ConfigFault.TooManySources ↔ (16 < sources) }
-        ensures too_few { IsErrOf result ConfigFault.TooFewSources ↔ ((0 < sources) × (sources ≤ 16) × (sources < 2 * faulty + 1)) }
+        ensures too_many { IsErrOf result ConfigFault.TooManySources ↔ (max_sources < sources) }
+        ensures too_few { IsErrOf result ConfigFault.TooFewSources ↔ ((0 < sources) × (sources ≤ max_sources) × (sources < 2 * faulty + 1)) }
         ensures workers { IsErrOf result ConfigFault.Workers
-            ↔ ((0 < sources) × (sources ≤ 16) × (2 * faulty + 1 ≤ sources) × ((workers ≡ 0) ⊎ (32 < workers))) }
+            ↔ ((0 < sources) × (sources ≤ max_sources) × (2 * faulty + 1 ≤ sources) × ((workers ≡ 0) ⊎ (max_workers < workers))) }
     {
         check_counts(sources, faulty)?;
         if workers == 0 || workers > MAX_WORKERS {

@@ -2,6 +2,7 @@
 
 ghost use Rattle.std.specs.Prelude.{◌≡◌, ℕ, ◌-◌, ◌<◌, ◌≤◌, ◌↔◌, length, take, All, IsTrue, not, is_some, Some, None, Ok, Err, IsOk, IfOk, IfErr, OnOk, OnErr, IsErrOf, MatchResult};
 ghost use Rattle.tt_span.specs.Interval.{Interval, IsInterval};
+ghost use Rattle.tt_span.specs.Sources.{max_sources};
 ghost use Rattle.tt_poll.specs.Message.{max_machine};
 ghost use Rattle.tt_poll.specs.Spelling.{spelling_of2};
 ghost use Rattle.tt_poll.specs.declared.messages.Message2.TheVariants as message;
@@ -17,10 +18,10 @@ use crate::configs::Config;
 use crate::faults::DaemonFault;
 use crate::fusions::Fused;
 use std::marker::Model;
-use tt_fuse::{Ends, MAX_SOURCES, fusion_laws};
+use tt_fuse::{Ends, fusion_laws};
 use tt_poll::REQUEST2_LEN;
 use tt_source::{SourceFault, Statement, Table};
-use tt_span::Span;
+use tt_span::{MAX_SOURCES, Span};
 
 /// One machine's daemon: what the machine is set up with, and what it knows of its sources, which are numbered
 /// from 0. It polls them, takes their answers, and fuses what it knows (Spanner's time daemon: OSDI 2012,
@@ -225,7 +226,7 @@ impl Daemon {
 
 /// Takes up into the ends what source `i` stated last, in place of an earlier statement where it `was_known`.
 fn take_up(ends: &mut Ends, i: u8, statement: &Statement, was_known: bool)
-    requires there { i < 16 }
+    requires there { i < max_sources }
     requires known { was_known ≡ is_some (statement_of ends.old i) }
     requires valid { IsStatement statement.now }
     ensures value { ends.new ≡ with_statement ends.old i statement.now }

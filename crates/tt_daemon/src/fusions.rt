@@ -2,14 +2,15 @@
 
 ghost use Rattle.std.specs.Prelude.{◌≡◌, ℕ, ◌+◌, ◌*◌, ◌<◌, ◌≤◌, ◌↔◌, length, take, All, IsOk, IfOk, IsErrOf, MatchResult};
 ghost use Rattle.tt_span.specs.Interval.{IsInterval};
+ghost use Rattle.tt_span.specs.Sources.{max_sources};
 ghost use Rattle.tt_fuse.specs.Fusion.{IsPossibleTime, HasNoPossibleTime, CanBeFused};
 ghost use Rattle.tt_fuse.specs.Ends.{AreEndsOf};
 ghost use Rattle.tt_daemon.specs.Publication.{IsPublication};
 
 use std::marker::Model;
 use tt_cert::{Certificate, certify_by};
-use tt_fuse::{FuseFault, MAX_SOURCES, SortedEnds, check_counts};
-use tt_span::Span;
+use tt_fuse::{FuseFault, SortedEnds, check_counts};
+use tt_span::{MAX_SOURCES, Span};
 
 /// A fusion with all that it was made of, as a machine publishes it: the clock reading at which it was made, the
 /// spans of the sources, how many of these may be wrong, their fusion, and the canonical certificate of it, by
@@ -30,13 +31,14 @@ pub struct Fused {
 
 impl Model for Fused {
     ghost use Rattle.std.specs.Prelude.{◌≤◌, take};
+    ghost use Rattle.tt_span.specs.Sources.{max_sources};
     ghost use Rattle.tt_daemon.specs.Publication.{Publication, IsPublication};
 
     ghost Value = { Publication };
 
     ghost view = { λ f. record { clock = f.clock; span = f.span; spans = take f.sources f.spans; faulty = f.faulty; certificate = f.certificate } };
 
-    ghost invariant = { λ f. (f.sources ≤ 16)
+    ghost invariant = { λ f. (f.sources ≤ max_sources)
         × IsPublication (record { clock = f.clock; span = f.span; spans = take f.sources f.spans; faulty = f.faulty; certificate = f.certificate }) };
 }
 
@@ -47,9 +49,9 @@ impl Fused {
     /// `NoPoint` where no time is possible.
     pub fn make(clock: u64, spans: &[Span], faulty: usize) -> Result<Fused, FuseFault>
         ensures no_source { IsErrOf result FuseFault.NoSource ↔ (length spans.now ≡ 0) }
-        ensures too_many { IsErrOf result FuseFault.TooMany ↔ (16 < length spans.now) }
+        ensures too_many { IsErrOf result FuseFault.TooMany ↔ (max_sources < length spans.now) }
         ensures too_few { IsErrOf result FuseFault.TooFew
-            ↔ ((0 < length spans.now) × (length spans.now ≤ 16) × (length spans.now < 2 * faulty + 1)) }
+            ↔ ((0 < length spans.now) × (length spans.now ≤ max_sources) × (length spans.now < 2 * faulty + 1)) }
         ensures no_point { IsErrOf result FuseFault.NoPoint
             ↔ (CanBeFused (length spans.now) faulty × HasNoPossibleTime spans.now faulty) }
         ensures answered { IsOk result
@@ -149,7 +151,7 @@ impl Fused {
 
 /// At most [`MAX_SOURCES`] spans, at the front of an array of their own.
 fn in_front(spans: &[Span]) -> [Span; MAX_SOURCES]
-    requires { length spans.now ≤ 16 }
+    requires { length spans.now ≤ max_sources }
     ensures value { take (length spans.now) result ≡ spans.now }
     ensures valid { All IsInterval spans.now }
 {

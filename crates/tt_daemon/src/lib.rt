@@ -29,4 +29,4 @@ pub use configs::{Config, ConfigFault, MAX_WORKERS};
 pub use daemons::Daemon;
 pub use faults::DaemonFault;
 pub use fusions::Fused;
-pub use tt_fuse::MAX_SOURCES;
+pub use tt_span::MAX_SOURCES;

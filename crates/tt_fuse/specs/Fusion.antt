@@ -3,6 +3,7 @@ use Rattle.std.specs.Prelude.{◌≡◌, ℕ, ◌+◌, ◌*◌, ◌<◌, ◌≤�
 use Rattle.std.specs.List.{HoldsAt}
 use Rattle.tt_span.specs.Time.{max_time}
 use Rattle.tt_span.specs.Interval.{Interval, IsInterval, Holds, Within}
+use Rattle.tt_span.specs.Sources.{max_sources}
 
 -- a set of at most f of n sources, by a flag for each source that is true where the source is in the set
 pub record IsSetOfAtMost (f n : ℕ) (set : List Bool) : Type 0 where
@@ -39,7 +40,7 @@ HasNoPossibleTime spans f = (x : ℕ) → IsPossibleTime spans f x → ⊥
 -- n sources are as many as can be asked, and enough when f of them may be wrong
 pub record CanBeFused (n f : ℕ) : Type 0 where
   pub some : 0 < n
-  pub not_too_many : n ≤ 16
+  pub not_too_many : n ≤ max_sources
   pub enough : 2 * f + 1 ≤ n
 
 -- of every set of at most f sources, some source outside it has a span that the interval lies within

@@ -3,6 +3,7 @@ use Rattle.std.specs.Prelude.{◌≡◌, ℕ, ◌≤◌, List, length, map, take
 use Rattle.tt_span.specs.Interval.{Interval}
 use Rattle.tt_span.specs.Drift.{max_drift}
 use Rattle.tt_span.specs.Statement.{Statement, IsStatement, stated_at}
+use Rattle.tt_span.specs.Sources.{max_sources}
 
 -- the drift of the machine's clock in parts per million, and the last statement of each source that there can be, by their numbers
 pub record Stated : Type 0 where
@@ -12,12 +13,12 @@ pub record Stated : Type 0 where
 -- the drift is in range, there is a place for each source that there can be, and the statements are statements
 pub record IsStated (s : Stated) : Type 0 where
   pub drift_in : s.drift ≤ max_drift
-  pub each_source : length s.statements ≡ 16
+  pub each_source : length s.statements ≡ max_sources
   pub valid : All (λ statement. IfSome statement IsStatement) s.statements
 
 -- no source has stated anything
 abbrev pub nothing_stated : ℕ → Stated
-nothing_stated drift = record { drift = drift; statements = replicate 16 None }
+nothing_stated drift = record { drift = drift; statements = replicate max_sources None }
 
 -- what source i stated last
 abbrev pub statement_of : Stated → ℕ → Option Statement

@@ -1,12 +1,11 @@
 //! How many sources can be fused, when some of them may be wrong.
 
 ghost use Rattle.std.specs.Prelude.{◌≡◌, ◌+◌, ◌*◌, ◌<◌, ◌≤◌, ◌↔◌, IsOk, IsErrOf};
+ghost use Rattle.tt_span.specs.Sources.{max_sources};
 ghost use Rattle.tt_fuse.specs.Fusion.{CanBeFused};
 
 use thiserror::Error;
-
-/// The greatest number of sources.
-pub const MAX_SOURCES: usize = 16;
+use tt_span::MAX_SOURCES;
 
 /// Why so many sources, of which so many may be wrong, can't be fused: the first three reasons of a
 /// [`FuseFault`](crate::FuseFault), which also has their numbers.
@@ -28,9 +27,9 @@ pub enum CountFault {
 pub fn check_counts(sources: usize, faulty: usize) -> Result<(), CountFault>
     ensures taken { IsOk result ↔ CanBeFused sources faulty }
     ensures no_source { IsErrOf result CountFault.NoSource ↔ (sources ≡ 0) }
-    ensures too_many { IsErrOf result CountFault.TooMany ↔ (16 < sources) }
+    ensures too_many { IsErrOf result CountFault.TooMany ↔ (max_sources < sources) }
     ensures too_few { IsErrOf result CountFault.TooFew
-        ↔ ((0 < sources) × (sources ≤ 16) × (sources < 2 * faulty + 1)) }
+        ↔ ((0 < sources) × (sources ≤ max_sources) × (sources < 2 * faulty + 1)) }
 {
     if sources == 0 {
         return Err(CountFault::NoSource);

@@ -33,8 +33,9 @@ mod scaled;
 mod sorted;
 mod suspecting;
 
-pub use counts::{CountFault, MAX_SOURCES, check_counts};
+pub use counts::{CountFault, check_counts};
 pub use fusion::{FuseFault, fuse, fusion_laws};
 pub use scaled::Ends;
 pub use sorted::SortedEnds;
 pub use suspecting::{suspect_laws, suspects};
+pub use tt_span::MAX_SOURCES;

@@ -3,6 +3,7 @@
 ghost use Rattle.std.specs.Prelude.{◌≡◌, ℕ, ◌+◌, ◌-◌, ◌*◌, ◌<◌, ◌≤◌, ◌↔◌, ◌++◌, length, map, replicate, All, IsSome, IsOk, IfOk, IsErrOf, MatchOption, None};
 ghost use Rattle.std.specs.List.Sorted.{IsNonDecreasing};
 ghost use Rattle.tt_span.specs.Time.{max_time};
+ghost use Rattle.tt_span.specs.Sources.{max_sources};
 ghost use Rattle.tt_span.specs.Statement.{Statement};
 ghost use Rattle.tt_fuse.specs.Fusion.{IsPossibleTime, IsFusion, HasNoPossibleTime, CanBeFused};
 ghost use Rattle.tt_fuse.specs.Ends.{AreEndsOf};
@@ -10,14 +11,14 @@ ghost use Rattle.tt_fuse.specs.Stated.{IsStated, nothing_stated, statement_of, w
 ghost use Rattle.tt_fuse.specs.Pairs.{IsFound};
 ghost use Rattle.tt_fuse.specs.Scaled.{key_bound, key_number, IsKey, AreOrderedAt, low_end_of, high_end_of};
 
-use crate::counts::{MAX_SOURCES, check_counts};
+use crate::counts::check_counts;
 use crate::fusion::FuseFault;
 use crate::keys::{are_in_order, high_end, high_key, low_end, low_key};
 use crate::ordered::SortedKeys;
 use crate::sorted::SortedEnds;
 use arrayvec::ArrayVec;
 use std::marker::Model;
-use tt_span::{Drift, MAX_DRIFT, MAX_TIME, Span};
+use tt_span::{Drift, MAX_DRIFT, MAX_SOURCES, MAX_TIME, Span};
 
 /// What a source stated last: the span of its answer, and the clock readings at which its poll was sent and the answer
 /// came.
@@ -84,7 +85,7 @@ impl Ends {
     /// Requires: `i` is below [`MAX_SOURCES`], source `i` has no statement, and `sent` is at most `got`, which is at
     /// most [`MAX_TIME`].
     pub fn insert(&mut self, i: u8, span: &Span, sent: u64, got: u64)
-        requires there { i < 16 }
+        requires there { i < max_sources }
         requires without { statement_of self.old i ≡ None }
         requires ordered { sent ≤ got }
         requires in_time { got ≤ max_time }
@@ -106,7 +107,7 @@ impl Ends {
     /// Requires: `i` is below [`MAX_SOURCES`], source `i` has a statement, and `sent` is at most `got`, which is at
     /// most [`MAX_TIME`].
     pub fn replace(&mut self, i: u8, span: &Span, sent: u64, got: u64)
-        requires there { i < 16 }
+        requires there { i < max_sources }
         requires with { IsSome (statement_of self.old i) }
         requires ordered { sent ≤ got }
         requires in_time { got ≤ max_time }
@@ -137,7 +138,7 @@ impl Ends {
     pub fn at(&self, clock: u64, sources: usize) -> SortedEnds
         requires in_time { clock ≤ max_time }
         requires got { AreGotBy self.now clock }
-        requires few { sources ≤ 16 }
+        requires few { sources ≤ max_sources }
         requires among { AreAmongFirst self.now sources }
         ensures ends { AreEndsOf (spans_at self.now clock sources) result }
         ensures valid { IsStated self.now }
@@ -163,9 +164,9 @@ impl Ends {
         requires got { AreGotBy self.now clock }
         requires among { AreAmongFirst self.now sources }
         ensures no_source { IsErrOf result FuseFault.NoSource ↔ (sources ≡ 0) }
-        ensures too_many { IsErrOf result FuseFault.TooMany ↔ (16 < sources) }
+        ensures too_many { IsErrOf result FuseFault.TooMany ↔ (max_sources < sources) }
         ensures too_few { IsErrOf result FuseFault.TooFew
-            ↔ ((0 < sources) × (sources ≤ 16) × (sources < 2 * faulty + 1)) }
+            ↔ ((0 < sources) × (sources ≤ max_sources) × (sources < 2 * faulty + 1)) }
         ensures no_point { IsErrOf result FuseFault.NoPoint
             ↔ (CanBeFused sources faulty × HasNoPossibleTime (spans_at self.now clock sources) faulty) }
         ensures answered { IsOk result
@@ -183,7 +184,7 @@ impl Ends {
     fn fused(&self, clock: u64, faulty: usize) -> Option<Span>
         requires in_time { clock ≤ max_time }
         requires got { AreGotBy self.now clock }
-        ensures fused { (n : ℕ) → faulty < n → n ≤ 16 → AreAmongFirst self.now n →
+        ensures fused { (n : ℕ) → faulty < n → n ≤ max_sources → AreAmongFirst self.now n →
             MatchOption result (HasNoPossibleTime (spans_at self.now clock n) faulty) (λ span. IsFusion (spans_at self.now clock n) faulty span) }
         ensures valid { IsStated self.now }
     {
@@ -265,7 +266,7 @@ fn last_in_order(drift: Drift, starts: &[i128], ends: &[i128], clock: u64, first
 fn lows_at(drift: Drift, keys: &SortedKeys, clock: u64, unknown: usize) -> ArrayVec<u64, 16>
     requires in_time { clock ≤ max_time }
     requires reached { All (λ key. key_bound ≤ key_number key + clock * (1000000 - drift)) keys.now }
-    requires room { unknown + length keys.now ≤ 16 }
+    requires room { unknown + length keys.now ≤ max_sources }
     ensures ends { result.items ≡ replicate unknown 0 ++ map (low_end_of drift clock) keys.now }
     ensures ascending { IsNonDecreasing result.items }
 {
@@ -282,7 +283,7 @@ fn lows_at(drift: Drift, keys: &SortedKeys, clock: u64, unknown: usize) -> Array
 fn highs_at(drift: Drift, keys: &SortedKeys, clock: u64, unknown: usize) -> ArrayVec<u64, 16>
     requires in_time { clock ≤ max_time }
     requires reached { All (λ key. key_bound ≤ key_number key + clock * (1000000 + drift)) keys.now }
-    requires room { unknown + length keys.now ≤ 16 }
+    requires room { unknown + length keys.now ≤ max_sources }
     ensures ends { result.items ≡ map (high_end_of drift clock) keys.now ++ replicate unknown max_time }
     ensures ascending { IsNonDecreasing result.items }
 {

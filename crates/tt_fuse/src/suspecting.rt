@@ -2,6 +2,7 @@
 
 ghost use Rattle.std.specs.Prelude.{◌≡◌, ◌≤◌, ℕ, List, length, slice_index_or};
 ghost use Rattle.tt_span.specs.Interval.{Interval, Holds};
+ghost use Rattle.tt_span.specs.Sources.{max_sources};
 ghost use Rattle.tt_fuse.specs.Fusion.{IsPossibleTime, IsFusion};
 ghost use Rattle.tt_fuse.specs.Suspect.{IsSuspect, AreSuspects};
 
@@ -12,7 +13,7 @@ use tt_span::Span;
 /// `spans`, from 0. Spans that touch at one point meet. Requires: there are at most
 /// [`MAX_SOURCES`](crate::MAX_SOURCES) of them.
 pub fn suspects(spans: &[Span], fused: &Span) -> ArrayVec<u8, 16>
-    requires { length spans.now ≤ 16 }
+    requires { length spans.now ≤ max_sources }
     ensures exact { AreSuspects spans.now fused.now result.items }
 {
     let mut found = ArrayVec::new();

@@ -9,6 +9,10 @@ use Rattle.tt_daemon.specs.Publication.{Publication}
 use Rattle.tt_publish.specs.Reading.{fused_span_of, CanBeReadAt, reading_at}
 use Rattle.tt_publish.specs.declared.readings.FusedSpan.{FusedSpan}
 
+-- the most watches that one teller can show its publications to
+abbrev pub max_watches : ℕ
+max_watches = 32
+
 -- publications that are known: the first ones of one source, oldest first
 pub record Known : Type 0 where
   pub source : Book

@@ -1,7 +1,7 @@
 //! What publishes, and what it tells.
 
 ghost use Rattle.std.specs.Prelude.{◌≡◌, ◌<◌, ◌↔◌, ◌⊎◌, ◌++◌, ◌∷◌, [], length, vec_len, All, IfOk, IfSome, OnOk, OnErr, IsErrOf};
-ghost use Rattle.tt_publish.specs.Known.{GoesBack};
+ghost use Rattle.tt_publish.specs.Known.{GoesBack, max_watches};
 
 use crate::faults::PublishFault;
 use crate::publications::{Head, Latest};
@@ -69,7 +69,7 @@ pub fn open<R: Wait>(
     drift: Drift,
     readers: usize,
 ) -> Result<(Teller, Vec<Watch>), PublishFault>
-    ensures places { (readers ≡ 0) ⊎ (32 < readers) → IsErrOf result PublishFault.Places }
+    ensures places { (readers ≡ 0) ⊎ (max_watches < readers) → IsErrOf result PublishFault.Places }
     ensures faults { (¬ IsErrOf result PublishFault.ClockBack) × (¬ IsErrOf result PublishFault.UsedUp) }
     ensures nothing { IfOk result (λ opened. opened.0.items ≡ []) }
     ensures count { IfOk result (λ opened. vec_len opened.1 ≡ readers) }

@@ -1,5 +1,5 @@
 -- What further bytes do to a session.
-use Rattle.std.proofs.Common.{◌≡◌, ◌≢◌, ℕ, ◌+◌, if◌then◌else◌, List, [], ◌∷◌, ◌++◌, Option, None, Result, Ok, Err, OnOk, OnErr, inl, refl, sym, ap, ◌∙◌, subst, arith, append_assoc, append-nil}
+use Rattle.std.proofs.Common.{◌≡◌, ◌≢◌, ℕ, Bool, ◌+◌, if◌then◌else◌, List, [], ◌∷◌, ◌++◌, Option, None, Result, Ok, Err, OnOk, OnErr, inl, refl, sym, ap, ◌∙◌, subst, arith, append_assoc, append-nil}
 use Rattle.std.specs.Io.KnownBytes.{Appends}
 use Rattle.std.proofs.KnownBytes.{Appends-nil, Appends-trans}
 use Rattle.std.proofs.lemmas.List.{flat_map_more, length_push}
@@ -7,7 +7,7 @@ use Rattle.std.proofs.lemmas.List.Sums.{sum_by_push}
 use Rattle.tt_session.specs.Conversation.{Talked}
 use Rattle.tt_session.specs.Answers.{AnswersLine, AnswersLines}
 use Rattle.tt_session.specs.Replies.{text_of, is_refused}
-use Rattle.tt_session.specs.Session.{Session}
+use Rattle.tt_session.specs.Session.{Session, StaysFlushed, FlushedBetween}
 use Rattle.tt_session.specs.Talks.{IsKept, Talks, TalksOn, BreaksIn}
 use Rattle.tt_session.specs.declared.begun.Begun.{Begun}
 use Rattle.tt_session.specs.declared.calls.Call.{Call}
@@ -28,6 +28,12 @@ AnswersLines-more waits (l ∷ lines) calls [] last mid begun line own reply so_
 AnswersLines-more waits (l ∷ lines) calls (r ∷ replies) last mid begun line own reply so_far next =
     let (first, later, kept, is, answered, rest) = so_far in
     (first, later ++ own, kept, ap (λ l. l ++ own) is ∙ append_assoc first later own, answered, AnswersLines-more waits lines later replies kept mid begun line own reply rest next)
+
+-- what was flushed from a later state of the writer on was so from an earlier one on, if it held nothing back between them
+pub Kept-later : {W : Type 0} (shows : W → Option (List ℕ)) (flushed : W → Bool) (taken : Option (List ℕ)) (old mids new : W) (told front : List ℕ) → StaysFlushed flushed old mids
+    → FlushedBetween shows flushed taken mids new told front → FlushedBetween shows flushed taken old new told front
+Kept-later shows flushed taken old mids new told front stays kept =
+    record { mid = kept.mid; stays = λ whole. kept.stays (stays whole); had = kept.had; has = kept.has }
 
 module _ {S : Type 0} (allows : S → Call → S → Type 0) (waits : ℕ) where
   -- before the first byte
@@ -124,27 +130,31 @@ module _ {S : Type 0} (allows : S → Call → S → Type 0) (waits : ℕ) where
       }
 
   -- a line feed, of whose reply a front is written
-  pub BreaksIn-answered : (took takes : Option (List ℕ)) (mid after : S) (talk : Talk) (counted : Served) (begun : Option Begun) (reply : LineReply) (front cut : List ℕ)
+  pub BreaksIn-answered : {W : Type 0} (shows : W → Option (List ℕ)) (flushed : W → Bool) (old new : W) (mid after : S) (talk : Talk) (counted : Served) (begun : Option Begun) (reply : LineReply) (front cut : List ℕ)
       → ((bytes : List ℕ) → IsKept talk.line.items bytes → Talked allows mid after (λ calls. AnswersLine waits talk.last bytes calls reply begun))
       → counted.lines ≡ talk.served.lines + 1
       → counted.refused ≡ talk.served.refused + (if is_refused reply then 1 else 0)
       → text_of reply ≡ front ++ cut
-      → Appends took takes front
-      → BreaksIn allows waits took mid talk (10 ∷ []) takes after
-  BreaksIn-answered took takes mid after talk counted begun reply front cut answered lines refused is written had first past t =
+      → Appends (shows old) (shows new) front
+      → BreaksIn allows waits shows flushed old mid talk (10 ∷ []) new after
+  BreaksIn-answered shows flushed old new mid after talk counted begun reply front cut answered lines refused is written had first past t =
       record {
-        heard = past ++ 10 ∷ [];
-        unheard = [];
-        told = t.text;
-        reply = reply;
-        front = front;
-        cut = cut;
-        served = counted;
-        last = begun;
-        bytes_are = sym (append-nil (past ++ 10 ∷ []));
-        session = Session-answered first past mid after t.text talk.served counted t.rest talk.last begun reply t.session (answered t.rest t.kept) lines refused;
-        reply_is = is;
-        written = Appends-trans had took takes t.text front t.written written;
+        off =
+            record {
+              heard = past ++ 10 ∷ [];
+              unheard = [];
+              told = t.text;
+              reply = reply;
+              front = front;
+              cut = cut;
+              served = counted;
+              last = begun;
+              bytes_are = sym (append-nil (past ++ 10 ∷ []));
+              session = Session-answered first past mid after t.text talk.served counted t.rest talk.last begun reply t.session (answered t.rest t.kept) lines refused;
+              reply_is = is;
+              written = Appends-trans had (shows old) (shows new) t.text front t.written written;
+            };
+        kept = record { mid = old; stays = λ whole. whole; had = t.written; has = written };
       }
 
   -- no further bytes
@@ -158,27 +168,33 @@ module _ {S : Type 0} (allows : S → Call → S → Type 0) (waits : ℕ) where
   TalksOn-trans took mids takes before mid after talk talks talked xs ys one two had first past t =
       rw (← append_assoc past xs ys) (two had first (past ++ xs) (one had first past t))
 
-  -- further bytes, and begun some in which the session broke off, and more behind them
-  pub BreaksIn-more : (took mids takes : Option (List ℕ)) (before mid after : S) (talk talks : Talk) (xs ys zs all : List ℕ) → all ≡ (xs ++ ys) ++ zs
-      → TalksOn allows waits took before talk xs mids mid talks → BreaksIn allows waits mids mid talks ys takes after
-      → BreaksIn allows waits took before talk all takes after
-  BreaksIn-more took mids takes before mid after talk talks xs ys zs all is on breaks had first past t =
+  -- further bytes, and behind them some in which the session broke off, and more behind these
+  pub BreaksIn-more : {W : Type 0} (shows : W → Option (List ℕ)) (flushed : W → Bool) (old mids new : W) (before mid after : S) (talk talks : Talk) (xs ys zs all : List ℕ) → all ≡ (xs ++ ys) ++ zs
+      → StaysFlushed flushed old mids
+      → TalksOn allows waits (shows old) before talk xs (shows mids) mid talks → BreaksIn allows waits shows flushed mids mid talks ys new after
+      → BreaksIn allows waits shows flushed old before talk all new after
+  BreaksIn-more shows flushed old mids new before mid after talk talks xs ys zs all is stays on breaks had first past t =
       let b = breaks had first (past ++ xs) (on had first past t) in
+      let o = b.off in
       record {
-        heard = b.heard;
-        unheard = b.unheard ++ zs;
-        told = b.told;
-        reply = b.reply;
-        front = b.front;
-        cut = b.cut;
-        served = b.served;
-        last = b.last;
-        bytes_are =
-            ap (λ l. past ++ l) is ∙ sym (append_assoc past (xs ++ ys) zs)
-            ∙ ap (λ l. l ++ zs) (sym (append_assoc past xs ys) ∙ b.bytes_are) ∙ append_assoc b.heard b.unheard zs;
-        session = b.session;
-        reply_is = b.reply_is;
-        written = b.written;
+        off =
+            record {
+              heard = o.heard;
+              unheard = o.unheard ++ zs;
+              told = o.told;
+              reply = o.reply;
+              front = o.front;
+              cut = o.cut;
+              served = o.served;
+              last = o.last;
+              bytes_are =
+                  ap (λ l. past ++ l) is ∙ sym (append_assoc past (xs ++ ys) zs)
+                  ∙ ap (λ l. l ++ zs) (sym (append_assoc past xs ys) ∙ o.bytes_are) ∙ append_assoc o.heard o.unheard zs;
+              session = o.session;
+              reply_is = o.reply_is;
+              written = o.written;
+            };
+        kept = Kept-later shows flushed had old mids new o.told o.front stays b.kept;
       }
 
 -- what holds in any case holds of an `Ok`

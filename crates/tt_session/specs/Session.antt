@@ -1,5 +1,5 @@
 -- A whole session, and what it reads and writes.
-use Rattle.std.specs.Prelude.{◌≡◌, ℕ, List, [], ◌++◌, length, count_by, Option, None}
+use Rattle.std.specs.Prelude.{◌≡◌, ℕ, Bool, true, List, [], ◌++◌, length, count_by, Option, None}
 use Rattle.std.specs.List.{flat_map}
 use Rattle.std.specs.Io.KnownBytes.{Appends, Consumes}
 use Rattle.tt_session.specs.Lines.{Splits}
@@ -53,3 +53,19 @@ pub record Breaks {S : Type 0} (allows : S → Call → S → Type 0) (waits : �
   pub bytes : List ℕ
   pub read : Consumes left left' bytes
   pub breaks : BreaksOff allows waits taken taken' before bytes after
+
+-- a writer went from one state to another: where it held nothing back before, it holds nothing back after
+abbrev pub StaysFlushed : {W : Type 0} → (W → Bool) → W → W → Type 0
+StaysFlushed flushed old new = flushed old ≡ true → flushed new ≡ true
+
+-- the writer took one text and flushed it, and behind it another, of which it may hold back some
+pub record FlushedBetween {W : Type 0} (shows : W → Option (List ℕ)) (flushed : W → Bool) (taken : Option (List ℕ)) (old new : W) (told front : List ℕ) : Type 0 where
+  pub mid : W
+  pub stays : StaysFlushed flushed old mid
+  pub had : Appends taken (shows mid) told
+  pub has : Appends (shows mid) (shows new) front
+
+-- bytes were read, and the session of the first of them broke off in its last reply; all replies before it were flushed
+pub record BreaksFlushed {S W : Type 0} (allows : S → Call → S → Type 0) (waits : ℕ) (left left' : Option (List ℕ)) (shows : W → Option (List ℕ)) (flushed : W → Bool) (before after : S) (old new : W) : Type 0 where
+  pub broke : Breaks allows waits left left' (shows old) (shows new) before after
+  pub kept : FlushedBetween shows flushed (shows old) old new broke.breaks.told broke.breaks.front

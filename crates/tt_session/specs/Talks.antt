@@ -1,8 +1,8 @@
 -- A session in the middle of its bytes.
-use Rattle.std.specs.Prelude.{◌≡◌, ℕ, ◌<◌, ◌≤◌, ◌⊎◌, List, ◌++◌, length, Option}
+use Rattle.std.specs.Prelude.{◌≡◌, ℕ, ◌<◌, ◌≤◌, ◌⊎◌, Bool, List, ◌++◌, length, Option}
 use Rattle.std.specs.Io.KnownBytes.{Appends}
 use Rattle.tt_session.specs.Lines.{max_line}
-use Rattle.tt_session.specs.Session.{Session, BreaksOff}
+use Rattle.tt_session.specs.Session.{Session, BreaksOff, FlushedBetween}
 use Rattle.tt_session.specs.declared.calls.Call.{Call}
 use Rattle.tt_session.specs.declared.talks.Talk.{Talk}
 
@@ -23,7 +23,13 @@ abbrev pub TalksOn : {S : Type 0} → (S → Call → S → Type 0) → ℕ → 
 TalksOn {S} allows waits took before talk bytes takes after talks =
     (had : Option (List ℕ)) (first : S) (past : List ℕ) → Talks allows waits had took first past before talk → Talks allows waits had takes first (past ++ bytes) after talks
 
+-- a session of some bytes broke off in its last reply, and all replies before it were flushed
+pub record BreaksOffFlushed {S W : Type 0} (allows : S → Call → S → Type 0) (waits : ℕ) (shows : W → Option (List ℕ)) (flushed : W → Bool) (had : Option (List ℕ)) (old new : W) (before : S) (bytes : List ℕ) (after : S) : Type 0 where
+  pub off : BreaksOff allows waits had (shows new) before bytes after
+  pub kept : FlushedBetween shows flushed had old new off.told off.front
+
 -- a session that stood before these further bytes broke off within them
-abbrev pub BreaksIn : {S : Type 0} → (S → Call → S → Type 0) → ℕ → Option (List ℕ) → S → Talk → List ℕ → Option (List ℕ) → S → Type 0
-BreaksIn {S} allows waits took before talk bytes takes after =
-    (had : Option (List ℕ)) (first : S) (past : List ℕ) → Talks allows waits had took first past before talk → BreaksOff allows waits had takes first (past ++ bytes) after
+abbrev pub BreaksIn : {S W : Type 0} → (S → Call → S → Type 0) → ℕ → (W → Option (List ℕ)) → (W → Bool) → W → S → Talk → List ℕ → W → S → Type 0
+BreaksIn {S} {W} allows waits shows flushed old before talk bytes new after =
+    (had : Option (List ℕ)) (first : S) (past : List ℕ) → Talks allows waits had (shows old) first past before talk
+    → BreaksOffFlushed allows waits shows flushed had old new first (past ++ bytes) after

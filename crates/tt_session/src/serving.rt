@@ -4,7 +4,7 @@ ghost use Rattle.std.specs.Prelude.{◌≡◌, ◌≢◌, ℕ, ◌≤◌, ◌⊎
 ghost use Rattle.std.specs.Io.KnownBytes.{IsAtEnd};
 ghost use Rattle.tt_stream.specs.Counts.{HasFailed, CountsOn};
 ghost use Rattle.tt_session.specs.Lines.{Splits, lines_of, rest_of};
-ghost use Rattle.tt_session.specs.Session.{Serves, Breaks};
+ghost use Rattle.tt_session.specs.Session.{Serves, Breaks, StaysFlushed, BreaksFlushed};
 ghost use Rattle.tt_session.specs.declared.serving.Served.{Served};
 
 use crate::faults::ServeFault;
@@ -60,6 +60,11 @@ pub fn serve<R: ByteReader, W: ByteWriter, S: Service>(
         (R.left reader.old) (R.left reader.new) (W.taken writer.old) (W.taken writer.new) service.old service.new served }
     ensures write_failed { IsErrOf result ServeFault.WriteFailed → Breaks S.allows turns.waits (R.left reader.old)
         (R.left reader.new) (W.taken writer.old) (W.taken writer.new) service.old service.new }
+
+    // Each reply was flushed before the next line was answered; what was flushed stays a front of what was written.
+    ensures flushed { (result ≢ Err ServeFault.WriteFailed) → StaysFlushed W.flushed writer.old writer.new }
+    ensures flushed_before { IsErrOf result ServeFault.WriteFailed → BreaksFlushed S.allows turns.waits (R.left reader.old)
+        (R.left reader.new) W.taken W.flushed service.old service.new writer.old writer.new }
 
     // Each fault has its cause.
     ensures why_read { IsErrOf result ServeFault.ReadFailed → HasFailed (R.failed reader.old) (R.failed reader.new)

@@ -5,6 +5,7 @@ ghost use Rattle.tt_stream.specs.Counts.{HasFailed};
 ghost use Rattle.tt_session.specs.Conversation.{Talked};
 ghost use Rattle.tt_session.specs.Answers.{AnswersLine};
 ghost use Rattle.tt_session.specs.Replies.{is_refused};
+ghost use Rattle.tt_session.specs.Session.{StaysFlushed};
 ghost use Rattle.tt_session.specs.Talks.{IsKept, TalksOn, BreaksIn};
 
 use crate::answers::answer;
@@ -61,8 +62,9 @@ pub(crate) fn hear<W: ByteWriter, S: Service>(
     ensures more { talk.new.served.lines ≤ talk.old.served.lines + length bytes.now }
     ensures ok { OnOk result (TalksOn S.allows waits (W.taken writer.old) service.old talk.old bytes.now
         (W.taken writer.new) service.new talk.new) }
-    ensures err { OnErr result (BreaksIn S.allows waits (W.taken writer.old) service.old talk.old bytes.now
-        (W.taken writer.new) service.new) }
+    ensures err { OnErr result (BreaksIn S.allows waits W.taken W.flushed writer.old service.old talk.old bytes.now
+        writer.new service.new) }
+    ensures flushed { OnOk result (StaysFlushed W.flushed writer.old writer.new) }
     ensures sound { OnOk result (W.failed writer.new ≡ W.failed writer.old) }
     ensures cause { OnErr result (HasFailed (W.failed writer.old) (W.failed writer.new)) }
 {
@@ -86,8 +88,9 @@ fn take<W: ByteWriter, S: Service>(
     ensures more { talk.new.served.lines ≤ talk.old.served.lines + 1 }
     ensures ok { OnOk result (TalksOn S.allows waits (W.taken writer.old) service.old talk.old (byte ∷ [])
         (W.taken writer.new) service.new talk.new) }
-    ensures err { OnErr result (BreaksIn S.allows waits (W.taken writer.old) service.old talk.old (byte ∷ [])
-        (W.taken writer.new) service.new) }
+    ensures err { OnErr result (BreaksIn S.allows waits W.taken W.flushed writer.old service.old talk.old (byte ∷ [])
+        writer.new service.new) }
+    ensures flushed { OnOk result (StaysFlushed W.flushed writer.old writer.new) }
     ensures sound { OnOk result (W.failed writer.new ≡ W.failed writer.old) }
     ensures cause { OnErr result (HasFailed (W.failed writer.old) (W.failed writer.new)) }
 {

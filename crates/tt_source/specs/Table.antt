@@ -2,7 +2,8 @@
 use Rattle.std.specs.Prelude.{ℕ, ◌≡◌, ◌<◌, ◌≤◌, ◌+◌, ◌-◌, ◌^◌, Bool, nat_lt, ◌==◌, ◌&&◌, ◌||◌, not, if◌then◌else◌, List, length, replicate, count_by, All, slice_index_or, slice_set, Option, Some, None, is_some, IfSome, Result, Ok, Err}
 use Rattle.tt_span.specs.Time.{max_time}
 use Rattle.tt_span.specs.Interval.{Interval, IsInterval}
-use Rattle.tt_poll.specs.Message.{PollAnswer2, IsEpoch, max_machine, max_source}
+use Rattle.tt_span.specs.Sources.{max_sources}
+use Rattle.tt_poll.specs.Message.{PollAnswer2, IsEpoch, max_machine}
 use Rattle.tt_poll.specs.Spelling.{spelling_of2}
 use Rattle.tt_poll.specs.Reading.{read_of2}
 use Rattle.tt_poll.specs.declared.messages.Message2.{Message2}
@@ -31,10 +32,6 @@ pub record TableState : Type 0 where
   pub last : ℕ
   pub clock : ℕ
   pub sources : List SourceState
-
--- the greatest count of sources: as many as requests can name
-abbrev pub max_sources : ℕ
-max_sources = max_source + 1
 
 -- a poll that waits has a nonce that was used, and was sent at the table's clock or before
 pub record IsSending (last clock : ℕ) (sending : Sending) : Type 0 where

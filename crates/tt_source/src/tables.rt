@@ -3,23 +3,21 @@
 ghost use Rattle.std.specs.Prelude.{◌≡◌, ◌<◌, ◌≤◌, ◌↔◌, length, Some, None, Ok, Err, IsOk, IfOk, IfErr, IfSome, OnOk, OnErr};
 ghost use Rattle.tt_span.specs.Time.{max_time};
 ghost use Rattle.tt_span.specs.Interval.{Interval, IsInterval};
+ghost use Rattle.tt_span.specs.Sources.{max_sources};
 ghost use Rattle.tt_poll.specs.Message.{max_machine};
 ghost use Rattle.tt_poll.specs.Spelling.{spelling_of2};
 ghost use Rattle.tt_poll.specs.Reading.{read_of2};
 ghost use Rattle.tt_poll.specs.declared.messages.Message2.TheVariants as message;
 ghost use Rattle.tt_source.specs.Statement.{IsStatement};
-ghost use Rattle.tt_source.specs.Table.{Sending, IsTable, max_sources, new_table, source_at, poll_of, take_of, statement_of_message, aged_of, is_back as is_back_of, known_of, is_known_of, CanBeCalled, IsAwaitedAnswer};
+ghost use Rattle.tt_source.specs.Table.{Sending, IsTable, new_table, source_at, poll_of, take_of, statement_of_message, aged_of, is_back as is_back_of, known_of, is_known_of, CanBeCalled, IsAwaitedAnswer};
 
 use crate::faults::SourceFault;
 use crate::slots::Slot;
 use crate::statements::Statement;
 use arrayvec::ArrayVec;
 use std::marker::Model;
-use tt_poll::{Answer2, MAX_SOURCE, Message2, REQUEST2_LEN, Request2, decode2, encode_request2};
-use tt_span::{Drift, MAX_TIME, Span};
-
-/// The greatest count of sources: as many as requests can name.
-const MAX_SOURCES: usize = MAX_SOURCE as usize + 1;
+use tt_poll::{Answer2, Message2, REQUEST2_LEN, Request2, decode2, encode_request2};
+use tt_span::{Drift, MAX_SOURCES, MAX_TIME, Span};
 
 /// What one machine knows of its sources, which are numbered from 0: of each at most one poll that waits for its
 /// answer, and one statement, the last answer that was taken. That a machine polls several sources is Spanner's

@@ -3,3 +3,4 @@ pub mod Time
 pub mod Interval
 pub mod Drift
 pub mod Statement
+pub mod Sources

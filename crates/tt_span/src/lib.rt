@@ -8,7 +8,9 @@
 #![tactic(auto)]
 
 mod drifts;
+mod sources;
 mod spans;
 
 pub use drifts::{Drift, MAX_DRIFT, drift_laws};
+pub use sources::MAX_SOURCES;
 pub use spans::{MAX_TIME, Span, SpanFault};

@@ -4,6 +4,7 @@ pub mod Waiting
 pub mod Histories
 pub mod Releases
 pub mod Waits
+pub mod Forgetting
 pub mod InOrder
 pub mod Places
 pub mod Standings

@@ -87,7 +87,7 @@ Contains-remove_entry_apart k c (e ∷ es) asc h =
     removed_apart k c e es (remove_entry (λ s. k == s) es) asc _ refl (Contains-remove_entry_apart k c es asc.1) h
 
 -- ---- one commit for each stamp, and for each id
-one_for_stamp : (es : List Commit) → Ascends es → (stamp : ℕ) (i j : Id) → Contains es (stamp, i) → Contains es (stamp, j) → i ≡ j
+pub one_for_stamp : (es : List Commit) → Ascends es → (stamp : ℕ) (i j : Id) → Contains es (stamp, i) → Contains es (stamp, j) → i ≡ j
 one_for_stamp [] asc stamp i j a b = absurd (Contains-nil _ a)
 one_for_stamp (e ∷ es) asc stamp i j a b =
     let above : (v : Id) → Contains es (stamp, v) → e.0 < stamp = λ v h. All-contains (λ (d : Commit). e.0 < d.0) es (stamp, v) (All-from_recursion (λ (d : Commit). e.0 < d.0) es asc.0) h in

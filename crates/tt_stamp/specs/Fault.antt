@@ -7,6 +7,8 @@ use Rattle.tt_stamp.specs.declared.faults.BeginFault.{BeginFault}
 use Rattle.tt_stamp.specs.declared.faults.BeginFault.TheVariants as begin
 use Rattle.tt_stamp.specs.declared.faults.BookFault.{BookFault}
 use Rattle.tt_stamp.specs.declared.faults.BookFault.TheVariants as book
+use Rattle.tt_stamp.specs.declared.faults.ForgetFault.{ForgetFault}
+use Rattle.tt_stamp.specs.declared.faults.ForgetFault.TheVariants as forget
 
 -- the number of each refusal of a stamp
 abbrev pub number_of : StampFault → ℕ
@@ -27,3 +29,8 @@ book_number_of book.Full = 1001
 book_number_of book.IdThere = 1002
 book_number_of book.StampThere = 1003
 book_number_of book.Memory = 1
+
+-- the number of each refusal to forget a session
+abbrev pub forget_number_of : ForgetFault → ℕ
+forget_number_of forget.Waits = 1004
+forget_number_of forget.Memory = 1

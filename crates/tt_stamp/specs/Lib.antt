@@ -2,6 +2,7 @@ pub mod Fault
 pub mod Stamp
 pub mod Ids
 pub mod History
+pub mod Forgetting
 pub mod Book
 pub mod Stamping
 pub mod Sequencing

@@ -1,12 +1,14 @@
 //! The commits that wait until their stamps have surely passed.
 
-ghost use Rattle.std.specs.Prelude.{◌≡◌, ◌≢◌, ℕ, ◌+◌, ◌^◌, ◌<◌, ◌≤◌, ◌↔◌, true, false, List, [], ◌∷◌, ◌++◌, length, reverse, map, Contains, Some, None, Ok, Err, IsOk, OnOk, OnErr, IfSome, IfNone, MatchOption, IsOkUnless, IsSome, vec_len, vec_capacity, nat_lt, if◌then◌else◌};
+ghost use Rattle.std.specs.Prelude.{◌≡◌, ◌≢◌, ℕ, ◌+◌, ◌^◌, ◌<◌, ◌≤◌, ◌↔◌, true, false, IsTrue, List, [], ◌∷◌, ◌++◌, length, reverse, map, Contains, Some, None, Ok, Err, IsOk, OnOk, OnErr, IfOk, IfErr, IsErrOf, IfSome, IfNone, MatchOption, IsOkUnless, IsSome, vec_len, vec_capacity, nat_lt, if◌then◌else◌};
 ghost use Rattle.std.specs.List.Sorted.{IsStrictlyIncreasing, IsNonDecreasing, IsNonDecreasingBy, IsPartitionPoint};
 ghost use Rattle.std.specs.BTreeMap as tree;
 ghost use Rattle.std.specs.BTreeMap.{is_at, insert_entry};
 ghost use Rattle.std.specs.VecDeque.{deque_len, deque_capacity};
 ghost use Rattle.std.specs.Ordering.{nat_cmp};
 ghost use Rattle.tt_stamp.specs.History.{MayQueue, Waits, IsLegalHistory, IsRelease, IsIdThere, IsStampThere, waiting_of, released_of, release_of, with_receipts, first_queue_fault, receipt_of, has_stamp, max_waiting};
+ghost use Rattle.tt_stamp.specs.History.{IsNextReceipt, MayFollow};
+ghost use Rattle.tt_stamp.specs.Forgetting.{session_of as session_in, without_session, HasSession, WaitsIn};
 ghost use Rattle.tt_stamp.specs.Book.{IsReleaseTurn, IsPlaceOf, is_among};
 ghost use Rattle.tt_stamp.specs.Ids.{id_cmp};
 ghost use Rattle.tt_stamp.specs.declared.commits.Id.{Id};
@@ -14,7 +16,7 @@ ghost use Rattle.tt_stamp.specs.declared.commits.Entry.{Entry};
 ghost use Rattle.tt_stamp.specs.declared.commits.Receipt.{Receipt};
 
 use crate::commits::{Entry, Id, Receipt, Standing};
-use crate::faults::BookFault;
+use crate::faults::{BookFault, ForgetFault};
 use std::alloc::{AllocError, Global};
 use std::collections::{BTreeMap, VecDeque};
 use std::marker::Model;
@@ -25,7 +27,7 @@ pub const MAX_WAITING: usize = 65_536;
 
 /// The commits of one machine: which wait, and which were released. Contracts see its history, newest first.
 ///
-/// Receipts are kept for good.
+/// Receipts are kept until their session is forgotten.
 #[derive(Debug, Drop)]
 pub struct Book {
     history: Vec<Entry>,
@@ -130,7 +132,9 @@ impl Book {
     // Releases the waiting commit with the least stamp, which is below the earliest.
     fn pass(&mut self, earliest: u64)
         requires { 0 < length (release_of (waiting_of self.old) earliest) }
-        ensures { IsReleaseTurn self.old self.new earliest }
+        ensures turn { IsReleaseTurn self.old self.new earliest }
+        ensures next { (receipt : Receipt) × (receipt.earliest ≡ earliest) × IsNextReceipt self.old receipt
+            × (self.new ≡ Entry.Passed receipt ∷ self.old) }
     {
         let Some((stamp, id)) = self.waiting.pop_front() else {
             unreachable!()
@@ -157,6 +161,61 @@ impl Book {
             unreachable!()
         };
         Some(receipt)
+    }
+
+    /// Forgets a session whose commits are all released: the entries of its commits leave the history, and their memory
+    /// is given back. What the other sessions have stays: the commits that wait, the receipts, and that their ids and
+    /// stamps are there. Ids and stamps of the session may be queued again.
+    ///
+    /// Refuses, in this order: 1004 `Waits` where a commit of the session waits, 1 `Memory`. After a refusal the book is
+    /// as it was. The book is made anew from what stays, so until that is done both take memory.
+    pub fn forget(&mut self, alloc: Global, session: u32) -> Result<(), ForgetFault>
+        ensures waits { IsErrOf result ForgetFault.Waits ↔ WaitsIn self.old session }
+        ensures ok { OnOk result (self.new ≡ without_session session self.old) }
+        ensures err { OnErr result (self.new ≡ self.old) }
+        // So what waits is the same, and each receipt of another session.
+        ensures waiting { waiting_of self.new ≡ waiting_of self.old }
+        ensures receipts { (id : Id) → id.session ≢ session → receipt_of self.new id ≡ receipt_of self.old id }
+        ensures legal { IsLegalHistory self.new }
+    {
+        if has_session(&self.waiting, session) {
+            return Err(ForgetFault::Waits);
+        }
+        let kept = self.without(alloc, session)?;
+        *self = kept;
+        Ok(())
+    }
+
+    // The book in which only what the other sessions did has happened.
+    fn without(&self, alloc: Global, session: u32) -> Result<Book, ForgetFault>
+        ensures ok { IfOk result (λ kept. kept ≡ without_session session self.now) }
+        ensures err { IfErr result (λ fault. fault ≡ ForgetFault.Memory) }
+    {
+        let mut kept = Book::new(alloc);
+        for entry in self.history() {
+            if session_of(entry) != session {
+                kept.follow(entry)?;
+            }
+        }
+        Ok(kept)
+    }
+
+    // Does once more what an entry says.
+    fn follow(&mut self, entry: &Entry) -> Result<(), ForgetFault>
+        requires { MayFollow self.old entry.now }
+        ensures ok { OnOk result (self.new ≡ entry.now ∷ self.old) }
+        ensures err { IfErr result (λ fault. fault ≡ ForgetFault.Memory) }
+    {
+        match *entry {
+            Entry::Queued { id, stamp } => match self.queue(id, stamp) {
+                Ok(()) => Ok(()),
+                Err(_) => Err(ForgetFault::Memory),
+            },
+            Entry::Passed(receipt) => {
+                self.pass(receipt.earliest);
+                Ok(())
+            }
+        }
     }
 
     /// How many commits wait: at most [`MAX_WAITING`].
@@ -204,6 +263,31 @@ pub fn book_laws()
     ensures legal { (past : List Entry) (earliest : ℕ) → IsLegalHistory past →
         IsLegalHistory (with_receipts (release_of (waiting_of past) earliest) past) }
 {}
+
+/// Laws of histories without a session.
+///
+/// Without a session a legal history is legal. An id is there exactly where it was and is of another session, and a
+/// stamp where a commit of another session has it.
+pub fn forget_laws()
+    ensures legal { (past : List Entry) (session : ℕ) → IsLegalHistory past → IsLegalHistory (without_session session past) }
+    ensures receipts { (past : List Entry) (session : ℕ) (id : Id) → id.session ≢ session →
+        receipt_of (without_session session past) id ≡ receipt_of past id }
+    ensures ids { (past : List Entry) (session : ℕ) (id : Id) →
+        IsIdThere (without_session session past) id ↔ (IsIdThere past id × (id.session ≢ session)) }
+    ensures stamps { (past : List Entry) (session stamp : ℕ) →
+        IsStampThere (without_session session past) stamp
+        ↔ ((id : Id) × Contains past (Entry.Queued id stamp) × (id.session ≢ session)) }
+{}
+
+// The session of the commit that an entry is of.
+fn session_of(entry: &Entry) -> u32
+    ensures { result ≡ session_in entry.now }
+{
+    match entry {
+        Entry::Queued { id, stamp: _ } => id.session,
+        Entry::Passed(receipt) => receipt.id.session,
+    }
+}
 
 // Writes where a commit stands that is there.
 fn set_standing(standings: &mut BTreeMap<Id, Standing>, id: Id, standing: Standing)
@@ -258,6 +342,18 @@ fn count_below(waiting: &VecDeque<(u64, Id)>, stamp: u64) -> usize
         }
     }
     waiting.partition_point(|commit| commit.0 < stamp)
+}
+
+// Whether one of these commits is of this session.
+fn has_session(commits: &VecDeque<(u64, Id)>, session: u32) -> bool
+    ensures { IsTrue result ↔ HasSession commits.now.items session }
+{
+    for place in 0..commits.len() {
+        if commits[place].1.session == session {
+            return true;
+        }
+    }
+    false
 }
 
 // Puts a commit with a new stamp in its place among those that wait, for which there is room.

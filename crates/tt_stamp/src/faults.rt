@@ -1,7 +1,7 @@
 //! Why a stamp was not given, why a commit did not begin, and why one was not queued.
 
 ghost use Rattle.std.specs.Prelude.{◌≡◌};
-ghost use Rattle.tt_stamp.specs.Fault.{number_of, begin_number_of, book_number_of};
+ghost use Rattle.tt_stamp.specs.Fault.{number_of, begin_number_of, book_number_of, forget_number_of};
 
 use thiserror::Error;
 use tt_publish::ReadFault;
@@ -82,6 +82,27 @@ impl BookFault {
             BookFault::IdThere => 1002,
             BookFault::StampThere => 1003,
             BookFault::Memory => 1,
+        }
+    }
+}
+
+/// Why a session was not forgotten. The book is as it was.
+#[derive(Clone, Copy, Debug, PartialEq, Eq, Error)]
+pub enum ForgetFault {
+    #[error("a commit of the session waits")]
+    Waits,
+    #[error("out of memory")]
+    Memory,
+}
+
+impl ForgetFault {
+    /// The fault's number: 1004 `Waits`, 1 `Memory`.
+    pub fn number(&self) -> u16
+        ensures { result ≡ forget_number_of self.now }
+    {
+        match self {
+            ForgetFault::Waits => 1004,
+            ForgetFault::Memory => 1,
         }
     }
 }

@@ -7,7 +7,8 @@
 //! beginning.
 //!
 //! A [`Book`] keeps the commits that wait. A release with a reading releases those whose stamp is below its earliest,
-//! least stamp first, and keeps a [`Receipt`] of each for good. What happened in it is a legal history.
+//! least stamp first, and keeps a [`Receipt`] of each until its session is forgotten. What happened in it is a legal
+//! history.
 //!
 //! [`begin_step`] and [`release_step`] take the reading themselves, from a watch of the publications: so neither goes
 //! by a reading that was taken before the call.
@@ -26,9 +27,9 @@ mod sequencers;
 mod stampings;
 mod steps;
 
-pub use books::{Book, MAX_WAITING, book_laws};
+pub use books::{Book, MAX_WAITING, book_laws, forget_laws};
 pub use commits::{Entry, Id, Receipt};
-pub use faults::{BeginFault, BookFault, StampFault};
+pub use faults::{BeginFault, BookFault, ForgetFault, StampFault};
 pub use rows::{MAX_AHEAD, Row, stamp_laws};
 pub use sequencers::{MAX_SEATS, Seat, Sequencer, seat_laws};
 pub use stampings::Stamping;

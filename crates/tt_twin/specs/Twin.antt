@@ -10,7 +10,7 @@ use Rattle.tt_world.specs.declared.events.Action.{Action}
 use Rattle.tt_world.specs.declared.events.Action.TheVariants as does
 use Rattle.tt_world.specs.declared.events.Reply.{Reply}
 use Rattle.tt_world.specs.declared.events.Reply.TheVariants as replies
-use Rattle.tt_world.specs.Config.{config_at}
+use Rattle.tt_world.specs.Config.{config_at, max_machines}
 use Rattle.tt_world.specs.Bad.{accepted}
 use Rattle.tt_world.specs.Reply.{reply_of}
 use Rattle.tt_twin.specs.declared.twins.Side.{Side}
@@ -84,5 +84,5 @@ twin_of_event side configs past (Some event) = twin_of_reply side configs (accep
 -- the twin of event k of a list of events and this side
 abbrev pub twin_of : List Configuration → List Event → ℕ → Side → Result (List Event) TwinFault
 twin_of configs events k side =
-    if length configs == 0 || nat_lt 8 (length configs) then Err Machines
+    if length configs == 0 || nat_lt max_machines (length configs) then Err Machines
     else twin_of_event side configs (reverse (take k events)) (slice_get events k)

@@ -9,7 +9,7 @@ ghost use Rattle.tt_twin.specs.declared.twins.Side.{Side};
 ghost use Rattle.tt_twin.specs.Observation.{IsObservation, glance_again, asked_in, is_read, twin_of_asked};
 ghost use Rattle.tt_daemon.specs.Config.{Configuration};
 ghost use Rattle.tt_world.specs.declared.events.Event.{Event};
-ghost use Rattle.tt_world.specs.Config.{config_at};
+ghost use Rattle.tt_world.specs.Config.{config_at, max_machines};
 ghost use Rattle.tt_world.specs.Headline.{AreConfigurations};
 ghost use Rattle.tt_world.specs.Publications.{shown_of};
 ghost use Rattle.tt_world.specs.Trace.{outline};
@@ -292,7 +292,7 @@ pub fn twin(
 
     // Memory is taken only where there is a machine and no more than eight, and event k is there and reads: the run up to
     // it has to be made before it is known whether it is a reading, and whether that ends in time.
-    ensures memory_only { IfErr result (λ e. e ≡ TwinFault.Memory → AsksToRead events.now k × (0 < length configs.now) × (length configs.now ≤ 8)) }
+    ensures memory_only { IfErr result (λ e. e ≡ TwinFault.Memory → AsksToRead events.now k × (0 < length configs.now) × (length configs.now ≤ max_machines)) }
 
     // In the twin no event is refused and the assumptions are kept; the machine sees the same spans, the same number of
     // sources that may lie, the same clock readings and the same readings up to this one; and the true time is then at
@@ -340,7 +340,7 @@ pub fn twin(
 pub fn twin_laws()
     // By 1207 where there is no machine, or more than eight.
     ensures machines { (configs : List Configuration) (events : List Event) (k : ℕ) (side : Side) →
-        (twin_of configs events k side ≡ Err TwinFault.Machines) ↔ ((length configs ≡ 0) ⊎ (8 < length configs)) }
+        (twin_of configs events k side ≡ Err TwinFault.Machines) ↔ ((length configs ≡ 0) ⊎ (max_machines < length configs)) }
 
     // Else by 1401 where event k is not there, or its reply is no reading.
     ensures not_a_reading { (configs : List Configuration) (events : List Event) (k : ℕ) (side : Side) →

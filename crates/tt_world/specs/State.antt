@@ -5,7 +5,7 @@ use Rattle.tt_world.specs.Life.{life_at}
 use Rattle.tt_world.specs.declared.events.Event.{Event}
 use Rattle.tt_world.specs.declared.packets.Packet.{Packet}
 use Rattle.tt_daemon.specs.Config.{Configuration}
-use Rattle.tt_world.specs.Config.{config_at}
+use Rattle.tt_world.specs.Config.{config_at, max_machines}
 use Rattle.tt_world.specs.Past.{time_of, packets_of}
 use Rattle.tt_world.specs.Sources.{statement_of}
 use Rattle.tt_world.specs.Publications.{Showing, shown_of}
@@ -21,7 +21,7 @@ pub record WorldState : Type 0 where
 
 -- what always holds of what is kept of a run
 pub record IsWorld (world : WorldState) : Type 0 where
-  pub few_machines : length world.machines ≤ 8
+  pub few_machines : length world.machines ≤ max_machines
 
 -- what is kept of a run of these events, none of them bad
 abbrev pub state_of : List Configuration → List Event → WorldState

@@ -3,6 +3,7 @@ use Rattle.std.specs.Prelude.{◌≡◌, ◌≤◌, List, [], length, map, rever
 use Rattle.tt_world.specs.declared.events.Reply.{Reply}
 use Rattle.tt_world.specs.declared.publications.Shown.{Shown}
 use Rattle.tt_daemon.specs.Config.{Configuration}
+use Rattle.tt_world.specs.Config.{max_machines}
 use Rattle.tt_world.specs.declared.events.Event.{Event}
 use Rattle.tt_world.specs.Publications.{Showing, shown_of}
 use Rattle.tt_world.specs.Bad.{accepted}
@@ -28,7 +29,7 @@ outline s = record {
 
 -- the trace is that of a run of these events, the oldest first, on these machines: there are eight machines at most, machines and events are such as can be, each reply is the one that is defined, and each publication is shown with its certificate
 pub record IsTraceOf (configs : List Configuration) (events : List Event) (trace : RunTrace) : Type 0 where
-  pub few : length configs ≤ 8
+  pub few : length configs ≤ max_machines
   pub configurations : AreConfigurations configs
   pub can_be : AreEvents events
   pub replies : trace.replies ≡ replies_from configs [] events

@@ -5,6 +5,7 @@ ghost use Rattle.std.specs.Vec.{vec_len, vec_capacity};
 ghost use Rattle.tt_span.specs.Time.{max_time};
 ghost use Rattle.tt_source.specs.Table.{poll_of, take_of, is_known_of};
 ghost use Rattle.tt_daemon.specs.Config.{IsConfiguration};
+ghost use Rattle.tt_world.specs.Config.{max_machines};
 ghost use Rattle.tt_world.specs.Packet.{source_of_packet, bytes_of};
 ghost use Rattle.tt_world.specs.Life.{life_at};
 ghost use Rattle.tt_world.specs.Private.Machine.{MachineState, IsMachine, machine_of};
@@ -65,7 +66,7 @@ impl Model for Machine {
 impl Machine {
     /// A machine of which nothing is known yet, as the one of this number.
     pub fn new(alloc: Global, number: u8, config: Config) -> Machine
-        requires { number < 8 }
+        requires { number < max_machines }
         ensures fresh { result ≡ machine_of config [] (life_at [] number) }
         ensures valid { IsConfiguration config }
     {
@@ -81,7 +82,7 @@ impl Machine {
         lease: Span,
         clock: u64,
     ) -> Machine
-        requires machine_in { number < 8 }
+        requires machine_in { number < max_machines }
         requires some_life { 0 < life }
         requires in_time { clock ≤ max_time }
         ensures fresh { result ≡ machine_in config number life lease clock }
@@ -230,7 +231,7 @@ impl Machine {
         number: u8,
         machine_action: MachineAction,
     ) -> Result<Reply, WorldFault>
-        requires { number < 8 }
+        requires { number < max_machines }
         ensures { Does TakesMemory (machine_outcome number self.old machine_action) self.old result self.new }
     {
         match machine_action {
@@ -250,7 +251,7 @@ impl Machine {
 
     /// Restarts, as the machine of this number.
     fn restart(&mut self, alloc: Global, number: u8, clock: u64) -> Result<Reply, WorldFault>
-        requires { number < 8 }
+        requires { number < max_machines }
         ensures { Does TakesMemory (machine_outcome number self.old (MachineAction.Restart clock)) self.old result self.new }
     {
         if clock > MAX_TIME {

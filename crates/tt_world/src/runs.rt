@@ -9,7 +9,7 @@ ghost use Rattle.tt_world.specs.Publications.{shown_of};
 ghost use Rattle.tt_world.specs.Trace.{outline, IsTraceOf};
 ghost use Rattle.tt_world.specs.Commits.{book_of};
 ghost use Rattle.tt_world.specs.Life.{Life};
-ghost use Rattle.tt_world.specs.Config.{config_at};
+ghost use Rattle.tt_world.specs.Config.{config_at, max_machines};
 ghost use Rattle.tt_world.specs.declared.events.Event.{Event};
 ghost use Rattle.tt_daemon.specs.Config.{Configuration};
 ghost use Rattle.tt_stamp.specs.History.{IsLegalHistory};
@@ -91,7 +91,7 @@ pub fn run(alloc: Global, configs: &[Config], events: &[Event]) -> Result<Trace,
     // All that the trace is, as one fact that a caller can require.
     ensures trace { IfOk result (λ trace. IsTraceOf configs.now events.now trace) }
 
-    ensures machines { IsErrOf result WorldFault.Machines ↔ ((length configs.now ≡ 0) ⊎ (8 < length configs.now)) }
+    ensures machines { IsErrOf result WorldFault.Machines ↔ ((length configs.now ≡ 0) ⊎ (max_machines < length configs.now)) }
     ensures refused { IfErr result (λ e. (e ≡ WorldFault.Machines) ⊎ (e ≡ WorldFault.Memory)) }
 {
     let mut world = World::new(alloc, configs)?;

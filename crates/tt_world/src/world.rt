@@ -2,6 +2,7 @@
 
 ghost use Rattle.std.specs.Prelude.{◌≡◌, ℕ, ◌+◌, ◌<◌, ◌≤◌, slice_get, List, [], ◌∷◌, length, map, ◌↔◌, ◌⊎◌, ◌-◌, ◌^◌, IfOk, IfErr, OnOk, OnErr, IsErrOf, None};
 ghost use Rattle.tt_daemon.specs.Config.{Configuration};
+ghost use Rattle.tt_world.specs.Config.{max_machines};
 ghost use Rattle.tt_world.specs.declared.events.Event.{Event};
 ghost use Rattle.tt_world.specs.declared.events.Reply.{Reply};
 ghost use Rattle.tt_world.specs.Headline.{AreConfigurations, CertificatesProve};
@@ -266,7 +267,7 @@ impl World {
     pub fn new(alloc: Global, configs: &[Config]) -> Result<World, WorldFault>
         ensures stands { IfOk result (λ world. StandsFor configs.now [] world) }
         ensures valid { IfOk result (λ _. AreConfigurations configs.now) }
-        ensures machines { IsErrOf result WorldFault.Machines ↔ ((length configs.now ≡ 0) ⊎ (8 < length configs.now)) }
+        ensures machines { IsErrOf result WorldFault.Machines ↔ ((length configs.now ≡ 0) ⊎ (max_machines < length configs.now)) }
         ensures refused { IfErr result (λ e. (e ≡ WorldFault.Machines) ⊎ (e ≡ WorldFault.Memory)) }
     {
         if configs.is_empty() || configs.len() > MAX_MACHINES {

@@ -1,7 +1,7 @@
 use Rattle.std.proofs.Common.{◌≡◌, ◌+◌, ◌++◌, [], ◌∙◌, arith, ap, inl, refl, length-take}
 use Rattle.std.proofs.KnownBytes.{Consumes-nil, Consumes-trans}
 use Rattle.tt_stream.proofs.Reading.{CountsOn-more}
-use Rattle.tt_session.proofs.Hearing.{Talks-first}
+use Rattle.tt_session.proofs.Hearing.{Talks-first, Kept-later}
 use Rattle.tt_session.proofs.serving.serve.Goals as goal
 
 pub loop-init : goal.loop-init
@@ -14,6 +14,7 @@ loop-init g c =
       more = omega arith;
       sound_read = refl;
       sound_write = refl;
+      flushed = λ whole. whole;
       asked = inl (omega arith);
       room = refl;
     }
@@ -36,7 +37,16 @@ returns-in_default-hear-clause-write_failed g c = λ _.
     record {
       bytes = bytes ++ _;
       read = Consumes-trans _ _ _ _ _ came c.in-Ok.ensures.bytes.0;
-      breaks = c.in_default-hear.ensures.err _ _ _ stands;
+      breaks = (c.in_default-hear.ensures.err _ _ _ stands).off;
+    }
+
+pub returns-in_default-hear-clause-flushed_before : goal.returns-in_default-hear-clause-flushed_before
+returns-in_default-hear-clause-flushed_before g c = λ _.
+    let (bytes, came, stands) = c.loop.invariant.heard in
+    let broke = c.in_default-hear.ensures.err _ _ _ stands in
+    record {
+      broke = record { bytes = bytes ++ _; read = Consumes-trans _ _ _ _ _ came c.in-Ok.ensures.bytes.0; breaks = broke.off };
+      kept = Kept-later g.W.ByteWriter.taken g.W.ByteWriter.flushed _ _ _ _ _ _ c.loop.invariant.flushed broke.kept;
     }
 
 pub loop-preserved : goal.loop-preserved
@@ -48,6 +58,7 @@ loop-preserved g c =
       more = omega (arith, c.in-Ok-hear.ensures.more, c.in-Ok.ensures.count, length-take c.in-Ok.n c.read.new.buffer);
       sound_read = c.in-Ok.ensures.sound ∙ c.loop.invariant.sound_read;
       sound_write = c.in-Ok-hear.ensures.sound ∙ c.loop.invariant.sound_write;
+      flushed = λ whole. c.in-Ok-hear.ensures.flushed (c.loop.invariant.flushed whole);
       asked = CountsOn-more _ _ _ _ c.loop.invariant.asked c.read.ensures.asked;
       room = c.if-n-eq0.array_long;
     }

@@ -2,6 +2,7 @@
 use Rattle.std.proofs.Common.{◌≡◌, ◌≤◌, ◌*◌, List, ℕ, length}
 use Rattle.std.specs.Io.KnownBytes.{Consumes}
 use Rattle.tt_stream.specs.Counts.{CountsOn}
+use Rattle.tt_session.specs.Session.{StaysFlushed}
 use Rattle.tt_session.specs.Talks.{Talks}
 use Rattle.tt_session.proofs.serving.serve.Given as goal
 
@@ -14,6 +15,7 @@ invariant-loop g l =
       more : l.talk.served.lines ≤ 512 * l.counter;
       sound_read : g.R.ByteReader.failed l.reader ≡ g.R.ByteReader.failed l.initial.reader;
       sound_write : g.W.ByteWriter.failed l.writer ≡ g.W.ByteWriter.failed l.initial.writer;
+      flushed : StaysFlushed g.W.ByteWriter.flushed l.initial.writer l.writer;
       asked : CountsOn l.counter (g.R.ByteReader.asked l.initial.reader) (g.R.ByteReader.asked l.reader);
       room : length l.buffer ≡ 512;
     }

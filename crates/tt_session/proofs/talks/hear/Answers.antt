@@ -10,4 +10,4 @@ returns-in_err-take-clause-err g c =
     let is : bytes ≡ (take i bytes ++ get_or bytes i 0 ∷ []) ++ drop (i + 1) bytes =
     sym (take-append-drop (i + 1) bytes) ∙ ap (λ l. l ++ drop (i + 1) bytes) (take_more bytes i 0 c.loop-byte-test.true) in
     on_err c.from_residual.result
-    (BreaksIn-more g.S.Service.allows c.args.waits _ _ _ _ _ _ _ _ (take i bytes) (get_or bytes i 0 ∷ []) (drop (i + 1) bytes) bytes is c.loop-byte.invariant.stands c.in_err-take.ensures.err)
+    (BreaksIn-more g.S.Service.allows c.args.waits g.W.ByteWriter.taken g.W.ByteWriter.flushed _ _ _ _ _ _ _ _ (take i bytes) (get_or bytes i 0 ∷ []) (drop (i + 1) bytes) bytes is c.loop-byte.invariant.flushed c.loop-byte.invariant.stands c.in_err-take.ensures.err)

@@ -15,7 +15,7 @@ returns-in_err-write_all-clause-err g c =
     let (n, part, written) = c.in_err-write_all.ensures.err in
     on_err c.from_residual.result
     (rw c.if-byte-ne10.false
-    (BreaksIn-answered g.S.Service.allows c.args.waits _ _ _ _ c.args.talk.now c.count.new.served c.judge-reply.new.last c.judge-reply.result (take n bytes) (drop n bytes)
+    (BreaksIn-answered g.S.Service.allows c.args.waits g.W.ByteWriter.taken g.W.ByteWriter.flushed _ _ _ _ c.args.talk.now c.count.new.served c.judge-reply.new.last c.judge-reply.result (take n bytes) (drop n bytes)
     c.judge-reply.ensures.answered c.count.ensures.lines c.count.ensures.refused (sym is ∙ sym (take-append-drop n bytes)) written))
 
 pub returns-clause-ok : goal.returns-clause-ok
@@ -35,5 +35,5 @@ returns-clause-err g c =
     let written = Appends-kept _ _ _ _ c.in_ok-write_all.ensures.ok c.flush.ensures.bytes in
     on_err c.flush.result
     (rw c.if-byte-ne10.false
-    (BreaksIn-answered g.S.Service.allows c.args.waits _ _ _ _ c.args.talk.now c.count.new.served c.judge-reply.new.last c.judge-reply.result text []
+    (BreaksIn-answered g.S.Service.allows c.args.waits g.W.ByteWriter.taken g.W.ByteWriter.flushed _ _ _ _ c.args.talk.now c.count.new.served c.judge-reply.new.last c.judge-reply.result text []
     c.judge-reply.ensures.answered c.count.ensures.lines c.count.ensures.refused (sym (append-nil text)) (rw (← is) written)))

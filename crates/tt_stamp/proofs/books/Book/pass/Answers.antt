@@ -27,11 +27,23 @@ invariant_of-self c =
     let next = IsNextReceipt-first past _ c.args.earliest first sure in
     IsBook-passed c.self.inside _ (receipt_for c.args.earliest (c.in-Some.stamp, c.in-Some.id)) (c.in-Some.stamp, c.in-Some.id) c.len-place.result c.self.invariant next c.push_reserved.ensures.items c.in-Some.ensures.items c.set_standing.ensures c.len-place.ensures refl (omega (arith, c.push_reserved.ensures.len, c.push_reserved.ensures.capacity, c.self.invariant.room, ap length c.in-Some.ensures.items))
 
-pub returns : goal.returns
-returns c =
+pub returns-clause-turn : goal.returns-clause-turn
+returns-clause-turn c =
     let past = c.args.self.now in
     let first = ap (λ es. slice_get es 0) (sym (c.self.invariant.waits ∙ ap waiting_of c.self.view_is) ∙ c.in-Some.ensures.items) in
     let sure = sure-first (waiting_of past) c.args.earliest _ (Ascends-waiting_of past) first c.requires in
     let next = IsNextReceipt-first past _ c.args.earliest first sure in
     let receipt : Receipt = receipt_for c.args.earliest (c.in-Some.stamp, c.in-Some.id) in
     IsReleaseTurn-next past _ c.args.earliest receipt (ap reverse c.push_reserved.ensures.items ∙ reverse-push c.self.inside.history.items (Passed receipt) ∙ ap (λ (h : List Entry). Passed receipt ∷ h) c.self.view_is) next (sym (release_of-first_sure (waiting_of past) c.args.earliest _ first sure))
+
+pub returns-clause-next : goal.returns-clause-next
+returns-clause-next c =
+    let past = c.args.self.now in
+    let first = ap (λ es. slice_get es 0) (sym (c.self.invariant.waits ∙ ap waiting_of c.self.view_is) ∙ c.in-Some.ensures.items) in
+    let sure = sure-first (waiting_of past) c.args.earliest _ (Ascends-waiting_of past) first c.requires in
+    let receipt : Receipt = receipt_for c.args.earliest (c.in-Some.stamp, c.in-Some.id) in (
+      receipt,
+      refl,
+      IsNextReceipt-first past _ c.args.earliest first sure,
+      ap reverse c.push_reserved.ensures.items ∙ reverse-push c.self.inside.history.items (Passed receipt) ∙ ap (λ (h : List Entry). Passed receipt ∷ h) c.self.view_is,
+    )

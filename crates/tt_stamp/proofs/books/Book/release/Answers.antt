@@ -19,8 +19,8 @@ pass-requires c = omega (arith, c.loop.invariant.left, c.loop-test.true)
 
 pub loop-preserved : goal.loop-preserved
 loop-preserved c = record {
-  same_end = sym c.pass.ensures.same_end ∙ c.loop.invariant.same_end;
-  left = omega (arith, c.pass.ensures.fewer, c.loop.invariant.left);
+  same_end = sym c.pass.ensures.turn.same_end ∙ c.loop.invariant.same_end;
+  left = omega (arith, c.pass.ensures.turn.fewer, c.loop.invariant.left);
 }
 
 pub returns-clause-receipts : goal.returns-clause-receipts
