@@ -1,0 +1,147 @@
+//! The services by their words.
+
+ghost use Rattle.std.specs.Prelude.{◌≡◌, ℕ, List};
+ghost use Rattle.clap.specs.Walk.{texts};
+ghost use Rattle.ttd_services.specs.Answer.{Gives, RefusesUnlessMemory, Refuses};
+ghost use Rattle.ttd_services.specs.Reading.{AreForHelp, AreMistaken};
+
+use crate::asking::ask;
+use crate::faults::{ServiceFault, Status};
+use crate::masters::{MasterPlan, serve_polls};
+use crate::output::{Stop, refuse, write};
+use crate::reading::read;
+use crate::serving::run_server;
+use crate::words::{Asked, Service, help_text, mistake_text, read_words};
+use std::fs::{File, Files};
+use std::io::{Eprint, Input};
+use std::net::{Net, TcpListener, TcpStream};
+use std::sync::Wait;
+use std::thread::Threads;
+use std::time::Clock;
+use tt_stream::{ByteReader, ByteWriter};
+
+/// Whether the words name a service: the first of them does, or it is `help` and the next one does.
+pub fn names_service(words: &[&str]) -> bool {
+    match words {
+        ["help", word, ..] | [word, ..] => is_service(word),
+        [] => false,
+    }
+}
+
+/// Whether a word names a service.
+fn is_service(word: &str) -> bool {
+    matches!(word, "master" | "serve" | "ask" | "read")
+}
+
+/// Does what the words ask for, of which the first names a service, and answers how the program ends. Standard error says what a
+/// refusal means.
+pub fn run<
+    H: AllocGlobal
+        + Threads
+        + Wait
+        + Clock
+        + Sync
+        + Eprint
+        + Input
+        + Files<File = File>
+        + Net<Listener = TcpListener, Stream = TcpStream>,
+    I: ByteReader,
+    O: ByteWriter,
+>(rt: &H, words: &[&str], input: &mut I, output: &mut O) -> Status
+    ensures mistaken { AreMistaken (texts words.now) → RefusesUnlessMemory O.ByteWriter ServiceFault.BadWords output.old output.new result }
+    ensures helped { AreForHelp (texts words.now) → (text : List ℕ) × Gives O.ByteWriter text Status.Fine output.old output.new result
+        ⊎ Refuses O.ByteWriter ServiceFault.Memory output.old output.new result }
+{
+    match answer(rt, words, input, output) {
+        Ok(()) => Status::Fine,
+        Err(Stop::Refused(fault)) => {
+            say(rt, words, fault);
+            refuse(output, &fault)
+        }
+        Err(Stop::Unwritten) => {
+            let _ = eprint!(rt; "ttd: refused 1605: writing failed\n");
+            Status::Device
+        }
+    }
+}
+
+/// Does what the words ask for.
+fn answer<
+    H: AllocGlobal
+        + Threads
+        + Wait
+        + Clock
+        + Sync
+        + Eprint
+        + Input
+        + Files<File = File>
+        + Net<Listener = TcpListener, Stream = TcpStream>,
+    I: ByteReader,
+    O: ByteWriter,
+>(rt: &H, words: &[&str], input: &mut I, output: &mut O) -> Result<(), Stop> {
+    match read_words(rt.alloc(), words)? {
+        Asked::Help => {
+            let text = help_text(rt.alloc(), words)?;
+            write(output, text.as_str().as_bytes()).map_err(|_| Stop::Unwritten)
+        }
+        Asked::Run(service) => serve(rt, &service, input, output),
+    }
+}
+
+/// Does a service.
+fn serve<
+    H: AllocGlobal
+        + Threads
+        + Wait
+        + Clock
+        + Sync
+        + Eprint
+        + Input
+        + Files<File = File>
+        + Net<Listener = TcpListener, Stream = TcpStream>,
+    I: ByteReader,
+    O: ByteWriter,
+>(rt: &H, service: &Service<'_>, input: &mut I, output: &mut O) -> Result<(), Stop> {
+    match service {
+        Service::Master {
+            source,
+            port,
+            uncertainty,
+            offset,
+            acts,
+        } => {
+            let plan = MasterPlan {
+                source: *source,
+                port: *port,
+                uncertainty: *uncertainty,
+                offset: *offset,
+                acts: acts.as_slice(),
+            };
+            serve_polls(rt, plan)?;
+            Ok(())
+        }
+        Service::Serve {
+            file,
+            check,
+            until_eof,
+        } => run_server(rt, file, *check, *until_eof, output),
+        Service::Ask { port, line, retry } => {
+            let text = match line {
+                Some(line) => Some(line.as_str()),
+                None => None,
+            };
+            ask(rt, *port, text, *retry, input, output)
+        }
+        Service::Read { file } => read(rt, file, output),
+    }
+}
+
+/// Says on standard error what a refusal means, and of words that clap does not take, which of them.
+fn say<H: Eprint + AllocGlobal>(rt: &H, words: &[&str], fault: ServiceFault) {
+    let _ = eprint!(rt; "ttd: refused {}: {fault}\n", fault.number());
+    if fault == ServiceFault::BadWords {
+        if let Ok(Some(text)) = mistake_text(rt.alloc(), words) {
+            let _ = eprint!(rt; "{text}");
+        }
+    }
+}

@@ -1,0 +1,54 @@
+//! What the reply to a line means for whoever sent it.
+
+ghost use Rattle.std.specs.Prelude.{◌≡◌, ◌↔◌, codes, IfSome, IfNone, ℕ, [], ◌∷◌};
+ghost use Rattle.tt_text.specs.Line.{line_of};
+ghost use Rattle.tt_text.specs.Reading.{IsNumber};
+ghost use Rattle.ttd_services.specs.Replies.{IsPending, nothing_yet};
+
+use tt_text::numbers_behind;
+
+/// The reply to a line that needs a reading, while nothing is published.
+const NOTHING_YET: &[u8] = b"refused 801\n";
+
+/// What the reply to a line means.
+#[derive(Clone, Copy, Debug, PartialEq, Eq)]
+pub enum Meaning {
+    /// It is the answer.
+    Final,
+    /// The commit that the line asks for is not committed yet: the line has to be sent again.
+    Pending,
+    /// Nothing is published yet: the line may be sent again a little later.
+    NothingYet,
+}
+
+/// What the reply to a line means, both with their line feeds: `Pending` where the line is `commit ID FLOOR` and the reply
+/// `waiting ID S` with the same ID, `NothingYet` where the reply is `refused 801`, and `Final` for all else.
+pub fn meaning_of(line: &[u8], reply: &[u8]) -> Meaning
+    ensures pending { result ≡ Meaning.Pending ↔ IsPending line.now reply.now }
+    ensures nothing_yet { result ≡ Meaning.NothingYet ↔ reply.now ≡ nothing_yet }
+{
+    if reply == NOTHING_YET {
+        return Meaning::NothingYet;
+    }
+    match (
+        first_of_two(b"commit", line),
+        first_of_two(b"waiting", reply),
+    ) {
+        (Some(asked), Some(named)) if asked == named => Meaning::Pending,
+        _ => Meaning::Final,
+    }
+}
+
+/// The first number of a line, where it is this word and two numbers.
+fn first_of_two(word: &[u8], line: &[u8]) -> Option<u64>
+    ensures some { IfSome result (λ first. (second : ℕ) × IsNumber first × IsNumber second × (line.now ≡ line_of word.now (first ∷ second ∷ []))) }
+    ensures none { IfNone result ((first second : ℕ) → IsNumber first → IsNumber second → line.now ≡ line_of word.now (first ∷ second ∷ []) → ⊥) }
+{
+    let Some(numbers) = numbers_behind(word, line) else {
+        return None;
+    };
+    match numbers.as_slice() {
+        [first, _second] => Some(*first),
+        _ => None,
+    }
+}
