@@ -1,11 +1,13 @@
 -- What is written, and how the program ends.
-use Rattle.std.specs.Prelude.{◌≡◌, ◌⊎◌, ℕ, true, List, [], ◌∷◌, ◌++◌, codes, decimal, take}
+use Rattle.std.specs.Prelude.{◌≡◌, ◌⊎◌, ℕ, true, List, [], ◌∷◌, ◌++◌, codes, decimal, take, Result, Ok, Err}
 use Rattle.std.specs.Io.KnownBytes.{Appends}
 use Rattle.tt_stream.specs.Counts.{HasFailed}
 use Rattle.tt_stream.specs.declared.device.ByteWriter as writer
 use Rattle.ttd_services.specs.Fault.{number_of, status_of}
 use Rattle.ttd_services.specs.declared.faults.ServiceFault.{ServiceFault}
 use Rattle.ttd_services.specs.declared.faults.ServiceFault.TheVariants.{Memory}
+use Rattle.ttd_services.specs.declared.output.Stop.{Stop}
+use Rattle.ttd_services.specs.declared.output.Stop.TheVariants.{Refused, Unwritten}
 use Rattle.ttd_services.specs.declared.faults.Status.{Status}
 use Rattle.ttd_services.specs.declared.faults.Status.TheVariants.{Device}
 
@@ -15,7 +17,7 @@ refusal_line number = codes "refused " ++ (decimal number ++ 10 ∷ [])
 
 -- The output gained exactly the text and was flushed, and no write failed.
 pub record IsWritten {W : Type 0} (shows : writer.Ghosts W) (text : List ℕ) (old new : W) : Type 0 where
-  pub text : Appends (shows.taken old) (shows.taken new) text
+  pub gained : Appends (shows.taken old) (shows.taken new) text
   pub flushed : shows.flushed new ≡ true
   pub sound : shows.failed new ≡ shows.failed old
 
@@ -35,3 +37,8 @@ Refuses shows fault old new status = Gives shows (refusal_line (number_of fault)
 -- The same, or memory ran out, and that is the refusal.
 abbrev pub RefusesUnlessMemory : {W : Type 0} → writer.Ghosts W → ServiceFault → W → W → Status → Type 0
 RefusesUnlessMemory shows fault old new status = Refuses shows fault old new status ⊎ Refuses shows Memory old new status
+
+-- The help was written, or the output failed, or memory ran out and nothing was written.
+abbrev pub Helps : {W : Type 0} → writer.Ghosts W → List ℕ → W → W → Result (Unit {0}) Stop → Type 0
+Helps shows text old new result = ((result ≡ Ok tt) × IsWritten shows text old new)
+    ⊎ (((result ≡ Err Unwritten) × IsCutShort shows text old new) ⊎ ((result ≡ Err (Refused Memory)) × (new ≡ old)))

@@ -1,5 +1,6 @@
 -- The command line of the services, as clap is told it.
-use Rattle.std.specs.Prelude.{ℕ, true, List, [], ◌∷◌, Option, Some, codes}
+use Rattle.std.specs.Prelude.{ℕ, Bool, true, false, ◌||◌, if◌then◌else◌, List, [], ◌∷◌, Option, Some, codes}
+use Rattle.std.specs.Str.{bytes_eq}
 use Rattle.clap.specs.Walk.{Row, Rule, Text}
 use Rattle.clap.specs.Simple.{App, new_app, new_rule, on_top, subcommand_of, with_rule, with_subcommand}
 use Rattle.clap.specs.Faults.{fault_of}
@@ -37,10 +38,14 @@ place_rule name = record (new_rule name) { value_names = 1; required = true }
 abbrev pub words_rule : Rule
 words_rule = record (new_rule (codes "words")) { value_names = 1; action = Some Append }
 
+-- The command `master` with the options that have to be given.
+abbrev pub plain_master_app : App
+plain_master_app = with_rule (with_rule (with_rule (new_app (codes "master")) (needed_rule (codes "source") max_source))
+    (text_rule (codes "listen"))) (needed_rule (codes "uncertainty") max_time)
+
 -- The command `master` with its options.
 abbrev pub master_app : App
-master_app = with_rule (with_rule (with_rule (with_rule (with_rule (new_app (codes "master")) (needed_rule (codes "source") max_source))
-    (text_rule (codes "listen"))) (needed_rule (codes "uncertainty") max_time)) offset_rule) act_rule
+master_app = with_rule (with_rule plain_master_app offset_rule) act_rule
 
 -- The command `serve` with its file and its flags.
 abbrev pub serve_app : App
@@ -73,3 +78,17 @@ faults_of words = fault_of services_app words
 -- The command that the words name, and what they give for each of its options.
 unfoldable pub named_by : List Text → Option (Text × List Row)
 named_by words = subcommand_of services_app words
+
+-- A word names a service.
+abbrev pub is_service : Text → Bool
+is_service word = bytes_eq word (codes "master") || (bytes_eq word (codes "serve") || (bytes_eq word (codes "ask") || bytes_eq word (codes "read")))
+
+-- The first of the words names a service.
+abbrev pub begins_with_service : List Text → Bool
+begins_with_service [] = false
+begins_with_service (word ∷ rest) = is_service word
+
+-- The words are for a service: the first names one, or it is `help` and the next one does.
+abbrev pub names_service : List Text → Bool
+names_service [] = false
+names_service (word ∷ rest) = if bytes_eq word (codes "help") then begins_with_service rest else is_service word

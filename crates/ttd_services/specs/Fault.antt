@@ -1,5 +1,5 @@
 -- The numbers of the refusals, and how the program ends.
-use Rattle.std.specs.Prelude.{ℕ, Result, Ok, Err}
+use Rattle.std.specs.Prelude.{ℕ, nat_eq, ◌||◌, if◌then◌else◌, Result, Ok, Err}
 use Rattle.tt_settings.specs.Fault.{number_of as settings_number}
 use Rattle.tt_shared.specs.Fault.{shared_number_of}
 use Rattle.tt_shared.specs.declared.faults.SharedFault.{SharedFault}
@@ -34,14 +34,12 @@ abbrev pub status_of_settings : SettingsFault → Status
 status_of_settings settings.Memory = NoMemory
 status_of_settings _ = Bad
 
--- How the program ends where a server ended with a number.
+-- How the program ends where a server ended with a number: as at a failed device for its sockets (1807 to 1809) and the folder of its epoch
+-- (1811, 1812).
 abbrev pub status_of_server : ℕ → Status
-status_of_server 1 = NoMemory
-status_of_server 1501 = Device
-status_of_server 1502 = Device
-status_of_server 1811 = Device
-status_of_server 1812 = Device
-status_of_server _ = Bad
+status_of_server number =
+    if nat_eq number 1 then NoMemory
+    else (if nat_eq number 1807 || (nat_eq number 1808 || (nat_eq number 1809 || (nat_eq number 1811 || nat_eq number 1812))) then Device else Bad)
 
 -- How the program ends after each refusal.
 abbrev pub status_of : ServiceFault → Status

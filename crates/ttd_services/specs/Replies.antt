@@ -17,3 +17,15 @@ pub record IsPending (line reply : List ℕ) : Type 0 where
   pub is_stamp : IsNumber stamp
   pub asked : line ≡ line_of (codes "commit") (number ∷ floor ∷ [])
   pub told : reply ≡ line_of (codes "waiting") (number ∷ stamp ∷ [])
+
+-- The line is the word and two numbers, of which this is the first, and no other.
+pub record BeginsWith (word line : List ℕ) (first : ℕ) : Type 0 where
+  pub second : ℕ
+  pub is_first : IsNumber first
+  pub is_second : IsNumber second
+  pub is : line ≡ line_of word (first ∷ second ∷ [])
+  pub only : (m n : ℕ) → IsNumber m → IsNumber n → line ≡ line_of word (m ∷ n ∷ []) → m ≡ first
+
+-- The line is not the word and two numbers.
+abbrev pub HasNoTwo : List ℕ → List ℕ → Type 0
+HasNoTwo word line = (m n : ℕ) → IsNumber m → IsNumber n → line ≡ line_of word (m ∷ n ∷ []) → ⊥

@@ -15,13 +15,16 @@ pub(crate) const MOST_RETRY: u64 = 9999;
 /// How often one line is sent at most.
 const MAX_ASKS: u32 = 10_000;
 
+/// How long it waits for a reply, in seconds: longer than a machine holds a commit back.
+const REPLY_WAIT: u64 = 30;
+
 /// How long it waits before it sends a line again while nothing is published, in milliseconds.
 const PAUSE: u64 = 100;
 
 /// Asks the machine at this port of 127.0.0.1: the lines of a text, or where there is none those of the input. The replies are
 /// written, each as soon as it is there.
 ///
-/// Refuses with 1501 `LinkFailed` where the connection can't be had or failed, and with 1604 `ReadFailed` where the input failed.
+/// Refuses with 1501 `LinkFailed` where the connection can't be had or failed, or no reply came in 30 seconds, and with 1604 `ReadFailed` where the input failed.
 pub(crate) fn ask<H: SystemClock + Net<Stream = TcpStream>, I: ByteReader, O: ByteWriter>(
     rt: &H,
     port: u16,
@@ -33,7 +36,8 @@ pub(crate) fn ask<H: SystemClock + Net<Stream = TcpStream>, I: ByteReader, O: By
     let Ok(stream) = TcpStream::connect(rt, (Ipv4Addr::LOCALHOST, port)) else {
         return Err(Stop::Refused(ServiceFault::LinkFailed));
     };
-    if stream.set_nodelay(true).is_err() {
+    let wait = Some(Duration::from_secs(REPLY_WAIT));
+    if stream.set_nodelay(true).is_err() || stream.set_read_timeout(wait).is_err() {
         return Err(Stop::Refused(ServiceFault::LinkFailed));
     }
     let mut connection = Counted::new(stream);

@@ -7,7 +7,7 @@ ghost use Rattle.clap.specs.declared.builder.command.Command.TheViews.{out-Comma
 ghost use Rattle.tt_span.specs.Time.{max_time};
 ghost use Rattle.tt_poll.specs.Message.{max_source};
 ghost use Rattle.ttd_cli.specs.CommandLine.{text_rule};
-ghost use Rattle.ttd_services.specs.CommandLine.{act_rule, ask_app, bare_app, flag_rule, master_app, needed_rule, offset_rule, place_rule, read_app, retry_rule, serve_app, servers_app, services_app, words_rule};
+ghost use Rattle.ttd_services.specs.CommandLine.{act_rule, ask_app, bare_app, flag_rule, master_app, needed_rule, offset_rule, place_rule, plain_master_app, read_app, retry_rule, serve_app, servers_app, services_app, words_rule};
 
 use crate::asking::MOST_RETRY;
 use crate::help::{ABOUT_ASK, ABOUT_MASTER, ABOUT_READ, ABOUT_SERVE};
@@ -134,9 +134,9 @@ fn line_words<'a>(alloc: Global) -> Arg<'a>
         .help("The words of one line; without them the lines of standard input")
 }
 
-/// The command `master`.
-fn master_command<'a>(alloc: Global) -> Result<Command<'a>, AllocError>
-    ensures app { IfOk result (λ c. app_of c ≡ master_app) }
+/// The command `master` with the options that have to be given.
+fn plain_master_command<'a>(alloc: Global) -> Result<Command<'a>, AllocError>
+    ensures app { IfOk result (λ c. app_of c ≡ plain_master_app) }
     ensures local { IfOk result (λ c. (out-Command c).has_globals ≡ false) }
 {
     let bare = plain_command(
@@ -147,8 +147,16 @@ fn master_command<'a>(alloc: Global) -> Result<Command<'a>, AllocError>
     );
     let with_source = bare.arg(source_option(alloc))?;
     let with_listen = with_source.arg(listen_option(alloc))?;
-    let with_uncertainty = with_listen.arg(uncertainty_option(alloc))?;
-    let with_offset = with_uncertainty.arg(offset_option(alloc))?;
+    with_listen.arg(uncertainty_option(alloc))
+}
+
+/// The command `master`.
+fn master_command<'a>(alloc: Global) -> Result<Command<'a>, AllocError>
+    ensures app { IfOk result (λ c. app_of c ≡ master_app) }
+    ensures local { IfOk result (λ c. (out-Command c).has_globals ≡ false) }
+{
+    let plain = plain_master_command(alloc)?;
+    let with_offset = plain.arg(offset_option(alloc))?;
     with_offset.arg(act_option(alloc))
 }
 

@@ -132,14 +132,14 @@ fn status_of_shared(fault: SharedFault) -> Status
     }
 }
 
-/// How the program ends where a server ended with this number: as at a failed device for a link (1501), a clock (1502) and
-/// the folder of the epoch (1811, 1812).
+/// How the program ends where a server ended with this number: as at a failed device for its sockets (1807 to 1809) and the
+/// folder of its epoch (1811, 1812).
 fn status_of_server(number: u16) -> Status
     ensures { result ≡ status_of_server number }
 {
     match number {
         1 => Status::Memory,
-        1501 | 1502 | 1811 | 1812 => Status::Device,
+        1807 | 1808 | 1809 | 1811 | 1812 => Status::Device,
         _ => Status::Bad,
     }
 }

@@ -32,7 +32,8 @@ Refused:
   1604          the file can't be read; the status is 4
   1603          the file is too long or not UTF-8
   1801 to 1806  the configuration: standard error names the key
-  1501, 1811 to 1815, 1  what ended the server: a socket, its epoch, memory";
+  1807 to 1816  the server does not start: its sockets, workers, epoch or threads; the status is 4
+                for 1807 to 1809, 1811 and 1812";
 
 /// What `ask` does.
 pub(crate) const ABOUT_ASK: &str = "\
@@ -43,7 +44,7 @@ A line is sent again while the reply to a commit is `waiting`, and, at most --re
 is `refused 801`: nothing is published yet; at most 10000 times in all. The last reply is printed.
 
 The status is 0 whatever the replies are, also a reply `refused N`, and 4 where the connection
-fails, before the first reply or after it.
+fails, or no reply comes in 30 seconds.
 
 Example:
   ttd ask 127.0.0.1:7101 commit 1 0

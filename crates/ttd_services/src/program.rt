@@ -1,8 +1,9 @@
 //! The services by their words.
 
-ghost use Rattle.std.specs.Prelude.{◌≡◌, ℕ, List};
+ghost use Rattle.std.specs.Prelude.{◌≡◌, ◌⊎◌, ℕ, List, Err};
 ghost use Rattle.clap.specs.Walk.{texts};
-ghost use Rattle.ttd_services.specs.Answer.{Gives, RefusesUnlessMemory, Refuses};
+ghost use Rattle.ttd_services.specs.Answer.{Gives, Helps, Refuses, RefusesUnlessMemory};
+ghost use Rattle.ttd_services.specs.CommandLine.{begins_with_service, is_service, names_service};
 ghost use Rattle.ttd_services.specs.Reading.{AreForHelp, AreMistaken};
 
 use crate::asking::ask;
@@ -20,16 +21,34 @@ use std::thread::Threads;
 use std::time::Clock;
 use tt_stream::{ByteReader, ByteWriter};
 
-/// Whether the words name a service: the first of them does, or it is `help` and the next one does.
-pub fn names_service(words: &[&str]) -> bool {
+/// What is said of words that clap takes, of which an offset or an act is none.
+const OTHER_MISTAKE: &str =
+    "error: invalid value for '--offset <NS>' or '--act <ACT>'\n\nFor more information, try '--help'.\n";
+
+/// Whether the words are for a service: the first of them names one, or it is `help` and the next one does.
+pub fn names_service(words: &[&str]) -> bool
+    ensures { result ≡ names_service (texts words.now) }
+{
     match words {
-        ["help", word, ..] | [word, ..] => is_service(word),
+        [first, rest @ ..] if *first == "help" => begins_with_service(rest),
+        _ => begins_with_service(words),
+    }
+}
+
+/// Whether the first of the words names a service.
+fn begins_with_service(words: &[&str]) -> bool
+    ensures { result ≡ begins_with_service (texts words.now) }
+{
+    match words {
+        [first, ..] => is_service(first),
         [] => false,
     }
 }
 
 /// Whether a word names a service.
-fn is_service(word: &str) -> bool {
+fn is_service(word: &str) -> bool
+    ensures { result ≡ is_service word.now }
+{
     matches!(word, "master" | "serve" | "ask" | "read")
 }
 
@@ -49,8 +68,8 @@ pub fn run<
     O: ByteWriter,
 >(rt: &H, words: &[&str], input: &mut I, output: &mut O) -> Status
     ensures mistaken { AreMistaken (texts words.now) → RefusesUnlessMemory O.ByteWriter ServiceFault.BadWords output.old output.new result }
-    ensures helped { AreForHelp (texts words.now) → (text : List ℕ) × Gives O.ByteWriter text Status.Fine output.old output.new result
-        ⊎ Refuses O.ByteWriter ServiceFault.Memory output.old output.new result }
+    ensures helped { AreForHelp (texts words.now) → (text : List ℕ) × (Gives O.ByteWriter text Status.Fine output.old output.new result
+        ⊎ Refuses O.ByteWriter ServiceFault.Memory output.old output.new result) }
 {
     match answer(rt, words, input, output) {
         Ok(()) => Status::Fine,
@@ -78,7 +97,11 @@ fn answer<
         + Net<Listener = TcpListener, Stream = TcpStream>,
     I: ByteReader,
     O: ByteWriter,
->(rt: &H, words: &[&str], input: &mut I, output: &mut O) -> Result<(), Stop> {
+>(rt: &H, words: &[&str], input: &mut I, output: &mut O) -> Result<(), Stop>
+    ensures mistaken { AreMistaken (texts words.now) → (output.new ≡ output.old)
+        × ((result ≡ Err (Stop.Refused ServiceFault.BadWords)) ⊎ (result ≡ Err (Stop.Refused ServiceFault.Memory))) }
+    ensures helped { AreForHelp (texts words.now) → (text : List ℕ) × Helps O.ByteWriter text output.old output.new result }
+{
     match read_words(rt.alloc(), words)? {
         Asked::Help => {
             let text = help_text(rt.alloc(), words)?;
@@ -140,8 +163,13 @@ fn serve<
 fn say<H: Eprint + AllocGlobal>(rt: &H, words: &[&str], fault: ServiceFault) {
     let _ = eprint!(rt; "ttd: refused {}: {fault}\n", fault.number());
     if fault == ServiceFault::BadWords {
-        if let Ok(Some(text)) = mistake_text(rt.alloc(), words) {
-            let _ = eprint!(rt; "{text}");
+        match mistake_text(rt.alloc(), words) {
+            Ok(Some(text)) => {
+                let _ = eprint!(rt; "{text}");
+            }
+            _ => {
+                let _ = eprint!(rt; "{OTHER_MISTAKE}");
+            }
         }
     }
 }

@@ -1,9 +1,7 @@
 //! What the reply to a line means for whoever sent it.
 
-ghost use Rattle.std.specs.Prelude.{◌≡◌, ◌↔◌, codes, IfSome, IfNone, ℕ, [], ◌∷◌};
-ghost use Rattle.tt_text.specs.Line.{line_of};
-ghost use Rattle.tt_text.specs.Reading.{IsNumber};
-ghost use Rattle.ttd_services.specs.Replies.{IsPending, nothing_yet};
+ghost use Rattle.std.specs.Prelude.{◌≡◌, ◌↔◌, IsTrue, MatchOption};
+ghost use Rattle.ttd_services.specs.Replies.{BeginsWith, HasNoTwo, IsPending, nothing_yet};
 
 use tt_text::numbers_behind;
 
@@ -27,22 +25,31 @@ pub fn meaning_of(line: &[u8], reply: &[u8]) -> Meaning
     ensures pending { result ≡ Meaning.Pending ↔ IsPending line.now reply.now }
     ensures nothing_yet { result ≡ Meaning.NothingYet ↔ reply.now ≡ nothing_yet }
 {
+    if is_pending(line, reply) {
+        return Meaning::Pending;
+    }
     if reply == NOTHING_YET {
         return Meaning::NothingYet;
     }
-    match (
-        first_of_two(b"commit", line),
-        first_of_two(b"waiting", reply),
-    ) {
-        (Some(asked), Some(named)) if asked == named => Meaning::Pending,
-        _ => Meaning::Final,
-    }
+    Meaning::Final
+}
+
+/// Whether the line asks for a commit, and the reply says that it is not committed yet.
+fn is_pending(line: &[u8], reply: &[u8]) -> bool
+    ensures { IsTrue result ↔ IsPending line.now reply.now }
+{
+    let Some(asked) = first_of_two(b"commit", line) else {
+        return false;
+    };
+    let Some(named) = first_of_two(b"waiting", reply) else {
+        return false;
+    };
+    named == asked
 }
 
 /// The first number of a line, where it is this word and two numbers.
 fn first_of_two(word: &[u8], line: &[u8]) -> Option<u64>
-    ensures some { IfSome result (λ first. (second : ℕ) × IsNumber first × IsNumber second × (line.now ≡ line_of word.now (first ∷ second ∷ []))) }
-    ensures none { IfNone result ((first second : ℕ) → IsNumber first → IsNumber second → line.now ≡ line_of word.now (first ∷ second ∷ []) → ⊥) }
+    ensures { MatchOption result (HasNoTwo word.now line.now) (BeginsWith word.now line.now) }
 {
     let Some(numbers) = numbers_behind(word, line) else {
         return None;
