@@ -3,6 +3,8 @@ use Rattle.std.specs.Prelude.{codes, ℕ, ◌+◌, ◌*◌, List, [], ◌∷◌,
 use Rattle.std.specs.List.{flat_map}
 use Rattle.std.specs.Fmt.{decimal}
 use Rattle.tt_span.specs.Drift.{widening}
+use Rattle.tt_span.specs.Interval.{Interval}
+use Rattle.tt_daemon.specs.Config.{Configuration}
 use Rattle.tt_text.specs.Line.{line_of}
 use Rattle.tt_settings.specs.declared.plans.Pauses.{Pauses}
 use Rattle.tt_settings.specs.Settings.{Meaning}
@@ -13,7 +15,7 @@ abbrev pub word_line : List ℕ → List ℕ → List ℕ
 word_line word value = word ++ codes " " ++ value ++ codes "\n"
 
 -- a word and an address of this host
-abbrev pub address_text : List ℕ → ℕ → List ℕ
+unfoldable pub address_text : List ℕ → ℕ → List ℕ
 address_text word port = word ++ codes " 127.0.0.1:" ++ decimal port ++ codes "\n"
 
 -- the line of a master
@@ -29,7 +31,7 @@ path_line word None = []
 abbrev pub growth_of : Pauses → ℕ → ℕ
 growth_of pauses drift = 2 * widening drift (period_of pauses)
 
--- the threads of so many workers, the daemon's, and the one that started them
+-- the threads of so many workers, the daemon's, and the one that waits for the end of standard input
 abbrev pub threads_of : ℕ → ℕ
 threads_of workers = workers + 2
 
@@ -38,27 +40,41 @@ abbrev pub memory_of : ℕ → ℕ
 memory_of workers = 4194304 + 131072 * workers
 
 -- how long its parts wait
-abbrev pub pauses_text : Pauses → List ℕ
+unfoldable pub pauses_text : Pauses → List ℕ
 pauses_text p =
     line_of (codes "poll") (p.poll ∷ [])
     ++ line_of (codes "wait") (p.wait ∷ [])
     ++ line_of (codes "floor_ahead") (p.floor_ahead ∷ [])
     ++ line_of (codes "idle") (p.idle ∷ [])
 
+-- what it is set up with
+unfoldable pub config_text : Configuration → List ℕ
+config_text c =
+    line_of (codes "faulty") (c.faulty ∷ [])
+    ++ line_of (codes "workers") (c.workers ∷ [])
+    ++ line_of (codes "drift") (c.drift ∷ [])
+
+-- how its readings grow, its threads, and its memory
+unfoldable pub sums_text : Pauses → Configuration → List ℕ
+sums_text p c =
+    line_of (codes "growth") (growth_of p c.drift ∷ [])
+    ++ line_of (codes "threads") (threads_of c.workers ∷ [])
+    ++ line_of (codes "memory") (memory_of c.workers ∷ [])
+
+-- the lease
+unfoldable pub lease_text : Interval → List ℕ
+lease_text lease = line_of (codes "lease") (lease.lo ∷ lease.hi ∷ [])
+
 -- its numbers
-abbrev pub numbers_text : Meaning → List ℕ
+unfoldable pub numbers_text : Meaning → List ℕ
 numbers_text s =
-    line_of (codes "faulty") (s.config.faulty ∷ [])
-    ++ line_of (codes "workers") (s.config.workers ∷ [])
-    ++ line_of (codes "drift") (s.config.drift ∷ [])
+    config_text s.config
     ++ pauses_text s.pauses
-    ++ line_of (codes "lease") (s.lease.lo ∷ s.lease.hi ∷ [])
-    ++ line_of (codes "growth") (growth_of s.pauses s.config.drift ∷ [])
-    ++ line_of (codes "threads") (threads_of s.config.workers ∷ [])
-    ++ line_of (codes "memory") (memory_of s.config.workers ∷ [])
+    ++ lease_text s.lease
+    ++ sums_text s.pauses s.config
 
 -- its files
-abbrev pub files_text : Meaning → List ℕ
+unfoldable pub files_text : Meaning → List ℕ
 files_text s = word_line (codes "state") s.state ++ path_line (codes "socket") s.socket ++ path_line (codes "shared") s.shared ++ path_line (codes "status") s.status
 
 -- all of it

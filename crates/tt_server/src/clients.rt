@@ -1,6 +1,6 @@
 //! The client of a session, at the far end of a connection.
 
-ghost use Rattle.std.specs.Prelude.{◌≡◌, nat_lt};
+ghost use Rattle.std.specs.Prelude.{◌≡◌, ◌+◌, nat_lt};
 ghost use Rattle.tt_stream.specs.Counts.{HasFailed};
 
 use crate::clocks::MachineClock;

@@ -10,6 +10,9 @@ use std::time::Duration;
 /// How long one read or write of a connection waits at most: soon after it a session sees that the machine ends.
 pub(crate) const SLICE: u64 = 200_000_000;
 
+/// How long it is tried to wake a worker, in milliseconds.
+const WAKE: u64 = 10;
+
 /// Where clients come in.
 #[derive(Drop)]
 pub(crate) enum Door {
@@ -58,6 +61,17 @@ impl Door {
         }
     }
 
+    /// The port of a TCP listener; None for a Unix socket.
+    pub(crate) fn port(&self) -> Option<u16> {
+        match self {
+            Door::Tcp(listener) => match listener.local_addr() {
+                Ok(address) => Some(address.port()),
+                Err(_) => None,
+            },
+            Door::Unix(_) => None,
+        }
+    }
+
     /// Lets so many calls of `accept` go on.
     pub(crate) fn wake<R: Net<Listener = TcpListener, Stream = TcpStream>>(
         &self,
@@ -67,16 +81,19 @@ impl Door {
     ) {
         for _ in 0..times {
             match self {
-                Door::Tcp(listener) => {
-                    if let Ok(address) = listener.local_addr() {
-                        let _ = TcpStream::connect(rt, address);
-                    }
-                }
+                Door::Tcp(listener) => wake_at(rt, listener),
                 Door::Unix(_) => {
                     let _ = UnixStream::connect(rt, path);
                 }
             }
         }
+    }
+}
+
+/// Lets one call of `accept` go on. Where so many clients wait that there is no room for another, none has to be woken.
+fn wake_at<R: Net<Listener = TcpListener, Stream = TcpStream>>(rt: &R, listener: &TcpListener) {
+    if let Ok(address) = listener.local_addr() {
+        let _ = TcpStream::connect_timeout(rt, &address, Duration::from_millis(WAKE));
     }
 }
 

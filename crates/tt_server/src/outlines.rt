@@ -2,12 +2,13 @@
 
 ghost use Rattle.std.specs.Prelude.{◌≡◌, ◌++◌, OnOk, IfOk, string_bytes, option_copied, ◌≤◌};
 ghost use Rattle.std.specs.List.{flat_map};
-ghost use Rattle.tt_server.specs.Outline.{outline_text, word_line, path_line, master_line, address_text, numbers_text, files_text, growth_of, threads_of, memory_of, pauses_text};
+ghost use Rattle.tt_server.specs.Outline.{outline_text, word_line, path_line, master_line, address_text, numbers_text, files_text, growth_of, threads_of, memory_of, pauses_text, config_text, sums_text, lease_text};
 
 use crate::shares::period_of;
 use std::alloc::{AllocError, Global};
+use tt_daemon::Config;
 use tt_settings::{FilePath, Pauses, Settings};
-use tt_span::Drift;
+use tt_span::{Drift, Span};
 use tt_text::push_line;
 
 /// What a machine takes of memory beside its workers, in bytes.
@@ -27,11 +28,14 @@ fn push_words(text: &mut String, word: &str, value: &str) -> Result<(), AllocErr
 }
 
 /// Adds the line of a word and an address of this host.
+#[tactic(auto, unfolding(crate::specs::Outline::address_text))]
 fn push_address(text: &mut String, word: &str, port: u16) -> Result<(), AllocError>
     ensures { OnOk result (string_bytes text.new ≡ string_bytes text.old ++ address_text word.now port) }
 {
     text.push_str(word)?;
-    writeln!(text, " 127.0.0.1:{port}")
+    text.push_str(" 127.0.0.1:")?;
+    write!(text, "{port}")?;
+    text.push_str("\n")
 }
 
 /// Adds a line for each master.
@@ -46,7 +50,7 @@ fn push_masters(text: &mut String, masters: &[u16]) -> Result<(), AllocError>
 
 /// Adds the line of a path, where there is one.
 fn push_path(text: &mut String, word: &str, path: Option<&FilePath>) -> Result<(), AllocError>
-    ensures { OnOk result (string_bytes text.new ≡ string_bytes text.old ++ path_line word.now (option_copied path)) }
+    ensures { OnOk result (string_bytes text.new ≡ string_bytes text.old ++ path_line word.now (option_copied path.entry)) }
 {
     match path {
         Some(path) => push_words(text, word, path.as_str()),
@@ -61,7 +65,8 @@ fn growth_of(pauses: &Pauses, drift: Drift) -> u64
     2 * drift.widen(period_of(pauses))
 }
 
-/// How many threads a machine with so many workers has: the one that started it, and the daemon's.
+/// How many threads a machine with so many workers has at most: those of the workers, the daemon's, and one that waits for
+/// the end of standard input.
 fn threads_of(workers: u64) -> u64
     requires { workers ≤ 32 }
     ensures { result ≡ threads_of workers }
@@ -78,6 +83,7 @@ fn memory_of(workers: u64) -> u64
 }
 
 /// Adds the lines of how long the parts of a machine wait.
+#[tactic(auto, unfolding(crate::specs::Outline::pauses_text))]
 fn push_pauses(text: &mut String, pauses: &Pauses) -> Result<(), AllocError>
     ensures { OnOk result (string_bytes text.new ≡ string_bytes text.old ++ pauses_text pauses.now) }
 {
@@ -87,28 +93,51 @@ fn push_pauses(text: &mut String, pauses: &Pauses) -> Result<(), AllocError>
     push_line(text, "idle", &[pauses.idle])
 }
 
-/// Adds the lines of the numbers of a machine.
-fn push_numbers(text: &mut String, settings: &Settings) -> Result<(), AllocError>
-    ensures { OnOk result (string_bytes text.new ≡ string_bytes text.old ++ numbers_text settings.now) }
+/// Adds the lines of what a machine is set up with.
+#[tactic(auto, unfolding(crate::specs::Outline::config_text))]
+fn push_config(text: &mut String, config: &Config) -> Result<(), AllocError>
+    ensures { OnOk result (string_bytes text.new ≡ string_bytes text.old ++ config_text config.now) }
 {
-    let config = settings.config();
-    let workers = config.workers() as u64;
-    let lease = settings.lease();
     push_line(text, "faulty", &[config.faulty() as u64])?;
-    push_line(text, "workers", &[workers])?;
-    push_line(text, "drift", &[u64::from(config.drift().ppm())])?;
-    push_pauses(text, &settings.pauses())?;
-    push_line(text, "lease", &[lease.lo(), lease.hi()])?;
-    push_line(
-        text,
-        "growth",
-        &[growth_of(&settings.pauses(), config.drift())],
-    )?;
+    push_line(text, "workers", &[config.workers() as u64])?;
+    push_line(text, "drift", &[u64::from(config.drift().ppm())])
+}
+
+/// Adds the lines of what a machine comes to: how its readings grow, its threads, and its memory.
+#[tactic(auto, unfolding(crate::specs::Outline::sums_text))]
+fn push_sums(text: &mut String, pauses: &Pauses, config: &Config) -> Result<(), AllocError>
+    ensures { OnOk result (string_bytes text.new ≡ string_bytes text.old ++ sums_text pauses.now config.now) }
+{
+    let growth = growth_of(pauses, config.drift());
+    let workers = config.workers() as u64;
+    push_line(text, "growth", &[growth])?;
     push_line(text, "threads", &[threads_of(workers)])?;
     push_line(text, "memory", &[memory_of(workers)])
 }
 
+/// Adds the line of the lease.
+#[tactic(auto, unfolding(crate::specs::Outline::lease_text))]
+fn push_lease(text: &mut String, lease: &Span) -> Result<(), AllocError>
+    ensures { OnOk result (string_bytes text.new ≡ string_bytes text.old ++ lease_text lease.now) }
+{
+    push_line(text, "lease", &[lease.lo(), lease.hi()])
+}
+
+/// Adds the lines of the numbers of a machine.
+#[tactic(auto, unfolding(crate::specs::Outline::numbers_text))]
+fn push_numbers(text: &mut String, settings: &Settings) -> Result<(), AllocError>
+    ensures { OnOk result (string_bytes text.new ≡ string_bytes text.old ++ numbers_text settings.now) }
+{
+    let config = settings.config();
+    let pauses = settings.pauses();
+    push_config(text, &config)?;
+    push_pauses(text, &pauses)?;
+    push_lease(text, &settings.lease())?;
+    push_sums(text, &pauses, &config)
+}
+
 /// Adds the lines of the files of a machine.
+#[tactic(auto, unfolding(crate::specs::Outline::files_text))]
 fn push_files(text: &mut String, settings: &Settings) -> Result<(), AllocError>
     ensures { OnOk result (string_bytes text.new ≡ string_bytes text.old ++ files_text settings.now) }
 {

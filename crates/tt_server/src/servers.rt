@@ -162,7 +162,7 @@ fn run_threads<
             Event::Started {
                 machine: u64::from(hall.life.machine),
                 epoch: hall.life.epoch,
-                port: u64::from(settings.listen()),
+                port: u64::from(hall.door.port().unwrap_or(settings.listen())),
             },
         );
         run_daemon(shared, desk, &mut clock, teller);
