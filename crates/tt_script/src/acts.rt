@@ -100,8 +100,8 @@ fn act_of(value: &Value) -> Result<Act, ScriptFault>
     }
 }
 
-/// The act that a text writes.
-fn act_in(text: &str) -> Result<Act, ScriptFault>
+/// The act that a text writes, as [`act_laws`] says. Refuses any other text with `WrongValue`.
+pub fn act_in(text: &str) -> Result<Act, ScriptFault>
     ensures { result ≡ act_in text.now }
 {
     match text {

@@ -29,7 +29,7 @@ mod scripts;
 mod unknown;
 mod words;
 
-pub use acts::{Acts, MAX_ACTS, act_laws};
+pub use acts::{Acts, MAX_ACTS, act_in, act_laws};
 pub use events::MAX_EVENTS;
 pub use faults::ScriptFault;
 pub use lives::{Line, Live, LiveMaster, MAX_LIMIT, Session};

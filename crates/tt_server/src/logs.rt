@@ -33,6 +33,8 @@ fn kind_of(event: Event) -> usize
         Event::SharingEnded { .. } => 8,
         Event::StatusUnwritten => 9,
         Event::NotAccepted => 10,
+        Event::MasterStarted { .. } => 11,
+        Event::MasterFailed { .. } => 12,
         Event::SourceSilent { source } => SILENT + source.min(15) as usize,
         Event::SourceSuspect { source } => SUSPECT + source.min(15) as usize,
     }

@@ -17,8 +17,9 @@ use toml::{Table, Value};
 /// How many masters a machine has at most.
 const MAX_MASTERS: usize = 16;
 
-/// The port of the address that a text writes, which is `127.0.0.1:` and the port.
-fn port_of(text: &str) -> Option<u16>
+/// The port of the address of this host that a text writes, which is `127.0.0.1:` and the port, in decimal digits with
+/// no zero in front. None for any other text.
+pub fn port_of(text: &str) -> Option<u16>
     ensures { result ≡ port_of text.now }
 {
     match text.strip_prefix("127.0.0.1:") {

@@ -20,9 +20,11 @@ mod plans;
 mod settings;
 mod texts;
 
+pub use addresses::port_of;
 pub use durations::duration_of;
 pub use faults::SettingsFault;
 pub use keys::Key;
+pub use numerals::number_of;
 pub use plans::Pauses;
 pub use settings::{Settings, read};
 pub use texts::FilePath;

@@ -3,8 +3,8 @@
 ghost use Rattle.std.specs.Prelude.{◌≡◌, ◌≢◌, ◌⊎◌, ◌<◌, ◌≤◌, ◌^◌, length, slice_index, IsTrue, IsFalse, IfSome};
 ghost use Rattle.tt_settings.specs.Numeral.{number_of};
 
-/// The number that the digits write in decimal, with no zero in front, up to the greatest.
-pub(crate) fn number_of(most: u64, digits: &str) -> Option<u64>
+/// The number that the digits write in decimal, with no zero in front, up to the greatest. None for any other text.
+pub fn number_of(most: u64, digits: &str) -> Option<u64>
     ensures value { result ≡ number_of most digits.now }
     ensures bound { IfSome result (λ n. n ≤ most) }
 {

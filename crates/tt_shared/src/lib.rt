@@ -61,6 +61,6 @@ pub use indexes::{count_of, index_laws, index_of, turn_of};
 pub use laws::{copy_laws, crash_laws};
 pub use memory::{MemoryPlace, memory_laws};
 pub use places::{Place, ReadPlace};
-pub use readers::SharedReader;
+pub use readers::{SharedReader, SharedReading};
 pub use slots::{SLOT_LEN, SharedSpan, decode, encode, one_spelling, read};
 pub use teller::SharedTeller;

@@ -1,6 +1,6 @@
 //! Readings of a shared file, as any process makes them.
 
-ghost use Rattle.std.specs.Prelude.{◌≡◌, ◌≢◌, ◌⊎◌, ℕ, List, Some, None, IfOk, IfErr, IsErrOf};
+ghost use Rattle.std.specs.Prelude.{◌≡◌, ◌≢◌, ◌⊎◌, ℕ, List, Some, None, IfOk, IfErr, IsErrOf, nat_le};
 ghost use Rattle.tt_publish.specs.Reading.{CanBeReadAt, reading_at};
 ghost use Rattle.tt_shared.specs.declared.faults.SharedFault.{SharedFault as TheFault};
 ghost use Rattle.tt_shared.specs.declared.faults.SharedFault.TheVariants.{Nothing, ClockBack, ClockFailed, CannotOpen, BadSlot, Contended};
@@ -72,6 +72,16 @@ fn copy<P: ReadPlace>(place: &mut P) -> Result<Copied, SharedFault>
     Err(SharedFault::Contended)
 }
 
+/// A reading of a shared file.
+#[derive(Clone, Copy, Debug, PartialEq, Eq)]
+pub struct SharedReading {
+    /// The reading.
+    pub reading: Reading,
+    /// Whether the clock had not passed 'valid until' of the publication. Where it had, the daemon is late or gone; the
+    /// reading is right all the same, and only wide.
+    pub fresh: bool,
+}
+
 /// A reader of a shared file.
 #[derive(Drop)]
 pub struct SharedReader<P> {
@@ -95,10 +105,11 @@ impl<P: ReadPlace> SharedReader<P> {
     /// read, 1704 `Contended` where each of 1,000 tries met another publication, 1703 `BadSlot` where no daemon wrote
     /// the slot, and the clock is not asked by these; 803 `ClockFailed` where the clock failed; 802 `ClockBack` where it
     /// shows less than the publication's clock, or more than the greatest time.
-    pub fn now<C: Clock>(&mut self, clock: &mut C) -> Result<Reading, SharedFault>
-        ensures read { IfOk result (λ reading. (index bytes : List ℕ) × (p : Published) × (c : ℕ)
+    pub fn now<C: Clock>(&mut self, clock: &mut C) -> Result<SharedReading, SharedFault>
+        ensures read { IfOk result (λ seen. (index bytes : List ℕ) × (p : Published) × (c : ℕ)
             × Finds P.looks index bytes self.old.place self.new.place × IsSlotOf (word_of index) p bytes
-            × C.gives clock.old (Some c) clock.new × CanBeReadAt p.fused c × (reading ≡ reading_at p.drift p.fused c)) }
+            × C.gives clock.old (Some c) clock.new × CanBeReadAt p.fused c × (seen.reading ≡ reading_at p.drift p.fused c)
+            × (seen.fresh ≡ nat_le c p.valid_until)) }
         ensures nothing { IsErrOf result Nothing → EndsBy P.looks (SeesNothing P.looks) self.old.place self.new.place × (clock.new ≡ clock.old) }
         ensures cannot_open { IsErrOf result CannotOpen → EndsBy P.looks (Fails P.looks) self.old.place self.new.place × (clock.new ≡ clock.old) }
         ensures contended { IsErrOf result Contended → GivesUp P.looks self.old.place self.new.place × (clock.new ≡ clock.old) }
@@ -119,7 +130,10 @@ impl<P: ReadPlace> SharedReader<P> {
             return Err(SharedFault::ClockFailed);
         };
         match shared.fused.read_at(shared.drift, at) {
-            Ok(reading) => Ok(reading),
+            Ok(reading) => Ok(SharedReading {
+                reading,
+                fresh: at <= shared.valid_until,
+            }),
             Err(_) => Err(SharedFault::ClockBack),
         }
     }

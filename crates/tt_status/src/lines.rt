@@ -32,6 +32,10 @@ pub enum Event {
     NotAccepted,
     /// The machine ends in order.
     Ended,
+    /// This master answers polls at this port from now on.
+    MasterStarted { source: u64, port: u64 },
+    /// A master's link or reference failed, with this number: 1501 or 304.
+    MasterFailed { number: u64 },
 }
 
 impl Event {
@@ -52,6 +56,8 @@ impl Event {
             Event::StatusUnwritten => "level=warn event=status_unwritten",
             Event::NotAccepted => "level=warn event=not_accepted",
             Event::Ended => "level=info event=ended",
+            Event::MasterStarted { .. } => "level=info event=master_started",
+            Event::MasterFailed { .. } => "level=warn event=master_failed",
         }
     }
 }
@@ -102,7 +108,13 @@ fn push_numbers(text: &mut String, event: Event) -> Result<(), AllocError>
         Event::FirstPublication { width } => push_field(text, " width=", width),
         Event::SourceSilent { source } => push_field(text, " source=", source),
         Event::SourceSuspect { source } => push_field(text, " source=", source),
-        Event::FusionRefused { number } => push_field(text, " number=", number),
+        Event::FusionRefused { number } | Event::MasterFailed { number } => {
+            push_field(text, " number=", number)
+        }
+        Event::MasterStarted { source, port } => {
+            push_field(text, " source=", source)?;
+            push_field(text, " port=", port)
+        }
         Event::AnswersRefused { count } => push_field(text, " count=", count),
         Event::RoundFailed { number } => push_field(text, " number=", number),
         Event::SharingEnded { number } => push_field(text, " number=", number),

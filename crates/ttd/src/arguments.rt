@@ -9,7 +9,8 @@ ghost use Rattle.ttd_commands.specs.Run.{IsWritten, memory_answer, output_of};
 
 use std::alloc::{AllocError, Global};
 use std::env;
-use std::io::{self, ErrorKind, Write};
+use std::fs::{File, Files};
+use std::io::{self, Eprint, ErrorKind, Input, Read, Write};
 use std::net::{Net, TcpListener, TcpStream};
 use std::rt::Env;
 use std::sync::Wait;
@@ -18,6 +19,7 @@ use std::time::Clock;
 use tt_stream::{ByteReader, ByteWriter};
 use ttd_cli::{mistake_text, usage_text};
 use ttd_commands::{Ended, Fault, Status, answer_live, explain, give};
+use ttd_services::{names_service, run};
 
 /// What standard error is told where the answer could not be written.
 const UNWRITTEN: &[u8] = b"ttd: refused 1605: writing failed\n";
@@ -68,6 +70,30 @@ pub(crate) fn main_from<
     match as_texts(rt.alloc(), words) {
         Ok(texts) => answer_live(rt, rt.alloc(), texts.as_slice(), input, output, notes),
         Err(AllocError) => give(output, Err(Fault::Memory)),
+    }
+}
+
+/// Runs the service that these words name, where they name one, and answers how it ended. Where memory runs out before, they name
+/// none.
+pub(crate) fn service_from<
+    S: Read + Send + Drop,
+    H: AllocGlobal
+        + Threads
+        + Wait
+        + Clock
+        + Sync
+        + Eprint
+        + Input<Reader = S>
+        + Files<File = File>
+        + Net<Listener = TcpListener, Stream = TcpStream>,
+    R: ByteReader,
+    W: ByteWriter,
+>(rt: &H, words: &[String], input: &mut R, output: &mut W) -> Option<ttd_services::Status> {
+    match as_texts(rt.alloc(), words) {
+        Ok(texts) if names_service(texts.as_slice()) => {
+            Some(run(rt, texts.as_slice(), input, output))
+        }
+        _ => None,
     }
 }
 

@@ -1,12 +1,12 @@
-//! The program `ttd`: the commands of `ttd_commands` over the arguments that it was started with, its standard input and its
-//! standard output. What was refused is said in a sentence on standard error too.
+//! The program `ttd`: the commands of `ttd_commands` and the services of `ttd_services` over the arguments that it was started
+//! with, its standard input and its standard output. What was refused is said in a sentence on standard error too.
 //!
 //! - `arguments`: the words that it was started with.
 #![tactic(auto)]
 
 mod arguments;
 
-use arguments::{main_from, say, words_given};
+use arguments::{main_from, say, service_from, words_given};
 use std::alloc::AllocError;
 use std::process::ExitCode;
 use tt_stream::Counted;
@@ -18,6 +18,9 @@ fn main(rt: HostRuntime) -> ExitCode {
     let ended = match words_given(&rt) {
         Ok(words) => {
             let words = words.as_slice();
+            if let Some(status) = service_from(&rt, words, &mut input, &mut output) {
+                return ExitCode::from(status);
+            }
             let mut notes = String::new(rt.alloc());
             let ended = main_from(&rt, words, &mut input, &mut output, &mut notes);
             say(rt.alloc(), &mut rt.stderr(), words, &ended, notes.as_str());

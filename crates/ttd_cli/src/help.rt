@@ -7,6 +7,12 @@ Each command reads standard input to its end, at most 1048576 bytes (judge: 1 Gi
 It prints its answer, or the one line `refused N`; standard error says what N means.
 Times and clock readings are nanoseconds. `ttd <COMMAND> --help` says more of a command.
 
+Services, which run until they are ended or speak to such a one:
+  master  answers polls over UDP, as a source of time
+  serve   runs one machine by its configuration: it polls masters, and serves clients over TCP
+  ask     sends lines to a machine, and prints its replies
+  read    prints the time from the file that a machine shares
+
 Exit status:
   0  the answer, this help or the version was printed
   1  out of memory: `refused 1`

@@ -14,6 +14,7 @@ returns-in-Ok-read_at-clause-read g c = (
   c.in-Ok.ensures.gave,
   c.in-Ok-read_at.ensures.answered.0 refl,
   c.in-Ok-read_at.ensures.value,
+  refl,
 )
 
 pub returns-in_err-copied-clause-contended : goal.returns-in_err-copied-clause-contended

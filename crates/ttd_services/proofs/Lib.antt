@@ -1,0 +1,4 @@
+mod ParsedWords
+mod GivenRows
+mod Replied
+mod Written

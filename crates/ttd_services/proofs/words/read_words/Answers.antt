@@ -1,0 +1,31 @@
+use Rattle.std.proofs.Common.{◌≡◌, ◌∙◌, inl, inr, refl}
+use Rattle.clap.specs.Values.{kind_of}
+use Rattle.clap.specs.Walk.{texts}
+use Rattle.clap.specs.declared.error.kind.ErrorKind.TheVariants.{DisplayHelp, DisplayVersion, OutOfMemory}
+use Rattle.ttd_cli.proofs.ParsedWords.{help_no_memory, not_taken, shown}
+use Rattle.ttd_services.specs.CommandLine.{faults_of}
+use Rattle.ttd_services.proofs.ParsedWords.{help_not_mistaken, other_not_help}
+use Rattle.ttd_services.proofs.words.read_words.Goals as goal
+
+pub returns-in-DisplayHelp : goal.returns-in-DisplayHelp
+returns-in-DisplayHelp c =
+    let ws = texts c.args.words.now in
+    let kind = shown c.in-Err.error _ c.kind.ensures c.in-DisplayHelp.is in
+    let memory = help_no_memory c.in-Err.error kind in
+    record {
+      taken = λ e. absurd (not_taken (faults_of ws) c.in-Err.error c.in-Err.ensures.fails memory e);
+      mistaken = λ e. absurd (help_not_mistaken ws c.in-Err.error e c.in-Err.ensures.fails kind);
+      helped = λ e. inl refl;
+    }
+
+pub returns : goal.returns
+returns c =
+    let ws = texts c.args.words.now in
+    let help : kind_of c.in-Err.error ≡ DisplayHelp → ⊥ = λ e. c.in_default.not-DisplayHelp (c.kind.ensures ∙ e) in
+    let version : kind_of c.in-Err.error ≡ DisplayVersion → ⊥ = λ e. c.in_default.not-DisplayVersion (c.kind.ensures ∙ e) in
+    let memory : kind_of c.in-Err.error ≡ OutOfMemory → ⊥ = λ e. c.in_default.not-OutOfMemory (c.kind.ensures ∙ e) in
+    record {
+      taken = λ e. absurd (not_taken (faults_of ws) c.in-Err.error c.in-Err.ensures.fails memory e);
+      mistaken = λ e. inl refl;
+      helped = λ e. absurd (other_not_help ws c.in-Err.error e c.in-Err.ensures.fails memory help version);
+    }

@@ -1,0 +1,66 @@
+-- The numbers of the refusals, and how the program ends.
+use Rattle.std.specs.Prelude.{ℕ, nat_eq, ◌||◌, if◌then◌else◌, Result, Ok, Err}
+use Rattle.tt_settings.specs.Fault.{number_of as settings_number}
+use Rattle.tt_shared.specs.Fault.{shared_number_of}
+use Rattle.tt_server.specs.Fault.{number_of as server_number}
+use Rattle.tt_shared.specs.declared.faults.SharedFault.{SharedFault}
+use Rattle.tt_shared.specs.declared.faults.SharedFault.TheVariants as shared
+use Rattle.tt_settings.specs.declared.faults.SettingsFault.{SettingsFault}
+use Rattle.tt_settings.specs.declared.faults.SettingsFault.TheVariants as settings
+use Rattle.ttd_services.specs.declared.faults.ServiceFault.{ServiceFault}
+use Rattle.ttd_services.specs.declared.faults.ServiceFault.TheVariants.{BadWords, NotLocal, BadFile, ReadFailed, LinkFailed, Settings, Shared, Server, Memory}
+use Rattle.ttd_services.specs.declared.faults.Status.{Status}
+use Rattle.ttd_services.specs.declared.faults.Status.TheVariants.{Fine, Memory as NoMemory, Bad, Device}
+
+-- The number of each refusal.
+abbrev pub number_of : ServiceFault → ℕ
+number_of BadWords = 1601
+number_of NotLocal = 1805
+number_of BadFile = 1603
+number_of ReadFailed = 1604
+number_of LinkFailed = 1501
+number_of (Settings fault) = settings_number fault
+number_of (Shared fault) = shared_number_of fault
+number_of (Server fault) = server_number fault
+number_of Memory = 1
+
+-- How the program ends where a shared file gives no reading: as at a failed device where the file or the clock can't be read.
+abbrev pub status_of_shared : SharedFault → Status
+status_of_shared shared.CannotOpen = Device
+status_of_shared shared.ClockFailed = Device
+status_of_shared _ = Bad
+
+-- How the program ends where a configuration is refused.
+abbrev pub status_of_settings : SettingsFault → Status
+status_of_settings settings.Memory = NoMemory
+status_of_settings _ = Bad
+
+-- How the program ends where a machine does not serve, by the number: as at a failed device for its sockets (1807 to 1809) and the folder of its epoch
+-- (1811, 1812).
+abbrev pub status_of_server : ℕ → Status
+status_of_server number =
+    if nat_eq number 1 then NoMemory
+    else (if nat_eq number 1807 || (nat_eq number 1808 || (nat_eq number 1809 || (nat_eq number 1811 || nat_eq number 1812))) then Device else Bad)
+
+-- How the program ends after each refusal.
+abbrev pub status_of : ServiceFault → Status
+status_of ReadFailed = Device
+status_of LinkFailed = Device
+status_of (Settings fault) = status_of_settings fault
+status_of (Shared fault) = status_of_shared fault
+status_of (Server fault) = status_of_server (server_number fault)
+status_of Memory = NoMemory
+status_of _ = Bad
+
+-- The status as a number.
+abbrev pub code_of : Status → ℕ
+code_of Fine = 0
+code_of NoMemory = 1
+code_of Bad = 2
+code_of Device = 4
+
+-- The second step, where the first was not refused: so the first line of a `do` that refuses is the answer.
+infixl 10 ◌>>=◌
+abbrev pub ◌>>=◌ : {A B : Type 0} → Result A ServiceFault → (A → Result B ServiceFault) → Result B ServiceFault
+Ok x >>= f = f x
+Err fault >>= f = Err fault

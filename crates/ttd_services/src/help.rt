@@ -1,0 +1,74 @@
+//! What the help says behind the options of each service.
+
+/// What `master` does.
+pub(crate) const ABOUT_MASTER: &str = "\
+Answers polls of TTP1 and TTP2 over UDP with the time of this computer's real-time clock, moved by
+--offset, and its uncertainty both ways, until it is ended. Only senders on this host are answered.
+It writes one line to standard error when it begins, and one when a poll can't be answered, at most
+one in ten seconds. Nothing is read from standard input.
+
+Acts, for tests: honest (which it is without --act), silent, garbage, repeat, 'ahead N' and
+'behind N', N in nanoseconds.
+
+Example:
+  ttd master --source 0 --listen 127.0.0.1:7001 --uncertainty 1000000
+
+Refused:
+  1601  invalid arguments
+  1805  --listen is not 127.0.0.1: and a port
+  1501  the socket can't be had; the status is 4";
+
+/// What `serve` does.
+pub(crate) const ABOUT_SERVE: &str = "\
+Runs one machine by its configuration, at most 1048576 bytes of TOML: it polls its masters, fuses
+their answers, and serves clients, until it is ended. With --until-eof it ends in order when
+standard input ends. With --check it prints what it would do, and ends.
+
+Example:
+  ttd serve node.toml
+
+Refused:
+  1601          invalid arguments
+  1604          the file can't be read; the status is 4
+  1603          the file is too long or not UTF-8
+  1801 to 1806  the configuration: standard error names the key
+  1807 to 1816  the server does not start: its sockets, workers, epoch or threads; the status is 4
+                for 1807 to 1809, 1811 and 1812";
+
+/// What `ask` does.
+pub(crate) const ABOUT_ASK: &str = "\
+Sends the words as one line, and prints the reply to it; without words, each line of standard input
+in turn. The lines are now, after T, before T and commit ID FLOOR.
+
+A line is sent again while the reply to a commit is `waiting`, and, at most --retry times, while it
+is `refused 801`: nothing is published yet; at most 10000 times in all. The last reply is printed.
+
+The status is 0 whatever the replies are, also a reply `refused N`, and 4 where the connection
+fails, or no reply comes in 30 seconds.
+
+Example:
+  ttd ask 127.0.0.1:7101 commit 1 0
+
+Refused:
+  1601  invalid arguments
+  1805  the address is not 127.0.0.1: and a port
+  1501  the connection can't be had, or failed; the status is 4
+  1604  reading standard input failed; the status is 4";
+
+/// What `read` does.
+pub(crate) const ABOUT_READ: &str = "\
+Prints `now EARLIEST LATEST`: the true time lies between them, in nanoseconds. Standard error says
+`stale` where the machine that shares the file is late or gone; the reading is right all the same.
+
+Example:
+  ttd read /run/truetime/time
+
+Refused:
+  1601  invalid arguments
+  801   nothing is published yet
+  802   the clock is below that of the publication
+  803   the clock can't be read; the status is 4
+  1701  the file can't be opened or read; the status is 4
+  1702  it is not a shared file of this boot
+  1703  no machine wrote what it holds
+  1704  each try met another publication";

@@ -1,0 +1,76 @@
+//! The link of a master to whoever polls it.
+
+ghost use Rattle.tt_stream.specs.Counts.{HasFailed};
+
+use std::io::ErrorKind;
+use std::net::{SocketAddr, UdpSocket};
+use tt_node::{Link, LinkFault, PACKET_LEN};
+
+/// A link over a UDP socket that sends to where the last packet came from, which is peer 0. A packet from outside this host is
+/// passed over as if nothing had come. A wait for a packet has no end but a packet or a failure.
+///
+/// Nothing is claimed of what the socket delivers. A fault is answered only with a failure counted.
+#[derive(Drop)]
+pub(crate) struct AnsweringLink {
+    socket: UdpSocket,
+    sender: Option<SocketAddr>,
+    failures: u64,
+}
+
+impl AnsweringLink {
+    /// The link by this socket.
+    pub(crate) fn new(socket: UdpSocket) -> AnsweringLink {
+        AnsweringLink {
+            socket,
+            sender: None,
+            failures: 0,
+        }
+    }
+
+    /// Counts a failure.
+    fn fault(&mut self) -> LinkFault
+        ensures rose { HasFailed self.old.failures self.new.failures }
+    {
+        self.failures = self.failures.saturating_add(1);
+        LinkFault::Failed
+    }
+}
+
+impl Link for AnsweringLink {
+    ghost does = { λ _ _ _ _. Unit {0} };
+
+    ghost failed = { λ link. link.failures };
+
+    fn send(&mut self, _peer: u8, bytes: &[u8]) -> Result<(), LinkFault> {
+        let Some(address) = self.sender else {
+            return Err(self.fault());
+        };
+        match self.socket.send_to(bytes, address) {
+            Ok(_) => Ok(()),
+            Err(_) => Err(self.fault()),
+        }
+    }
+
+    fn receive(&mut self, buffer: &mut [u8; PACKET_LEN]) -> Result<Option<(u8, usize)>, LinkFault> {
+        let mut bytes = [0; PACKET_LEN];
+        let came = self.socket.recv_from(&mut bytes);
+        *buffer = bytes;
+        match came {
+            Ok((length, address)) if address.ip().is_loopback() => {
+                self.sender = Some(address);
+                Ok(Some((0, length.min(PACKET_LEN))))
+            }
+            Ok(_) => Ok(None),
+            Err(error) => match error.kind() {
+                ErrorKind::WouldBlock | ErrorKind::Interrupted | ErrorKind::ConnectionRefused => {
+                    Ok(None)
+                }
+                _ => Err(self.fault()),
+            },
+        }
+    }
+
+    fn failures(&self) -> u64 {
+        self.failures
+    }
+}

@@ -1,0 +1,156 @@
+//! What was given for an option or a place.
+
+ghost use Rattle.std.specs.Prelude.{◌≡◌, ◌⊎◌, codes, map, Ok, Err, MatchResult, option_map, string_bytes};
+ghost use Rattle.clap.specs.Walk.{all_of, texts};
+ghost use Rattle.clap.specs.Words.{found_of, rows_of};
+ghost use Rattle.ttd_cli.specs.Reading.{number_at};
+ghost use Rattle.tt_span.specs.Time.{max_time};
+ghost use Rattle.tt_settings.specs.Numeral.{number_of as number_in};
+ghost use Rattle.ttd_services.specs.Reading.{act_of, acts_at, acts_in, flag_at, line_at, number_to, offset_at, offset_by, offset_in, port_at, text_at, time_behind};
+ghost use Rattle.tt_script.specs.Acts.{act_in as act_in_script};
+
+use crate::faults::ServiceFault;
+use crate::words::Offset;
+use clap::ArgMatches;
+use std::alloc::Global;
+use tt_master::Act;
+use tt_script::act_in;
+use tt_settings::{number_of, port_of};
+use tt_span::MAX_TIME;
+
+/// The number that was given for an option, or its default.
+fn number_given(matches: &ArgMatches<'_>, id: &str) -> Option<u64>
+    ensures { number_at id.now (rows_of (found_of matches.now)) ≡ result }
+{
+    matches.get_one::<u64>(id)
+}
+
+/// The number of at most `most` that was given for an option, or its default.
+pub(crate) fn number_to(matches: &ArgMatches<'_>, id: &str, most: u64) -> Result<u64, ServiceFault>
+    ensures { result ≡ number_to id.now most (rows_of (found_of matches.now)) }
+{
+    match number_given(matches, id) {
+        Some(number) if number <= most => Ok(number),
+        _ => Err(ServiceFault::BadWords),
+    }
+}
+
+/// The text that was given for an option or a place, or its default.
+pub(crate) fn text_at<'a>(matches: &ArgMatches<'a>, id: &str) -> Result<&'a str, ServiceFault>
+    ensures { let defined = text_at id.now (rows_of (found_of matches.now)) in
+        MatchResult result (λ text. defined ≡ Ok text.now) (λ fault. defined ≡ Err fault) }
+{
+    match matches.get_str(id) {
+        Some(text) => Ok(text),
+        None => Err(ServiceFault::BadWords),
+    }
+}
+
+/// The port of the address of this host that was given.
+pub(crate) fn port_at(matches: &ArgMatches<'_>, id: &str) -> Result<u16, ServiceFault>
+    ensures { result ≡ port_at id.now (rows_of (found_of matches.now)) }
+{
+    match port_of(text_at(matches, id)?) {
+        Some(port) => Ok(port),
+        None => Err(ServiceFault::NotLocal),
+    }
+}
+
+/// Whether a flag was given.
+pub(crate) fn flag_at(matches: &ArgMatches<'_>, id: &str) -> bool
+    ensures { result ≡ flag_at id.now (rows_of (found_of matches.now)) }
+{
+    match matches.get_str(id) {
+        Some(text) => text == "true",
+        None => false,
+    }
+}
+
+/// The time that the text writes behind a word.
+fn time_behind(word: &str, text: &str) -> Option<u64>
+    ensures { result ≡ time_behind word.now text.now }
+{
+    match text.strip_prefix(word) {
+        Some(digits) => number_of(MAX_TIME, digits),
+        None => None,
+    }
+}
+
+/// The offset that a text writes.
+fn offset_in(text: &str) -> Result<Offset, ServiceFault>
+    ensures { result ≡ offset_in text.now }
+{
+    if let Some(earlier) = time_behind("-", text) {
+        return Ok(Offset::Earlier(earlier));
+    }
+    if let Some(later) = time_behind("+", text) {
+        return Ok(Offset::Later(later));
+    }
+    match number_of(MAX_TIME, text) {
+        Some(later) => Ok(Offset::Later(later)),
+        None => Err(ServiceFault::BadWords),
+    }
+}
+
+/// The offset that was given for an option, or its default.
+pub(crate) fn offset_at(matches: &ArgMatches<'_>, id: &str) -> Result<Offset, ServiceFault>
+    ensures { result ≡ offset_at id.now (rows_of (found_of matches.now)) }
+{
+    offset_in(text_at(matches, id)?)
+}
+
+/// The act that a text writes.
+fn act_of(text: &str) -> Result<Act, ServiceFault>
+    ensures { result ≡ act_of (act_in_script text.now) }
+{
+    match act_in(text) {
+        Ok(act) => Ok(act),
+        Err(_) => Err(ServiceFault::BadWords),
+    }
+}
+
+/// The acts that texts write, one after the other.
+fn acts_in(alloc: Global, given: &[&str]) -> Result<Vec<Act>, ServiceFault>
+    ensures { let defined = acts_in (texts given.now) in
+        MatchResult result (λ acts. defined ≡ Ok acts.items) (λ fault. (defined ≡ Err fault) ⊎ (fault ≡ ServiceFault.Memory)) }
+{
+    let mut acts = Vec::new(alloc);
+    for text in given {
+        acts.push(act_of(text)?)?;
+    }
+    Ok(acts)
+}
+
+/// The acts that were given, and honesty where there are none.
+pub(crate) fn acts_at(
+    alloc: Global,
+    matches: &ArgMatches<'_>,
+    id: &str,
+) -> Result<Vec<Act>, ServiceFault>
+    ensures { let defined = acts_at (all_of id.now (rows_of (found_of matches.now))) in
+        MatchResult result (λ acts. defined ≡ Ok acts.items) (λ fault. (defined ≡ Err fault) ⊎ (fault ≡ ServiceFault.Memory)) }
+{
+    match matches.get_strs(id) {
+        Some(given) => acts_in(alloc, given),
+        None => {
+            let mut acts = Vec::new(alloc);
+            acts.push(Act::Honest)?;
+            Ok(acts)
+        }
+    }
+}
+
+/// The words of a line, with one space between two, where there are words.
+pub(crate) fn line_at(
+    alloc: Global,
+    matches: &ArgMatches<'_>,
+    id: &str,
+) -> Result<Option<String>, ServiceFault>
+    ensures { MatchResult result (λ line. option_map string_bytes line ≡ line_at (all_of id.now (rows_of (found_of matches.now))))
+        (λ fault. fault ≡ ServiceFault.Memory) }
+{
+    match matches.get_strs(id) {
+        Some(words) => Ok(Some(words.join(alloc, " ")?)),
+        None => Ok(None),
+    }
+}

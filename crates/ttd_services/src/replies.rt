@@ -1,0 +1,61 @@
+//! What the reply to a line means for whoever sent it.
+
+ghost use Rattle.std.specs.Prelude.{◌≡◌, ◌↔◌, IsTrue, MatchOption};
+ghost use Rattle.ttd_services.specs.Replies.{BeginsWith, HasNoTwo, IsPending, nothing_yet};
+
+use tt_text::numbers_behind;
+
+/// The reply to a line that needs a reading, while nothing is published.
+const NOTHING_YET: &[u8] = b"refused 801\n";
+
+/// What the reply to a line means.
+#[derive(Clone, Copy, Debug, PartialEq, Eq)]
+pub enum Meaning {
+    /// It is the answer.
+    Final,
+    /// The commit that the line asks for is not committed yet: the line has to be sent again.
+    Pending,
+    /// Nothing is published yet: the line may be sent again a little later.
+    NothingYet,
+}
+
+/// What the reply to a line means, both with their line feeds: `Pending` where the line is `commit ID FLOOR` and the reply
+/// `waiting ID S` with the same ID, `NothingYet` where the reply is `refused 801`, and `Final` for all else.
+pub fn meaning_of(line: &[u8], reply: &[u8]) -> Meaning
+    ensures pending { result ≡ Meaning.Pending ↔ IsPending line.now reply.now }
+    ensures nothing_yet { result ≡ Meaning.NothingYet ↔ reply.now ≡ nothing_yet }
+{
+    if is_pending(line, reply) {
+        return Meaning::Pending;
+    }
+    if reply == NOTHING_YET {
+        return Meaning::NothingYet;
+    }
+    Meaning::Final
+}
+
+/// Whether the line asks for a commit, and the reply says that it is not committed yet.
+fn is_pending(line: &[u8], reply: &[u8]) -> bool
+    ensures { IsTrue result ↔ IsPending line.now reply.now }
+{
+    let Some(asked) = first_of_two(b"commit", line) else {
+        return false;
+    };
+    let Some(named) = first_of_two(b"waiting", reply) else {
+        return false;
+    };
+    named == asked
+}
+
+/// The first number of a line, where it is this word and two numbers.
+fn first_of_two(word: &[u8], line: &[u8]) -> Option<u64>
+    ensures { MatchOption result (HasNoTwo word.now line.now) (BeginsWith word.now line.now) }
+{
+    let Some(numbers) = numbers_behind(word, line) else {
+        return None;
+    };
+    match numbers.as_slice() {
+        [first, _second] => Some(*first),
+        _ => None,
+    }
+}

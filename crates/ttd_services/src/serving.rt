@@ -1,0 +1,87 @@
+//! The service `serve`.
+
+use crate::faults::ServiceFault;
+use crate::output::{Stop, write};
+use std::alloc::Global;
+use std::fs::{File, Files};
+use std::io::{Eprint, Input, Read};
+use std::net::{Net, TcpListener, TcpStream};
+use std::str;
+use std::sync::Wait;
+use std::thread::Threads;
+use std::time::Clock;
+use tt_server::{ServerFault, outline, serve};
+use tt_settings::{Settings, SettingsFault};
+use tt_stream::{ByteWriter, Counted, ReadFault, read_to_end};
+
+/// How many bytes a configuration has at most: 1 MiB.
+const MOST_FILE: usize = 1_048_576;
+
+/// The bytes of a file.
+fn bytes_of<H: Files<File = File>>(
+    rt: &H,
+    alloc: Global,
+    path: &str,
+) -> Result<Vec<u8>, ServiceFault> {
+    let Ok(file) = File::open(rt, path) else {
+        return Err(ServiceFault::ReadFailed);
+    };
+    let mut reader = Counted::new(file);
+    match read_to_end(alloc, &mut reader, MOST_FILE, MOST_FILE as u32 + 2) {
+        Ok(bytes) => Ok(bytes),
+        Err(ReadFault::Memory) => Err(ServiceFault::Memory),
+        Err(ReadFault::TooLong) => Err(ServiceFault::BadFile),
+        Err(_) => Err(ServiceFault::ReadFailed),
+    }
+}
+
+/// The settings that a file says. Of a configuration that is refused standard error says where.
+fn settings_of<H: Files<File = File> + Eprint>(
+    rt: &H,
+    alloc: Global,
+    path: &str,
+) -> Result<Settings, ServiceFault> {
+    let bytes = bytes_of(rt, alloc, path)?;
+    let Ok(text) = str::from_utf8(bytes.as_slice()) else {
+        return Err(ServiceFault::BadFile);
+    };
+    match tt_settings::read(alloc, text) {
+        Ok(settings) => Ok(settings),
+        Err(SettingsFault::Memory) => Err(ServiceFault::Memory),
+        Err(fault) => {
+            let _ = eprint!(rt; "{path}: {fault}\n");
+            Err(ServiceFault::Settings(fault))
+        }
+    }
+}
+
+/// Runs the machine of a configuration until it is ended, or writes what it would do.
+///
+/// Refuses with 1604 `ReadFailed` where the file can't be read, with 1603 `BadFile` where it is longer than 1 MiB or is not UTF-8,
+/// with 1801 to 1806 where the configuration is refused, and with what ended the server.
+pub(crate) fn run_server<
+    S: Read + Send + Drop,
+    H: AllocGlobal
+        + Threads
+        + Wait
+        + Clock
+        + Sync
+        + Eprint
+        + Input<Reader = S>
+        + Files<File = File>
+        + Net<Listener = TcpListener, Stream = TcpStream>,
+    O: ByteWriter,
+>(rt: &H, file: &str, check: bool, until_eof: bool, output: &mut O) -> Result<(), Stop> {
+    let settings = settings_of(rt, rt.alloc(), file)?;
+    if !check {
+        return match serve(rt, &settings, until_eof) {
+            Ok(()) => Ok(()),
+            Err(ServerFault::Memory) => Err(Stop::Refused(ServiceFault::Memory)),
+            Err(fault) => Err(Stop::Refused(ServiceFault::Server(fault))),
+        };
+    }
+    match outline(rt.alloc(), &settings) {
+        Ok(text) => write(output, text.as_str().as_bytes()).map_err(|_| Stop::Unwritten),
+        Err(_) => Err(Stop::Refused(ServiceFault::Memory)),
+    }
+}
