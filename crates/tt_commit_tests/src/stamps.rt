@@ -4,7 +4,7 @@ use std::alloc::Global;
 use std::test::Fail;
 use tt_publish::Reading;
 use tt_span::{MAX_TIME, Span};
-use tt_stamp::{Book, BookFault, Entry, Id, Receipt, Row, StampFault};
+use tt_stamp::{Book, BookFault, Entry, ForgetFault, Id, Receipt, Row, StampFault};
 
 fn reading(lo: u64, hi: u64) -> Result<Reading, Fail> {
     Ok(Reading::of(Span::new(lo, hi)?))
@@ -123,6 +123,20 @@ fn ids_and_stamps_are_taken_for_good(rt: HostRuntime) -> Result<(), Fail> {
 }
 
 #[test]
+fn a_released_session_is_forgotten(rt: HostRuntime) -> Result<(), Fail> {
+    let mut book = two_waiting(rt.alloc())?;
+    book.queue(id(1, 1), 300)?;
+    assert!(rt; book.forget(rt.alloc(), 0) == Err(ForgetFault::Waits));
+    assert!(rt; book.release(&reading(201, 301)?) == 2);
+    assert!(rt; book.forget(rt.alloc(), 0) == Ok(()));
+    assert!(rt; book.history().len() == 1);
+    assert!(rt; book.is_released(id(0, 1)) == None);
+    assert!(rt; book.queue(id(1, 1), 400) == Err(BookFault::IdThere));
+    assert!(rt; book.queue(id(0, 1), 200) == Ok(()));
+    Ok(())
+}
+
+#[test]
 fn as_many_wait_as_may(rt: HostRuntime) -> Result<(), Fail> {
     let mut book = Book::new(rt.alloc());
     for stamp in 1..65_537 {
@@ -151,6 +165,9 @@ fn each_refusal_has_its_number(rt: HostRuntime) -> Result<(), Fail> {
         (BookFault::StampThere, 1003),
         (BookFault::Memory, 1),
     ] {
+        assert!(rt; fault.number() == number);
+    }
+    for (fault, number) in [(ForgetFault::Waits, 1004), (ForgetFault::Memory, 1)] {
         assert!(rt; fault.number() == number);
     }
     Ok(())
