@@ -137,17 +137,17 @@ def say_nothing(address, seconds, words=b""):
 
 def never_read(address, seconds):
     """Sends lines until no more are taken; then the service has to give up its writing."""
-    last = time.monotonic() + 5 * seconds
     end = time.monotonic() + seconds
     try:
         with socket.socket() as door:
-            door.setsockopt(socket.SOL_SOCKET, socket.SO_RCVBUF, 4096)  # soon full
+            # Small segments and a small buffer are soon full, on both sides.
+            door.setsockopt(socket.IPPROTO_TCP, socket.TCP_MAXSEG, 536)
+            door.setsockopt(socket.SOL_SOCKET, socket.SO_RCVBUF, 4096)
             door.connect(address)
             door.settimeout(0.2)
             while time.monotonic() < end:
                 with contextlib.suppress(TimeoutError):
                     door.send(b"now\n" * 10_000)
-                    end = min(time.monotonic() + seconds, last)
     except OSError:
         return []
     return ["a client that never reads is not let go"]
