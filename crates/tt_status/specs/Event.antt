@@ -2,7 +2,7 @@
 use Rattle.std.specs.Prelude.{codes, ℕ, nat_lt, if◌then◌else◌, List, [], ◌∷◌, ◌++◌}
 use Rattle.std.specs.Fmt.{decimal}
 use Rattle.tt_status.specs.declared.lines.Event.{Event}
-use Rattle.tt_status.specs.declared.lines.Event.TheVariants.{Started, FirstPublication, SourceSilent, SourceSuspect, FusionRefused, ClockBack, AnswersRefused, NotAccepted, Ended, MasterStarted, MasterFailed}
+use Rattle.tt_status.specs.declared.lines.Event.TheVariants.{Started, FirstPublication, SourceSilent, SourceSuspect, FusionRefused, ClockBack, AnswersRefused, RoundFailed, SharingEnded, StatusUnwritten, NotAccepted, Ended, MasterStarted, MasterFailed}
 
 -- a name and the decimal digits of its number
 abbrev pub field : List ℕ → ℕ → List ℕ
@@ -17,6 +17,9 @@ name_of (SourceSuspect source) = codes "level=warn event=source_suspect"
 name_of (FusionRefused number) = codes "level=warn event=fusion_refused"
 name_of ClockBack = codes "level=warn event=clock_back"
 name_of (AnswersRefused count) = codes "level=warn event=answers_refused"
+name_of (RoundFailed number) = codes "level=warn event=round_failed"
+name_of (SharingEnded number) = codes "level=warn event=sharing_ended"
+name_of StatusUnwritten = codes "level=warn event=status_unwritten"
 name_of NotAccepted = codes "level=warn event=not_accepted"
 name_of Ended = codes "level=info event=ended"
 name_of (MasterStarted source port) = codes "level=info event=master_started"
@@ -30,6 +33,8 @@ numbers_of (SourceSilent source) = field (codes " source=") source
 numbers_of (SourceSuspect source) = field (codes " source=") source
 numbers_of (FusionRefused number) = field (codes " number=") number
 numbers_of (AnswersRefused count) = field (codes " count=") count
+numbers_of (RoundFailed number) = field (codes " number=") number
+numbers_of (SharingEnded number) = field (codes " number=") number
 numbers_of (MasterStarted source port) = field (codes " source=") source ++ field (codes " port=") port
 numbers_of (MasterFailed number) = field (codes " number=") number
 numbers_of _ = []

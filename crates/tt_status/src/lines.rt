@@ -12,7 +12,7 @@ pub enum Event {
     Started { machine: u64, epoch: u64, port: u64 },
     /// The first publication of this life, with its width in nanoseconds.
     FirstPublication { width: u64 },
-    /// No statement of this source is known any more.
+    /// No answer of this source came in a round.
     SourceSilent { source: u64 },
     /// The fusion speaks against this source.
     SourceSuspect { source: u64 },
@@ -22,6 +22,12 @@ pub enum Event {
     ClockBack,
     /// So many answers of sources were refused in a round.
     AnswersRefused { count: u64 },
+    /// A round ended with a fault of this number: its link failed, or its fusion was not published.
+    RoundFailed { number: u64 },
+    /// The shared file is no longer written, for a fault of this number.
+    SharingEnded { number: u64 },
+    /// The status file was not written.
+    StatusUnwritten,
     /// A connection was not accepted.
     NotAccepted,
     /// The machine ends in order.
@@ -45,6 +51,9 @@ impl Event {
             Event::FusionRefused { .. } => "level=warn event=fusion_refused",
             Event::ClockBack => "level=warn event=clock_back",
             Event::AnswersRefused { .. } => "level=warn event=answers_refused",
+            Event::RoundFailed { .. } => "level=warn event=round_failed",
+            Event::SharingEnded { .. } => "level=warn event=sharing_ended",
+            Event::StatusUnwritten => "level=warn event=status_unwritten",
             Event::NotAccepted => "level=warn event=not_accepted",
             Event::Ended => "level=info event=ended",
             Event::MasterStarted { .. } => "level=info event=master_started",
@@ -107,6 +116,8 @@ fn push_numbers(text: &mut String, event: Event) -> Result<(), AllocError>
             push_field(text, " port=", port)
         }
         Event::AnswersRefused { count } => push_field(text, " count=", count),
-        Event::ClockBack | Event::NotAccepted | Event::Ended => Ok(()),
+        Event::RoundFailed { number } => push_field(text, " number=", number),
+        Event::SharingEnded { number } => push_field(text, " number=", number),
+        Event::ClockBack | Event::StatusUnwritten | Event::NotAccepted | Event::Ended => Ok(()),
     }
 }

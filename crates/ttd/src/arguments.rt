@@ -10,7 +10,7 @@ ghost use Rattle.ttd_commands.specs.Run.{IsWritten, memory_answer, output_of};
 use std::alloc::{AllocError, Global};
 use std::env;
 use std::fs::{File, Files};
-use std::io::{self, Eprint, ErrorKind, Input, Write};
+use std::io::{self, Eprint, ErrorKind, Input, Read, Write};
 use std::net::{Net, TcpListener, TcpStream};
 use std::rt::Env;
 use std::sync::Wait;
@@ -76,13 +76,14 @@ pub(crate) fn main_from<
 /// Runs the service that these words name, where they name one, and answers how it ended. Where memory runs out before, they name
 /// none.
 pub(crate) fn service_from<
+    S: Read + Send + Drop,
     H: AllocGlobal
         + Threads
         + Wait
         + Clock
         + Sync
         + Eprint
-        + Input
+        + Input<Reader = S>
         + Files<File = File>
         + Net<Listener = TcpListener, Stream = TcpStream>,
     R: ByteReader,

@@ -2,6 +2,7 @@
 use Rattle.std.specs.Prelude.{ℕ, nat_eq, ◌||◌, if◌then◌else◌, Result, Ok, Err}
 use Rattle.tt_settings.specs.Fault.{number_of as settings_number}
 use Rattle.tt_shared.specs.Fault.{shared_number_of}
+use Rattle.tt_server.specs.Fault.{number_of as server_number}
 use Rattle.tt_shared.specs.declared.faults.SharedFault.{SharedFault}
 use Rattle.tt_shared.specs.declared.faults.SharedFault.TheVariants as shared
 use Rattle.tt_settings.specs.declared.faults.SettingsFault.{SettingsFault}
@@ -20,7 +21,7 @@ number_of ReadFailed = 1604
 number_of LinkFailed = 1501
 number_of (Settings fault) = settings_number fault
 number_of (Shared fault) = shared_number_of fault
-number_of (Server number) = number
+number_of (Server fault) = server_number fault
 number_of Memory = 1
 
 -- How the program ends where a shared file gives no reading: as at a failed device where the file or the clock can't be read.
@@ -34,7 +35,7 @@ abbrev pub status_of_settings : SettingsFault → Status
 status_of_settings settings.Memory = NoMemory
 status_of_settings _ = Bad
 
--- How the program ends where a server ended with a number: as at a failed device for its sockets (1807 to 1809) and the folder of its epoch
+-- How the program ends where a machine does not serve, by the number: as at a failed device for its sockets (1807 to 1809) and the folder of its epoch
 -- (1811, 1812).
 abbrev pub status_of_server : ℕ → Status
 status_of_server number =
@@ -47,7 +48,7 @@ status_of ReadFailed = Device
 status_of LinkFailed = Device
 status_of (Settings fault) = status_of_settings fault
 status_of (Shared fault) = status_of_shared fault
-status_of (Server number) = status_of_server number
+status_of (Server fault) = status_of_server (server_number fault)
 status_of Memory = NoMemory
 status_of _ = Bad
 

@@ -8,6 +8,7 @@ ghost use Rattle.ttd_services.specs.declared.faults.ServiceFault.TheVariants.{Me
 use std::alloc::{AllocError, AllocFailed};
 use std::process::ExitCode;
 use thiserror::Error;
+use tt_server::ServerFault;
 use tt_settings::SettingsFault;
 use tt_shared::SharedFault;
 
@@ -70,9 +71,9 @@ pub enum ServiceFault {
     /// The shared file gives no reading.
     #[error("no reading: {0}")]
     Shared(SharedFault),
-    /// The server ended with this number.
-    #[error("the server ended")]
-    Server(u16),
+    /// The machine does not serve.
+    #[error("the machine does not serve: {0}")]
+    Server(ServerFault),
     /// Out of memory: an allocation failed.
     #[error("out of memory")]
     Memory,
@@ -92,7 +93,7 @@ impl ServiceFault {
             ServiceFault::LinkFailed => 1501,
             ServiceFault::Settings(fault) => fault.number(),
             ServiceFault::Shared(fault) => fault.number(),
-            ServiceFault::Server(number) => *number,
+            ServiceFault::Server(fault) => fault.number(),
             ServiceFault::Memory => 1,
         }
     }
@@ -105,7 +106,7 @@ impl ServiceFault {
             ServiceFault::ReadFailed | ServiceFault::LinkFailed => Status::Device,
             ServiceFault::Settings(fault) => status_of_settings(*fault),
             ServiceFault::Shared(fault) => status_of_shared(*fault),
-            ServiceFault::Server(number) => status_of_server(*number),
+            ServiceFault::Server(fault) => status_of_server(fault.number()),
             ServiceFault::Memory => Status::Memory,
             _ => Status::Bad,
         }
@@ -132,7 +133,7 @@ fn status_of_shared(fault: SharedFault) -> Status
     }
 }
 
-/// How the program ends where a server ended with this number: as at a failed device for its sockets (1807 to 1809) and the
+/// How the program ends where a machine does not serve, by the number: as at a failed device for its sockets (1807 to 1809) and the
 /// folder of its epoch (1811, 1812).
 fn status_of_server(number: u16) -> Status
     ensures { result ≡ status_of_server number }

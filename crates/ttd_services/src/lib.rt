@@ -29,7 +29,6 @@ mod output;
 mod program;
 mod reading;
 mod replies;
-mod server;
 mod serving;
 pub mod words;
 

@@ -14,7 +14,7 @@ use crate::reading::read;
 use crate::serving::run_server;
 use crate::words::{Asked, Service, help_text, mistake_text, read_words};
 use std::fs::{File, Files};
-use std::io::{Eprint, Input};
+use std::io::{Eprint, Input, Read};
 use std::net::{Net, TcpListener, TcpStream};
 use std::sync::Wait;
 use std::thread::Threads;
@@ -55,13 +55,14 @@ fn is_service(word: &str) -> bool
 /// Does what the words ask for, of which the first names a service, and answers how the program ends. Standard error says what a
 /// refusal means.
 pub fn run<
+    S: Read + Send + Drop,
     H: AllocGlobal
         + Threads
         + Wait
         + Clock
         + Sync
         + Eprint
-        + Input
+        + Input<Reader = S>
         + Files<File = File>
         + Net<Listener = TcpListener, Stream = TcpStream>,
     I: ByteReader,
@@ -86,13 +87,14 @@ pub fn run<
 
 /// Does what the words ask for.
 fn answer<
+    S: Read + Send + Drop,
     H: AllocGlobal
         + Threads
         + Wait
         + Clock
         + Sync
         + Eprint
-        + Input
+        + Input<Reader = S>
         + Files<File = File>
         + Net<Listener = TcpListener, Stream = TcpStream>,
     I: ByteReader,
@@ -113,13 +115,14 @@ fn answer<
 
 /// Does a service.
 fn serve<
+    S: Read + Send + Drop,
     H: AllocGlobal
         + Threads
         + Wait
         + Clock
         + Sync
         + Eprint
-        + Input
+        + Input<Reader = S>
         + Files<File = File>
         + Net<Listener = TcpListener, Stream = TcpStream>,
     I: ByteReader,

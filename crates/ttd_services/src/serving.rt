@@ -2,11 +2,15 @@
 
 use crate::faults::ServiceFault;
 use crate::output::{Stop, write};
-use crate::server::{outline, serve};
 use std::alloc::Global;
 use std::fs::{File, Files};
-use std::io::Eprint;
+use std::io::{Eprint, Input, Read};
+use std::net::{Net, TcpListener, TcpStream};
 use std::str;
+use std::sync::Wait;
+use std::thread::Threads;
+use std::time::Clock;
+use tt_server::{ServerFault, outline, serve};
 use tt_settings::{Settings, SettingsFault};
 use tt_stream::{ByteWriter, Counted, ReadFault, read_to_end};
 
@@ -55,17 +59,26 @@ fn settings_of<H: Files<File = File> + Eprint>(
 ///
 /// Refuses with 1604 `ReadFailed` where the file can't be read, with 1603 `BadFile` where it is longer than 1 MiB or is not UTF-8,
 /// with 1801 to 1806 where the configuration is refused, and with what ended the server.
-pub(crate) fn run_server<H: Files<File = File> + Eprint + AllocGlobal, O: ByteWriter>(
-    rt: &H,
-    file: &str,
-    check: bool,
-    until_eof: bool,
-    output: &mut O,
-) -> Result<(), Stop> {
+pub(crate) fn run_server<
+    S: Read + Send + Drop,
+    H: AllocGlobal
+        + Threads
+        + Wait
+        + Clock
+        + Sync
+        + Eprint
+        + Input<Reader = S>
+        + Files<File = File>
+        + Net<Listener = TcpListener, Stream = TcpStream>,
+    O: ByteWriter,
+>(rt: &H, file: &str, check: bool, until_eof: bool, output: &mut O) -> Result<(), Stop> {
     let settings = settings_of(rt, rt.alloc(), file)?;
     if !check {
-        serve(rt, &settings, until_eof)?;
-        return Ok(());
+        return match serve(rt, &settings, until_eof) {
+            Ok(()) => Ok(()),
+            Err(ServerFault::Memory) => Err(Stop::Refused(ServiceFault::Memory)),
+            Err(fault) => Err(Stop::Refused(ServiceFault::Server(fault))),
+        };
     }
     match outline(rt.alloc(), &settings) {
         Ok(text) => write(output, text.as_str().as_bytes()).map_err(|_| Stop::Unwritten),

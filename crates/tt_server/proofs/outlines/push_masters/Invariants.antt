@@ -1,0 +1,9 @@
+-- The lines of the masters so far.
+use Rattle.std.proofs.Common.{◌≡◌, ◌++◌, take}
+use Rattle.std.specs.Prelude.{string_bytes}
+use Rattle.std.specs.List.{flat_map}
+use Rattle.tt_server.specs.Outline.{master_line}
+use Rattle.tt_server.proofs.outlines.push_masters.Given as goal
+
+abbrev pub invariant-loop-port : goal.invariant-loop-port
+invariant-loop-port l = string_bytes l.text ≡ string_bytes l.fn.text ++ flat_map master_line (take l.port-index l.masters)

@@ -1,0 +1,87 @@
+-- What a machine with these settings would do, as text.
+use Rattle.std.specs.Prelude.{codes, ℕ, ◌+◌, ◌*◌, List, [], ◌∷◌, ◌++◌, Option, Some, None}
+use Rattle.std.specs.List.{flat_map}
+use Rattle.std.specs.Fmt.{decimal}
+use Rattle.tt_span.specs.Drift.{widening}
+use Rattle.tt_span.specs.Interval.{Interval}
+use Rattle.tt_daemon.specs.Config.{Configuration}
+use Rattle.tt_text.specs.Line.{line_of}
+use Rattle.tt_settings.specs.declared.plans.Pauses.{Pauses}
+use Rattle.tt_settings.specs.Settings.{Meaning}
+use Rattle.tt_server.specs.Share.{period_of}
+
+-- a word, a space, a text and a line feed
+abbrev pub word_line : List ℕ → List ℕ → List ℕ
+word_line word value = word ++ codes " " ++ value ++ codes "\n"
+
+-- a word and an address of this host
+unfoldable pub address_text : List ℕ → ℕ → List ℕ
+address_text word port = word ++ codes " 127.0.0.1:" ++ decimal port ++ codes "\n"
+
+-- the line of a master
+abbrev pub master_line : ℕ → List ℕ
+master_line port = address_text (codes "master") port
+
+-- the line of a path, where there is one
+abbrev pub path_line : List ℕ → Option (List ℕ) → List ℕ
+path_line word (Some path) = word_line word path
+path_line word None = []
+
+-- by how much a reading grows wider from one publication to the next
+abbrev pub growth_of : Pauses → ℕ → ℕ
+growth_of pauses drift = 2 * widening drift (period_of pauses)
+
+-- the threads of so many workers, the daemon's, and the one that waits for the end of standard input
+abbrev pub threads_of : ℕ → ℕ
+threads_of workers = workers + 2
+
+-- an estimate of the memory, in bytes
+abbrev pub memory_of : ℕ → ℕ
+memory_of workers = 4194304 + 131072 * workers
+
+-- how long its parts wait
+unfoldable pub pauses_text : Pauses → List ℕ
+pauses_text p =
+    line_of (codes "poll") (p.poll ∷ [])
+    ++ line_of (codes "wait") (p.wait ∷ [])
+    ++ line_of (codes "floor_ahead") (p.floor_ahead ∷ [])
+    ++ line_of (codes "idle") (p.idle ∷ [])
+
+-- what it is set up with
+unfoldable pub config_text : Configuration → List ℕ
+config_text c =
+    line_of (codes "faulty") (c.faulty ∷ [])
+    ++ line_of (codes "workers") (c.workers ∷ [])
+    ++ line_of (codes "drift") (c.drift ∷ [])
+
+-- how its readings grow, its threads, and its memory
+unfoldable pub sums_text : Pauses → Configuration → List ℕ
+sums_text p c =
+    line_of (codes "growth") (growth_of p c.drift ∷ [])
+    ++ line_of (codes "threads") (threads_of c.workers ∷ [])
+    ++ line_of (codes "memory") (memory_of c.workers ∷ [])
+
+-- the lease
+unfoldable pub lease_text : Interval → List ℕ
+lease_text lease = line_of (codes "lease") (lease.lo ∷ lease.hi ∷ [])
+
+-- its numbers
+unfoldable pub numbers_text : Meaning → List ℕ
+numbers_text s =
+    config_text s.config
+    ++ pauses_text s.pauses
+    ++ lease_text s.lease
+    ++ sums_text s.pauses s.config
+
+-- its files
+unfoldable pub files_text : Meaning → List ℕ
+files_text s = word_line (codes "state") s.state ++ path_line (codes "socket") s.socket ++ path_line (codes "shared") s.shared ++ path_line (codes "status") s.status
+
+-- all of it
+abbrev pub outline_text : Meaning → List ℕ
+outline_text s =
+    line_of (codes "machine") (s.machine ∷ [])
+    ++ address_text (codes "listen") s.listen
+    ++ flat_map master_line s.masters
+    ++ numbers_text s
+    ++ files_text s

@@ -1,0 +1,48 @@
+//! Why a machine does not serve.
+
+ghost use Rattle.std.specs.Prelude.{◌≡◌};
+ghost use Rattle.tt_server.specs.Fault.{number_of};
+
+use thiserror::Error;
+use tt_epoch::EpochFault;
+use tt_publish::PublishFault;
+
+/// Why a machine does not serve. Each comes before the first client is served.
+#[derive(Clone, Copy, Debug, PartialEq, Eq, Error)]
+pub enum ServerFault {
+    #[error("the address can't be listened at")]
+    CannotListen,
+    #[error("the socket for polls can't be opened")]
+    CannotPoll,
+    #[error("the Unix socket can't be listened at")]
+    CannotListenSocket,
+    #[error("a machine with a Unix socket has two workers at least")]
+    TooFewWorkers,
+    #[error("no epoch: {0}")]
+    Epoch(EpochFault),
+    #[error("nothing can be published: {0}")]
+    Publish(PublishFault),
+    #[error("a thread could not be started")]
+    NoThread,
+    #[error("out of memory")]
+    Memory,
+}
+
+impl ServerFault {
+    /// The fault's number: 1807 `CannotListen`, 1808 `CannotPoll`, 1809 `CannotListenSocket`, 1810 `TooFewWorkers`,
+    /// the number of the fault within for `Epoch` (1811 to 1815, 1) and `Publish`, 1816 `NoThread`, 1 `Memory`.
+    pub fn number(&self) -> u16
+        ensures { result ≡ number_of self.now }
+    {
+        match self {
+            ServerFault::CannotListen => 1807,
+            ServerFault::CannotPoll => 1808,
+            ServerFault::CannotListenSocket => 1809,
+            ServerFault::TooFewWorkers => 1810,
+            ServerFault::Epoch(fault) => fault.number(),
+            ServerFault::Publish(fault) => fault.number(),
+            ServerFault::NoThread => 1816,
+            ServerFault::Memory => 1,
+        }
+    }
+}

@@ -1,0 +1,62 @@
+//! A link that remembers which peers were heard.
+
+ghost use Rattle.std.specs.Prelude.{◌≡◌};
+
+use tt_node::{Link, LinkFault, PACKET_LEN};
+
+/// How many peers are remembered: as many as there are sources at most.
+const PEERS: usize = 16;
+
+/// A link that remembers from which peers a packet came, since it was asked to forget.
+#[derive(Drop)]
+pub(crate) struct HearingLink<L> {
+    link: L,
+    heard: [bool; PEERS],
+}
+
+impl<L> HearingLink<L> {
+    /// The link by this one.
+    pub(crate) fn new(link: L) -> Self {
+        HearingLink {
+            link,
+            heard: [false; PEERS],
+        }
+    }
+
+    /// Whether a packet came from a peer.
+    pub(crate) fn heard(&self, peer: usize) -> bool {
+        match self.heard.get(peer) {
+            Some(heard) => *heard,
+            None => false,
+        }
+    }
+
+    /// Forgets all peers that were heard.
+    pub(crate) fn forget(&mut self) {
+        self.heard = [false; PEERS];
+    }
+}
+
+impl<L: Link> Link for HearingLink<L> {
+    ghost does = { λ before call gift after. L.does before.link call gift after.link };
+
+    ghost failed = { λ hearing. L.failed hearing.link };
+
+    fn send(&mut self, peer: u8, bytes: &[u8]) -> Result<(), LinkFault> {
+        self.link.send(peer, bytes)
+    }
+
+    fn receive(&mut self, buffer: &mut [u8; PACKET_LEN]) -> Result<Option<(u8, usize)>, LinkFault> {
+        let came = self.link.receive(buffer);
+        if let Ok(Some((peer, _length))) = came {
+            if usize::from(peer) < PEERS {
+                self.heard[usize::from(peer)] = true;
+            }
+        }
+        came
+    }
+
+    fn failures(&self) -> u64 {
+        self.link.failures()
+    }
+}

@@ -1,0 +1,166 @@
+//! What a machine with these settings would do, as text.
+
+ghost use Rattle.std.specs.Prelude.{◌≡◌, ◌++◌, OnOk, IfOk, string_bytes, option_copied, ◌≤◌};
+ghost use Rattle.std.specs.List.{flat_map};
+ghost use Rattle.tt_server.specs.Outline.{outline_text, word_line, path_line, master_line, address_text, numbers_text, files_text, growth_of, threads_of, memory_of, pauses_text, config_text, sums_text, lease_text};
+
+use crate::shares::period_of;
+use std::alloc::{AllocError, Global};
+use tt_daemon::Config;
+use tt_settings::{FilePath, Pauses, Settings};
+use tt_span::{Drift, Span};
+use tt_text::push_line;
+
+/// What a machine takes of memory beside its workers, in bytes.
+const BASE: u64 = 4_194_304;
+
+/// What each of its workers takes at most while it serves, in bytes.
+const EACH: u64 = 131_072;
+
+/// Adds the line of a word and a text.
+fn push_words(text: &mut String, word: &str, value: &str) -> Result<(), AllocError>
+    ensures { OnOk result (string_bytes text.new ≡ string_bytes text.old ++ word_line word.now value.now) }
+{
+    text.push_str(word)?;
+    text.push_str(" ")?;
+    text.push_str(value)?;
+    text.push_str("\n")
+}
+
+/// Adds the line of a word and an address of this host.
+#[tactic(auto, unfolding(crate::specs::Outline::address_text))]
+fn push_address(text: &mut String, word: &str, port: u16) -> Result<(), AllocError>
+    ensures { OnOk result (string_bytes text.new ≡ string_bytes text.old ++ address_text word.now port) }
+{
+    text.push_str(word)?;
+    text.push_str(" 127.0.0.1:")?;
+    write!(text, "{port}")?;
+    text.push_str("\n")
+}
+
+/// Adds a line for each master.
+fn push_masters(text: &mut String, masters: &[u16]) -> Result<(), AllocError>
+    ensures { OnOk result (string_bytes text.new ≡ string_bytes text.old ++ flat_map master_line masters.now) }
+{
+    for port in masters {
+        push_address(text, "master", *port)?;
+    }
+    Ok(())
+}
+
+/// Adds the line of a path, where there is one.
+fn push_path(text: &mut String, word: &str, path: Option<&FilePath>) -> Result<(), AllocError>
+    ensures { OnOk result (string_bytes text.new ≡ string_bytes text.old ++ path_line word.now (option_copied path.entry)) }
+{
+    match path {
+        Some(path) => push_words(text, word, path.as_str()),
+        None => Ok(()),
+    }
+}
+
+/// By how much a reading grows wider from one publication to the next at most, in nanoseconds.
+fn growth_of(pauses: &Pauses, drift: Drift) -> u64
+    ensures { result ≡ growth_of pauses.now drift }
+{
+    2 * drift.widen(period_of(pauses))
+}
+
+/// How many threads a machine with so many workers has at most: those of the workers, the daemon's, and one that waits for
+/// the end of standard input.
+fn threads_of(workers: u64) -> u64
+    requires { workers ≤ 32 }
+    ensures { result ≡ threads_of workers }
+{
+    workers + 2
+}
+
+/// How much memory a machine with so many workers takes at most, as far as was seen, in bytes.
+fn memory_of(workers: u64) -> u64
+    requires { workers ≤ 32 }
+    ensures { result ≡ memory_of workers }
+{
+    BASE + EACH * workers
+}
+
+/// Adds the lines of how long the parts of a machine wait.
+#[tactic(auto, unfolding(crate::specs::Outline::pauses_text))]
+fn push_pauses(text: &mut String, pauses: &Pauses) -> Result<(), AllocError>
+    ensures { OnOk result (string_bytes text.new ≡ string_bytes text.old ++ pauses_text pauses.now) }
+{
+    push_line(text, "poll", &[pauses.poll])?;
+    push_line(text, "wait", &[pauses.wait])?;
+    push_line(text, "floor_ahead", &[pauses.floor_ahead])?;
+    push_line(text, "idle", &[pauses.idle])
+}
+
+/// Adds the lines of what a machine is set up with.
+#[tactic(auto, unfolding(crate::specs::Outline::config_text))]
+fn push_config(text: &mut String, config: &Config) -> Result<(), AllocError>
+    ensures { OnOk result (string_bytes text.new ≡ string_bytes text.old ++ config_text config.now) }
+{
+    push_line(text, "faulty", &[config.faulty() as u64])?;
+    push_line(text, "workers", &[config.workers() as u64])?;
+    push_line(text, "drift", &[u64::from(config.drift().ppm())])
+}
+
+/// Adds the lines of what a machine comes to: how its readings grow, its threads, and its memory.
+#[tactic(auto, unfolding(crate::specs::Outline::sums_text))]
+fn push_sums(text: &mut String, pauses: &Pauses, config: &Config) -> Result<(), AllocError>
+    ensures { OnOk result (string_bytes text.new ≡ string_bytes text.old ++ sums_text pauses.now config.now) }
+{
+    let growth = growth_of(pauses, config.drift());
+    let workers = config.workers() as u64;
+    push_line(text, "growth", &[growth])?;
+    push_line(text, "threads", &[threads_of(workers)])?;
+    push_line(text, "memory", &[memory_of(workers)])
+}
+
+/// Adds the line of the lease.
+#[tactic(auto, unfolding(crate::specs::Outline::lease_text))]
+fn push_lease(text: &mut String, lease: &Span) -> Result<(), AllocError>
+    ensures { OnOk result (string_bytes text.new ≡ string_bytes text.old ++ lease_text lease.now) }
+{
+    push_line(text, "lease", &[lease.lo(), lease.hi()])
+}
+
+/// Adds the lines of the numbers of a machine.
+#[tactic(auto, unfolding(crate::specs::Outline::numbers_text))]
+fn push_numbers(text: &mut String, settings: &Settings) -> Result<(), AllocError>
+    ensures { OnOk result (string_bytes text.new ≡ string_bytes text.old ++ numbers_text settings.now) }
+{
+    let config = settings.config();
+    let pauses = settings.pauses();
+    push_config(text, &config)?;
+    push_pauses(text, &pauses)?;
+    push_lease(text, &settings.lease())?;
+    push_sums(text, &pauses, &config)
+}
+
+/// Adds the lines of the files of a machine.
+#[tactic(auto, unfolding(crate::specs::Outline::files_text))]
+fn push_files(text: &mut String, settings: &Settings) -> Result<(), AllocError>
+    ensures { OnOk result (string_bytes text.new ≡ string_bytes text.old ++ files_text settings.now) }
+{
+    push_words(text, "state", settings.state())?;
+    push_path(text, "socket", settings.socket())?;
+    push_path(text, "shared", settings.shared())?;
+    push_path(text, "status", settings.status())
+}
+
+/// What a machine with these settings would do: a line for each of `machine`, `listen`, `master` (one for each, in the
+/// order of the sources), `faulty`, `workers`, `drift`, `poll`, `wait`, `floor_ahead`, `idle`, `lease`, `growth`, `threads`,
+/// `memory`, `state`, and of `socket`, `shared` and `status` those that there are. Times are in nanoseconds.
+///
+/// A reading is as wide as what the masters state, and as the poll took; until the next publication it grows wider by
+/// `growth` at most, where no master fails. `memory` is in bytes, and an estimate. Refuses where memory runs out.
+pub fn outline(alloc: Global, settings: &Settings) -> Result<String, AllocError>
+    ensures written { IfOk result (λ text. string_bytes text ≡ outline_text settings.now) }
+{
+    let mut text = String::new(alloc);
+    push_line(&mut text, "machine", &[u64::from(settings.machine())])?;
+    push_address(&mut text, "listen", settings.listen())?;
+    push_masters(&mut text, settings.masters())?;
+    push_numbers(&mut text, settings)?;
+    push_files(&mut text, settings)?;
+    Ok(text)
+}

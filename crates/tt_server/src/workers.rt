@@ -1,0 +1,132 @@
+//! The threads of the workers: each serves one client after the other.
+
+ghost use Rattle.std.specs.Prelude.{◌≡◌, ◌≤◌, ◌+◌, ◌<◌, All};
+
+use crate::clients::{Client, LineReader, ReplyWriter, deadline_at};
+use crate::clocks::MachineClock;
+use crate::doors::Door;
+use crate::halls::{Shared, say};
+use std::alloc::Global;
+use std::io::Eprint;
+use std::net::TcpStream;
+use std::sync::Wait;
+use std::sync::atomic::Ordering;
+use std::thread;
+use std::thread::{JoinHandle, Scope};
+use std::time::{Clock as SystemClock, Duration};
+use tt_publish::{Clock, Watch};
+use tt_session::{DeadlineReader, DeadlineWriter, Turns};
+use tt_stamp::{Seat, Sequencer};
+use tt_station::{Post, Terms};
+use tt_status::Event;
+
+/// How many release steps a line has at most, each with a pause of a twentieth of a second at most.
+const WAITS: u32 = 10_000;
+
+/// How long a worker sleeps where no connection was accepted, in milliseconds.
+const SLEEP: u64 = 100;
+
+/// A seat, with the sequencer that it is of.
+#[derive(Drop)]
+pub(crate) struct Place<'a> {
+    seat: Seat,
+    sequencer: &'a Sequencer,
+    ghost of_it: { seat.table ≡ sequencer.now },
+}
+
+/// A seat with its sequencer.
+fn place_of<'a>(seat: Seat, sequencer: &'a Sequencer) -> Place<'a>
+    requires { seat.table ≡ sequencer.now }
+{
+    Place { seat, sequencer }
+}
+
+/// All seats with their sequencer. None where memory runs out.
+pub(crate) fn places_of<'a>(
+    alloc: Global,
+    sequencer: &'a Sequencer,
+    seats: Vec<Seat>,
+) -> Option<Vec<Place<'a>>>
+    requires { All (λ seat. seat.table ≡ sequencer.now) seats.items }
+{
+    let mut seats = seats;
+    let Ok(mut places) = Vec::with_capacity(alloc, seats.len()) else {
+        return None;
+    };
+    for _ in 0..seats.len() {
+        let Some(seat) = seats.pop() else {
+            return Some(places);
+        };
+        places.push_reserved(place_of(seat, sequencer));
+    }
+    Some(places)
+}
+
+/// Serves one session. The post is there for the next one, whatever ended this one.
+fn serve_one<'a, R: Wait + SystemClock>(
+    shared: Shared<'a, R>,
+    post: Post<'a, R, MachineClock<'a, R>>,
+    stream: &TcpStream,
+) -> Post<'a, R, MachineClock<'a, R>> {
+    let (rt, hall) = (shared.rt, shared.hall);
+    let mut clock = MachineClock::new(rt);
+    let Ok(now) = clock.read() else {
+        return post;
+    };
+    let idle = hall.life.pauses.idle;
+    let deadline = deadline_at(now, idle);
+    let device = LineReader::new(stream, &hall.ended, MachineClock::new(rt), idle);
+    let mut reader = DeadlineReader::new(device, MachineClock::new(rt), deadline);
+    let device = ReplyWriter::new(stream, &hall.ended, &hall.counts);
+    let mut writer = DeadlineWriter::new(device, clock, deadline);
+    let client = Client::new(stream, &hall.ended);
+    let turns = Turns {
+        reads: u32::MAX,
+        waits: WAITS,
+    };
+    let (post, _served) = post.serve(&client, &mut reader, &mut writer, turns);
+    hall.counts.sessions.fetch_add(1, Ordering::SeqCst);
+    post
+}
+
+/// Serves one client after the other, until the machine ends.
+fn work<'a, R: Wait + SystemClock + Eprint>(
+    shared: Shared<'a, R>,
+    door: &'a Door,
+    place: Place<'a>,
+    watch: Watch,
+) {
+    let (rt, hall) = (shared.rt, shared.hall);
+    let Place { seat, sequencer } = place;
+    let terms = Terms {
+        lease: hall.life.lease,
+        ahead: hall.life.pauses.floor_ahead,
+    };
+    let clock = MachineClock::new(rt);
+    let mut post = Post::new(rt, shared.alloc, watch, clock, seat, sequencer, terms);
+    for _ in rt.forever() {
+        if hall.has_ended() {
+            return;
+        }
+        match door.accept() {
+            Ok(Some(stream)) => post = serve_one(shared, post, &stream),
+            Ok(None) => {}
+            Err(_) => {
+                say(shared, Event::NotAccepted);
+                thread::sleep(rt, Duration::from_millis(SLEEP));
+            }
+        }
+    }
+    unreachable!()
+}
+
+/// Starts the thread of a worker, if one can be made.
+pub(crate) fn start_worker<'s, E, R: Wait + SystemClock + Eprint + Sync>(
+    scope: &Scope<'s, E>,
+    shared: Shared<'s, R>,
+    door: &'s Door,
+    place: Place<'s>,
+    watch: Watch,
+) -> Option<JoinHandle<()>> {
+    scope.spawn(move || work(shared, door, place, watch)).ok()
+}
