@@ -121,7 +121,15 @@ fn first_rounds<R: Wait, L: Link + Drop, C: Clock + Drop>(
     ensures runs { RunsRounds C.gives C.failed L.does L.failed rounds turns daemon clock link result }
 {
     let (mut daemon, mut link, mut clock) = (daemon, link, clock);
-    daemon_rounds(rt, &mut daemon, &mut link, &mut clock, teller, rounds, turns)
+    daemon_rounds(
+        rt,
+        &mut daemon,
+        &mut link,
+        &mut clock,
+        teller,
+        rounds,
+        turns,
+    )
 }
 
 /// Serves a session as the worker that has these parts.
@@ -225,12 +233,13 @@ fn start_daemon<
     };
     let lent = &mut *teller;
     scope
-        .spawn_with(promise, move || -> Result<Rounds, NodeFault>
-            requires { lent.now.items ≡ [] }
-            ensures { RunsRounds C.gives C.failed L.does L.failed rounds turns daemon clock link result }
-        {
-            first_rounds(rt, daemon, link, clock, lent, rounds, turns)
-        })
+        .spawn_with(
+            promise,
+            move || -> Result<Rounds, NodeFault>
+                requires { lent.now.items ≡ [] }
+                ensures { RunsRounds C.gives C.failed L.does L.failed rounds turns daemon clock link result }
+            { first_rounds(rt, daemon, link, clock, lent, rounds, turns) },
+        )
         .ok()
 }
 

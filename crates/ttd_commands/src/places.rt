@@ -1,6 +1,7 @@
 //! Where an input is refused, in lines for standard error. What such a line says is exact, or it is not said; its wording is not
 //! fixed. Where memory runs out, less is said.
 
+use crate::certificate_places::{bad_certificate_line, note_cover};
 use crate::check::claim_place;
 use crate::ending::CommandOutput;
 use crate::faults::Fault;
@@ -107,13 +108,29 @@ fn note_check(
         return Ok(());
     };
     let Ok((claim, certificate)) = read_text(rest) else {
-        return Ok(());
+        return note_text(notes, front, rest);
     };
     note_certificate(notes, &read, &claim, &certificate, *fault)
 }
 
+/// Adds which line of a certificate text is bad, where it stands behind that spans text.
+fn note_text(notes: &mut String, front: &[u8], text: &[u8]) -> Result<(), AllocError> {
+    match bad_certificate_line(text) {
+        Some((number, why)) => {
+            let line = number.saturating_add(lines_of(front));
+            write!(notes, "ttd: line {line}: {why}\n")
+        }
+        None => Ok(()),
+    }
+}
+
+/// How many line feeds a text has.
+fn lines_of(text: &[u8]) -> u64 {
+    text.iter().filter(|byte| **byte == b'\n').count() as u64
+}
+
 /// The first line of a text with its line feed, if there is one, and what comes behind it.
-fn first_line(text: &[u8]) -> (&[u8], &[u8]) {
+pub(crate) fn first_line(text: &[u8]) -> (&[u8], &[u8]) {
     match text.iter().position(|byte| *byte == b'\n') {
         Some(at) => text.split_at(at + 1),
         None => text.split_at(text.len()),
@@ -192,6 +209,7 @@ fn note_certificate(
             }
             Ok(())
         }
+        CertFault::Cover => note_cover(notes, claim, certificate),
         _ => Ok(()),
     }
 }

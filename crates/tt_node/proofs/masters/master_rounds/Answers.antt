@@ -9,8 +9,15 @@ pub returns-in_err-master_turn-clause-course : goal.returns-in_err-master_turn-c
 returns-in_err-master_turn-clause-course g c =
     let p = err_from_is_err_and c.from_residual.result c.from_residual.ensures.1 in
     let e : c.from_residual.result ≡ Err c.in_err-master_turn.field-0.0 = cc (p.1, p.2) in
-    rw e (c.loop.counter, c.loop.link, c.loop.master, c.loop.played, omega arith, c.loop.invariant.course,
-    subst (λ act. TakesTurn g.R.Reference.gives g.L.Link.does act c.loop.link c.loop.master (Err c.in_err-master_turn.field-0.0) c.master_turn.new.link c.master_turn.new.master) c.act_for.ensures c.in_err-master_turn.ensures.course)
+    rw e (
+      c.loop.counter,
+      c.loop.link,
+      c.loop.master,
+      c.loop.played,
+      omega arith,
+      c.loop.invariant.course,
+      subst (λ act. TakesTurn g.R.Reference.gives g.L.Link.does act c.loop.link c.loop.master (Err c.in_err-master_turn.field-0.0) c.master_turn.new.link c.master_turn.new.master) c.act_for.ensures c.in_err-master_turn.ensures.course,
+    )
 
 pub loop-preserved : goal.loop-preserved
 loop-preserved g c = record {
