@@ -2,6 +2,7 @@ pub mod Fault
 pub mod Tally
 pub mod Share
 pub mod Log
+pub mod Mode
 pub mod Round
 pub mod Outline
 pub mod Session

@@ -1,7 +1,7 @@
 -- Which lines of the log are of one kind.
 use Rattle.std.specs.Prelude.{ℕ, ◌+◌, nat_eq, min, if◌then◌else◌}
 use Rattle.tt_status.specs.declared.lines.Event.{Event}
-use Rattle.tt_status.specs.declared.lines.Event.TheVariants.{Started, FirstPublication, SourceSilent, SourceSuspect, FusionRefused, ClockBack, AnswersRefused, RoundFailed, SharingEnded, StatusUnwritten, NotAccepted, Ended, MasterStarted, MasterFailed}
+use Rattle.tt_status.specs.declared.lines.Event.TheVariants.{Started, FirstPublication, SourceSilent, SourceSuspect, FusionRefused, ClockBack, AnswersRefused, RoundFailed, SharingEnded, StatusUnwritten, NotAccepted, StateLoose, EpochLoose, SharedLoose, Ended, MasterStarted, MasterFailed}
 
 -- the kind of an event, of which one line is said in ten seconds: 504 is a kind of its own, and so is each source
 abbrev pub kind_of : Event → ℕ
@@ -17,5 +17,8 @@ kind_of StatusUnwritten = 9
 kind_of NotAccepted = 10
 kind_of (MasterStarted source port) = 11
 kind_of (MasterFailed number) = 12
+kind_of StateLoose = 13
+kind_of EpochLoose = 14
+kind_of SharedLoose = 15
 kind_of (SourceSilent source) = 16 + min source 15
 kind_of (SourceSuspect source) = 32 + min source 15

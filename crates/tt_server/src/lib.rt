@@ -10,11 +10,11 @@
 //! - `servers`: [`serve`], which starts the threads and ends them. `halls`: what they share.
 //! - `rounds`: the thread of the daemon. `links`: its link, which remembers what was heard.
 //! - `tallies`: what a round came to, and the status. `logs`: which lines the log says. `shares`: what is shared.
-//! - `statuses`: the status file.
+//! - `statuses`: the status file. `modes`: who may write the files.
 //! - `workers`: the threads of the workers. `doors`: where clients come in. `clients`: a client at the far end.
 //! - `clocks`: [`MachineClock`]. `outlines`: [`outline`]. `faults`: why a machine does not serve.
 //!
-//! Proved are the functions over values: outline, numbers, statuses, log lines, what is shared and until when. Of the
+//! Proved are the functions over values: outline, numbers, statuses, log lines, modes, what is shared and until when. Of the
 //! threads and their loops nothing is claimed; each turn of a loop is one call with a contract of its own.
 #![tactic(auto)]
 
@@ -25,6 +25,7 @@ mod faults;
 mod halls;
 mod links;
 mod logs;
+mod modes;
 mod outlines;
 mod rounds;
 mod servers;

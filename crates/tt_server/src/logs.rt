@@ -35,6 +35,9 @@ fn kind_of(event: Event) -> usize
         Event::NotAccepted => 10,
         Event::MasterStarted { .. } => 11,
         Event::MasterFailed { .. } => 12,
+        Event::StateLoose => 13,
+        Event::EpochLoose => 14,
+        Event::SharedLoose => 15,
         Event::SourceSilent { source } => SILENT + source.min(15) as usize,
         Event::SourceSuspect { source } => SUSPECT + source.min(15) as usize,
     }

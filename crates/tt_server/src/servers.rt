@@ -7,6 +7,7 @@ use crate::clocks::MachineClock;
 use crate::doors::Door;
 use crate::faults::ServerFault;
 use crate::halls::{Hall, Life, Shared, say};
+use crate::modes::Loose;
 use crate::rounds::{Desk, run_daemon, run_first};
 use crate::shares::folder_and_name;
 use crate::statuses::StatusFile;
@@ -323,7 +324,8 @@ fn run<
 /// Refuses, in this order, with 1810 `TooFewWorkers` where there is a Unix socket and one worker, 1807 `CannotListen`,
 /// 1808 `CannotPoll`, `Epoch` (1815 where another process holds the folder, 1811 to 1814, 1), 1809 `CannotListenSocket`,
 /// `Publish`, 1816 `NoThread`, and 1 `Memory` in place of each. No epoch is taken before the folder is locked. A shared
-/// file that can't be opened is no refusal: the log says so.
+/// file that can't be opened is no refusal: the log says so. It says too where others than their owner may write the
+/// folder of the state, the file of the epoch or the shared file, as they were found.
 pub fn serve<
     I: Read + Send + Drop,
     R: Threads
@@ -348,6 +350,7 @@ pub fn serve<
         Ok(store) => store,
         Err(fault) => return Err(ServerFault::Epoch(fault)),
     };
+    let loose = Loose::found(rt, alloc, settings);
     let epoch = match next_epoch(&mut store) {
         Ok(epoch) => epoch,
         Err(fault) => return Err(ServerFault::Epoch(fault)),
@@ -366,6 +369,7 @@ pub fn serve<
         alloc,
         hall: &hall,
     };
+    loose.say_in(shared);
     let ended = run(shared, settings, link, until_eof);
     if let Some(path) = settings.socket() {
         let _ = fs::remove_file(rt, path.as_str());

@@ -2,7 +2,7 @@
 use Rattle.std.specs.Prelude.{codes, ℕ, nat_lt, if◌then◌else◌, List, [], ◌∷◌, ◌++◌}
 use Rattle.std.specs.Fmt.{decimal}
 use Rattle.tt_status.specs.declared.lines.Event.{Event}
-use Rattle.tt_status.specs.declared.lines.Event.TheVariants.{Started, FirstPublication, SourceSilent, SourceSuspect, FusionRefused, ClockBack, AnswersRefused, RoundFailed, SharingEnded, StatusUnwritten, NotAccepted, Ended, MasterStarted, MasterFailed}
+use Rattle.tt_status.specs.declared.lines.Event.TheVariants.{Started, FirstPublication, SourceSilent, SourceSuspect, FusionRefused, ClockBack, AnswersRefused, RoundFailed, SharingEnded, StatusUnwritten, NotAccepted, StateLoose, EpochLoose, SharedLoose, Ended, MasterStarted, MasterFailed}
 
 -- a name and the decimal digits of its number
 abbrev pub field : List ℕ → ℕ → List ℕ
@@ -21,6 +21,9 @@ name_of (RoundFailed number) = codes "level=warn event=round_failed"
 name_of (SharingEnded number) = codes "level=warn event=sharing_ended"
 name_of StatusUnwritten = codes "level=warn event=status_unwritten"
 name_of NotAccepted = codes "level=warn event=not_accepted"
+name_of StateLoose = codes "level=warn event=state_loose"
+name_of EpochLoose = codes "level=warn event=epoch_loose"
+name_of SharedLoose = codes "level=warn event=shared_loose"
 name_of Ended = codes "level=info event=ended"
 name_of (MasterStarted source port) = codes "level=info event=master_started"
 name_of (MasterFailed number) = codes "level=warn event=master_failed"

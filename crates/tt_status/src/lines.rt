@@ -30,6 +30,12 @@ pub enum Event {
     StatusUnwritten,
     /// A connection was not accepted.
     NotAccepted,
+    /// At the start, others than its owner may write the folder of the state.
+    StateLoose,
+    /// At the start, others than its owner may write the file of the epoch.
+    EpochLoose,
+    /// At the start, others than its owner may write the shared file.
+    SharedLoose,
     /// The machine ends in order.
     Ended,
     /// This master answers polls at this port from now on.
@@ -55,6 +61,9 @@ impl Event {
             Event::SharingEnded { .. } => "level=warn event=sharing_ended",
             Event::StatusUnwritten => "level=warn event=status_unwritten",
             Event::NotAccepted => "level=warn event=not_accepted",
+            Event::StateLoose => "level=warn event=state_loose",
+            Event::EpochLoose => "level=warn event=epoch_loose",
+            Event::SharedLoose => "level=warn event=shared_loose",
             Event::Ended => "level=info event=ended",
             Event::MasterStarted { .. } => "level=info event=master_started",
             Event::MasterFailed { .. } => "level=warn event=master_failed",
@@ -118,6 +127,12 @@ fn push_numbers(text: &mut String, event: Event) -> Result<(), AllocError>
         Event::AnswersRefused { count } => push_field(text, " count=", count),
         Event::RoundFailed { number } => push_field(text, " number=", number),
         Event::SharingEnded { number } => push_field(text, " number=", number),
-        Event::ClockBack | Event::StatusUnwritten | Event::NotAccepted | Event::Ended => Ok(()),
+        Event::ClockBack
+        | Event::StatusUnwritten
+        | Event::NotAccepted
+        | Event::StateLoose
+        | Event::EpochLoose
+        | Event::SharedLoose
+        | Event::Ended => Ok(()),
     }
 }

@@ -1,0 +1,73 @@
+//! Who may write the files of a machine.
+
+ghost use Rattle.std.specs.Prelude.{◌↔◌, IsTrue};
+ghost use Rattle.tt_server.specs.Mode.{IsTight};
+
+use crate::halls::{Shared, say};
+use std::alloc::Global;
+use std::fs::Files;
+use std::io::Eprint;
+use std::os::unix::fs::PermissionsExt;
+use std::sync::Wait;
+use std::time::Clock as SystemClock;
+use tt_settings::Settings;
+use tt_status::Event;
+
+/// The bits of a mode by which a file's group, and all others, may write it.
+const OTHERS_WRITE: u32 = 0o022;
+
+/// What others than its owner may write, as it was found at the start.
+#[derive(Clone, Copy)]
+pub(crate) struct Loose {
+    state: bool,
+    epoch: bool,
+    shared: bool,
+}
+
+/// Whether nobody but its owner may write a file of this mode.
+fn is_tight(mode: u32) -> bool
+    ensures value { IsTrue result ↔ IsTight mode }
+{
+    mode & OTHERS_WRITE == 0
+}
+
+/// Whether others than its owner may write what stands at this path; a path where nothing stands is no such one.
+fn is_loose_at<R: Files>(rt: &R, path: &str) -> bool {
+    match rt.metadata(path) {
+        Ok(metadata) => !is_tight(metadata.permissions().mode()),
+        Err(_) => false,
+    }
+}
+
+impl Loose {
+    /// What stands there now. Where there is no memory for the path of the epoch, it is not looked at.
+    pub(crate) fn found<R: Files>(rt: &R, alloc: Global, settings: &Settings) -> Loose {
+        let folder = settings.state();
+        let epoch = match format!(in alloc; "{folder}/epoch") {
+            Ok(path) => is_loose_at(rt, path.as_str()),
+            Err(_) => false,
+        };
+        let shared = match settings.shared() {
+            Some(path) => is_loose_at(rt, path.as_str()),
+            None => false,
+        };
+        Loose {
+            state: is_loose_at(rt, folder),
+            epoch,
+            shared,
+        }
+    }
+
+    /// Says so in the log, in one line for each.
+    pub(crate) fn say_in<R: Wait + SystemClock + Eprint>(self, shared: Shared<'_, R>) {
+        if self.state {
+            say(shared, Event::StateLoose);
+        }
+        if self.epoch {
+            say(shared, Event::EpochLoose);
+        }
+        if self.shared {
+            say(shared, Event::SharedLoose);
+        }
+    }
+}
