@@ -1,0 +1,5 @@
+mod Books
+mod Calls
+mod Walking
+mod Stamping
+mod Judging
