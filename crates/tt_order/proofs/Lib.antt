@@ -3,3 +3,4 @@ mod Calls
 mod Walking
 mod Stamping
 mod Judging
+mod Worked
