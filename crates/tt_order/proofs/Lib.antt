@@ -4,3 +4,4 @@ mod Walking
 mod Stamping
 mod Judging
 mod Worked
+mod Telling

@@ -1,2 +1,3 @@
 pub mod Timed
 pub mod Order
+pub mod Told

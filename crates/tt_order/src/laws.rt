@@ -1,15 +1,21 @@
-//! The laws of sessions, of their order, and of the stamps of one sequencer.
+//! The laws of sessions, of their replies, of their order, and of the stamps of one sequencer.
 
-ghost use Rattle.std.specs.Prelude.{◌≡◌, ℕ, ◌<◌, ◌≤◌, List, Option, All};
+ghost use Rattle.std.specs.Prelude.{◌≡◌, ℕ, ◌<◌, ◌≤◌, List, ◌∷◌, ◌++◌, Option, None, All};
 ghost use Rattle.tt_judge.specs.Consistency.{IsConsistent};
 ghost use Rattle.tt_judge.specs.declared.history.Commit.{Commit};
+ghost use Rattle.tt_session.specs.Answers.{AnswersLines};
+ghost use Rattle.tt_session.specs.declared.begun.Begun.{Begun};
+ghost use Rattle.tt_session.specs.declared.calls.Call.{Call};
+ghost use Rattle.tt_session.specs.declared.replies.LineReply.{LineReply};
 ghost use Rattle.tt_session.specs.declared.serving.Served.{Served};
 ghost use Rattle.tt_stamp.specs.Stamping.{Continues};
 ghost use Rattle.tt_station.specs.Station.{PostState, ServesSession, BreaksSession};
 ghost use Rattle.tt_order.specs.Timed.{CallTimes, TimedSession, IsTimed, times_at, served_at, broken_at};
 ghost use Rattle.tt_order.specs.Order.{BeginsAt, ReleasesAt, IsCommitted, IsSeen, IsSeenAtSome, IsWithin, ShareSequencer};
+ghost use Rattle.tt_order.specs.Told.{IsTold};
 
 use tt_publish::Clock;
+use tt_session::LineReply;
 use tt_station::Presence;
 
 /// Laws of one session, whose readings hold the true times at which they were taken.
@@ -39,6 +45,16 @@ pub fn session_laws<C: Clock, V: Presence>()
         (times : List CallTimes) (commit : Commit) →
         let session = broken_at C.gives C.failed V.says waits left left' taken taken' client post post' that times in
         IsTimed C.gives C.failed V.says session → IsSeen session.calls session.times commit → IsWithin commit }
+{}
+
+/// Laws of what a session replies.
+pub fn reply_laws()
+    // Where it replies that a commit is committed, its calls up to then have begun the commit with that stamp, and were
+    // answered that it is released.
+    ensures committed { (waits : ℕ) (lines : List (List ℕ)) (calls : List Call) (before : List LineReply) (number stamp : ℕ)
+        (after : List LineReply) (last : Option Begun) →
+        AnswersLines waits None lines calls (before ++ LineReply.Committed number stamp ∷ after) last →
+        IsTold waits lines calls before number stamp }
 {}
 
 /// Laws of any number of sessions, of whatever stations and machines.
