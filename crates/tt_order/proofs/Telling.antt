@@ -1,5 +1,5 @@
 -- A session that replies that a commit is committed.
-use Rattle.std.proofs.Common.{◌≡◌, ℕ, zero, suc, ◌<◌, List, [], ◌∷◌, ◌++◌, length, replicate, Bool, true, false, Option, Some, None, Result, Ok, Err, ⊎_elim, refl, sym, ap, ◌∙◌, subst, arith, append_assoc, append-nil, length-append}
+use Rattle.std.proofs.Common.{◌≡◌, ℕ, zero, suc, ◌<◌, ◌≤◌, List, [], ◌∷◌, ◌++◌, length, replicate, Bool, true, false, Option, Some, None, Result, Ok, Err, ⊎_elim, refl, sym, ap, ◌∙◌, subst, arith, append_assoc, append-nil, length-append}
 use Rattle.std.specs.Prelude.{MatchBool}
 use Rattle.std.specs.Ordering.{nat_cmp}
 use Rattle.std.specs.declared.cmp.Ordering.{Ordering}
@@ -19,7 +19,9 @@ use Rattle.tt_session.specs.declared.replies.LineReply.TheVariants.{Now, Yes, No
 use Rattle.tt_session.specs.declared.requests.Request.{Request}
 use Rattle.tt_session.specs.declared.requests.Request.TheVariants as request
 use Rattle.tt_order.specs.Order.{BeginsAt, IsCommitted}
+use Rattle.tt_order.specs.Timed.{TimedSession, IsTimed, times_at}
 use Rattle.tt_order.specs.Told.{IsTold}
+use Rattle.tt_order.proofs.Walking.{session-begun, session-released}
 
 -- ---- places in a longer list
 there_still : (xs ys : List Call) (place : ℕ) (x : Call) → slice_get xs place ≡ Some x → slice_get (xs ++ ys) place ≡ Some x
@@ -47,16 +49,15 @@ abbrev Knows : List Call → Option Begun → Type 0
 Knows calls None = Unit {0}
 Knows calls (Some begun) = IsBegun calls begun
 
-committed_still : (calls more : List Call) (number stamp : ℕ) → HasCommitted calls number stamp → HasCommitted (calls ++ more) number stamp
-committed_still calls more number stamp has = record {
-  begun = has.begun;
-  released = has.released;
-  committed = record {
-    begins = (has.committed.begins.0, there_still calls more has.begun _ has.committed.begins.1);
-    releases = there_still calls more has.released _ has.committed.releases;
-    later = has.committed.later;
-  };
+still : (calls more : List Call) (number stamp begun released : ℕ) → IsCommitted calls number stamp begun released → IsCommitted (calls ++ more) number stamp begun released
+still calls more number stamp begun released committed = record {
+  begins = (committed.begins.0, there_still calls more begun _ committed.begins.1);
+  releases = there_still calls more released _ committed.releases;
+  later = committed.later;
 }
+
+committed_still : (calls more : List Call) (number stamp : ℕ) → HasCommitted calls number stamp → HasCommitted (calls ++ more) number stamp
+committed_still calls more number stamp has = record { begun = has.begun; released = has.released; committed = still calls more number stamp has.begun has.released has.committed }
 
 begun_still : (calls more : List Call) (begun : Begun) → IsBegun calls begun → IsBegun (calls ++ more) begun
 begun_still calls more begun is = record {
@@ -257,3 +258,11 @@ told-committed waits lines calls before number stamp after last answers =
       released = is.has.released;
       committed = is.has.committed;
     }
+
+module _ {C V : Type 0} (gives : C → Option ℕ → C → Type 0) (failed : C → ℕ) (says : V → Bool → Type 0) where
+  pub session-told : (session : TimedSession gives failed says) (waits : ℕ) (lines : List (List ℕ)) (before : List LineReply) (number stamp : ℕ) (after : List LineReply) (last : Option Begun) → IsTimed gives failed says session → AnswersLines waits None lines session.calls (before ++ Committed number stamp ∷ after) last → (told : IsTold waits lines session.calls before number stamp) × ((times_at session.times told.begun).read ≤ stamp) × (stamp < (times_at session.times told.released).read)
+  session-told session waits lines before number stamp after last timed answers =
+      let is : IsTold waits lines session.calls before number stamp = told-committed waits lines session.calls before number stamp after last answers in
+      let whole : IsCommitted session.calls number stamp is.begun is.released =
+      subst (λ (c : List Call). IsCommitted c number stamp is.begun is.released) (sym is.calls_are) (still is.early is.later_calls number stamp is.begun is.released is.committed) in
+      (is, session-begun gives failed says session is.begun number stamp timed whole.begins, session-released gives failed says session number stamp is.begun is.released timed whole)

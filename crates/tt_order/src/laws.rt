@@ -34,7 +34,15 @@ pub fn session_laws<C: Clock, V: Presence>()
     ensures within { (session : TimedSession C.gives C.failed V.says) (commit : Commit) →
         IsTimed C.gives C.failed V.says session → IsSeen session.calls session.times commit → IsWithin commit }
 
-    // The same, said of a session that a post served, and of one that broke off in its last reply.
+    // So it is with each commit that the session replies to be committed, by its calls up to that reply.
+    ensures told { (session : TimedSession C.gives C.failed V.says) (waits : ℕ) (lines : List (List ℕ)) (before : List LineReply)
+        (number stamp : ℕ) (after : List LineReply) (last : Option Begun) →
+        IsTimed C.gives C.failed V.says session →
+        AnswersLines waits None lines session.calls (before ++ LineReply.Committed number stamp ∷ after) last →
+        (told : IsTold waits lines session.calls before number stamp) × ((times_at session.times told.begun).read ≤ stamp)
+        × (stamp < (times_at session.times told.released).read) }
+
+    // For whoever sees a commit begin and end, said of a session that a post served, and of one that broke off in its last reply.
     ensures served { (waits : ℕ) (left left' taken taken' : Option (List ℕ)) (client : V) (post post' : PostState C) (served : Served)
         (that : ServesSession C.gives C.failed V.says waits left left' taken taken' client post post' served)
         (times : List CallTimes) (commit : Commit) →
