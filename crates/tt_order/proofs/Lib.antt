@@ -1,0 +1,7 @@
+mod Books
+mod Calls
+mod Walking
+mod Stamping
+mod Judging
+mod Worked
+mod Telling

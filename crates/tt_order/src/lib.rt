@@ -1,0 +1,12 @@
+//! External consistency of what stations serve.
+//!
+//! Any number of stations, on any number of machines, serve sessions of clients, each with a book of its own. If each of
+//! their readings holds the true time of its moment, then a commit that was released before another came has the smaller
+//! stamp. What is said is said of the conversations that [`Post::serve`](tt_station::Post::serve) promises.
+//!
+//! - `laws`: `session_laws`, `reply_laws`, `order_laws` and `sequencer_laws`.
+#![tactic(auto)]
+
+mod laws;
+
+pub use laws::{order_laws, reply_laws, sequencer_laws, session_laws};
