@@ -2,8 +2,8 @@
  *
  *     load KIND ADDRESS CONNECTIONS LINES SECONDS
  *
- * KIND is `now`, `visit` (the same in a connection of its own), `commit` (with one line in a piece; it ends with `committed`) or `ping`
- * (for redis), ADDRESS a port of 127.0.0.1 or the path of a Unix socket, and LINES how many lines a piece has. Prints
+ * KIND is `now`, `visit` (the same in a connection of its own), `commit` (with one line in a piece; it ends with `committed`), `session`
+ * (ten commits in a connection of their own) or `ping` (for redis), ADDRESS a port of 127.0.0.1 or the path of a Unix socket, and LINES how many lines a piece has. Prints
  * `LINES_A_SECOND MEDIAN P99`, the last two of the pieces, in microseconds; the status is 1 where a connection fails or a reply is none.
  */
 #include <arpa/inet.h>
@@ -20,7 +20,7 @@
 #include <time.h>
 #include <unistd.h>
 
-enum { STEPS = 32, TIMES = 64 * STEPS, MOST_LINES = 64, MOST_CONNECTIONS = 256 };
+enum { STEPS = 32, TIMES = 64 * STEPS, MOST_LINES = 64, MOST_CONNECTIONS = 256, COMMITS = 10 };
 
 /* Times are counted by their highest bits: each count is of times that differ by at most a part in 32. */
 typedef struct {
@@ -87,6 +87,14 @@ static bool ask(int door, const char *piece, size_t length, char *replies, size_
     return exchange(door, piece, length, replies, most) && strncmp(replies, *kind == 'p' ? "+PONG" : "now", 3) == 0;
 }
 
+static bool commit_in_session(char *replies, size_t most) {
+    int door = connect_to_server();
+    bool is_right = door >= 0;
+    for (uint64_t number = 1; is_right && number <= COMMITS; number++) is_right = commit(door, number, replies, most);
+    close(door);
+    return is_right;
+}
+
 static bool visit(const char *piece, size_t length, char *replies, size_t most) {
     int door = connect_to_server();
     bool is_right = door >= 0 && ask(door, piece, length, replies, most);
@@ -99,12 +107,14 @@ static void *run(void *of) {
     char piece[MOST_LINES * 8], replies[MOST_LINES * 80];
     size_t length = 0;
     for (int line = 0; line < lines; line++) length += (size_t)sprintf(piece + length, "%s", *kind == 'p' ? "PING\r\n" : "now\n");
-    int door = *kind == 'v' ? -1 : connect_to_server();
+    bool is_short = *kind == 'v' || *kind == 's';
+    int door = is_short ? -1 : connect_to_server();
     while (!begun) usleep(100);
-    connection->failed = *kind != 'v' && door < 0;
+    connection->failed = !is_short && door < 0;
     while (!connection->failed && !ended) {
         uint64_t since = clock_ns();
         connection->failed = !(*kind == 'c'   ? commit(door, connection->pieces + 1, replies, sizeof replies)
+                               : *kind == 's' ? commit_in_session(replies, sizeof replies)
                                : *kind == 'v' ? visit(piece, length, replies, sizeof replies)
                                               : ask(door, piece, length, replies, sizeof replies));
         connection->times[step_of(clock_ns() - since)]++;

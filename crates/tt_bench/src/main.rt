@@ -6,7 +6,7 @@
 //! beside it, and docs/SPEED.md says what came of it.
 //!
 //! - `measuring` times batches. `rows` has the names, and what is measured under each.
-//! - `spans`, `fusing`, `machine`, `reading`, `stamping`, `booking`, `running` and `serving`: the work.
+//! - `spans`, `fusing`, `machine`, `reading`, `sharing`, `stamping`, `booking`, `running` and `serving`: the work.
 //! - `numbers`, `histories` and `clocks`: what it is done with.
 #![tactic(auto)]
 
@@ -21,6 +21,7 @@ mod reading;
 mod rows;
 mod running;
 mod serving;
+mod sharing;
 mod spans;
 mod stamping;
 

@@ -10,16 +10,18 @@ use crate::reading::{
 };
 use crate::running::{Part, script, steps_after};
 use crate::serving::line;
+use crate::sharing::share;
 use crate::spans::{Ageing, Decoding, Decoding2};
 use crate::stamping::{RowStamping, stamp_in};
 use anyhow::{Result, bail};
 use std::alloc::Global;
+use std::fs::{File, Files};
 use std::sync::Wait;
 use std::thread::Threads;
 use std::time::Clock;
 
 /// The rows, each with what a call of it is.
-const ROWS: [(&str, &str); 42] = [
+const ROWS: [(&str, &str); 43] = [
     ("age", "Drift::age"),
     ("decode", "decode of an answer"),
     ("decode2", "decode2 of an answer"),
@@ -67,6 +69,10 @@ const ROWS: [(&str, &str); 42] = [
         "Fused::copied and Teller::publish while another thread reads",
     ),
     ("writer_and_now_in_2", "the same while 2 threads read"),
+    (
+        "share",
+        "SharedTeller::publish into a file in memory, with its two writes",
+    ),
     ("row_stamp", "Row::stamp"),
     ("stamp", "Sequencer::stamp"),
     ("stamp_in_2", "the same in each of 2 threads"),
@@ -115,7 +121,7 @@ pub fn list<R: Print>(rt: &R) -> Result<()> {
 }
 
 /// Measures the row of this name, or with `all` each row, and prints a line for each.
-pub fn measure<R: Threads + Wait + Clock + Print + Sync>(
+pub fn measure<R: Threads + Wait + Clock + Print + Sync + Files<File = File>>(
     rt: &R,
     alloc: Global,
     word: &str,
@@ -130,7 +136,7 @@ pub fn measure<R: Threads + Wait + Clock + Print + Sync>(
 }
 
 /// Measures a row, and prints its line.
-fn print_row<R: Threads + Wait + Clock + Print + Sync>(
+fn print_row<R: Threads + Wait + Clock + Print + Sync + Files<File = File>>(
     rt: &R,
     alloc: Global,
     name: &str,
@@ -141,7 +147,7 @@ fn print_row<R: Threads + Wait + Clock + Print + Sync>(
 }
 
 /// What the row of this name takes.
-fn measured<R: Threads + Wait + Clock + Sync>(
+fn measured<R: Threads + Wait + Clock + Sync + Files<File = File>>(
     rt: &R,
     alloc: Global,
     name: &str,
@@ -171,7 +177,7 @@ fn short<R: Clock, W: Work + Drop>(rt: &R, made: Result<W>) -> Result<Measured> 
 }
 
 /// What the row of this name takes, of those whose work threads share.
-fn measured_between_threads<R: Threads + Wait + Clock + Sync>(
+fn measured_between_threads<R: Threads + Wait + Clock + Sync + Files<File = File>>(
     rt: &R,
     alloc: Global,
     name: &str,
@@ -192,6 +198,7 @@ fn measured_between_threads<R: Threads + Wait + Clock + Sync>(
         "stamp_in_2" => stamp_in(rt, alloc, 2),
         "stamp_in_4" => stamp_in(rt, alloc, 4),
         "line" => line(rt, alloc),
+        "share" => share(rt, alloc),
         _ => measured_over_time(rt, alloc, name),
     }
 }
