@@ -3,6 +3,7 @@
 ghost use Rattle.std.specs.Prelude.{◌≡◌, ◌≢◌, ◌<◌, ◌≤◌, ◌↔◌, ◌⊎◌, ◌+◌, [], All, Ok, Err, IfOk, IfErr, IfSome, IsErrOf, OnOk, IsTrue, vec_len, vec_capacity};
 ghost use Rattle.tt_node.specs.Fault.{IsRunFault, IsFirstFault};
 ghost use Rattle.tt_node.specs.Running.{RunsRounds, RunsNode};
+ghost use Rattle.tt_publish.specs.Known.{max_watches};
 
 use crate::faults::NodeFault;
 use crate::gates::Gate;
@@ -436,7 +437,7 @@ pub fn run_node<
     gate: &'n G,
     limits: Limits,
 ) -> Result<NodeEnd, NodeFault>
-    ensures bad_limits { IsErrOf result NodeFault.BadLimits ↔ ((vec_len streams ≡ 0) ⊎ (32 < vec_len streams) ⊎ (vec_len clocks.workers ≢ vec_len streams)
+    ensures bad_limits { IsErrOf result NodeFault.BadLimits ↔ ((vec_len streams ≡ 0) ⊎ (max_watches < vec_len streams) ⊎ (vec_len clocks.workers ≢ vec_len streams)
         ⊎ (limits.rounds ≡ 0) ⊎ (limits.turns ≡ 0) ⊎ (limits.serve.reads ≡ 0) ⊎ (limits.serve.waits ≡ 0)) }
     ensures fault { IfErr result IsRunFault }
     // The daemon did its rounds: the course of them, by what its clock and its link gave, of which the end tells. A fault
@@ -487,9 +488,9 @@ pub fn run_node<
 
 /// Whether so many streams can be served with so many clocks, within these limits.
 fn check_limits(streams: usize, clocks: usize, limits: &Limits) -> Result<(), NodeFault>
-    ensures taken { OnOk result ((streams ≢ 0) × (clocks ≡ streams) × (streams ≤ 32)
+    ensures taken { OnOk result ((streams ≢ 0) × (clocks ≡ streams) × (streams ≤ max_watches)
         × (limits.now.rounds ≢ 0) × (limits.now.turns ≢ 0) × (limits.now.serve.reads ≢ 0) × (limits.now.serve.waits ≢ 0)) }
-    ensures bad_limits { IsErrOf result NodeFault.BadLimits ↔ ((streams ≡ 0) ⊎ (32 < streams) ⊎ (clocks ≢ streams)
+    ensures bad_limits { IsErrOf result NodeFault.BadLimits ↔ ((streams ≡ 0) ⊎ (max_watches < streams) ⊎ (clocks ≢ streams)
         ⊎ (limits.now.rounds ≡ 0) ⊎ (limits.now.turns ≡ 0) ⊎ (limits.now.serve.reads ≡ 0) ⊎ (limits.now.serve.waits ≡ 0)) }
     ensures fault { IfErr result (λ fault. fault ≡ NodeFault.BadLimits) }
 {
