@@ -122,7 +122,7 @@ impl Watcher {
         }
     }
 
-    /// The machine that an action has fuse while more of its statements are false than may be, if it does.
+    /// The machine that fuses by an action while more than f of its statements are false, if there is one.
     fn falsity(&self, configs: &[Config], action: &Action) -> Option<Breach>
         requires { IsFusable configs.now action.now }
         ensures { result ≡ falsity_seen configs.now self.now.lies action.now }

@@ -20,7 +20,7 @@ pub enum ConfigFault {
     NoSource,
     #[error("a machine asks sixteen sources at most")]
     TooManySources,
-    #[error("too few sources for so many that may lie")]
+    #[error("too few sources for so many faulty ones")]
     TooFewSources,
     #[error("a machine has from one to thirty-two workers")]
     Workers,

@@ -145,8 +145,8 @@ impl Daemon {
 
     /// Fuses what is known when the clock shows `clock`: the statements of the sources, aged, where a source that
     /// has made none stands as the whole of time. Refuses, in this order: 402 `ClockBack`, 701 `Unknown` where fewer
-    /// sources have made a statement than all but those that may lie, 504 `NoPoint` where no time is possible,
-    /// which shows that more sources lie than may.
+    /// sources have made a statement than all but the f that may be faulty, 504 `NoPoint` where no time is possible,
+    /// which shows that more than f sources are faulty.
     ///
     /// Fusing changes nothing of the daemon, nor the clock reading that later ones are compared with.
     pub fn fuse(&mut self, clock: u64) -> Result<Fused, DaemonFault>

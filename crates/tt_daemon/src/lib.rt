@@ -1,11 +1,11 @@
-//! One machine's time daemon: it polls its time sources, keeps what they state, and fuses what it knows into a span
-//! that holds the true time while no more of its sources lie than may and its clock keeps the drift bound.
+//! One machine's time daemon. It polls its time sources, keeps what they state, and fuses what it knows into a span.
+//! The span holds the true time while at most f of the sources are faulty and the clock keeps the drift bound.
 //!
-//! A [`Daemon`] is set up by a [`Config`]: how many sources it asks, how many of them may lie, and the drift of the
+//! A [`Daemon`] is set up by a [`Config`]: how many sources it asks, how many of them may be faulty, and the drift of the
 //! machine's clock. [`Daemon::poll`] writes a request, [`Daemon::take`] takes exactly the answer that is awaited, and
 //! [`Daemon::fuse`] gives a [`Fused`]: the fusion of what all sources stated, aged to this reading of the clock, where
 //! a source that has stated nothing stands as the whole of time. A fusion is refused while fewer sources have made a
-//! statement than all but those that may lie.
+//! statement than all but those that may be faulty.
 //!
 //! A [`Fused`] carries all that it was made of, and the canonical certificate by which anybody can check it with
 //! `tt_cert`. It is a value of its own: a later fusion, made or refused, does not change it.

@@ -16,7 +16,7 @@ pub enum Event {
     SourceSilent { source: u64 },
     /// The fusion speaks against this source.
     SourceSuspect { source: u64 },
-    /// A fusion was refused with this number. 504 says that more sources are faulty than may be.
+    /// A fusion was refused with this number. 504 says that more than f sources are faulty.
     FusionRefused { number: u64 },
     /// The clock could not be read, or went back.
     ClockBack,

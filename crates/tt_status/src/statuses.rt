@@ -28,7 +28,7 @@ pub struct Status {
     pub published: u64,
     /// How many answers of sources were refused.
     pub refused_answers: u64,
-    /// How many fusions were refused with 504: more sources are faulty than may be.
+    /// How many fusions were refused with 504: more than f sources are faulty.
     pub no_point: u64,
     /// How many fusions were refused with 701: too few sources are known.
     pub too_few: u64,

@@ -11,7 +11,7 @@
 //! its own; a [`World`] takes the events one by one. What they promise, for every list of events:
 //!
 //! - Each reply is the one that is defined by searching back over the events before it.
-//! - Every reading holds the true time of its event, while no more sources of each machine lie than may and its
+//! - Every reading holds the true time of its event, while at most f sources of each machine are faulty and its
 //!   clock keeps its drift bound (Spanner's `TT.now()`, OSDI 2012, section 3).
 //! - Every published span is the shortest that is right whichever sources lie (Marzullo and Owicki, 1983).
 //! - While the same is assumed, no fusion is refused at which enough sources are known.

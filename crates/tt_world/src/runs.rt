@@ -60,7 +60,7 @@ pub fn run(alloc: Global, configs: &[Config], events: &[Event]) -> Result<Trace,
     // The reply to each event is the one that is defined by searching back over the events before it.
     ensures replies { IfOk result (λ trace. trace.replies ≡ replies_from configs.now [] events.now) }
 
-    // Every reading holds the true time of its event, while no more sources of each machine lie than may, and its
+    // Every reading holds the true time of its event, while at most f sources of each machine are faulty, and its
     // clock keeps the drift bound.
     ensures readings_hold { IfOk result (λ trace. ReadingsHold configs.now events.now trace.replies) }
 

@@ -9,7 +9,7 @@ Times and clock readings are nanoseconds. `ttd <COMMAND> --help` says more of a 
 
 Services, which run until they are ended or speak to such a one:
   master  answers polls over UDP, as a source of time
-  serve   runs one machine by its configuration: it polls masters, and serves clients over TCP
+  serve   runs one machine by its configuration: it polls masters, and serves clients (TCP, Unix socket)
   ask     sends lines to a machine, and prints its replies
   read    prints the time from the file that a machine shares
 
