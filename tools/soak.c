@@ -12,7 +12,7 @@
 
 #include <stdlib.h>
 
-enum { TIMEOUT_MS = 15000 };
+enum { TIMEOUT_MS = 25000 };
 
 static uint64_t readings, lost;
 
