@@ -4,5 +4,6 @@ pub mod Coursing
 pub mod Naming
 pub mod Running
 pub mod Holding
+pub mod Reading
 pub mod Beginning
 pub mod Worked

@@ -1,3 +1,4 @@
 pub mod Steps
 pub mod CourseSteps
 pub mod Tale
+pub mod Reads

@@ -1,10 +1,17 @@
-//! The laws of steps, of the courses of rounds, and of tales.
+//! The laws of steps, of the courses of rounds, of tales, and of readings.
 
-ghost use Rattle.std.specs.Prelude.{◌≡◌, ℕ, ◌<◌, ◌≤◌, ◌+◌, ◌-◌, ◌^◌, List, [], ◌++◌, length, Result};
+ghost use Rattle.std.specs.Prelude.{◌≡◌, ℕ, ◌<◌, ◌≤◌, ◌+◌, ◌-◌, ◌^◌, List, [], ◌∷◌, ◌++◌, map, length, Result, IfOk};
 ghost use Rattle.std.specs.List.{AllByRecursion};
+ghost use mathlib.Core.List.{IsPrefix};
 ghost use Rattle.tt_span.specs.Time.{max_time};
-ghost use Rattle.tt_span.specs.Drift.{KeepsDrift};
+ghost use Rattle.tt_span.specs.Drift.{Moment, KeepsDrift};
+ghost use Rattle.tt_span.specs.Interval.{Interval, Holds};
 ghost use Rattle.tt_daemon.specs.Config.{Configuration, IsConfiguration};
+ghost use Rattle.tt_publish.specs.Known.{WatchState};
+ghost use Rattle.tt_publish.specs.Looks.{Looks};
+ghost use Rattle.tt_publish.specs.Reading.{fused_span_of, CanBeReadAt, reading_at};
+ghost use Rattle.tt_publish.specs.declared.faults.ReadFault.{ReadFault};
+ghost use Rattle.tt_publish.specs.declared.readings.FusedSpan.{FusedSpan};
 ghost use Rattle.tt_node.specs.Course.{Given, Stand, rounds_of};
 ghost use Rattle.tt_node.specs.Link.{Exchange};
 ghost use Rattle.tt_node.specs.Making.{Leads};
@@ -17,8 +24,11 @@ ghost use Rattle.tt_world.specs.Life.{life_of, life_at};
 ghost use Rattle.tt_world.specs.Past.{time_of, clock_of, moments_of, sends_now};
 ghost use Rattle.tt_world.specs.declared.events.Event.{Event};
 ghost use Rattle.tt_runs.specs.CourseSteps.{IsMadeBy, kept_in, rounds_steps};
+ghost use Rattle.tt_runs.specs.Reads.{IsNoEarlier, IsReadAt};
 ghost use Rattle.tt_runs.specs.Steps.{Step, after_steps, kept_at, new_kept, steps_in};
 ghost use Rattle.tt_runs.specs.Tale.{AreOf, AreOfTime, BeginsLife, HeldTrueTime, IsRunOf, IsTale, Timed, events_of, moments_told, restarts_of, steps_told};
+
+use tt_publish::Clock;
 
 /// Laws of the steps of a machine's daemon in a run. A life has nonces for no more than 2^64 - 1 polls.
 pub fn step_laws()
@@ -91,4 +101,23 @@ pub fn tale_laws()
         KeepsDrift (config_at configs m).drift (moments_told tale ++ moments_of base (life_at base m)) →
         FewLie configs (events_of base m tale ++ base) →
         AllByRecursion (HeldTrueTime (moments_told tale ++ moments_of base (life_at base m))) (kept_in (to exchanges)).published }
+{}
+
+/// Laws of readings of publications that held the true time, as those of `tale_laws` did: by the clock of their machine,
+/// at a true time that is no earlier than the publication.
+pub fn reading_laws<C: Clock>()
+    // Such a reading holds the true time of its own moment, where the clock keeps its drift bound over that moment too.
+    ensures reading_holds { (ppm : ℕ) (moments : List Moment) (publication : FusedSpan) (clock time : ℕ) →
+        HeldTrueTime moments publication → KeepsDrift ppm (record { clock = clock; time = time } ∷ moments) →
+        IsNoEarlier moments publication time → time ≤ max_time → CanBeReadAt publication clock →
+        Holds (reading_at ppm publication clock) time }
+
+    // So each reading that a watch gives holds the true time, if what the watch has seen begins what was published: that
+    // is what `Watch::now` answers, and a worker's and a station's `now`, `begin` and `pass` look by it. Watches are read
+    // in any order, and one may have seen less than was published.
+    ensures look_holds { (old new : WatchState) (before after : C) (answer : Result Interval ReadFault) (moments : List Moment)
+        (published : List FusedSpan) (time : ℕ) →
+        Looks C.gives C.failed old before answer new after → AllByRecursion (HeldTrueTime moments) published →
+        IsPrefix (map fused_span_of new.items) published → IsReadAt C.gives moments new before after time →
+        IfOk answer (λ reading. Holds reading time) }
 {}
