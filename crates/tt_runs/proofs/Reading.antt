@@ -1,5 +1,5 @@
 -- A reading of what held the true time holds the true time of its own moment.
-use Rattle.std.proofs.Common.{◌≡◌, ℕ, ◌≤◌, List, [], ◌∷◌, ◌++◌, Option, Some, None, Result, Ok, Err, inl, inr, map, ap, subst, sym, ◌∙◌, refl}
+use Rattle.std.proofs.Common.{◌≡◌, ℕ, ◌≤◌, List, [], ◌∷◌, ◌++◌, Option, Some, None, Result, Ok, Err, inl, inr, map, subst, sym}
 use Rattle.std.specs.Prelude.{IfOk}
 use Rattle.std.specs.List.{AllByRecursion, last_or}
 use mathlib.Core.List.{IsPrefix}
@@ -7,7 +7,7 @@ use Rattle.tt_span.specs.Time.{max_time}
 use Rattle.tt_span.specs.Interval.{Interval, Holds}
 use Rattle.tt_span.specs.Drift.{Moment, AgreesWith, KeepsDrift}
 use Rattle.tt_daemon.specs.Publication.{Publication}
-use Rattle.tt_publish.specs.Known.{WatchState, last_of, ReadsLast}
+use Rattle.tt_publish.specs.Known.{WatchState, ReadsLast}
 use Rattle.tt_publish.specs.Looks.{Looks}
 use Rattle.tt_publish.specs.Reading.{fused_span_of, CanBeReadAt, reading_at}
 use Rattle.tt_publish.specs.declared.faults.ReadFault.{ReadFault}

@@ -2,7 +2,7 @@ use Rattle.tt_runs.proofs.Reading.{reading-holds, look-holds}
 use Rattle.tt_runs.proofs.laws.reading_laws.Goals as goal
 
 pub returns : goal.returns
-returns c = record {
+returns g c = record {
   reading_holds = reading-holds;
-  look_holds = λ old new before after answer moments published time. look-holds c.gives c.failed old new before after answer moments published time;
+  look_holds = look-holds g.C.Clock.gives g.C.Clock.failed;
 }
