@@ -34,6 +34,9 @@
 #if !defined(__BYTE_ORDER__) || __BYTE_ORDER__ != __ORDER_LITTLE_ENDIAN__ || __SIZEOF_POINTER__ != 8
 #error "truetime.h needs a little-endian 64-bit machine"
 #endif
+#if !defined(O_CLOEXEC) || !defined(O_NOFOLLOW) || !defined(CLOCK_MONOTONIC)
+#error "truetime.h needs POSIX: compile with -std=gnu11 (or later), or with -D_POSIX_C_SOURCE=200809L"
+#endif
 
 #ifdef __cplusplus
 extern "C" {
