@@ -9,6 +9,7 @@ pub mod NextSource
 pub mod Keyed
 pub mod Placing
 pub mod Tallies
+pub mod BySource
 pub mod Kept
 pub mod Walking
 pub mod Pairing
