@@ -4,8 +4,7 @@ use mathlib.Core.Option.{some}
 use lib.ListN.{get_elem?}
 use Rattle.left_right.specs.Register.{Admits, TurnsAt, Forks, Merges}
 use Rattle.atomic_table.proofs.Lists.{at_set, at_snoc}
-use Rattle.logbook.specs.Pages.{Book}
-use Rattle.tt_publish.specs.Known.{Known}
+use Rattle.tt_publish.specs.Known.{Known, Source}
 use Rattle.tt_publish.specs.Shown.{IsOf, HasOneSource, Sees, source_of}
 
 -- what is of the source of one thing shown is of that of another with the same source
@@ -14,7 +13,7 @@ is_of_along None x y same h = tt
 is_of_along (Some k) x y same h = h ∙ same
 
 -- what has this source is of what has it too
-is_of_by : (v : Option Known) (x : Known) (source : Book) → source_of v ≡ Some source → IsOf v x → source ≡ x.source
+is_of_by : (v : Option Known) (x : Known) (source : Source) → source_of v ≡ Some source → IsOf v x → source ≡ x.source
 is_of_by None x source is h = absurd (cc is)
 is_of_by (Some k) x source is h = let same : k.source ≡ source = cc is in sym same ∙ h
 

@@ -13,14 +13,19 @@ use Rattle.tt_publish.specs.declared.readings.FusedSpan.{FusedSpan}
 abbrev pub max_watches : ℕ
 max_watches = 32
 
+-- which publications: a chain of one history, by the key of the pen that it began with
+pub record Source : Type 0 where
+  pub book : Book
+  pub chain : ℕ
+
 -- publications that are known: the first ones of one source, oldest first
 pub record Known : Type 0 where
-  pub source : Book
+  pub source : Source
   pub items : List Publication
 
 -- a watch: what it has seen of one source, oldest first, and the drift of the clock that it reads by, in parts per million
 pub record WatchState : Type 0 where
-  pub source : Book
+  pub source : Source
   pub drift : ℕ
   pub items : List Publication
 

@@ -2,8 +2,7 @@
 use Rattle.std.specs.Prelude.{ℕ, ◌≡◌, List, Option, Some, None}
 use mathlib.Core.Option.{some}
 use lib.ListN.{get_elem?}
-use Rattle.logbook.specs.Pages.{Book}
-use Rattle.tt_publish.specs.Known.{Known}
+use Rattle.tt_publish.specs.Known.{Known, Source}
 
 -- what a seat has seen is of the source of what is shown; a seat may have seen nothing
 abbrev pub IsOf : Option Known → Known → Type 0
@@ -19,6 +18,6 @@ abbrev pub Sees : Option Known → Known → Known → Option Known → Type 0
 Sees before was shown after = IsOf before shown × (after ≡ Some shown)
 
 -- the source of what a seat has seen
-abbrev pub source_of : Option Known → Option Book
+abbrev pub source_of : Option Known → Option Source
 source_of None = None
 source_of (Some seen) = Some seen.source

@@ -12,7 +12,7 @@
 //! - `faults`: what is answered where a call refuses.
 //! - `clocks`: the trait `Clock`. `memory`: a clock in memory.
 //! - `readings`: `Reading`, and how a fusion is read at a clock reading (`FusedSpan`, `ReadAt`).
-//! - `publications`: what is known of the publications, in the history that all threads share.
+//! - `entries`: what the history has. `publications`: what is known of the publications, in the history that all threads share.
 //! - `shows`: how the latest is shown to many watches.
 //! - `teller`: `open`, `Teller` and `Told`. `watch`: `Watch`.
 //!
@@ -20,6 +20,7 @@
 #![tactic(auto)]
 
 mod clocks;
+mod entries;
 mod faults;
 mod memory;
 mod publications;

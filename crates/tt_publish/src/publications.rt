@@ -2,26 +2,31 @@
 //!
 //! The history has each publication, and exists in the proofs alone: in memory are what is read of the last publication
 //! and how many there are. So it takes the same few bytes however long the list is.
+//!
+//! A publication is added by a pen, which it uses up, and it names the pen for the next one. Both exist in the proofs
+//! alone. There is one pen for the next publication of a source, and its teller has it.
 
-ghost use Rattle.std.specs.Prelude.{◌≡◌, ◌-◌, ◌<◌, ◌^◌, ◌++◌, ◌∷◌, [], ◌↔◌, length, IsTrue, IfSome};
+ghost use Rattle.std.specs.Prelude.{◌≡◌, ◌-◌, ◌<◌, ◌^◌, ◌++◌, ◌∷◌, [], ◌↔◌, length, IsTrue};
 ghost use mathlib.Core.List.{IsPrefix};
+ghost use Rattle.logbook.specs.Pages.{may_write};
 ghost use Rattle.tt_publish.specs.Known.{last_read_of, GoesBack, IsLonger};
-ghost use Rattle.tt_publish.specs.History.{head_of};
+ghost use Rattle.tt_publish.specs.History.{Begins, word_of};
 
+use crate::entries::Entry;
 use crate::readings::FusedSpan;
-use logbook::{Gain, Offer, Plain, Play, Rule, Seen, Start, Word};
+use logbook::{Gain, Offer, Pen, Plain, Play, Rule, Seen, Start, Word};
 use std::marker::{Model, PhantomData};
 use tt_daemon::Fused;
 
-/// The rule of the history.
+/// The rule of the history: each publication was added by the pen for it.
 pub struct Law;
 
-impl Rule<Fused, u64> for Law {
+impl Rule<Entry, u64> for Law {
     ghost use Rattle.std.specs.Prelude.{[]};
     ghost use base.Fml.{ftrue};
-    ghost use Rattle.tt_publish.specs.History.{IsCounted};
+    ghost use Rattle.tt_publish.specs.History.{IsKept};
 
-    ghost holds = { λ cells history. IsCounted cells history };
+    ghost holds = { λ cells history. IsKept cells history };
 
     ghost first = { [] };
 
@@ -37,64 +42,167 @@ impl Rule<Fused, u64> for Law {
 /// Nothing is traded.
 pub struct Nothing;
 
-impl Gain<Fused, u64> for Nothing {
+impl Gain<Entry, u64> for Nothing {
     ghost use base.Fml.{ftrue};
 
     ghost after = { λ names about answer. ftrue };
 }
 
-/// The step that adds a publication to the history.
+/// The step that begins a chain, and gives the pen for its first publication.
+pub struct Begin;
+
+impl Play<Entry, u64> for Begin {
+    ghost use Rattle.tt_publish.specs.History.{BeginsChain};
+
+    ghost then = { BeginsChain };
+}
+
+impl Plain<u64, Entry, u64> for Begin {
+    ghost use Rattle.std.specs.Prelude.{None};
+
+    ghost ask = { λ key. record { chain = key; next = key; item = None } };
+
+    ghost state = { λ key. None };
+}
+
+/// The step that adds a publication to its chain, by the pen for it.
 pub struct Add;
 
-impl Play<Fused, u64> for Add {
+impl Play<Entry, u64> for Add {
     ghost use Rattle.tt_publish.specs.History.{Adds};
 
     ghost then = { Adds };
 }
 
-impl Plain<Fused, Fused, u64> for Add {
-    ghost use Rattle.std.specs.Prelude.{None};
-
-    ghost ask = { λ publication. publication };
-
-    ghost state = { λ publication. None };
+/// A publication that is to be added, beside what tells its chain, and the pen for the next one.
+#[derive(Drop)]
+pub struct Asked<'a> {
+    pub item: &'a Fused,
+    pub first: &'a Seen<Entry, u64, Law>,
+    pub next: &'a Pen,
 }
 
-/// The length of the history, as a word in memory.
-pub type Head = Word<Fused, u64, Law>;
+impl<'a> Plain<Asked<'a>, Entry, u64> for Add {
+    ghost use Rattle.std.specs.Prelude.{Some, None};
+    ghost use Rattle.tt_publish.specs.History.{chain_of};
+
+    ghost ask = { λ asked. record { chain = chain_of asked.first.now.log; next = asked.next.now.nib.key; item = Some asked.item.now } };
+
+    ghost state = { λ asked. None };
+}
+
+/// A pen for a chain of its own, which has no publication.
+fn new_pen(word: &Word<Entry, u64, Law>, seen: &mut Seen<Entry, u64, Law>) -> Pen
+    requires { word.now ≡ word_of seen.old.book }
+    ensures book { (seen.new.book ≡ seen.old.book) × (result.book ≡ seen.old.book) }
+    ensures right { result.nib.right ≡ may_write }
+    ensures begins { Begins result.nib.key seen.new.log }
+{
+    let mut offer: Offer<Entry, u64, Law, Nothing> = seen.plain::<Nothing, u64, Begin>(&0);
+    let mut pen = seen.no_pen();
+    word.compare_exchange::<Begin, Nothing>(0, 0, seen, &mut offer, &mut pen);
+    let _made: Word<Entry, u64, Law> = Word::tracked(0, &mut pen);
+    pen
+}
+
+/// The history of one source, with the pen for its next publication. So nobody else can have added one, and what is
+/// known of it is all of it. Contracts see the source and the list of publications, oldest first.
+#[derive(Drop)]
+pub struct History {
+    word: Word<Entry, u64, Law>,
+    pen: Pen,
+    /// What was seen when the chain began.
+    first: Seen<Entry, u64, Law>,
+    seen: Seen<Entry, u64, Law>,
+}
+
+impl Model for History {
+    ghost use Rattle.std.specs.Prelude.{◌≡◌};
+    ghost use Rattle.logbook.specs.Pages.{may_write};
+    ghost use Rattle.tt_publish.specs.Known.{Known};
+    ghost use Rattle.tt_publish.specs.History.{chain_of, items_of, pen_of, word_of};
+
+    ghost Value = { Known };
+
+    ghost view = { λ h. record { source = record { book = h.seen.book; chain = chain_of h.first.log }; items = items_of (chain_of h.first.log) h.seen.log } };
+
+    ghost invariant = { λ h. (h.word ≡ word_of h.seen.book) × (h.pen.book ≡ h.seen.book) × (h.pen.nib.right ≡ may_write) × (h.pen.nib.key ≡ pen_of (chain_of h.first.log) h.seen.log) };
+}
+
+impl History {
+    /// With this publication behind the others.
+    fn with(self, item: &Fused) -> History
+        ensures { result ≡ record self { items = self.items ++ item.now ∷ [] } }
+    {
+        let History {
+            word,
+            mut pen,
+            first,
+            mut seen,
+        } = self;
+        let mut looked = seen.again();
+        let next = new_pen(&word, &mut looked);
+        let asked = Asked {
+            item,
+            first: &first,
+            next: &next,
+        };
+        let mut offer: Offer<Entry, u64, Law, Nothing> = seen.plain::<Nothing, Asked, Add>(&asked);
+        word.compare_exchange::<Add, Nothing>(0, 0, &mut seen, &mut offer, &mut pen);
+        History {
+            word,
+            pen: next,
+            first,
+            seen,
+        }
+    }
+}
 
 /// What is known of the publications of one source. Contracts see the source and the list of them, oldest first.
 #[derive(Drop)]
 pub struct Latest {
     last: Option<FusedSpan>,
     number: u64,
-    seen: Seen<Fused, u64, Law>,
+    /// What was seen when the chain began.
+    first: Seen<Entry, u64, Law>,
+    seen: Seen<Entry, u64, Law>,
 }
 
 impl Model for Latest {
     ghost use Rattle.std.specs.Prelude.{◌≡◌, length};
     ghost use Rattle.tt_publish.specs.Known.{Known, last_read_of};
+    ghost use Rattle.tt_publish.specs.History.{chain_of, items_of};
 
     ghost Value = { Known };
 
-    ghost view = { λ f. record { source = f.seen.book; items = f.seen.log } };
+    ghost view = { λ f. record { source = record { book = f.seen.book; chain = chain_of f.first.log }; items = items_of (chain_of f.first.log) f.seen.log } };
 
-    ghost invariant = { λ f. (f.number ≡ length f.seen.log) × (f.last ≡ last_read_of f.seen.log) };
+    ghost invariant = { λ f. (f.number ≡ length (items_of (chain_of f.first.log) f.seen.log)) × (f.last ≡ last_read_of (items_of (chain_of f.first.log) f.seen.log)) };
 }
 
 impl Latest {
     /// A source of its own, of which nothing is published.
-    pub fn open() -> (Head, Latest)
-        ensures head { result.0 ≡ head_of result.1.source }
+    pub fn open() -> (History, Latest)
+        ensures history { result.0 ≡ result.1 }
         ensures none { result.1.items ≡ [] }
     {
-        let (seen, mut first, _second) = Seen::open(Start::alone(), 0, 0);
+        let (mut seen, mut head, _second) = Seen::open(Start::alone(), 0, 0);
+        let word = Word::tracked(0, &mut head);
+        let pen = new_pen(&word, &mut seen);
+        let first = seen.again();
         let latest = Latest {
             last: None,
             number: 0,
+            first: first.again(),
+            seen: seen.again(),
+        };
+        let history = History {
+            word,
+            pen,
+            first,
             seen,
         };
-        (Word::tracked(0, &mut first), latest)
+        (history, latest)
     }
 
     /// What is read of the last publication.
@@ -128,6 +236,7 @@ impl Latest {
         Latest {
             last: self.last,
             number: self.number,
+            first: self.first.again(),
             seen: self.seen.again(),
         }
     }
@@ -146,34 +255,23 @@ impl Latest {
         }
     }
 
-    /// What is known once a publication was added to the history. None where the history has gone on
-    /// since.
-    pub fn extended(&self, head: &Head, next: &Fused) -> Option<Latest>
-        requires source { head.now ≡ head_of self.now.source }
+    /// The history with this publication behind the others, and what is known then.
+    pub fn extended(&self, history: History, next: &Fused) -> (History, Latest)
+        requires history { history ≡ self.now }
         requires room { length self.now.items < 2 ^ 64 - 1 }
-        ensures { IfSome result (λ latest. latest ≡ record self.now { items = self.now.items ++ next.now ∷ [] }) }
+        ensures latest { result.1 ≡ record self.now { items = self.now.items ++ next.now ∷ [] } }
+        ensures history { result.0 ≡ result.1 }
     {
-        let number = self.number;
-        let mut seen = self.seen.again();
-        let mut offer: Offer<Fused, u64, Law, Nothing> = seen.plain::<Nothing, Fused, Add>(next);
-        let mut pen = seen.no_pen();
-        let found = head.compare_exchange::<Add, Nothing>(
-            number,
-            number + 1,
-            &mut seen,
-            &mut offer,
-            &mut pen,
-        );
-        if found != number {
-            return None;
-        }
-        Some(Latest {
+        let history = history.with(next);
+        let latest = Latest {
             last: Some(FusedSpan {
                 clock: next.clock(),
                 span: next.span(),
             }),
-            number: number + 1,
-            seen,
-        })
+            number: self.number + 1,
+            first: history.first.again(),
+            seen: history.seen.again(),
+        };
+        (history, latest)
     }
 }

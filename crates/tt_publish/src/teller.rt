@@ -4,7 +4,7 @@ ghost use Rattle.std.specs.Prelude.{◌≡◌, ◌<◌, ◌↔◌, ◌⊎◌, �
 ghost use Rattle.tt_publish.specs.Known.{GoesBack, max_watches};
 
 use crate::faults::PublishFault;
-use crate::publications::{Head, Latest};
+use crate::publications::{History, Latest};
 use crate::shows::{LatestWriter, reader_of, show, writer_of};
 use crate::watch::Watch;
 use std::alloc::Global;
@@ -21,7 +21,8 @@ pub const MAX_WATCHES: usize = 32;
 ///
 /// It has no drop: end it by [`close`](Teller::close).
 pub struct Teller {
-    head: Head,
+    /// None once an allocation failed: then the history has a publication that no watch is shown.
+    history: Option<History>,
     latest: Latest,
     /// Present between calls.
     writer: Option<LatestWriter>,
@@ -31,14 +32,13 @@ impl Model for Teller {
     ghost use Rattle.std.specs.Prelude.{◌≡◌, [], Some, MatchOption, drop};
     ghost use Rattle.left_right.specs.Sides.{view as seen_at};
     ghost use Rattle.tt_publish.specs.Known.{Known};
-    ghost use Rattle.tt_publish.specs.History.{head_of};
     ghost use Rattle.tt_publish.specs.Shown.{source_of};
 
     ghost Value = { Known };
 
     ghost view = { λ t. t.latest };
 
-    ghost invariant = { λ t. (t.head ≡ head_of t.latest.source)
+    ghost invariant = { λ t. MatchOption t.history (Unit {0}) (λ history. history ≡ t.latest)
         × MatchOption t.writer ⊥ (λ writer.
         (writer.desk.shown.value ≡ t.latest)
         × (drop writer.behind writer.log.items ≡ [])
@@ -78,12 +78,12 @@ pub fn open<R: Wait>(
     if readers == 0 || readers > MAX_WATCHES {
         return Err(PublishFault::Places);
     }
-    let (head, latest) = Latest::open();
+    let (history, latest) = Latest::open();
     let Ok(writer) = writer_of(rt, alloc, &latest, readers) else {
         return Err(PublishFault::Memory);
     };
     let mut teller = Teller {
-        head,
+        history: Some(history),
         latest,
         writer: Some(writer),
     };
@@ -104,9 +104,10 @@ impl Teller {
     /// watches are shown what they were shown before, and the fusion is dropped. It may wait for watches that are
     /// still looking at the publication before the last.
     ///
-    /// [`open`](crate::open) takes the room for the two operations that are ever kept, so `publish` does not
-    /// allocate. No clause says so; runs with failing allocations show it. If an allocation failed all the same, each
-    /// later call that is not rejected with 802 or 805 would answer `Memory` too.
+    /// Nobody else can have added a publication in between: that takes a pen, which this teller alone has. So 1 has no
+    /// other cause than an allocation that failed, in this call or in an earlier one: after one, each later call that is
+    /// not rejected with 802 or 805 answers `Memory` too. [`open`](crate::open) takes the room for the two operations
+    /// that are ever kept, so `publish` does not allocate. No clause says so; runs with failing allocations show it.
     pub fn publish<R: Wait>(&mut self, rt: &R, fused: Fused) -> Result<(), PublishFault>
         ensures published { OnOk result (self.new ≡ record self.old { items = self.old.items ++ fused ∷ [] }) }
         ensures unchanged { OnErr result (self.new ≡ self.old) }
@@ -121,9 +122,10 @@ impl Teller {
         if self.latest.number() == u64::MAX {
             return Err(PublishFault::UsedUp);
         }
-        let Some(next) = self.latest.extended(&self.head, &fused) else {
+        let Some(history) = self.history.take() else {
             return Err(PublishFault::Memory);
         };
+        let (history, next) = self.latest.extended(history, &fused);
         let (writer, shown) = show(rt, self.writer.take().unwrap(), &next);
         // The writer was taken out above, so the place is empty. What `replace` gives has no drop, so it is asked for.
         if let Some(other) = self.writer.replace(writer) {
@@ -132,6 +134,7 @@ impl Teller {
         if shown.is_err() {
             return Err(PublishFault::Memory);
         }
+        self.history = Some(history);
         self.latest = next;
         Ok(())
     }
@@ -148,8 +151,8 @@ impl Teller {
     /// Ends the teller. Its watches keep what they have seen. It waits for those that are looking.
     pub fn close<R: Wait>(self, rt: &R) {
         let Teller {
-            head: _head,
-            latest: _front,
+            history: _history,
+            latest: _latest,
             writer,
         } = self;
         writer.unwrap().take(rt);
