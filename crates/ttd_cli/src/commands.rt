@@ -15,7 +15,7 @@ use std::alloc::{AllocError, Global};
 use tt_span::MAX_DRIFT;
 
 /// The version of the program.
-const VERSION: &str = "0.2 (rattle-kit-13f)";
+const VERSION: &str = "0.2 (rattle-kit-13)";
 
 /// The option `--drift N`: 200 where it is not given, and at most [`MAX_DRIFT`].
 fn drift_option<'a>(alloc: Global) -> Arg<'a>
