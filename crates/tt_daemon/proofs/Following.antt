@@ -6,12 +6,14 @@ use Rattle.std.proofs.lemmas.Bool.{cases_lt, cases_eq}
 use Rattle.std.proofs.lemmas.List.{length-map, length-take-le, get_or-map, get_or-take, get_or_past, get_or_default, get_or-set_same, get_or-set_other, same_lists}
 use Rattle.std.proofs.lemmas.List.Elements.{All-get_or, All-from_get_or}
 use Rattle.std.proofs.lemmas.Simd.{map-map}
+use Rattle.tt_span.specs.Time.{max_time}
+use Rattle.tt_span.specs.Interval.{Interval}
 use Rattle.tt_span.specs.Statement.{Statement, stated_at}
 use Rattle.tt_source.specs.declared.faults.SourceFault.{SourceFault}
 use Rattle.tt_source.specs.declared.faults.SourceFault.TheVariants.{NoSource, ClockBack}
 use Rattle.tt_source.specs.Table.{TableState, SourceState, IsTable, IsSourceState, unknown_source, source_at, has_source, is_back, take_of, after_statement, statement_of_message}
 use Rattle.tt_poll.specs.Reading.{read_of2}
-use Rattle.tt_fuse.specs.Stated.{Stated, IsStated, statement_of, with_statement, AreGotBy, AreAmongFirst, spans_at}
+use Rattle.tt_fuse.specs.Stated.{Stated, IsStated, statement_of, with_statement, AreGotBy, AreAmongFirst, AreSpansAt, spans_at}
 use Rattle.tt_daemon.specs.Config.{Configuration}
 use Rattle.tt_daemon.specs.Daemon.{IsDaemon, AreEndsOfTable}
 
@@ -43,8 +45,9 @@ take-ok : (t t' : TableState) (i clock : ℕ) (bytes : List ℕ) → take_of t i
 take-ok t t' i clock bytes h = after-ok (has_source t i) (is_back t clock) NoSource ClockBack t t' i clock (statement_of_message t.machine t.epoch i (source_at t i).waiting clock (read_of2 bytes)) h
 
 -- the ends follow a table in which a source has made a statement
-follows-stated : (t : TableState) (ends : Stated) (i clock : ℕ) (made new : Statement) → AreEndsOfTable t ends → i < length ends.statements → (source_at (stated_in t i clock made) i).statement ≡ Some new → AreEndsOfTable (stated_in t i clock made) (with_statement ends i new)
-follows-stated t ends i clock made new of inside is = record {
+follows-stated : (t : TableState) (ends : Stated) (i clock : ℕ) (made new : Statement) → AreEndsOfTable t ends → IsStated (with_statement ends i new) → i < length ends.statements → (source_at (stated_in t i clock made) i).statement ≡ Some new → AreEndsOfTable (stated_in t i clock made) (with_statement ends i new)
+follows-stated t ends i clock made new of stated inside is = record {
+  stated = stated;
   same_drift = of.same_drift;
   same_statements = λ j. elim (cases_eq j i) [
     | inl here ↦
@@ -70,7 +73,7 @@ follows-take config t t' ends ends' i clock bytes new taken daemon of valid same
       },
       subst (λ (e : Stated). AreEndsOfTable t' e) (sym same)
           (subst (λ (table : TableState). AreEndsOfTable table (with_statement ends i new)) (sym w.1)
-          (follows-stated t ends i clock w.0 new of (omega (arith, size, stated.each_source, valid.sources_in)) (subst (λ (table : TableState). (source_at table i).statement ≡ Some new) w.1 is))),
+          (follows-stated t ends i clock w.0 new of (subst IsStated same stated) (omega (arith, size, stated.each_source, valid.sources_in)) (subst (λ (table : TableState). (source_at table i).statement ≡ Some new) w.1 is))),
     )
 
 module _ (t : TableState) (ends : Stated) (of : AreEndsOfTable t ends) (table : IsTable t) where
@@ -90,10 +93,10 @@ module _ (t : TableState) (ends : Stated) (of : AreEndsOfTable t ends) (table : 
       ])
 
   -- the spans of the ends are those of the table's sources
-  pub spans-table : (clock : ℕ) → IsStated ends → spans_at ends clock (length t.sources) ≡ map (λ source. stated_at t.drift source.statement clock) t.sources
-  spans-table clock stated =
+  pub spans-table : (clock : ℕ) → spans_at ends clock (length t.sources) ≡ map (λ source. stated_at t.drift source.statement clock) t.sources
+  spans-table clock =
       let few : length t.sources ≤ 16 = table.sources_in in
-      let size : length ends.statements ≡ 16 = stated.each_source in
+      let size : length ends.statements ≡ 16 = of.stated.each_source in
       let count = length-take-le (length t.sources) ends.statements (omega arith) in
       let same : take (length t.sources) ends.statements ≡ map (λ (source : SourceState). source.statement) t.sources =
       same_lists (take (length t.sources) ends.statements) (map (λ (source : SourceState). source.statement) t.sources) (count ∙ sym (length-map t.sources (λ (source : SourceState). source.statement)))
@@ -104,3 +107,16 @@ module _ (t : TableState) (ends : Stated) (of : AreEndsOfTable t ends) (table : 
       ap (λ drift. map (λ o. stated_at drift o clock) (take (length t.sources) ends.statements)) of.same_drift
       ∙ ap (map (λ o. stated_at t.drift o clock)) same
       ∙ map-map (λ o. stated_at t.drift o clock) (λ (source : SourceState). source.statement) t.sources
+
+-- the spans that a daemon makes of its table are those that its ends speak of
+pub AreSpansAt-table : (t : TableState) (ends : Stated) (clock : ℕ) (spans : List Interval) → AreEndsOfTable t ends → IsTable t → t.clock ≤ clock → clock ≤ max_time →
+    spans ≡ map (λ source. stated_at t.drift source.statement clock) t.sources → AreSpansAt ends clock spans
+AreSpansAt-table t ends clock spans of table later in_time same =
+    let count : length spans ≡ length t.sources = ap length same ∙ length-map t.sources (λ (source : SourceState). stated_at t.drift source.statement clock) in
+    record {
+      in_time = in_time;
+      got = got-table t ends of table clock later;
+      few = let few : length t.sources ≤ 16 = table.sources_in in omega (arith, count);
+      among = subst (λ (n : ℕ). AreAmongFirst ends n) (sym count) (among-table t ends of table);
+      aged = ap (spans_at ends clock) count ∙ spans-table t ends of table clock ∙ sym same;
+    }

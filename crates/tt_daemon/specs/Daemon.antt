@@ -3,7 +3,7 @@ use Rattle.std.specs.Prelude.{◌≡◌, ℕ, ◌-◌, ◌<◌, ◌≤◌, ◌�
 use Rattle.tt_span.specs.Time.{max_time}
 use Rattle.tt_span.specs.Interval.{Interval}
 use Rattle.tt_source.specs.Table.{TableState, IsTable, new_table, source_at, known_of, stated_at}
-use Rattle.tt_fuse.specs.Stated.{Stated, statement_of}
+use Rattle.tt_fuse.specs.Stated.{Stated, IsStated, statement_of}
 use Rattle.tt_daemon.specs.Config.{Configuration, IsConfiguration}
 
 -- what a machine is set up with, and what it knows of its sources
@@ -20,6 +20,7 @@ pub record IsDaemon (d : DaemonState) : Type 0 where
 
 -- the ends are those of what the sources of the table stated last
 pub record AreEndsOfTable (table : TableState) (ends : Stated) : Type 0 where
+  pub stated : IsStated ends
   pub same_drift : ends.drift ≡ table.drift
   pub same_statements : (i : ℕ) → statement_of ends i ≡ (source_at table i).statement
 

@@ -200,7 +200,7 @@ impl Daemon {
         fusion_laws();
         let all = self.spans_at(clock);
         let spans = &all[..self.table.sources()];
-        let ends = self.ends.at(clock, self.table.sources());
+        let ends = self.ends.of(spans);
         Fused::of(
             clock,
             spans,

@@ -9,6 +9,8 @@ pub mod NextSource
 pub mod Keyed
 pub mod Placing
 pub mod Tallies
+pub mod BySource
 pub mod Kept
 pub mod Walking
 pub mod Pairing
+pub mod BySpans

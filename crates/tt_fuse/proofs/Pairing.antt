@@ -15,8 +15,9 @@ use Rattle.tt_fuse.specs.Depth.{lower_ends}
 use Rattle.tt_fuse.specs.Ends.{AreEndsOf}
 use Rattle.tt_fuse.specs.Pairs.{IsOrderedAt, AreFirstAndLast, IsFound}
 use Rattle.tt_fuse.specs.Stated.{Stated, AreGotBy, AreAmongFirst, spans_at}
-use Rattle.tt_fuse.specs.Scaled.{IsKey, AreSortedKeys, AreKeysOf, AreOrderedAt, low_end_of, high_end_of}
+use Rattle.tt_fuse.specs.Scaled.{IsKey, AreSortedKeys, AreKeysOf, keys_in, AreOrderedAt, low_end_of, high_end_of}
 use Rattle.tt_fuse.proofs.EndLists.{AreSwept, fusion-found, fusion-from_found, start-is, length-starts}
+use Rattle.tt_fuse.proofs.BySource.{AreNumbersOf-keys}
 use Rattle.tt_fuse.proofs.Walking.{AreAsked, AreEndsOf-keys, AreInOrder-shown, ascending-lows, ascending-highs, highs-few, lows-few, length-spans_at}
 
 -- a key that is handed on as a number of 128 bits
@@ -84,9 +85,9 @@ among-all : (s : Stated) → length s.statements ≡ 16 → AreAmongFirst s 16
 among-all s size i beyond = get_or_past s.statements i None (omega arith)
 
 -- the keys of a value that shows the statements, looked at for all sources that there can be
-pub AreAsked-all : (inside shown : Stated) (c : ℕ) (lows highs : List ℤ) → inside ≡ shown → AreKeysOf inside lows highs → AreGotBy shown c → c ≤ max_time → AreAsked inside c 16 lows highs
+pub AreAsked-all : (inside shown : Stated) (c : ℕ) (lows highs : List (ℤ × ℕ)) → inside ≡ shown → AreKeysOf inside lows highs → AreGotBy shown c → c ≤ max_time → AreAsked inside c 16 (keys_in lows) (keys_in highs)
 AreAsked-all inside shown c lows highs same keys got in_time = record {
-  keys = keys;
+  keys = AreNumbersOf-keys inside lows highs keys;
   got = subst (λ (s : Stated). AreGotBy s c) (sym same) got;
   in_time = in_time;
   few = omega arith;

@@ -13,9 +13,10 @@ use Rattle.tt_span.specs.Statement.{Statement, IsStatement, stated_at}
 use Rattle.tt_fuse.specs.Depth.{lower_ends, upper_ends}
 use Rattle.tt_fuse.specs.Ends.{AreInOrder, AreEndsOf}
 use Rattle.tt_fuse.specs.Stated.{Stated, IsStated, AreGotBy, AreAmongFirst, spans_at}
-use Rattle.tt_fuse.specs.Scaled.{key_bound, key_number, IsKey, AreSortedKeys, passes, AreKeysOf, low_key_of, high_key_of, low_end_of, high_end_of}
+use Rattle.tt_fuse.specs.Scaled.{key_bound, key_number, IsKey, AreSortedKeys, AreKeysOf, keys_in, low_key_of, high_key_of, low_end_of, high_end_of}
 use Rattle.tt_fuse.proofs.Counting.{count_by-yes, count_by-no}
 use Rattle.tt_fuse.proofs.Keyed.{reached-low, reached-high, low_end_of-low_key_of, high_end_of-high_key_of, low_end_of-le, high_end_of-le, high_end_of-in_time}
+use Rattle.tt_fuse.proofs.BySource.{passes, AreNumbersOf, AreNumbersOf-keys}
 use Rattle.tt_fuse.proofs.Tallies.{count_by-each, count_by-none, none-count_by, count_by-map, count_by-append, count_by-replicate, count_by-take, IsPermutation-from_counts}
 
 -- ascending numbers behind a zero
@@ -164,16 +165,16 @@ module _ (s : Stated) (c n : ℕ) (stated : IsStated s) (got : AreGotBy s c) (in
 
 -- keys of statements that are looked at when the clock shows c, for the first n sources
 pub record AreAsked (s : Stated) (c n : ℕ) (lows highs : List ℤ) : Type 0 where
-  pub keys : AreKeysOf s lows highs
+  pub keys : AreNumbersOf s lows highs
   pub got : AreGotBy s c
   pub in_time : c ≤ max_time
   pub few : n ≤ 16
   pub among : AreAmongFirst s n
 
 -- the keys of a value that shows the statements
-pub AreAsked-of : (inside shown : Stated) (c n : ℕ) (lows highs : List ℤ) → inside ≡ shown → AreKeysOf inside lows highs → AreGotBy shown c → c ≤ max_time → n ≤ 16 → AreAmongFirst shown n → AreAsked inside c n lows highs
+pub AreAsked-of : (inside shown : Stated) (c n : ℕ) (lows highs : List (ℤ × ℕ)) → inside ≡ shown → AreKeysOf inside lows highs → AreGotBy shown c → c ≤ max_time → n ≤ 16 → AreAmongFirst shown n → AreAsked inside c n (keys_in lows) (keys_in highs)
 AreAsked-of inside shown c n lows highs same keys got in_time few among = record {
-  keys = keys;
+  keys = AreNumbersOf-keys inside lows highs keys;
   got = subst (λ (s : Stated). AreGotBy s c) (sym same) got;
   in_time = in_time;
   few = few;
@@ -181,7 +182,7 @@ AreAsked-of inside shown c n lows highs same keys got in_time few among = record
 }
 
 module _ (s : Stated) (c n : ℕ) (lows highs : List ℤ) (asked : AreAsked s c n lows highs) where
-  keys : AreKeysOf s lows highs
+  keys : AreNumbersOf s lows highs
   keys = asked.keys
 
   got : AreGotBy s c

@@ -1,5 +1,5 @@
 -- Scaled keys: the ends of statements, so that ageing does not change their order. They count millionths of a nanosecond.
-use Rattle.std.specs.Prelude.{◌≡◌, ℕ, ℤ, pos, negsuc, ◌+◌, ◌-◌, ◌*◌, ◌/◌, ◌≤◌, ◌+ℤ◌, ◌-ℤ◌, ◌≤ℤ◌, Bool, false, List, slice_index_or, Option, Some, None, count_by, All}
+use Rattle.std.specs.Prelude.{◌≡◌, ℕ, suc, ℤ, pos, negsuc, ◌+◌, ◌-◌, ◌*◌, ◌/◌, ◌≤◌, ◌+ℤ◌, ◌-ℤ◌, ◌≤ℤ◌, Bool, List, [], ◌∷◌, map, slice_index_or, Option, Some, None, count_by, All}
 use Rattle.std.specs.List.Sorted.{IsNonDecreasingBy}
 use Rattle.tt_span.specs.Time.{cut}
 use Rattle.tt_span.specs.Statement.{Statement}
@@ -43,13 +43,22 @@ high_end_of ppm clock key = cut ((key_number key + clock * (1000000 + ppm) - key
 abbrev pub AreOrderedAt : ℕ → ℕ → List ℤ → List ℤ → ℕ → Type 0
 AreOrderedAt ppm clock starts ends k = low_end_of ppm clock (slice_index_or starts k (pos 0)) ≤ high_end_of ppm clock (slice_index_or ends k (pos 0))
 
--- whether there is a statement that passes the test
-abbrev pub passes : (Statement → Bool) → Option Statement → Bool
-passes p None = false
-passes p (Some statement) = p statement
+-- the keys, without the sources beside them
+abbrev pub keys_in : List (ℤ × ℕ) → List ℤ
+keys_in entries = map (λ entry. entry.0) entries
 
--- these are the keys of the statements, each as often as it stands: as many of either pass any test
-pub record AreKeysOf (s : Stated) (lows highs : List ℤ) : Type 0 where
+-- the sources, without their keys
+abbrev pub sources_in : List (ℤ × ℕ) → List ℕ
+sources_in entries = map (λ entry. entry.1) entries
+
+-- the key of each statement beside its source, where the first place is that of source i
+abbrev pub keys_from : (Statement → ℤ) → ℕ → List (Option Statement) → List (ℤ × ℕ)
+keys_from key_of i [] = []
+keys_from key_of i (None ∷ statements) = keys_from key_of (suc i) statements
+keys_from key_of i (Some statement ∷ statements) = (key_of statement, i) ∷ keys_from key_of (suc i) statements
+
+-- these are the keys of the statements, each beside its source and as often as it stands: as many of either pass any test
+pub record AreKeysOf (s : Stated) (lows highs : List (ℤ × ℕ)) : Type 0 where
   pub stated : IsStated s
-  pub low_keys : (p : ℤ → Bool) → count_by p lows ≡ count_by (passes (λ statement. p (low_key_of s.drift statement.span.lo statement.got))) s.statements
-  pub high_keys : (p : ℤ → Bool) → count_by p highs ≡ count_by (passes (λ statement. p (high_key_of s.drift statement.span.hi statement.sent))) s.statements
+  pub low_keys : (p : ℤ × ℕ → Bool) → count_by p lows ≡ count_by p (keys_from (λ statement. low_key_of s.drift statement.span.lo statement.got) 0 s.statements)
+  pub high_keys : (p : ℤ × ℕ → Bool) → count_by p highs ≡ count_by p (keys_from (λ statement. high_key_of s.drift statement.span.hi statement.sent) 0 s.statements)

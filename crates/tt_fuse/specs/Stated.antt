@@ -1,6 +1,7 @@
 -- What the sources of a machine stated last, and their spans at a clock reading.
 use Rattle.std.specs.Prelude.{◌≡◌, ℕ, ◌≤◌, List, length, map, take, replicate, slice_index_or, slice_set, All, Option, Some, None, IfSome}
-use Rattle.tt_span.specs.Interval.{Interval}
+use Rattle.tt_span.specs.Time.{max_time}
+use Rattle.tt_span.specs.Interval.{Interval, whole}
 use Rattle.tt_span.specs.Drift.{max_drift}
 use Rattle.tt_span.specs.Statement.{Statement, IsStatement, stated_at}
 use Rattle.tt_span.specs.Sources.{max_sources}
@@ -39,3 +40,19 @@ AreAmongFirst s n = (i : ℕ) → n ≤ i → statement_of s i ≡ None
 -- the spans of the first n sources at a clock reading: each one's statement, aged, or the whole of time where it has made none
 abbrev pub spans_at : Stated → ℕ → ℕ → List Interval
 spans_at s clock n = map (λ statement. stated_at s.drift statement clock) (take n s.statements)
+
+-- these are the spans of the first sources at some clock reading: it is in time, no statement came after it, and no other source has made one
+pub record AreSpansAt (s : Stated) (clock : ℕ) (spans : List Interval) : Type 0 where
+  pub in_time : clock ≤ max_time
+  pub got : AreGotBy s clock
+  pub few : length spans ≤ max_sources
+  pub among : AreAmongFirst s (length spans)
+  pub aged : spans_at s clock (length spans) ≡ spans
+
+-- the lower end of a source's span
+abbrev pub low_of_source : List Interval → ℕ → ℕ
+low_of_source spans source = (slice_index_or spans source whole).lo
+
+-- the upper end of a source's span
+abbrev pub high_of_source : List Interval → ℕ → ℕ
+high_of_source spans source = (slice_index_or spans source whole).hi

@@ -1,13 +1,12 @@
 //! Fusion over scaled keys, which never have to be sorted again.
 
 ghost use Rattle.std.specs.Prelude.{◌≡◌, ℕ, ◌+◌, ◌-◌, ◌*◌, ◌<◌, ◌≤◌, ◌↔◌, ◌++◌, length, map, replicate, All, IsSome, IsOk, IfOk, IsErrOf, MatchOption, None};
-ghost use Rattle.std.specs.List.Sorted.{IsNonDecreasing};
 ghost use Rattle.tt_span.specs.Time.{max_time};
 ghost use Rattle.tt_span.specs.Sources.{max_sources};
 ghost use Rattle.tt_span.specs.Statement.{Statement};
 ghost use Rattle.tt_fuse.specs.Fusion.{IsPossibleTime, IsFusion, HasNoPossibleTime, CanBeFused};
 ghost use Rattle.tt_fuse.specs.Ends.{AreEndsOf};
-ghost use Rattle.tt_fuse.specs.Stated.{IsStated, nothing_stated, statement_of, with_statement, AreGotBy, AreAmongFirst, spans_at};
+ghost use Rattle.tt_fuse.specs.Stated.{IsStated, nothing_stated, statement_of, with_statement, AreGotBy, AreAmongFirst, AreSpansAt, spans_at, low_of_source, high_of_source};
 ghost use Rattle.tt_fuse.specs.Pairs.{IsFound};
 ghost use Rattle.tt_fuse.specs.Scaled.{key_bound, key_number, IsKey, AreOrderedAt, low_end_of, high_end_of};
 
@@ -44,7 +43,8 @@ impl Model for Answered {
 /// A lower end that was received at a clock reading ages by the time since, less what the clock may be wrong by, and an
 /// upper end by the time since its poll was sent, and what the clock may be wrong by. So two lower ends stay in the
 /// order of their keys, which are what they would have been when the clock showed 0, and so do two upper ends. The keys
-/// are kept in ascending order: an accepted answer changes one of either kind, and a fusion compares a few and ages two.
+/// are kept in ascending order, each beside its source: an accepted answer changes one of either kind, a fusion compares
+/// a few and ages two, and the ends of spans that are aged already are put in order without a sort.
 #[derive(Debug, Drop)]
 pub struct Ends {
     drift: Drift,
@@ -92,8 +92,8 @@ impl Ends {
         ensures value { self.new ≡ with_statement self.old i (record { span = span.now; sent = sent; got = got }) }
         ensures valid { IsStated self.new }
     {
-        self.lows.insert(low_key(self.drift, span.lo(), got));
-        self.highs.insert(high_key(self.drift, span.hi(), sent));
+        self.lows.insert(low_key(self.drift, span.lo(), got), i);
+        self.highs.insert(high_key(self.drift, span.hi(), sent), i);
         self.answers[usize::from(i)] = Some(Answered {
             span: *span,
             sent,
@@ -114,15 +114,8 @@ impl Ends {
         ensures value { self.new ≡ with_statement self.old i (record { span = span.now; sent = sent; got = got }) }
         ensures valid { IsStated self.new }
     {
-        let old = self.answers[usize::from(i)].unwrap();
-        self.lows.replace(
-            low_key(self.drift, old.span.lo(), old.got),
-            low_key(self.drift, span.lo(), got),
-        );
-        self.highs.replace(
-            high_key(self.drift, old.span.hi(), old.sent),
-            high_key(self.drift, span.hi(), sent),
-        );
+        self.lows.replace(i, low_key(self.drift, span.lo(), got));
+        self.highs.replace(i, high_key(self.drift, span.hi(), sent));
         self.answers[usize::from(i)] = Some(Answered {
             span: *span,
             sent,
@@ -130,23 +123,21 @@ impl Ends {
         });
     }
 
-    /// The ends of the first `sources` sources' spans when the clock shows `clock`, in order: each statement's span,
-    /// aged, and the whole of time for a source that has made none. Nothing is sorted.
+    /// The ends of these spans, in order: of the first sources' spans at some clock reading, which are each statement's
+    /// span, aged, and the whole of time for a source that has made none. Nothing is aged again, and nothing is sorted.
     ///
-    /// Requires: `clock` is at most [`MAX_TIME`] and no statement came after it, there are at most [`MAX_SOURCES`]
-    /// sources, and only the first `sources` have made statements.
-    pub fn at(&self, clock: u64, sources: usize) -> SortedEnds
-        requires in_time { clock ≤ max_time }
-        requires got { AreGotBy self.now clock }
-        requires few { sources ≤ max_sources }
-        requires among { AreAmongFirst self.now sources }
-        ensures ends { AreEndsOf (spans_at self.now clock sources) result }
-        ensures valid { IsStated self.now }
+    /// Requires: the clock reading is at most [`MAX_TIME`] and no statement came after it, there are at most
+    /// [`MAX_SOURCES`] spans, and no other sources have made statements.
+    pub fn of(&self, spans: &[Span]) -> SortedEnds
+        requires { (clock : ℕ) × AreSpansAt self.now clock spans.now }
+        ensures { AreEndsOf spans.now result }
     {
-        let unknown = sources - self.lows.as_slice().len();
+        let lows = self.lows.sources();
+        let highs = self.highs.sources();
+        let unknown = spans.len() - lows.len();
         SortedEnds::in_order(
-            lows_at(self.drift, &self.lows, clock, unknown),
-            highs_at(self.drift, &self.highs, clock, unknown),
+            lows_of(lows, spans, unknown),
+            highs_of(highs, spans, unknown),
         )
     }
 
@@ -261,35 +252,30 @@ fn last_in_order(drift: Drift, starts: &[i128], ends: &[i128], clock: u64, first
     last
 }
 
-/// The lower ends of these keys when the clock shows `clock`, ascending, behind those of the sources of which nothing
-/// is known, which are 0.
-fn lows_at(drift: Drift, keys: &SortedKeys, clock: u64, unknown: usize) -> ArrayVec<u64, 16>
-    requires in_time { clock ≤ max_time }
-    requires reached { All (λ key. key_bound ≤ key_number key + clock * (1000000 - drift)) keys.now }
-    requires room { unknown + length keys.now ≤ max_sources }
-    ensures ends { result.items ≡ replicate unknown 0 ++ map (low_end_of drift clock) keys.now }
-    ensures ascending { IsNonDecreasing result.items }
+/// The lower ends of the spans of these sources, behind those of the sources of which nothing is known, which are 0.
+fn lows_of(sources: &[u8], spans: &[Span], unknown: usize) -> ArrayVec<u64, 16>
+    requires there { All (λ source. source < length spans.now) sources.now }
+    requires room { unknown + length sources.now ≤ max_sources }
+    ensures { result.items ≡ replicate unknown 0 ++ map (low_of_source spans.now) sources.now }
 {
     let mut ends = ArrayVec::from([0; MAX_SOURCES]);
     ends.truncate(unknown);
-    for key in keys.as_slice() {
-        ends.push(low_end(drift, *key, clock));
+    for source in sources {
+        ends.push(spans[usize::from(*source)].lo());
     }
     ends
 }
 
-/// The upper ends of these keys when the clock shows `clock`, ascending, and then those of the sources of which nothing
-/// is known, which are the greatest time.
-fn highs_at(drift: Drift, keys: &SortedKeys, clock: u64, unknown: usize) -> ArrayVec<u64, 16>
-    requires in_time { clock ≤ max_time }
-    requires reached { All (λ key. key_bound ≤ key_number key + clock * (1000000 + drift)) keys.now }
-    requires room { unknown + length keys.now ≤ max_sources }
-    ensures ends { result.items ≡ map (high_end_of drift clock) keys.now ++ replicate unknown max_time }
-    ensures ascending { IsNonDecreasing result.items }
+/// The upper ends of the spans of these sources, and then those of the sources of which nothing is known, which are the
+/// greatest time.
+fn highs_of(sources: &[u8], spans: &[Span], unknown: usize) -> ArrayVec<u64, 16>
+    requires there { All (λ source. source < length spans.now) sources.now }
+    requires room { unknown + length sources.now ≤ max_sources }
+    ensures { result.items ≡ map (high_of_source spans.now) sources.now ++ replicate unknown max_time }
 {
     let mut ends = ArrayVec::new();
-    for key in keys.as_slice() {
-        ends.push(high_end(drift, *key, clock));
+    for source in sources {
+        ends.push(spans[usize::from(*source)].hi());
     }
     for _ in 0..unknown {
         ends.push(MAX_TIME);

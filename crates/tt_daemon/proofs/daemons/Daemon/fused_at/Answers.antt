@@ -5,10 +5,8 @@ use Rattle.tt_span.specs.Interval.{Interval, IsInterval}
 use Rattle.tt_fuse.specs.Fusion.{CanBeFused}
 use Rattle.tt_daemon.specs.Daemon.{DaemonState, IsDaemon, spans_of}
 use Rattle.tt_daemon.specs.declared.faults.DaemonFault.TheVariants.{NoPoint}
-use Rattle.tt_fuse.specs.Ends.{AreEndsOf}
-use Rattle.tt_fuse.specs.Stated.{spans_at}
 use Rattle.tt_source.specs.Table.{SourceState, stated_at}
-use Rattle.tt_daemon.proofs.Following.{got-table, spans-table}
+use Rattle.tt_daemon.proofs.Following.{AreSpansAt-table}
 use Rattle.tt_daemon.proofs.Fusing.{IsMade, IsAnswer, spans-can_be_fused, made-answer, refused-none, answered-some, match-slowly}
 use Rattle.tt_daemon.proofs.daemons.Daemon.fused_at.Goals as goal
 
@@ -51,19 +49,15 @@ returns-clause-found_slowly c =
     (λ i. c.fusion_laws.ensures.found_slowly _ _ i (intervals c) (fewer c))
     (c.fusion_laws.ensures.none_slowly _ _ (intervals c) (fewer c))
 
-pub at-ends-requires-clause-got : goal.at-ends-requires-clause-got
-at-ends-requires-clause-got c =
-    let forward = c.requires.not_back in
-    got-table c.self.inside.table c.self.inside.ends c.self.invariant.1 c.sources-2.ensures.valid c.args.clock
-    (subst (λ (d : DaemonState). d.table.clock ≤ c.args.clock) (sym c.self.view_is) c.requires.not_back)
-
--- the ends are those of the daemon's spans
-pub of-requires-clause-ends : goal.of-requires-clause-ends
-of-requires-clause-ends c =
+-- the ends speak of these spans
+pub of-ends-requires : goal.of-ends-requires
+of-ends-requires c =
     let d : DaemonState = record { config = c.self.inside.config; table = c.self.inside.table } in
-    let of_table = spans-table d.table c.self.inside.ends c.self.invariant.1 c.sources.ensures.valid c.args.clock c.at-ends.ensures.valid in
-    let of_daemon : spans_at c.self.inside.ends c.args.clock c.sources-2.result ≡ spans_of d c.args.clock =
-    ap (spans_at c.self.inside.ends c.args.clock) c.sources-2.ensures.value ∙ of_table ∙ ap (λ (drift : ℕ). map (λ (source : SourceState). stated_at drift source.statement c.args.clock) d.table.sources) c.self.invariant.0.same_drift in
-    let made : take c.sources.result c.spans_at-all.result ≡ spans_of c.args.self.now c.args.clock =
-    ap (λ (k : ℕ). take k c.spans_at-all.result) (c.sources.ensures.value ∙ ap (λ (d : DaemonState). length d.table.sources) c.self.view_is) ∙ c.spans_at-all.ensures.value in
-    subst (λ (ss : List Interval). AreEndsOf ss c.at-ends.result) (of_daemon ∙ ap (λ (d : DaemonState). spans_of d c.args.clock) c.self.view_is ∙ sym made) c.at-ends.ensures.ends
+    let count : c.sources.result ≡ length c.args.self.now.table.sources = c.sources.ensures.value ∙ ap (λ (d : DaemonState). length d.table.sources) c.self.view_is in
+    let of_daemon : take c.sources.result c.spans_at-all.result ≡ spans_of c.args.self.now c.args.clock = ap (λ (k : ℕ). take k c.spans_at-all.result) count ∙ c.spans_at-all.ensures.value in
+    let of_table : take c.sources.result c.spans_at-all.result ≡ map (λ source. stated_at d.table.drift source.statement c.args.clock) d.table.sources =
+    of_daemon ∙ sym (ap (λ (e : DaemonState). spans_of e c.args.clock) c.self.view_is) ∙ sym (ap (λ (drift : ℕ). map (λ (source : SourceState). stated_at drift source.statement c.args.clock) d.table.sources) c.self.invariant.0.same_drift) in (
+      c.args.clock,
+      AreSpansAt-table d.table c.self.inside.ends c.args.clock (take c.sources.result c.spans_at-all.result) c.self.invariant.1 c.sources.ensures.valid
+          (subst (λ (d : DaemonState). d.table.clock ≤ c.args.clock) (sym c.self.view_is) c.requires.not_back) c.requires.in_time of_table,
+    )
