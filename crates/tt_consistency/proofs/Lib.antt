@@ -1,3 +1,4 @@
 mod Calling
 mod Holding
 mod Serving
+mod Starting

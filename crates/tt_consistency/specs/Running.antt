@@ -1,7 +1,8 @@
 -- A machine that runs: the calls of its daemon in one life, what happened between the daemon and its sources, and what it published. Each list of events, calls and steps has the newest first.
-use Rattle.std.specs.Prelude.{◌≡◌, ℕ, ◌<◌, ◌^◌, List, [], ◌∷◌, ◌++◌, length, Result}
+use Rattle.std.specs.Prelude.{◌≡◌, ℕ, ◌+◌, ◌-◌, ◌<◌, ◌≤◌, ◌^◌, List, [], ◌∷◌, ◌++◌, length, Result}
 use Rattle.std.specs.List.{AllByRecursion}
 use Rattle.tt_span.specs.Drift.{Moment, KeepsDrift}
+use Rattle.tt_span.specs.Time.{max_time}
 use Rattle.tt_daemon.specs.Config.{Configuration, IsConfiguration}
 use Rattle.tt_publish.specs.declared.readings.FusedSpan.{FusedSpan}
 use Rattle.tt_node.specs.Course.{Given, Stand, rounds_of}
@@ -16,8 +17,8 @@ use Rattle.tt_world.specs.Life.{Life, life_at}
 use Rattle.tt_world.specs.Past.{time_of, clock_of, moments_of, sends_now}
 use Rattle.tt_world.specs.declared.events.Event.{Event}
 use Rattle.tt_runs.specs.CourseSteps.{kept_in, rounds_steps}
-use Rattle.tt_runs.specs.Steps.{Kept, Step, kept_at}
-use Rattle.tt_runs.specs.Tale.{AreOfTime, IsTale, Timed, events_of, moments_told, steps_told}
+use Rattle.tt_runs.specs.Steps.{Kept, Step, kept_at, new_kept}
+use Rattle.tt_runs.specs.Tale.{AreOfTime, IsTale, Timed, events_of, moments_told, restarts_of, steps_told}
 
 -- one call of a daemon's rounds: so many rounds of so many turns, what it was given, its exchanges with the link, where it began and where it ended, and its answer
 pub record DaemonCall : Type 0 where
@@ -99,3 +100,33 @@ pub record IsRunning (machine : Machine) : Type 0 where
   pub drift : KeepsDrift (configuration_of machine).drift (clock_moments machine)
   -- at each fusion no more of its sources' statements were false than may be
   pub few_lie : FewLie machine.configs (events_until machine)
+
+-- ---- from the beginning of a life on
+
+-- when a life begins: how many came before it, and the true time and the clock reading at its beginning
+pub record Start : Type 0 where
+  pub lives : ℕ
+  pub at : ℕ
+  pub clock : ℕ
+
+-- a machine from the beginning of a life on: nothing happened before but restarts
+abbrev pub from_start : List Configuration → ℕ → Start → List DaemonCall → List Timed → Machine
+from_start configs number start calls tale =
+    record { configs = configs; number = number; base = restarts_of number start.at start.clock start.lives; calls = calls; tale = tale }
+
+-- a machine runs so under the assumptions of the model, and nothing else is assumed
+pub record RunsFrom (configs : List Configuration) (number : ℕ) (start : Start) (calls : List DaemonCall) (tale : List Timed) : Type 0 where
+  pub there : number < length configs
+  pub configured : IsConfiguration (config_at configs number)
+  -- its life begins within the bounds of lives, time and clock
+  pub lives : start.lives < 2 ^ 64 - 1
+  pub at : start.at ≤ max_time
+  pub clock : start.clock ≤ max_time
+  -- the first call begins with a new daemon that has published nothing
+  pub in_turn : AreInTurn (new_kept (config_at configs number) number (start.lives + 1)) calls
+  pub told : steps_told tale ≡ steps_of calls
+  pub of_time : AreOfTime tale
+  pub forward : IsTale start.at start.clock tale
+  pub nonces : sends_now (events_until (from_start configs number start calls tale)) number < 2 ^ 64
+  pub drift : KeepsDrift (config_at configs number).drift (moments_told tale ++ record { clock = start.clock; time = start.at } ∷ [])
+  pub few_lie : FewLie configs (events_until (from_start configs number start calls tale))
