@@ -37,7 +37,7 @@ abbrev fused : Publication
 fused = record { clock = 0; span = record { lo = 1000; hi = 1008 }; spans = []; faulty = 0; certificate = record { left = []; right = []; below = []; above = [] } }
 
 abbrev watch : WatchState
-watch = record { source = record { number = 0; log_name = 0; cells_name = 0 }; drift = 0; items = fused ∷ [] }
+watch = record { source = record { book = record { number = 0; log_name = 0; cells_name = 0 }; chain = 0 }; drift = 0; items = fused ∷ [] }
 
 abbrev seat : SeatState
 seat = new_seat (record { words = 0; slots = 0; views_name = 0; atom = 0; block = 0; offset = 0; slot_names = [] }) 1 0

@@ -1,0 +1,4 @@
+mod Calling
+mod Holding
+mod Serving
+mod Starting

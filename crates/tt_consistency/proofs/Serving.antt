@@ -1,0 +1,49 @@
+-- The readings of sessions that are served on running machines.
+use Rattle.std.proofs.Common.{ℕ, List, [], ◌∷◌, Bool, Option, All}
+use Rattle.std.specs.Prelude.{IfOk}
+use Rattle.std.proofs.lemmas.List.Elements.{All-contains}
+use Rattle.tt_span.specs.Interval.{Holds}
+use Rattle.tt_judge.specs.declared.history.Commit.{Commit}
+use Rattle.tt_session.specs.Conversation.{Conversation}
+use Rattle.tt_session.specs.declared.calls.Call.{Call}
+use Rattle.tt_session.specs.declared.calls.Call.TheVariants.{Now, Begin, Pass}
+use Rattle.tt_station.specs.Station.{StationState, Allows}
+use Rattle.tt_order.specs.Timed.{CallTimes, looked_of, ReadingsHold, TimedSession, IsTimed}
+use Rattle.tt_order.specs.Order.{IsSeenAtSome}
+use Rattle.tt_runs.proofs.Reading.{look-holds}
+use Rattle.tt_consistency.specs.Running.{Machine, IsRunning, clock_moments, published_by}
+use Rattle.tt_consistency.specs.Served.{LooksAt, AllLookAt, IsServedOn, IsSeenOnOneOf}
+use Rattle.tt_consistency.proofs.Holding.{publications-hold}
+
+module _ {C V : Type 0} (gives : C → Option ℕ → C → Type 0) (failed : C → ℕ) (says : V → Bool → Type 0) where
+  module _ (machine : Machine) (running : IsRunning machine) where
+    -- the reading of one call
+    call-holds : (before : StationState C V) (call : Call) (after : StationState C V) (allowed : Allows gives failed says before call after) (time : ℕ) → LooksAt gives machine before after time → IfOk (looked_of gives failed says before call after allowed) (λ reading. Holds reading time)
+    call-holds before (Now answer) after allowed time at =
+        look-holds gives failed before.post.watch after.post.watch before.post.clock after.post.clock allowed.looked (clock_moments machine) (published_by machine) time allowed.looks (publications-hold machine running) at.seen at.read
+    call-holds before (Begin number floor answer) after allowed time at =
+        look-holds gives failed before.post.watch after.post.watch before.post.clock after.post.clock allowed.looked (clock_moments machine) (published_by machine) time allowed.looks (publications-hold machine running) at.seen at.read
+    call-holds before (Pass number answer) after allowed time at =
+        look-holds gives failed before.post.watch after.post.watch before.post.clock after.post.clock allowed.looked (clock_moments machine) (published_by machine) time allowed.looks (publications-hold machine running) at.seen at.read
+
+    -- the readings of all calls
+    calls-hold : (calls : List Call) (before after : StationState C V) (talked : Conversation (Allows gives failed says) before calls after) (times : List CallTimes) → AllLookAt gives failed says machine before calls after talked times → ReadingsHold gives failed says before calls after talked times
+    calls-hold [] before after talked times look = look
+    calls-hold (call ∷ calls) before after talked [] look = absurd look
+    calls-hold (call ∷ calls) before after talked (t ∷ times) look =
+        (call-holds before call talked.0 talked.1 t.read look.0, calls-hold calls talked.0 after talked.2 times look.1)
+
+    pub served-timed : (session : TimedSession gives failed says) → IsServedOn gives failed says machine session → IsTimed gives failed says session
+    served-timed session served = record {
+      in_order = served.in_order;
+      hold = calls-hold session.calls (record { post = session.post; client = session.client; book = [] }) session.after session.talked session.times served.look;
+    }
+
+  pub seen-timed : (machines : List Machine) (history : List Commit) → All IsRunning machines → All (IsSeenOnOneOf gives failed says machines) history → All (IsSeenAtSome gives failed says) history
+  seen-timed machines history running seen number other inside =
+      let at = seen number other inside in
+      record {
+        session = at.session;
+        timed = served-timed at.machine (All-contains IsRunning machines at.machine running at.among) at.session at.served;
+        seen = at.seen;
+      }

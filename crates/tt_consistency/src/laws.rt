@@ -1,0 +1,75 @@
+//! The laws of running machines, of the sessions that are served on them, and of the commits that are seen there.
+
+ghost use Rattle.std.specs.Prelude.{ℕ, ◌<◌, ◌≤◌, List, ◌∷◌, ◌++◌, Option, None, All};
+ghost use Rattle.std.specs.List.{AllByRecursion};
+ghost use Rattle.tt_daemon.specs.Config.{Configuration};
+ghost use Rattle.tt_judge.specs.Consistency.{IsConsistent};
+ghost use Rattle.tt_judge.specs.declared.history.Commit.{Commit};
+ghost use Rattle.tt_session.specs.Answers.{AnswersLines};
+ghost use Rattle.tt_session.specs.declared.begun.Begun.{Begun};
+ghost use Rattle.tt_session.specs.declared.replies.LineReply.{LineReply};
+ghost use Rattle.tt_order.specs.Timed.{TimedSession, IsTimed, times_at};
+ghost use Rattle.tt_order.specs.Order.{BeginsAt, IsCommitted, IsSeen, IsWithin};
+ghost use Rattle.tt_order.specs.Told.{IsTold};
+ghost use Rattle.tt_runs.specs.Tale.{HeldTrueTime, Timed};
+ghost use Rattle.tt_consistency.specs.Running.{DaemonCall, Machine, IsRunning, RunsFrom, Start, clock_moments, from_start, published_by};
+ghost use Rattle.tt_consistency.specs.Served.{IsServedOn, IsSeenOnOneOf};
+
+use tt_order::{order_laws, session_laws};
+use tt_publish::Clock;
+use tt_session::LineReply;
+use tt_station::Presence;
+
+/// Laws of one running machine.
+pub fn machine_laws()
+    // A machine runs that begins its life with a new daemon, whose calls follow: of what was before nothing is assumed.
+    ensures runs_from_start { (configs : List Configuration) (number : ℕ) (start : Start) (calls : List DaemonCall) (tale : List Timed) →
+        RunsFrom configs number start calls tale → IsRunning (from_start configs number start calls tale) }
+
+    // All that its calls published, one after the other, held the true time, each at a moment of the machine's life at
+    // which the clock showed the reading of the publication.
+    ensures publications_hold { (machine : Machine) →
+        IsRunning machine → AllByRecursion (HeldTrueTime (clock_moments machine)) (published_by machine) }
+{}
+
+/// Laws of one session that is served on a running machine.
+pub fn service_laws<C: Clock, V: Presence>()
+    // Each of its readings holds the true time at which it was taken.
+    ensures readings_hold { (machine : Machine) (session : TimedSession C.gives C.failed V.says) →
+        IsRunning machine → IsServedOn C.gives C.failed V.says machine session → IsTimed C.gives C.failed V.says session }
+
+    // So the stamp of a commit lies between the true times at which the commit began and ended.
+    ensures stamps_lie_within { (machine : Machine) (session : TimedSession C.gives C.failed V.says) (commit : Commit) →
+        IsRunning machine → IsServedOn C.gives C.failed V.says machine session → IsSeen session.calls session.times commit →
+        IsWithin commit }
+
+    // So it is with each commit that the session replies to be committed.
+    ensures replies_lie_within { (machine : Machine) (session : TimedSession C.gives C.failed V.says) (waits : ℕ) (lines : List (List ℕ))
+        (before : List LineReply) (number stamp : ℕ) (after : List LineReply) (last : Option Begun) →
+        IsRunning machine → IsServedOn C.gives C.failed V.says machine session →
+        AnswersLines waits None lines session.calls (before ++ LineReply.Committed number stamp ∷ after) last →
+        (told : IsTold waits lines session.calls before number stamp) × ((times_at session.times told.begun).read ≤ stamp)
+        × (stamp < (times_at session.times told.released).read) }
+{
+    session_laws::<C, V>();
+}
+
+/// Laws of commits, on any number of running machines.
+pub fn consistency_laws<C: Clock, V: Presence, D: Clock, W: Presence>()
+    // Of two commits, at sessions on whatever machines, where the first was answered to be released by the time at which
+    // the second came, the first has the smaller stamp.
+    ensures ordered { (machine other_machine : Machine) (earlier : TimedSession C.gives C.failed V.says)
+        (later : TimedSession D.gives D.failed W.says)
+        (number stamp begun released other_number other_stamp other_begun : ℕ) →
+        IsRunning machine → IsServedOn C.gives C.failed V.says machine earlier →
+        IsRunning other_machine → IsServedOn D.gives D.failed W.says other_machine later →
+        IsCommitted earlier.calls number stamp begun released → BeginsAt later.calls other_begun other_number other_stamp →
+        (times_at earlier.times released).answered ≤ (times_at later.times other_begun).came →
+        stamp < other_stamp }
+
+    // So every history of commits that were seen on these machines is externally consistent, as the judge judges it.
+    ensures consistent { (machines : List Machine) (history : List Commit) →
+        All IsRunning machines → All (IsSeenOnOneOf C.gives C.failed V.says machines) history → IsConsistent history }
+{
+    order_laws::<C, V, D, W>();
+}
