@@ -21,9 +21,9 @@
 //! let receipt = book.is_released(id);
 //! ```
 //!
-//! `crates/tt_stamp/CALLING.md` has a whole caller. The modules: `rows` for one thread, `sequencers` for several (`rule`
-//! is the rule by which they share a word, `stampings` what seats know, `requests` what a try asks), `books` with
-//! `commits`, `steps`, and `faults`.
+//! `crates/tt_stamp/CALLING.md` has a whole caller. The modules: `rows` for one thread, `sequencers` for several
+//! (`rule` is the rule by which they share a word, `stampings` what seats know, `requests` what a try asks), `books`
+//! with `commits`, `steps`, and `faults`.
 #![tactic(auto)]
 
 mod books;
