@@ -13,7 +13,7 @@ pub enum RefFault {
 }
 
 impl RefFault {
-    /// The fault's number: 304, that of [`MasterFault::Reference`].
+    /// The fault's number: 304, as [`MasterFault::Reference`].
     pub fn number(&self) -> u16
         ensures { result ≡ reference_number_of self.now }
     {

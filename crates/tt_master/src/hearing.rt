@@ -1,4 +1,4 @@
-//! Packets, as a master hears them.
+//! What a master reads in the bytes that came, and the packet that it answers.
 
 ghost use Rattle.std.specs.Prelude.{◌≡◌, Some};
 ghost use Rattle.tt_master.specs.Packet.{heard_as, heard_as2, request_heard, request_to as request_in, request_to2 as request_in2, packet_to, packet_to2};
@@ -10,7 +10,7 @@ use tt_poll::{
 };
 use tt_span::Span;
 
-/// A message of either format: the source that it names, and the request where it is one.
+/// A message of either format: the source that it names, and the request if it is one.
 #[derive(Drop)]
 pub(crate) struct Heard<Q> {
     source: u8,
@@ -18,7 +18,7 @@ pub(crate) struct Heard<Q> {
 }
 
 impl<Q: Drop> Heard<Q> {
-    /// The request to this source that was heard. Refuses, in this order: 302 `OtherSource` where the message names
+    /// The request, if it is one to this source. Refuses, in this order: 302 `OtherSource` where the message names
     /// another source, 303 `NotRequest` where it is not a request.
     pub(crate) fn request_to(self, source: u8) -> Result<Q, MasterFault>
         ensures { result ≡ request_heard source (Some self) }
@@ -30,7 +30,7 @@ impl<Q: Drop> Heard<Q> {
     }
 }
 
-/// The message as a master hears it.
+/// The source and the request of a message of TTP1.
 fn hear(message: &Message) -> Heard<Request>
     ensures { result ≡ heard_as message.now }
 {
@@ -46,7 +46,7 @@ fn hear(message: &Message) -> Heard<Request>
     }
 }
 
-/// The same of a message with an epoch.
+/// The source and the request of a message of TTP2.
 fn hear2(message: &Message2) -> Heard<Request2>
     ensures { result ≡ heard_as2 message.now }
 {
@@ -62,8 +62,8 @@ fn hear2(message: &Message2) -> Heard<Request2>
     }
 }
 
-/// The request to this source that the bytes are. Refuses, in this order: 301 `BadMessage` where they are not a
-/// message, 302 `OtherSource`, 303 `NotRequest`.
+/// The request to this source in these bytes, in TTP1. Refuses, in this order: 301 `BadMessage` where they are not a
+/// valid message, 302 `OtherSource`, 303 `NotRequest`.
 pub(crate) fn request_to(source: u8, bytes: &[u8]) -> Result<Request, MasterFault>
     ensures { result ≡ request_in source bytes.now }
 {
@@ -79,14 +79,14 @@ pub(crate) fn request_to2(source: u8, bytes: &[u8]) -> Result<Request2, MasterFa
     hear2(&message).request_to(source)
 }
 
-/// The packet that answers the request with the span.
+/// The packet that answers this request of TTP1 with the span.
 pub(crate) fn packet(request: &Request, span: Span) -> [u8; ANSWER_LEN]
     ensures { result ≡ packet_to request.now span }
 {
     encode_answer(&request.answered(span))
 }
 
-/// The packet that answers the request with the span, in the epoch of the request.
+/// The packet that answers this request of TTP2 with the span, with the epoch of the request.
 pub(crate) fn packet2(request: &Request2, span: Span) -> [u8; ANSWER2_LEN]
     ensures { result ≡ packet_to2 request.now span }
 {

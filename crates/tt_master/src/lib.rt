@@ -1,15 +1,22 @@
-//! Time masters: what a source of time does with the requests that machines send it.
+//! Time masters, which answer the polls of machines.
 //!
-//! A master knows the time from a reference that it reads, such as a GPS receiver or an atomic clock (Spanner's
-//! time masters, OSDI 2012, section 3), and how far the reference may be off, its uncertainty.
+//! A master reads the time from a reference, such as a GPS receiver or an atomic clock (Spanner's time masters, OSDI
+//! 2012, section 3). Its uncertainty says how far the reference may be off. An honest master answers the time of its
+//! reference, plus and minus the uncertainty; the other acts are for tests.
 //!
-//! - `acts`: [`Act`], what a master does with one request: it is honest, or one of the ways to be faulty.
-//! - `references`: [`Reference`], the device that a master knows the time from. `memory`: [`MemoryReference`], one
-//!   that gives the times of a list.
+//! ```text
+//! let mut master = Master::new(0, 1_000, reference);   // source 0, off by at most 1,000 ns
+//! let packet = master.answer2(&bytes)?;                // at reference time 5,000 the span [4,000, 6,000]
+//! ```
+//!
+//! - `acts`: [`Act`], what a master does with one request: it is honest, or faulty in one of these ways.
+//! - `references`: [`Reference`], the device from which a master reads the time. `memory`: [`MemoryReference`], one
+//! that gives the times of a list.
 //! - `masters`: [`Master`], with its calls [`answer`](Master::answer) and [`play`](Master::play) for requests of TTP1,
-//!   [`answer2`](Master::answer2) and [`play2`](Master::play2) for those of TTP2.
-//! - `hearing`: what a master makes of the bytes that came, and the packet that answers. `spans`: the span in it,
-//!   and what is known of it.
+//! [`answer2`](Master::answer2) and [`play2`](Master::play2) for requests of TTP2.
+//! - `hearing`: what a master reads in the bytes that came, and the packet that it answers. `spans`: the span in this
+//!   packet,
+//! and its laws.
 //! - `faults`: why a packet is not answered, and why a reference gave no time.
 #![tactic(auto)]
 

@@ -19,13 +19,13 @@ use std::marker::Model;
 use tt_poll::{ANSWER_LEN, ANSWER2_LEN};
 use tt_span::Span;
 
-/// The byte of which garbage is made. No message has it as its first.
+/// The byte of which garbage is made. No message begins with it.
 const GARBAGE: u8 = 0xFF;
 
-/// A source of time: it answers the requests that machines send it by what its reference shows.
+/// A time master: it answers the requests of machines by the time that its reference shows.
 ///
-/// Contracts see the source that it is, its uncertainty, its reference, and the last packets
-/// that it played, of TTP1 and of TTP2.
+/// In contracts it is the number of the source that it is, its uncertainty, its reference, and the last packets that it
+/// played, of TTP1 and of TTP2.
 #[derive(Drop)]
 pub struct Master<R> {
     source: u8,
@@ -49,8 +49,8 @@ impl<R> Model for Master<R> {
 }
 
 impl<R: Reference> Master<R> {
-    /// The master that is `source`, of a reference that is off by at most `uncertainty` nanoseconds. It has played
-    /// nothing. Requires: the source is at most 15, the uncertainty at most `MAX_TIME`.
+    /// The master that is source number `source`, with a reference that is off by at most `uncertainty` nanoseconds. It
+    /// has played nothing. Requires: the source is at most 15, the uncertainty at most `MAX_TIME`.
     pub fn new(source: u8, uncertainty: u64, reference: R) -> Self
         requires source_in { source ≤ max_source }
         requires uncertainty_in { uncertainty ≤ max_time }
@@ -65,13 +65,13 @@ impl<R: Reference> Master<R> {
         }
     }
 
-    /// The answer to the request of TTP1 that the bytes are: at reference time t the span from t less the uncertainty
-    /// to t and the uncertainty, cut at 0 and `MAX_TIME`, to the machine and under the nonce of the request.
+    /// Answers a request of TTP1. If the reference shows t, the span of the answer goes from t minus the uncertainty to
+    /// t plus the uncertainty, cut at 0 and `MAX_TIME`. The answer has the machine and the nonce of the request.
     ///
-    /// Refuses, in this order: 301 `BadMessage` where the bytes are not a message, 302 `OtherSource` where they name
-    /// another source, 303 `NotRequest` where they are not a request, 304 `Reference` where the reference gave no
-    /// time. The reference is not read before the first three; after them the master is as it was. What it played
-    /// stays in any case.
+    /// Refuses, in this order: 301 `BadMessage` where the bytes are not a valid message, 302 `OtherSource` where they
+    /// name another source, 303 `NotRequest` where they are not a request, 304 `Reference` where the reference gave no
+    /// time. After the first three the reference was not read, and the master is as it was. The packets that it played
+    /// stay in any case.
     pub fn answer(&mut self, bytes: &[u8]) -> Result<[u8; ANSWER_LEN], MasterFault>
         ensures refused { IfErr (request_in self.old.source bytes.now) (λ e. (result ≡ Err e) × (self.new ≡ self.old)) }
         ensures answered { IfOk (request_in self.old.source bytes.now) (λ request.
@@ -86,13 +86,13 @@ impl<R: Reference> Master<R> {
         Ok(packet(&request, self.span(Act::Honest)?))
     }
 
-    /// What the master sends when it does the act on the packet that came, or None where it sends nothing: an honest
-    /// answer, an honest answer with both ends moved before they are cut, nothing, bytes of FF, or the last packet
-    /// that this call gave (what [`answer`](Master::answer) gave is not among them).
+    /// Does the act on the packet that came, and answers the packet that is sent, or None if nothing is sent. By the
+    /// act this is an honest answer, an honest answer with both ends moved before they are cut, nothing, bytes of FF,
+    /// or the last packet that this call gave. What [`answer`](Master::answer) gave does not count.
     ///
-    /// Refuses in the order of `answer`, also where the act needs no request; 304 `Reference` comes only from an act
-    /// that reads the reference: honest, ahead or behind. Silence, garbage and repeating leave the reference as it is.
-    /// A packet that is sent becomes the last one that was played; else that stays, and after 301 to 303 all does.
+    /// Refuses in the order of `answer`, also if the act needs no request. 304 `Reference` comes only from an act that
+    /// reads the reference: honest, ahead or behind. The other acts leave the reference as it is. A packet that is sent
+    /// becomes the last packet that was played; otherwise that stays. After 301 to 303 the master is as it was.
     pub fn play(&mut self, act: Act, bytes: &[u8]) -> Result<Option<[u8; ANSWER_LEN]>, MasterFault>
         ensures refused { IfErr (request_in self.old.source bytes.now) (λ e. (result ≡ Err e) × (self.new ≡ self.old)) }
         ensures timed { IsTimed act → IfOk (request_in self.old.source bytes.now) (λ request.
@@ -117,7 +117,7 @@ impl<R: Reference> Master<R> {
         Ok(sent)
     }
 
-    /// [`answer`](Master::answer) of TTP2: the bytes are a request with an epoch, and the answer has the same one.
+    /// As [`answer`](Master::answer), for TTP2: the answer also has the epoch of the request.
     pub fn answer2(&mut self, bytes: &[u8]) -> Result<[u8; ANSWER2_LEN], MasterFault>
         ensures refused { IfErr (request_in2 self.old.source bytes.now) (λ e. (result ≡ Err e) × (self.new ≡ self.old)) }
         ensures answered { IfOk (request_in2 self.old.source bytes.now) (λ request.
@@ -132,8 +132,8 @@ impl<R: Reference> Master<R> {
         Ok(packet2(&request, self.span(Act::Honest)?))
     }
 
-    /// [`play`](Master::play) of TTP2: garbage is as long as an answer of TTP2, and the packet that is repeated is the
-    /// last one that this call gave. What `play` gave is not among them, and stays what `play` repeats.
+    /// As [`play`](Master::play), for TTP2: garbage is as long as an answer of TTP2, and the packet that is repeated is
+    /// the last one that `play2` gave. The last packet that `play` gave stays what `play` repeats.
     pub fn play2(
         &mut self,
         act: Act,
@@ -165,7 +165,7 @@ impl<R: Reference> Master<R> {
         Ok(sent)
     }
 
-    /// What the act answers by the time that the reference gives. Refuses: 304 `Reference`.
+    /// The span of an act by the time that the reference gives. Refuses with 304 `Reference` if it gives none.
     fn span(&mut self, act: Act) -> Result<Span, MasterFault>
         ensures answered { AnswersByTime (λ time. R.gives self.old.reference time self.new.reference)
             (λ time. span_of_act self.old.uncertainty act time) result }

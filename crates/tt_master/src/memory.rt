@@ -1,4 +1,5 @@
-//! A reference in memory, that gives the times of a list and fails when told to: for tests, and for proofs over runs.
+//! A reference in memory, for tests and for proofs over runs: it gives the times of a list, and fails when it is told
+//! to.
 
 ghost use Rattle.std.specs.Prelude.{◌≡◌, ◌≤◌, ◌↔◌, ◌⊎◌, Some, None, OnOk, OnErr, IfOk, IsErr, MatchResult};
 ghost use Rattle.tt_span.specs.Time.{max_time};
@@ -26,9 +27,9 @@ impl<'a> Model for MemoryReference<'a> {
 }
 
 impl<'a> MemoryReference<'a> {
-    /// A reference that gives these times in turn, in nanoseconds. Its call number `fails_at`, counted from 1,
-    /// fails and gives none of them; `None`: none does. It fails too where no time is left, and from a time above
-    /// `MAX_TIME` on.
+    /// A reference that gives these times one after the other, in nanoseconds. Its call number `fails_at`, counted from
+    /// 1, fails and takes no time of the list; with `None` no call does. It also fails if no time is left, or if the
+    /// next one is above `MAX_TIME`.
     pub fn new(times: &'a [u64], fails_at: Option<u64>) -> Self
         ensures { result ≡ record { left = times.entry.now; fails_at = fails_at; calls = 0; failures = 0 } }
     {
@@ -46,8 +47,7 @@ impl<'a> Reference for MemoryReference<'a> {
 
     ghost failed = { λ reference. reference.failures };
 
-    /// The next time. Fails at the call that is to fail, where no time is left, and where the next one is above
-    /// `MAX_TIME`.
+    /// The next time. Fails at the call that is to fail, if no time is left, and if the next one is above `MAX_TIME`.
     fn read(&mut self) -> Result<u64, RefFault>
         ensures gave { MatchResult result (λ time. GivesNext self.old (Some time) self.new) (λ _. GivesNext self.old None self.new) }
         ensures in_time { IfOk result (λ time. time ≤ max_time) }

@@ -6,16 +6,16 @@ ghost use Rattle.tt_stream.specs.Counts.{HasFailed};
 
 use crate::faults::RefFault;
 
-/// What a master knows the time from.
+/// The device from which a master reads the time.
 pub trait Reference {
-    /// What a call of the reference as it was gave, and the reference after it. A reference that keeps a list of
-    /// its times names the next of them here; a device of the world claims nothing.
+    /// The reference before a call, what the call gave, and the reference after it. A reference that keeps a list of
+    /// its times names the next one here; a real device claims nothing.
     ghost gives: { Self → Option ℕ → Self → Type 0 };
 
-    /// Its failures so far; the count stays at 2^64 - 1 once it is there.
+    /// Its failures so far. The count stays at 2^64 - 1 once it is reached.
     ghost failed: { Self → ℕ };
 
-    /// The time, in nanoseconds, at most `MAX_TIME`. A fault is answered only where the reference failed.
+    /// The time, in nanoseconds, at most `MAX_TIME`. A fault is answered only if the reference failed.
     fn read(&mut self) -> Result<u64, RefFault>
         ensures gave { MatchResult result (λ time. gives self.old (Some time) self.new) (λ _. gives self.old None self.new) }
         ensures in_time { IfOk result (λ time. time ≤ max_time) }

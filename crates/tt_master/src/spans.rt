@@ -1,4 +1,4 @@
-//! The spans that masters answer.
+//! The spans in the answers of masters.
 
 ghost use Rattle.std.specs.Prelude.{◌≡◌, ◌+◌, ◌<◌, ◌≤◌, ◌↔◌, ℕ};
 ghost use Rattle.tt_span.specs.Time.{max_time};
@@ -10,8 +10,8 @@ ghost use Rattle.tt_master.specs.Act.{later_by, earlier_by, span_played as span_
 use crate::acts::Act;
 use tt_span::{MAX_TIME, Span};
 
-/// What the act answers where the reference gives this time: the time with the uncertainty both ways, both ends moved
-/// as the act does, and then cut at 0 and [`MAX_TIME`].
+/// The span of an act when the reference gives this time: the time plus and minus the uncertainty, both ends moved by
+/// the act, and then cut at 0 and [`MAX_TIME`].
 pub(crate) fn span_played(uncertainty: u64, act: Act, time: u64) -> Span
     requires uncertainty_in { uncertainty ≤ max_time }
     requires time_in { time ≤ max_time }
@@ -32,9 +32,9 @@ pub(crate) fn span_played(uncertainty: u64, act: Act, time: u64) -> Span
     Span::new(lo.min(MAX_TIME), hi.min(MAX_TIME)).unwrap()
 }
 
-/// What masters answer is always a span. An honest one holds exactly the times from which the reference is off by at
-/// most the uncertainty. Of the times that are not at an end of all time, the span of any act holds exactly those
-/// that lie between the ends before the cut.
+/// Laws of these spans. The ends are always those of a span. The span of an honest answer holds exactly the times that
+/// differ from the time of the reference by at most the uncertainty. Apart from 0 and the greatest time, the span of
+/// any act holds exactly the times between its ends before the cut.
 pub fn act_laws()
     ensures valid { (uncertainty : ℕ) (act : Act) (time : ℕ) → IsInterval (span_of_act uncertainty act time) }
     ensures honest { (uncertainty time x : ℕ) → time ≤ max_time → x ≤ max_time →

@@ -29,7 +29,7 @@ impl Model for Answer {
 }
 
 impl Request {
-    /// The answer to this request that the true time lies in `span`: it has the machine, the source and the nonce of
+    /// The answer to this request that the true time lies in `span`. It has the machine, the source and the nonce of
     /// the request.
     pub fn answered(&self, span: Span) -> Answer
         ensures value { result ≡ answer_to self.now span }
@@ -44,9 +44,9 @@ impl Request {
 }
 
 impl Answer {
-    /// The answer of `source` to `machine` under `nonce`, that the true time lies in `span`. Refuses, in this
-    /// order: 205 `Number` where the machine is above 7 or the source is above 15, 206 `Nonce` where the nonce
-    /// is 0.
+    /// The answer of `source` to a request of `machine` with `nonce`, that the true time lies in `span`. Refuses, in
+    /// this order: 205 `Number` where the machine is above 7 or the source is above 15, 206 `Nonce` where the nonce is
+    /// 0.
     pub fn new(machine: u8, source: u8, nonce: u64, span: Span) -> Result<Answer, PollFault>
         ensures taken { IsOk result ↔ ((machine ≤ max_machine) × (source ≤ max_source) × (0 < nonce)) }
         ensures value { IfOk result (λ a. a ≡ record { machine = machine; source = source; nonce = nonce; span = span }) }

@@ -8,8 +8,8 @@ use crate::requests2::Request2;
 use std::marker::Model;
 use tt_span::Span;
 
-/// What a source answers to a request of one of a machine's lives: the machine, the source, the nonce and the epoch of
-/// the request, and a span that the source says holds the true time.
+/// What a source answers to a request of TTP2: the machine, the source, the nonce and the epoch of the request, and a
+/// span that the source says holds the true time.
 #[derive(Clone, Copy, Debug, PartialEq, Eq)]
 pub struct Answer2 {
     request: Request2,
@@ -29,7 +29,7 @@ impl Model for Answer2 {
 }
 
 impl Request2 {
-    /// The answer to this request that the true time lies in `span`: it has the machine, the source, the nonce and the
+    /// The answer to this request that the true time lies in `span`. It has the machine, the source, the nonce and the
     /// epoch of the request.
     pub fn answered(&self, span: Span) -> Answer2
         ensures value { result ≡ answer_to2 self.now span }
@@ -44,7 +44,7 @@ impl Request2 {
 }
 
 impl Answer2 {
-    /// The answer of `source` to `machine` under `nonce` in the life `epoch`, that the true time lies in `span`.
+    /// The answer of `source` to a request of `machine` with `nonce` and `epoch`, that the true time lies in `span`.
     /// Refuses, in this order: 205 `Number` where the machine is above 7 or the source is above 15, 206 `Nonce` where
     /// the nonce is 0, 208 `Epoch` where the epoch is 0.
     pub fn new(

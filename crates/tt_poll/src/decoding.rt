@@ -15,7 +15,7 @@ use crate::requests::Request;
 use crate::requests2::Request2;
 use tt_span::Span;
 
-/// The kind that messages of this length have.
+/// The kind of messages of this length.
 fn kind_at_length(format: Format, len: usize) -> u8
     ensures { result ≡ kind_of format len }
 {
@@ -26,7 +26,7 @@ fn kind_at_length(format: Format, len: usize) -> u8
     }
 }
 
-/// The number in the eight bytes from place `at` on, the highest first.
+/// The number in the eight bytes from place `at` on, the highest byte first.
 fn number_at(bytes: &[u8], at: usize) -> u64
     requires { at + 8 ≤ length bytes.now }
     ensures { result ≡ number_at_place bytes.now at }
@@ -37,7 +37,8 @@ fn number_at(bytes: &[u8], at: usize) -> u64
     ])
 }
 
-/// The span whose ends stand from place `at` on. Refuses by 207 `Span` where they are out of order or out of time.
+/// The span whose ends stand from place `at` on. Refuses with 207 `Span` where they are out of order, or the upper one
+/// is above `MAX_TIME`.
 fn span_at(bytes: &[u8], at: usize) -> Result<Span, PollFault>
     requires { at + 16 ≤ length bytes.now }
     ensures { result ≡ (if are_no_span (ends_at bytes.now at) then Err PollFault.Span else Ok (ends_at bytes.now at)) }
@@ -45,7 +46,8 @@ fn span_at(bytes: &[u8], at: usize) -> Result<Span, PollFault>
     Span::new(number_at(bytes, at), number_at(bytes, at + 8)).map_err(|_| PollFault::Span)
 }
 
-/// What both formats share: the request whose fields the first sixteen bytes have, or the first refusal of 201 to 206.
+/// The part that both formats share: the request in the first sixteen bytes, or the first refusal of 201 to 206 that
+/// applies.
 #[tactic(auto, unfolding(crate::specs::Reading::head_read_of))]
 fn read_head(format: Format, bytes: &[u8]) -> Result<Request, PollFault>
     ensures value { result ≡ head_read_of format bytes.now }
@@ -66,7 +68,7 @@ fn read_head(format: Format, bytes: &[u8]) -> Result<Request, PollFault>
     Request::new(bytes[5], bytes[6], number_at(bytes, 8))
 }
 
-/// The message of TTP1 whose fields the bytes have, or the first refusal.
+/// The message of TTP1 with the fields in these bytes, or the first refusal that applies.
 #[tactic(auto, unfolding(crate::specs::Reading::head_read_of, crate::specs::Reading::first_poll_fault, crate::specs::Reading::read_of))]
 fn read(bytes: &[u8]) -> Result<Message, PollFault>
     ensures { result ≡ read_of bytes.now }
@@ -79,7 +81,7 @@ fn read(bytes: &[u8]) -> Result<Message, PollFault>
     Ok(Message::Answer(request.answered(span)))
 }
 
-/// The message of TTP2 whose fields the bytes have, or the first refusal.
+/// The message of TTP2 with the fields in these bytes, or the first refusal that applies.
 #[tactic(auto, unfolding(crate::specs::Reading::head_read_of, crate::specs::Reading::first_poll_fault2, crate::specs::Reading::read_of2))]
 fn read2(bytes: &[u8]) -> Result<Message2, PollFault>
     ensures { result ≡ read_of2 bytes.now }
@@ -93,31 +95,31 @@ fn read2(bytes: &[u8]) -> Result<Message2, PollFault>
     Ok(Message2::Answer(request.answered(span)))
 }
 
-/// The message of TTP1 whose spelling the bytes are. Refuses, in this order: 201 `Length` where the length is neither
-/// 16 nor 32; 202 `Magic` where the bytes do not begin with `TTP1`; 203 `Kind` where the kind is unknown or belongs
-/// to the other length; 204 `Reserved` where byte 7 is not 0; 205 `Number` where the machine is above 7 or the
-/// source is above 15; 206 `Nonce` where the nonce is 0; 207 `Span` where an answer's lower end is above its
-/// upper one, or that is above `MAX_TIME`.
+/// The message of TTP1 with this spelling. Refuses, in this order: 201 `Length` where the length is neither 16 nor 32;
+/// 202 `Magic` where the bytes do not begin with `TTP1`; 203 `Kind` where the kind is not that of messages of this
+/// length; 204 `Reserved` where byte 7 is not 0; 205 `Number` where the machine is above 7 or the source is above 15;
+/// 206 `Nonce` where the nonce is 0; 207 `Span` where the lower end of an answer is above its upper end, or the upper
+/// end is above `MAX_TIME`.
 pub fn decode(bytes: &[u8]) -> Result<Message, PollFault>
     ensures exact { result ≡ read_of bytes.now }
-    // What is read is spelled so, each byte of it.
+    // If a message is read, the bytes are its spelling, each of them.
     ensures found { IfOk result (λ m. IsMessage m × (bytes.now ≡ spelling_of m)) }
-    // What is spelled so is read.
+    // If the bytes are the spelling of a message, it is read.
     ensures taken { (m : Message) → IsMessage m → bytes.now ≡ spelling_of m → result ≡ Ok m }
     ensures refused { (e : PollFault) → IsErrOf result e ↔ (first_poll_fault bytes.now ≡ Some e) }
 {
     read(bytes)
 }
 
-/// The message of TTP2 whose spelling the bytes are. Refuses, in this order: 201 `Length` where the length is neither
-/// 24 nor 40; 202 `Magic` where the bytes do not begin with `TTP2`; 203 `Kind`, 204 `Reserved`, 205 `Number` and 206
-/// `Nonce` as [`decode`]; 208 `Epoch` where the epoch is 0; 207 `Span` where an answer's lower end is above its upper
-/// one, or that is above `MAX_TIME`.
+/// The message of TTP2 with this spelling. Refuses, in this order: 201 `Length` where the length is neither 24 nor 40;
+/// 202 `Magic` where the bytes do not begin with `TTP2`; 203 `Kind`, 204 `Reserved`, 205 `Number` and 206 `Nonce` as
+/// [`decode`]; 208 `Epoch` where the epoch is 0; 207 `Span` where the lower end of an answer is above its upper end, or
+/// the upper end is above `MAX_TIME`.
 pub fn decode2(bytes: &[u8]) -> Result<Message2, PollFault>
     ensures exact { result ≡ read_of2 bytes.now }
-    // What is read is spelled so, each byte of it.
+    // If a message is read, the bytes are its spelling, each of them.
     ensures found { IfOk result (λ m. IsMessage2 m × (bytes.now ≡ spelling_of2 m)) }
-    // What is spelled so is read.
+    // If the bytes are the spelling of a message, it is read.
     ensures taken { (m : Message2) → IsMessage2 m → bytes.now ≡ spelling_of2 m → result ≡ Ok m }
     ensures refused { (e : PollFault) → IsErrOf result e ↔ (first_poll_fault2 bytes.now ≡ Some e) }
 {
@@ -134,8 +136,8 @@ pub fn one_spelling2()
     ensures { (m n : Message2) → IsMessage2 m → IsMessage2 n → spelling_of2 m ≡ spelling_of2 n → m ≡ n }
 {}
 
-/// What bytes say in TTP1: the message of which they are the spelling, and else the first refusal that applies. The
-/// spelling of a message is always bytes, which are read in TTP1.
+/// Laws of reading TTP1. Bytes are read as the message whose spelling they are, and otherwise as the first refusal that
+/// applies. The spelling of a message is always a list of bytes, and is read in TTP1.
 pub fn reading_laws()
     ensures found { (bytes : List ℕ) (m : Message) → IsBytes bytes → read_of bytes ≡ Ok m → IsMessage m × (bytes ≡ spelling_of m) }
     ensures taken { (m : Message) → IsMessage m → read_of (spelling_of m) ≡ Ok m }
@@ -144,7 +146,7 @@ pub fn reading_laws()
     ensures format { (m : Message) → format_of (spelling_of m) ≡ Format.Ttp1 }
 {}
 
-/// The same of TTP2; and no message of one format is one of the other.
+/// The same laws of TTP2. A spelling of one format is never a spelling of the other.
 pub fn reading_laws2()
     ensures found { (bytes : List ℕ) (m : Message2) → IsBytes bytes → read_of2 bytes ≡ Ok m → IsMessage2 m × (bytes ≡ spelling_of2 m) }
     ensures taken { (m : Message2) → IsMessage2 m → read_of2 (spelling_of2 m) ≡ Ok m }

@@ -14,7 +14,7 @@ use crate::requests::Request;
 use crate::requests2::Request2;
 use tt_span::Span;
 
-/// What requests and answers begin with, in both formats.
+/// The first bytes of a request or an answer, in both formats.
 fn head(format: Format, kind: u8, request: &Request) -> [u8; REQUEST_LEN]
     ensures { result ≡ head_of format kind request.now.machine request.now.source request.now.nonce }
 {

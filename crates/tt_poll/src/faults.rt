@@ -5,8 +5,8 @@ ghost use Rattle.tt_poll.specs.Fault.{number_of};
 
 use thiserror::Error;
 
-/// Why bytes, or the parts of a message, are refused. They are tested in this order; `Epoch` in TTP2
-/// alone.
+/// Why bytes, or the parts of a message, are refused. The reasons are tested in this order; `Epoch` is tested only in
+/// TTP2.
 #[derive(Clone, Copy, Debug, PartialEq, Eq, Error)]
 pub enum PollFault {
     #[error("the length is neither a request's nor an answer's")]

@@ -3,16 +3,16 @@
 ghost use Rattle.std.specs.Prelude.{◌≡◌, ◌≤◌};
 ghost use Rattle.tt_poll.specs.Format.{magic_of, format_of, request_len_of, answer_len_of};
 
-/// How many bytes a request of TTP1 has.
+/// The length of a request of TTP1, in bytes.
 pub const REQUEST_LEN: usize = 16;
 
-/// How many bytes an answer of TTP1 has.
+/// The length of an answer of TTP1, in bytes.
 pub const ANSWER_LEN: usize = 32;
 
-/// How many bytes a request of TTP2 has.
+/// The length of a request of TTP2, in bytes.
 pub const REQUEST2_LEN: usize = 24;
 
-/// How many bytes an answer of TTP2 has.
+/// The length of an answer of TTP2, in bytes.
 pub const ANSWER2_LEN: usize = 40;
 
 /// The kind of a request.
@@ -31,8 +31,8 @@ pub enum Format {
 }
 
 impl Format {
-    /// The format in which bytes are read: TTP2 where they begin with `TTP2`, else TTP1. Bytes that are a message of
-    /// one format are read in that one; other bytes may be a message of neither.
+    /// The format in which bytes are read: TTP2 if they begin with `TTP2`, otherwise TTP1. A message of either format
+    /// is read in its own. Other bytes are a message of neither.
     pub fn of(bytes: &[u8]) -> Format
         ensures value { result ≡ format_of bytes.now }
     {
@@ -43,7 +43,7 @@ impl Format {
         }
     }
 
-    /// What each message begins with.
+    /// The first four bytes of each message.
     pub(crate) fn magic(self) -> [u8; 4]
         ensures { result ≡ magic_of self }
     {
@@ -53,7 +53,7 @@ impl Format {
         }
     }
 
-    /// How many bytes a request has.
+    /// The length of a request, in bytes.
     pub(crate) fn request_len(self) -> usize
         ensures value { result ≡ request_len_of self }
         ensures head { 16 ≤ result }
@@ -64,7 +64,7 @@ impl Format {
         }
     }
 
-    /// How many bytes an answer has.
+    /// The length of an answer, in bytes.
     pub(crate) fn answer_len(self) -> usize
         ensures value { result ≡ answer_len_of self }
         ensures head { 16 ≤ result }

@@ -1,8 +1,8 @@
-//! Poll messages: what a machine asks a source of time, what the source answers, and how both stand in bytes.
+//! Poll messages: what a machine asks a time source, what the source answers, and the bytes of both.
 //!
-//! There are two formats. In TTP1 a [`Request`] names its machine, its source and a nonce; an [`Answer`] has these
-//! three and a span of time. In TTP2 a [`Request2`] and an [`Answer2`] also have an epoch, which tells a machine's
-//! lives apart: a machine that restarts begins a new one.
+//! There are two formats. In TTP1 a [`Request`] has the numbers of its machine and its source, and a nonce, the number
+//! of the poll. An [`Answer`] has these three and a span of time. In TTP2 a [`Request2`] and an [`Answer2`] also have
+//! an epoch, the number of the machine's life: a machine that restarts begins a new one.
 //!
 //! A request of TTP1 has 16 bytes and an answer 32; of TTP2 they have 24 and 40:
 //!
@@ -18,9 +18,15 @@
 //! | 16..24 | 24..32 | in an answer: the lower end of the span in nanoseconds, big endian |
 //! | 24..32 | 32..40 | in an answer: its upper end, big endian, at least the lower one and at most `MAX_TIME` |
 //!
-//! Each message has one spelling. [`encode_request`] and [`encode_answer`] write it; [`decode`] gives a message
-//! back exactly where the bytes are its spelling, and else the first refusal that applies. [`encode_request2`],
-//! [`encode_answer2`] and [`decode2`] are the same for TTP2. [`Format::of`] tells in which of the two bytes are read.
+//! Each message has one spelling, its bytes. [`encode_request`] and [`encode_answer`] write it. [`decode`] gives the
+//! message back if the bytes are its spelling, and otherwise the first refusal that applies. [`encode_request2`],
+//! [`encode_answer2`] and [`decode2`] are the same for TTP2. [`Format::of`] tells in which format bytes are read.
+//!
+//! ```text
+//! let request = Request2::new(0, 1, 1, 1)?;              // machine 0, source 1, nonce 1, epoch 1
+//! let bytes = encode_answer2(&request.answered(span));   // as a source answers it
+//! let message = decode2(&bytes)?;                        // Message2::Answer, with the same span
+//! ```
 //!
 //! - `requests`: requests, and the greatest numbers of machines and sources. `answers`: answers. `requests2` and
 //!   `answers2`: the same of TTP2.

@@ -12,8 +12,8 @@ pub const MAX_MACHINE: u8 = 7;
 /// The greatest number of a source.
 pub const MAX_SOURCE: u8 = 15;
 
-/// What a machine asks a source: a machine of at most [`MAX_MACHINE`], a source of at most [`MAX_SOURCE`], and a
-/// nonce that is not 0, by which the answer is known.
+/// What a machine asks a source: the number of the machine, at most [`MAX_MACHINE`], the number of the source, at most
+/// [`MAX_SOURCE`], and a nonce that is not 0. The answer repeats the nonce.
 #[derive(Clone, Copy, Debug, PartialEq, Eq)]
 pub struct Request {
     machine: u8,
@@ -34,8 +34,8 @@ impl Model for Request {
 }
 
 impl Request {
-    /// The request of `machine` to `source` under `nonce`. Refuses, in this order: 205 `Number` where the machine
-    /// is above [`MAX_MACHINE`] or the source is above [`MAX_SOURCE`], 206 `Nonce` where the nonce is 0.
+    /// The request of `machine` to `source` with `nonce`. Refuses, in this order: 205 `Number` where the machine is
+    /// above [`MAX_MACHINE`] or the source is above [`MAX_SOURCE`], 206 `Nonce` where the nonce is 0.
     pub fn new(machine: u8, source: u8, nonce: u64) -> Result<Request, PollFault>
         ensures taken { IsOk result ↔ ((machine ≤ max_machine) × (source ≤ max_source) × (0 < nonce)) }
         ensures value { IfOk result (λ r. r ≡ record { machine = machine; source = source; nonce = nonce }) }

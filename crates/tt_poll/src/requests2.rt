@@ -7,8 +7,7 @@ use crate::faults::PollFault;
 use crate::requests::Request;
 use std::marker::Model;
 
-/// What a machine asks a source in one of its lives: a request, and an epoch that is not 0, which tells this life from
-/// earlier ones.
+/// What a machine asks a source in one of its lives: a request, and an epoch that is not 0, the number of this life.
 #[derive(Clone, Copy, Debug, PartialEq, Eq)]
 pub struct Request2 {
     request: Request,
@@ -28,7 +27,7 @@ impl Model for Request2 {
 }
 
 impl Request2 {
-    /// The request of `machine` to `source` under `nonce` in the life `epoch`. Refuses, in this order: 205 `Number`
+    /// The request of `machine` to `source` with `nonce`, in the life `epoch`. Refuses, in this order: 205 `Number`
     /// where the machine is above 7 or the source is above 15, 206 `Nonce` where the nonce is 0, 208 `Epoch` where the
     /// epoch is 0.
     pub fn new(machine: u8, source: u8, nonce: u64, epoch: u64) -> Result<Request2, PollFault>
@@ -42,7 +41,7 @@ impl Request2 {
         Request2::at_epoch(request, epoch)
     }
 
-    /// The same request in the life `epoch`. Refuses by 208 `Epoch` where the epoch is 0.
+    /// The same request in the life `epoch`. Refuses with 208 `Epoch` where the epoch is 0.
     pub(crate) fn at_epoch(request: Request, epoch: u64) -> Result<Request2, PollFault>
         ensures { result ≡ (if epoch == 0 then Err PollFault.Epoch else Ok (record { machine = request.machine; source = request.source; nonce = request.nonce; epoch = epoch })) }
     {

@@ -1,4 +1,4 @@
-//! Which calls of the service a request takes, and what it is answered.
+//! Which calls of the service a request takes, and the reply to it.
 
 ghost use Rattle.std.specs.Prelude.{◌≡◌};
 ghost use Rattle.tt_session.specs.Conversation.{Talked};
@@ -45,7 +45,7 @@ pub(crate) fn answer<S: Service>(
     }
 }
 
-/// Answers a commit: a new one begins once the last one is known as released, and the last one goes on.
+/// Answers the line of a commit. The last commit goes on; a new one begins if the last one is known as released.
 fn commit<S: Service>(
     number: u64,
     floor: u64,
@@ -71,7 +71,7 @@ fn commit<S: Service>(
     }
 }
 
-/// Begins a commit. Where the service refuses, the last one stays.
+/// Begins a commit. If the service refuses it, the last commit stays the last.
 fn begin<S: Service>(
     number: u64,
     floor: u64,
@@ -129,7 +129,7 @@ fn release<S: Service>(
     reply
 }
 
-/// Release steps until one says yes or is refused, at most `waits`.
+/// Makes release steps until one says yes or is refused, at most `waits`.
 fn pass<S: Service>(number: u64, service: &mut S, waits: u32) -> Result<bool, u16>
     ensures { Talked S.allows service.old service.new (λ calls. Passes waits number calls result) }
 {

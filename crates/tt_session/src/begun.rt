@@ -7,6 +7,6 @@ pub struct Begun {
     pub number: u64,
     /// Its stamp, in nanoseconds.
     pub stamp: u64,
-    /// Whether the session has been told that it is released.
+    /// Whether the service has answered the session that it is released.
     pub is_released: bool,
 }

@@ -1,16 +1,16 @@
-//! What conversations with a service consist of: for contracts alone, since no value of this type is made.
+//! The calls of a conversation with a service. No value of this type is made: it is for contracts.
 
 use tt_publish::Reading;
 
-/// A call of a service, with its answer. A refusal is a number.
+/// A call of a service with its answer. A refusal is its number.
 pub enum Call {
-    /// A reading of the time.
+    /// A reading was asked for.
     Now(Result<Reading, u16>),
-    /// A commit was to begin, with this number and this floor in nanoseconds; the answer is its stamp.
+    /// A commit was to begin. The answer is its stamp, in nanoseconds.
     Begin {
         /// Its number in the session.
         number: u64,
-        /// The least stamp that the client wants, in nanoseconds.
+        /// The least stamp that the client accepts, in nanoseconds.
         floor: u64,
         /// Its stamp, in nanoseconds.
         answer: Result<u64, u16>,

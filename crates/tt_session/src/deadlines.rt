@@ -10,23 +10,23 @@ use std::marker::Model;
 use tt_publish::Clock;
 use tt_stream::{ByteReader, ByteWriter, DeviceFault};
 
-/// How long the calls of a device may go on, all together.
+/// How long a device may be asked: for all calls together, and for each of them.
 #[derive(Clone, Copy, Debug, PartialEq, Eq)]
 pub struct Deadline {
-    /// The time of the clock, in nanoseconds, from which on the device is asked no more.
+    /// The clock reading, in nanoseconds, from which on the device is asked no more.
     pub at: u64,
-    /// How often one call asks the device at most, as long as nothing comes.
+    /// How often one call asks the device at most, while nothing comes.
     pub tries: u32,
 }
 
-/// A reader that asks the device within until bytes come or the input ends, as long as its clock shows a time before
-/// the deadline. The clock is read before each time that the device is asked. So where the reads of the device end by
-/// themselves, as those of a socket with a timeout, the session ends soon after its deadline, however many bytes came
-/// before it.
+/// A reader with a deadline. It asks its device until bytes come or the input ends, as long as its clock shows a time
+/// before the deadline. It reads the clock each time before it asks the device. So if the reads of the device end by
+/// themselves, like those of a socket with a timeout, the session ends soon after its deadline, however many bytes came
+/// before.
 ///
-/// A read fails where the device or the clock failed, where the deadline is reached, and where nothing came as often as
-/// the device may be asked. Each of these counts as a failure of this reader, and takes no byte. A read of the device
-/// that gave nothing in time is neither an end nor a failure.
+/// A read fails if the device or the clock failed, if the deadline is reached, or if nothing came in
+/// [`Deadline::tries`] tries. Each of these counts as a failure of this reader, and takes no byte. If a read of the
+/// device gave nothing in time, that is neither the end nor a failure.
 #[derive(Drop)]
 pub struct DeadlineReader<D, C> {
     device: D,
@@ -73,7 +73,7 @@ impl<D: TimedReader, C: Clock> ByteReader for DeadlineReader<D, C> {
         ensures cause { OnErr result (HasFailed self.old.failures self.new.failures) }
         ensures asked { self.new.reads ≡ count_after self.old.reads 1 }
 
-        // Where it answers, the clock has just shown a time before the deadline.
+        // If it gives an answer, the clock has just shown a time before the deadline.
         ensures in_time { OnOk result ((n : ℕ) × ShowsBefore C.gives self.old.deadline.at self.old.clock (n + 1) self.new.clock) }
         ensures why { OnErr result (WhyEnded C.gives C.failed self.old.deadline (D.failed self.old.device) (D.failed self.new.device) self.old.clock self.new.clock) }
         ensures same { self.new.deadline ≡ self.old.deadline }
@@ -93,11 +93,11 @@ impl<D: TimedReader, C: Clock> ByteReader for DeadlineReader<D, C> {
     }
 }
 
-/// A writer that asks the device within until it takes bytes, as long as its clock shows a time before the deadline,
-/// as [`DeadlineReader`] does. A flush is asked of the device once, whatever the time.
+/// A writer with a deadline. It asks its device until it takes bytes, as long as its clock shows a time before the
+/// deadline, as [`DeadlineReader`] does. It asks for a flush once, whatever the time.
 ///
-/// A write fails where the device or the clock failed, where the deadline is reached, and where none was taken as often
-/// as the device may be asked; a flush where the device failed. Each of these counts as a failure of this writer, and
+/// A write fails if the device or the clock failed, if the deadline is reached, or if no byte was taken in
+/// [`Deadline::tries`] tries. A flush fails if the device failed. Each of these counts as a failure of this writer, and
 /// writes no byte.
 #[derive(Drop)]
 pub struct DeadlineWriter<D, C> {
@@ -148,7 +148,7 @@ impl<D: TimedWriter, C: Clock> ByteWriter for DeadlineWriter<D, C> {
         ensures sound { OnOk result (self.new.failures ≡ self.old.failures) }
         ensures cause { OnErr result (HasFailed self.old.failures self.new.failures) }
 
-        // Where it answers, the clock has just shown a time before the deadline.
+        // If it gives an answer, the clock has just shown a time before the deadline.
         ensures in_time { OnOk result ((n : ℕ) × ShowsBefore C.gives self.old.deadline.at self.old.clock (n + 1) self.new.clock) }
         ensures why { OnErr result (WhyEnded C.gives C.failed self.old.deadline (D.failed self.old.device) (D.failed self.new.device) self.old.clock self.new.clock) }
         ensures same { self.new.deadline ≡ self.old.deadline }
@@ -181,7 +181,7 @@ impl<D: TimedWriter, C: Clock> ByteWriter for DeadlineWriter<D, C> {
     }
 }
 
-/// Asks for bytes until some come or the input ends, as long as the clock shows a time before the deadline.
+/// Asks the device for bytes until some come or the input ends, as long as the clock shows a time before the deadline.
 fn read_before<D: TimedReader, C: Clock>(
     device: &mut D,
     clock: &mut C,

@@ -10,9 +10,11 @@ use tt_publish::{Clock, Reading, Watch};
 use tt_span::Span;
 use tt_stamp::{Book, Id, Row, release_step};
 
-/// The service of one thread: a watch with its clock, a row of stamps and a book of its own. Contracts see its parts.
+/// The service of one thread: a watch with its clock, a row of stamps and a book of its own. In contracts it is its
+/// parts.
 ///
-/// Its numbers are those of one session. Of its calls only `begin` takes memory, from the book's allocator; none waits.
+/// The numbers of commits are those of one session. Only `begin` takes memory, from the book's allocator. No call
+/// waits.
 #[derive(Drop)]
 pub struct Desk<C> {
     session: u32,
@@ -32,7 +34,7 @@ impl<C> Model for Desk<C> {
 }
 
 impl<C> Desk<C> {
-    /// The desk of this session, whose lease is the whole of time.
+    /// The desk of the session with this number. Its lease is the whole of time.
     pub fn new(session: u32, watch: Watch, clock: C, row: Row, book: Book) -> Self
         ensures made { result ≡ record { session = session; watch = watch; clock = clock; row = row; lease = whole; book = book } }
     {
@@ -46,7 +48,7 @@ impl<C> Desk<C> {
         }
     }
 
-    /// From now on stamps lie in this lease.
+    /// Sets the lease: from now on stamps lie in it.
     pub fn set_lease(&mut self, lease: Span)
         ensures set { self.new ≡ record self.old { lease = lease } }
     {
@@ -64,7 +66,7 @@ impl<C> Desk<C> {
 impl<C: Clock> Service for Desk<C> {
     ghost allows = { Allows C.gives C.failed };
 
-    /// One [`Watch::now`]. Refuses as that does: 801, 803, 802.
+    /// One [`Watch::now`]. Refuses as `now` does, in this order: 801, 803, 802.
     fn now(&mut self) -> Result<Reading, u16> {
         match self.watch.now(&mut self.clock) {
             Ok(reading) => Ok(reading),
@@ -72,12 +74,11 @@ impl<C: Clock> Service for Desk<C> {
         }
     }
 
-    /// One [`Watch::now`], then one [`Row::stamp`] by its reading and in the lease, then one [`Book::queue`] of the session and the
-    /// number with the stamp, which it answers.
+    /// One [`Watch::now`], then one [`Row::stamp`] by this reading, in the lease, then one [`Book::queue`] of the
+    /// commit with this number, under the stamp. Answers the stamp, in nanoseconds.
     ///
-    /// Refuses with the number of the first of them that refuses: 801, 803, 802, 902, 901, 903, 1001, 1002, 1003, 1. A
-    /// stamp that was given before a refused queueing is lost; after any other refusal the row and the book are as they
-    /// were.
+    /// Refuses with the number of the first of these calls that refuses: 801, 803, 802, 902, 901, 903, 1001, 1002,
+    /// 1003, 1. If the book refuses, the stamp is lost. After any other refusal the row and the book are as they were.
     fn begin(&mut self, number: u64, floor: u64) -> Result<u64, u16> {
         let reading = match self.watch.now(&mut self.clock) {
             Ok(reading) => reading,
@@ -97,8 +98,8 @@ impl<C: Clock> Service for Desk<C> {
         }
     }
 
-    /// One [`release_step`], and then whether [`Book::is_released`] has the commit. Refuses as the step does: 801,
-    /// 803, 802.
+    /// One [`release_step`]. Answers whether the book has released the commit with this number. Refuses as the step
+    /// does, in this order: 801, 803, 802.
     fn pass(&mut self, number: u64) -> Result<bool, u16> {
         match release_step(&mut self.book, &mut self.watch, &mut self.clock) {
             Ok(_) => {}

@@ -1,4 +1,4 @@
-//! Why a line is refused, and why a session ended before its input did.
+//! Why the session refuses a line, and why a session ended before its input did.
 
 ghost use Rattle.std.specs.Prelude.{◌≡◌};
 ghost use Rattle.tt_session.specs.Fault.{line_number_of, number_of};
@@ -17,7 +17,7 @@ pub enum LineFault {
     /// The number of a commit is below that of the last one.
     #[error("the number of the commit is below the last one")]
     OldId,
-    /// The number of a commit is new, and the last one is not known as released.
+    /// The number of a commit is new, and the last commit is not known as released.
     #[error("another commit is pending")]
     OtherWaits,
 }
@@ -36,10 +36,10 @@ impl LineFault {
     }
 }
 
-/// Why a session ended before its input did. Replies that were written stand.
+/// Why a session ended before its input did.
 #[derive(Clone, Copy, Debug, PartialEq, Eq, Error)]
 pub enum ServeFault {
-    /// The reader failed, or no read said that the input has ended.
+    /// The reader failed, or all reads were made and none said that the input has ended.
     #[error("the reader failed, or the reads are used up")]
     ReadFailed,
     /// The writer failed.

@@ -1,19 +1,29 @@
 //! Sessions: a client's lines and the service's replies.
 //!
-//! A client asks for the time, whether a time has surely passed or has surely not arrived, and for commits; a commit is
-//! answered `committed` once its stamp has surely passed (commit wait of Spanner, OSDI 2012, section 4.2.1).
+//! A client asks what time it is, whether a time has surely passed or has surely not arrived, and for commits. A commit
+//! is answered `committed` once its stamp has surely passed (commit wait of Spanner, OSDI 2012, section 4.2.1).
 //!
-//! [`serve`] serves one session: it reads lines from any reader, calls any [`Service`], and writes each reply before
-//! it reads on. What it promises is that there is a conversation with the service, in the states that the service
-//! itself went through, of which what was written is exactly the replies. A [`Desk`] is the service of one thread.
+//! [`serve`] serves one session: it reads lines from any reader, calls any [`Service`], and writes each reply before it
+//! reads on. It promises that what was written is exactly the replies to the lines that were read, by one conversation
+//! with the service: a list of calls and answers, each of which the service allows in the state that the one before
+//! left. A [`Desk`] is the service of one thread.
 //!
-//! - `requests`: what a line asks for, and its one spelling. `replies`: what it is answered.
-//! - `services`: the trait `Service`; `calls`: what its conversations consist of.
-//! - `answers`: which calls a request takes, and the reply to it; `begun`: what is kept of the last commit.
+//! ```text
+//! now            ->  now 1795654766534185885 1795654766543911764
+//! commit 1 0     ->  waiting 1 1795654766557298236      the commit is pending: send the line again
+//! commit 1 0     ->  committed 1 1795654766557298236
+//! after 5        ->  yes
+//! ```
+//!
+//! - `requests`: what a line asks for, and its one spelling. `replies`: the replies to lines.
+//! - `services`: the trait `Service`. `calls`: the calls of a conversation.
+//! - `answers`: which calls of the service a request takes, and the reply to it. `begun`: what is kept of the last
+//!   commit.
 //! - `talks`: from bytes to lines. `serving`: `serve`, with its faults in `faults`.
 //! - `desks`: `Desk`.
-//! - `timed`: devices whose calls may end before anything came. `deadlines`: a reader and a writer over them, that end
-//!   a session at a time of its clock.
+//! - `timed`: devices whose calls may end before anything came. `deadlines`: a reader and a writer over such devices,
+//!   which end
+//! a session at a time of its clock.
 #![tactic(auto)]
 
 mod answers;

@@ -1,4 +1,4 @@
-//! What a line is answered.
+//! The replies to lines.
 
 ghost use Rattle.std.specs.Prelude.{◌≡◌};
 ghost use Rattle.tt_session.specs.Replies.{text_of, is_refused};
@@ -7,14 +7,14 @@ use arrayvec::ArrayString;
 use tt_publish::Reading;
 use tt_text::short_line;
 
-/// What a line is answered.
+/// The reply to a line.
 #[derive(Clone, Copy, Debug, PartialEq, Eq)]
 pub enum LineReply {
     /// `now EARLIEST LATEST`: a reading.
     Now(Reading),
     /// `yes`: the time has surely passed, or has surely not arrived.
     Yes,
-    /// `no`: that is not sure.
+    /// `no`: this is not sure.
     No,
     /// `committed ID S`: the commit is released.
     Committed {
@@ -30,7 +30,7 @@ pub enum LineReply {
         /// Its stamp, in nanoseconds.
         stamp: u64,
     },
-    /// `refused N`: the session or the service refused, with this number.
+    /// `refused N`: the session or the service refused with this number.
     Refused(u16),
 }
 

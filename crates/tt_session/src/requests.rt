@@ -16,16 +16,16 @@ pub enum Request {
     After(u64),
     /// `before T`: whether the time T, in nanoseconds, has surely not arrived.
     Before(u64),
-    /// `commit ID FLOOR`: begin the commit with this number, or go on with it.
+    /// `commit ID FLOOR`: begins the commit with this number, or goes on with it.
     Commit {
         /// Its number in the session.
         number: u64,
-        /// The least stamp that the client wants, in nanoseconds. It counts only where the commit begins.
+        /// The least stamp that the client accepts, in nanoseconds. It counts only when the commit begins.
         floor: u64,
     },
 }
 
-/// The request that the line spells, which is given with its line feed.
+/// The request of this line, which ends with its line feed. None where the line is not the one spelling of a request.
 pub(crate) fn request_of(ended: &[u8]) -> Option<Request>
     ensures { Spells ended.now result }
 {
@@ -38,7 +38,7 @@ pub(crate) fn request_of(ended: &[u8]) -> Option<Request>
     }
 }
 
-/// Where the line is `now` and no number.
+/// The request `now`, if the line is that.
 fn now_of(ended: &[u8]) -> Option<Request>
     ensures none { IfNone result (ended.now ≢ spelling_of Request.Now) }
     ensures some { IfSome result (λ request. Spells ended.now (Some request)) }
@@ -52,7 +52,7 @@ fn now_of(ended: &[u8]) -> Option<Request>
     }
 }
 
-/// Where the line is `after` and one number.
+/// The request `after`, if the line is that word and one number.
 fn after_of(ended: &[u8]) -> Option<Request>
     ensures none { IfNone result ((t : ℕ) → IsNumber t → ended.now ≢ spelling_of (Request.After t)) }
     ensures some { IfSome result (λ request. Spells ended.now (Some request)) }
@@ -66,7 +66,7 @@ fn after_of(ended: &[u8]) -> Option<Request>
     }
 }
 
-/// Where the line is `before` and one number.
+/// The request `before`, if the line is that word and one number.
 fn before_of(ended: &[u8]) -> Option<Request>
     ensures none { IfNone result ((t : ℕ) → IsNumber t → ended.now ≢ spelling_of (Request.Before t)) }
     ensures some { IfSome result (λ request. Spells ended.now (Some request)) }
@@ -80,7 +80,7 @@ fn before_of(ended: &[u8]) -> Option<Request>
     }
 }
 
-/// Where the line is `commit` and two numbers.
+/// The request `commit`, if the line is that word and two numbers.
 fn commit_of(ended: &[u8]) -> Option<Request>
     ensures none { IfNone result ((number floor : ℕ) → IsNumber number → IsNumber floor →
         ended.now ≢ spelling_of (Request.Commit number floor)) }
@@ -98,7 +98,7 @@ fn commit_of(ended: &[u8]) -> Option<Request>
     }
 }
 
-/// No two requests have one spelling.
+/// A law of spellings: no two requests have the same one.
 pub fn request_laws()
     ensures one_request { (first second : Request) → IsRequest first → IsRequest second →
         spelling_of first ≡ spelling_of second → first ≡ second }

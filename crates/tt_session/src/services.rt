@@ -1,26 +1,27 @@
-//! What a session asks of the service.
+//! The service that a session calls.
 
 use crate::calls::Call;
 use tt_publish::Reading;
 
-/// The service of one session. A refusal is a number; the numbers stand in the repository's list of formats.
+/// The service of one session. A refusal is its number; docs/FORMATS.md has the numbers.
 pub trait Service {
     ghost use Rattle.tt_session.specs.declared.calls.Call.{Call};
 
-    /// What the service promises of a call: the state before it, the call with its answer, and the state after it.
+    /// Which calls the service allows: the state before a call, the call with its answer, and the state after it.
     ghost allows: { Self → Call → Self → Type 0 };
 
     /// A reading of the time.
     fn now(&mut self) -> Result<Reading, u16>
         ensures { allows self.old (Call.Now result) self.new };
 
-    /// Begins the commit with this number and this floor, in nanoseconds: it reads the time, stamps the commit and
-    /// queues it, and answers the stamp. Where it is refused, the number may come again.
+    /// Begins the commit with this number: it takes a reading, stamps the commit by it, with a stamp of `floor`
+    /// nanoseconds at least, and queues the commit. Answers the stamp, in nanoseconds. After a refusal the number may
+    /// come again.
     fn begin(&mut self, number: u64, floor: u64) -> Result<u64, u16>
         ensures { allows self.old (Call.Begin number floor result) self.new };
 
-    /// One release step: releases the commits whose stamps have surely passed, and answers whether the one with
-    /// this number is released.
+    /// One release step: releases each commit whose stamp has surely passed. Answers whether the commit with this
+    /// number is released.
     fn pass(&mut self, number: u64) -> Result<bool, u16>
         ensures { allows self.old (Call.Pass number result) self.new };
 }

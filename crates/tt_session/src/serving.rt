@@ -29,21 +29,23 @@ pub struct Turns {
 pub struct Served {
     /// The lines that were answered.
     pub lines: u64,
-    /// Those of them that were answered `refused`.
+    /// Those of these lines that were answered `refused`.
     pub refused: u64,
 }
 
 /// Serves one session: reads lines to the end of the input, and answers each by one reply, in order.
 ///
-/// A line has at most 64 bytes before its line feed; a longer one is answered `refused 1102`. What stands behind the
-/// last line feed is not answered. Each reply is one call of the writer, where it takes all, and is flushed before
-/// further bytes are read. `serve` takes no memory, and waits only where the reader, the writer or the service does.
+/// A line has at most 64 bytes before its line feed; a longer one is answered `refused 1102`. Bytes after the last line
+/// feed are not answered. A reply is one call of the writer, or more if the writer takes only a part. It is flushed
+/// before further bytes are read. `serve` takes no memory, and waits only if the reader, the writer or the service
+/// does.
 ///
-/// Refused with
+/// Refuses with
 /// - 1105 `ReadFailed`: a read failed, or none of `turns.reads` reads said that the input has ended. The replies to the
-///   whole lines that were read are written.
-/// - 1106 `WriteFailed`: a write or a flush failed. All replies but the last are written, and of the last a front; the
-///   service was not called after it.
+/// whole lines that were read are written.
+/// - 1106 `WriteFailed`: a write or a flush failed. All replies but the last are written, and a first part of the last
+///   one; the
+/// service was not called after it.
 ///
 /// After a refusal the session is over.
 pub fn serve<R: ByteReader, W: ByteWriter, S: Service>(
@@ -52,7 +54,7 @@ pub fn serve<R: ByteReader, W: ByteWriter, S: Service>(
     service: &mut S,
     turns: Turns,
 ) -> Result<Served, ServeFault>
-    // What was read and written is a session over a conversation with the service.
+    // What was read and written is a session over one conversation with the service.
     ensures served { IfOk result (λ served. Serves S.allows turns.waits (R.left reader.old) (R.left reader.new)
         (W.taken writer.old) (W.taken writer.new) service.old service.new served) }
     ensures end { OnOk result (IsAtEnd (R.left reader.new)) }
@@ -90,7 +92,7 @@ pub fn serve<R: ByteReader, W: ByteWriter, S: Service>(
     Err(ServeFault::ReadFailed)
 }
 
-/// Bytes have one way to be split into lines and a rest, and `lines_of` and `rest_of` compute it.
+/// A law of lines: there is one way to split bytes into lines and a rest, and `lines_of` and `rest_of` compute it.
 pub fn line_laws()
     ensures is { (bytes : List ℕ) → Splits bytes (lines_of bytes) (rest_of bytes) }
     ensures only { (bytes : List ℕ) (lines : List (List ℕ)) (rest : List ℕ) → Splits bytes lines rest →

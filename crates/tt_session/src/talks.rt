@@ -21,17 +21,17 @@ use tt_stream::{ByteWriter, DeviceFault, write_all};
 /// What is kept of a session from byte to byte.
 #[derive(Drop)]
 pub(crate) struct Talk {
-    /// The line so far, up to one byte more than it may have: so it is too long where this is full, and else there is
-    /// room for its line feed.
+    /// The bytes of the line so far, at most one more than a line may have. If this is full, the line is too long;
+    /// otherwise there is room for its line feed.
     pub(crate) line: ArrayVec<u8, 65>,
     /// The last commit that was begun.
     pub(crate) last: Option<Begun>,
-    /// What was answered.
+    /// The counts of the lines that were answered.
     pub(crate) served: Served,
 }
 
 impl Talk {
-    /// Before the first byte.
+    /// The state before the first byte.
     pub(crate) fn new() -> Talk
         ensures line { result.line.items ≡ [] }
         ensures last { result.last ≡ None }
@@ -48,7 +48,7 @@ impl Talk {
     }
 }
 
-/// Takes in further bytes: each line that ends in them is answered.
+/// Takes further bytes, and answers each line that ends in them.
 pub(crate) fn hear<W: ByteWriter, S: Service>(
     bytes: &[u8],
     writer: &mut W,
@@ -74,7 +74,7 @@ pub(crate) fn hear<W: ByteWriter, S: Service>(
     Ok(())
 }
 
-/// Takes in one byte: it is kept, or it is the line feed, and the line is answered.
+/// Takes one byte: keeps it, or answers the line if the byte is the line feed.
 fn take<W: ByteWriter, S: Service>(
     byte: u8,
     writer: &mut W,
@@ -105,7 +105,7 @@ fn take<W: ByteWriter, S: Service>(
     writer.flush()
 }
 
-/// Keeps one more byte of the line, as long as there is room.
+/// Keeps one more byte of the line, if there is room.
 fn keep(line: &mut ArrayVec<u8, 65>, byte: u8)
     ensures { (bytes : List ℕ) → IsKept line.old.items bytes → IsKept line.new.items (bytes ++ byte ∷ []) }
 {
@@ -114,7 +114,7 @@ fn keep(line: &mut ArrayVec<u8, 65>, byte: u8)
     }
 }
 
-/// The reply to the line, of which nothing is kept.
+/// The reply to the line. The bytes of the line are dropped.
 fn judge<S: Service>(
     line: &mut ArrayVec<u8, 65>,
     service: &mut S,

@@ -8,17 +8,17 @@ ghost use Rattle.tt_session.specs.Timed.{TimedConsumes, TimedAppends};
 use std::io::{ErrorKind, Read, Write};
 use tt_stream::DeviceFault;
 
-/// A device that gives bytes, and whose reads may end before any came.
+/// A device that gives bytes. A read may end before any came.
 pub trait TimedReader {
     /// The bytes that are still to come, where the device keeps them. `None` claims nothing.
     ghost left: { Self → Option (List ℕ) };
 
-    /// Its failures so far; the count stays at 2^64 - 1 once it is there.
+    /// Its failures so far. The count stays at 2^64 - 1 once it is reached.
     ghost failed: { Self → ℕ };
 
-    /// Puts the next bytes at the front of `buffer`, and answers how many; 0, where the buffer is not empty, says that
-    /// the input has ended. `None`: nothing came in time. That is neither the end nor a failure: the next read may give
-    /// bytes, and none was lost. A fault is answered only where the device failed, and then no byte was taken.
+    /// Puts the next bytes at the front of `buffer`, and answers how many. If the buffer is not empty, 0 says that the
+    /// input has ended. `None` says that nothing came in time. That is neither the end nor a failure: the next read may
+    /// give bytes, and none was lost. A fault is answered only if the device failed, and then no byte was taken.
     fn read(&mut self, buffer: &mut [u8]) -> Result<Option<usize>, DeviceFault>
         ensures count { IfOk result (λ came. IfSome came (λ n. n ≤ length buffer.new)) }
         ensures bytes { TimedConsumes (left self.old) (left self.new) result buffer.new }
@@ -26,12 +26,12 @@ pub trait TimedReader {
         ensures cause { OnErr result (HasFailed (failed self.old) (failed self.new)) };
 }
 
-/// A device that takes bytes, and whose writes may end before any was taken.
+/// A device that takes bytes. A write may end before any was taken.
 pub trait TimedWriter {
     /// The bytes that were written, where the device keeps them. `None` claims nothing.
     ghost taken: { Self → Option (List ℕ) };
 
-    /// Its failures so far; the count stays at 2^64 - 1 once it is there.
+    /// Its failures so far. The count stays at 2^64 - 1 once it is reached.
     ghost failed: { Self → ℕ };
 
     /// Takes a front of `bytes`, and answers how many. `None`: none was taken in time, which is no failure. A write
@@ -44,18 +44,18 @@ pub trait TimedWriter {
         ensures sound { OnOk result (failed self.new ≡ failed self.old) }
         ensures cause { OnErr result (HasFailed (failed self.old) (failed self.new)) };
 
-    /// Passes on what the device holds back. It changes no byte that was written.
+    /// Sends what the device holds back. It changes no byte that was written.
     fn flush(&mut self) -> Result<(), DeviceFault>
         ensures bytes { Keeps (taken self.old) (taken self.new) }
         ensures sound { OnOk result (failed self.new ≡ failed self.old) }
         ensures cause { OnErr result (HasFailed (failed self.old) (failed self.new)) };
 }
 
-/// A reader or a writer of the standard library whose calls may end before anything came: an error that says that the
-/// call would block, that its time is over or that it was interrupted is no failure. Every other error is one, and so
-/// is a write that takes none of some bytes.
+/// A reader or a writer of the standard library as a device whose calls may end before anything came. If an error says
+/// that the call would block, that its time is over or that it was interrupted, nothing came in time. Every other error
+/// is a failure, and so is a write of some bytes that takes none.
 ///
-/// What was written or is left is known where the device within says so.
+/// What is left or was written is known if the device within says so.
 #[derive(Drop)]
 pub struct Timed<D> {
     device: D,

@@ -1,4 +1,4 @@
-//! What is known of one source.
+//! What a table keeps of one source.
 
 ghost use Rattle.std.specs.Prelude.{◌≡◌, ◌≤◌, is_some, IfSome};
 ghost use Rattle.tt_span.specs.Time.{max_time};
@@ -58,7 +58,7 @@ impl Default for Slot {
 }
 
 impl Slot {
-    /// A source that made this statement, and of which no answer is awaited.
+    /// A source that made this statement, and no poll of which waits.
     pub(crate) fn stated(statement: Statement) -> Slot
         ensures { result ≡ record { waiting = None; statement = Some statement } }
     {
@@ -68,7 +68,7 @@ impl Slot {
         }
     }
 
-    /// The source once it was polled under `nonce` when the clock showed `clock`.
+    /// The source after it was polled with `nonce` when the clock showed `clock`.
     pub(crate) fn polled(&self, nonce: u64, clock: u64) -> Slot
         ensures { result ≡ record self.now { waiting = Some (record { nonce = nonce; clock = clock }) } }
     {
@@ -78,8 +78,8 @@ impl Slot {
         }
     }
 
-    /// The statement that an answer makes that came when the clock showed `clock`. Refuses by 406
-    /// `NotOutstanding` where no poll with its nonce waits.
+    /// The statement of an answer that came when the clock showed `clock`. Refuses with 406 `NotOutstanding` if no poll
+    /// with its nonce waits.
     pub(crate) fn answered(&self, answer: &Answer2, clock: u64) -> Result<Statement, SourceFault>
         requires sent { IfSome self.now.waiting (λ sending. sending.clock ≤ clock) }
         requires in_time { clock ≤ max_time }
@@ -110,7 +110,8 @@ impl Slot {
         self.statement.is_some()
     }
 
-    /// The span of the source when the clock shows `clock`: the whole, where it has made no statement.
+    /// The span of the source when the clock shows `clock`: its statement, aged, or the whole of time if it has made
+    /// none.
     pub(crate) fn aged(&self, drift: Drift, clock: u64) -> Result<Span, SourceFault>
         requires got { IfSome self.now.statement (λ statement. statement.got ≤ clock) }
         requires in_time { clock ≤ max_time }

@@ -31,8 +31,8 @@ impl Model for Statement {
 }
 
 impl Statement {
-    /// The statement of an answer `span` whose poll was sent when the clock showed `sent`, and that came when it
-    /// showed `got`. Refuses by 402 `ClockBack` where `got` is below `sent`, or above [`MAX_TIME`].
+    /// The statement of an answer with this span. Its poll was sent when the clock showed `sent`, and it came when the
+    /// clock showed `got`. Refuses with 402 `ClockBack` where `got` is below `sent`, or above [`MAX_TIME`].
     pub fn new(span: Span, sent: u64, got: u64) -> Result<Statement, SourceFault>
         ensures taken { IsOk result ↔ ((sent ≤ got) × (got ≤ max_time)) }
         ensures value { IfOk result (λ s. s ≡ record { span = span; sent = sent; got = got }) }
@@ -45,7 +45,7 @@ impl Statement {
         Ok(Statement { span, sent, got })
     }
 
-    /// The span of the answer: where it is true, the span held the true time at some moment between the two clock
+    /// The span of the answer. If the answer is true, the span held the true time at some moment between the two clock
     /// readings.
     pub fn span(&self) -> Span
         ensures value { result ≡ self.now.span }
@@ -70,9 +70,9 @@ impl Statement {
         self.got
     }
 
-    /// The span of the statement when the clock shows `clock`: its lower end aged since the receipt, its upper
-    /// end since the sending, each cut at [`MAX_TIME`]. No least time of transit is assumed. Refuses by 402
-    /// `ClockBack` where `clock` is below the receipt, or above [`MAX_TIME`].
+    /// The span of the statement when the clock shows `clock`: its lower end aged since the receipt, its upper end
+    /// since the sending, each cut at [`MAX_TIME`]. It assumes no least time of transit. Refuses with 402 `ClockBack`
+    /// where `clock` is below the receipt, or above [`MAX_TIME`].
     pub fn aged(&self, drift: Drift, clock: u64) -> Result<Span, SourceFault>
         ensures taken { IsOk result ↔ ((self.now.got ≤ clock) × (clock ≤ max_time)) }
         ensures value { IfOk result (λ i. i ≡ statement_at drift self.now clock) }

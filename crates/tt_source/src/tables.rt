@@ -19,15 +19,14 @@ use std::marker::Model;
 use tt_poll::{Answer2, Message2, REQUEST2_LEN, Request2, decode2, encode_request2};
 use tt_span::{Drift, MAX_SOURCES, MAX_TIME, Span};
 
-/// What one machine knows of its sources, which are numbered from 0: of each at most one poll that waits for its
-/// answer, and one statement, the last answer that was taken. That a machine polls several sources is Spanner's
-/// way, whose time daemons poll several time masters (OSDI 2012, section 3). The nonces are this table's own: those
-/// of all its polls are one count, so an answer to an earlier poll is known as such. Its epoch is the machine's life,
-/// so an answer to an earlier life is known too.
+/// What one machine knows of its sources, which are numbered from 0: for each at most one poll that waits for its
+/// answer, and at most one statement, the last answer that was taken. Spanner's time daemons poll several time masters
+/// in the same way (OSDI 2012, section 3). The nonces of all polls of a table are one count, so it recognises an answer
+/// to an earlier poll. Its epoch is the number of the machine's life, so it recognises an answer to an earlier life.
 ///
-/// Clock readings are in nanoseconds. Each call that takes one refuses by 402 `ClockBack` a reading below that of
-/// the last `poll` or `take` that was not refused, or above [`MAX_TIME`]. A refused call changes nothing, the
-/// clock reading that later ones are compared with included.
+/// Clock readings are in nanoseconds. Each call that takes one refuses with 402 `ClockBack` a reading below that of the
+/// last `poll` or `take` that was not refused, or above [`MAX_TIME`]. A refused call changes nothing. In particular
+/// later readings are not compared with its reading.
 #[derive(Drop)]
 pub struct Table {
     machine: u8,
@@ -49,9 +48,9 @@ impl Model for Table {
 }
 
 impl Table {
-    /// The table of machine `machine`, at most 7, with `n` sources, from 1 to 16, of which nothing is known. Its clock
-    /// keeps `drift`. The machine is in the life `epoch`, which is not 0: only answers to this life are taken. The
-    /// first nonce is 1.
+    /// The table of machine `machine`, from 0 to 7, with `n` sources, from 1 to 16, of which nothing is known.
+    /// Statements are aged by `drift`. The machine is in the life `epoch`, which is not 0: only answers to this life
+    /// are taken. The first nonce is 1.
     pub fn new(machine: u8, n: usize, drift: Drift, epoch: u64) -> Table
         requires machine_in { machine ≤ max_machine }
         requires some_source { 0 < n }
@@ -62,7 +61,7 @@ impl Table {
         Table::resume(machine, n, drift, 0, epoch)
     }
 
-    /// The same, where nonces up to `last` were used before: the first nonce is the one after `last`.
+    /// As [`Table::new`], but nonces up to `last` were used before: the first nonce is the one after `last`.
     pub fn resume(machine: u8, n: usize, drift: Drift, last: u64, epoch: u64) -> Table
         requires machine_in { machine ≤ max_machine }
         requires some_source { 0 < n }
@@ -98,7 +97,7 @@ impl Table {
         self.sources.len()
     }
 
-    /// The place of source `i`, where it may be called at this clock reading.
+    /// The place of source `i`, if there is one and the clock reading is not refused.
     fn place(&self, i: u8, clock: u64) -> Result<usize, SourceFault>
         ensures taken { IsOk result ↔ CanBeCalled self.now i clock }
         ensures value { IfOk result (λ index. index ≡ i) }
@@ -115,8 +114,8 @@ impl Table {
         Ok(index)
     }
 
-    /// Whether the clock reading `clock`, in nanoseconds, is refused by 402 `ClockBack`: it is below that of the last
-    /// `poll` or `take` that was not refused, or above [`MAX_TIME`]. Before the first of these only the latter counts.
+    /// Whether the clock reading `clock`, in nanoseconds, would be refused with 402 `ClockBack`: it is below that of
+    /// the last `poll` or `take` that was not refused, if there was one, or above [`MAX_TIME`].
     pub fn is_back(&self, clock: u64) -> bool
         ensures value { result ≡ is_back_of self.now clock }
         ensures valid { IsTable self.now }
@@ -124,9 +123,10 @@ impl Table {
         clock < self.clock || clock > MAX_TIME
     }
 
-    /// Polls source `i` when the clock shows `clock`: the bytes of a request with the nonce after the last one and
-    /// the table's epoch, for which the source now waits in place of an earlier one. Its statement stays. Refuses, in this order: 401
-    /// `NoSource` where `i` is no source, 402 `ClockBack`, 403 `NoncesUsedUp` where the last nonce was `u64::MAX`.
+    /// Polls source `i` when the clock shows `clock`. Answers the bytes of a request with the nonce after the last one
+    /// and the table's epoch. This poll of the source now waits for its answer, and an earlier one no longer. The
+    /// statement of the source stays. Refuses, in this order: 401 `NoSource` where there is no source `i`, 402
+    /// `ClockBack`, 403 `NoncesUsedUp` where the last nonce was `u64::MAX`.
     pub fn poll(&mut self, i: u8, clock: u64) -> Result<[u8; REQUEST2_LEN], SourceFault>
         ensures polled { OnOk result (poll_of self.old i clock ≡ Ok self.new) }
         ensures request { IfOk result (λ bytes. bytes ≡ spelling_of2 (message.Request (record { machine = self.new.machine; source = i; nonce = self.new.last; epoch = self.new.epoch }))) }
@@ -144,20 +144,20 @@ impl Table {
         Ok(encode_request2(&request))
     }
 
-    /// Takes a packet that came from source `i` when the clock showed `clock`: where it is the answer to the poll
-    /// that waits, it becomes the source's statement, and nothing waits any more. Refuses, in this order: 401
-    /// `NoSource` where `i` is no source, 402 `ClockBack`, 404 `BadMessage` where the bytes spell no message of TTP2,
-    /// 405 `NotMine` where they are a request, or an answer for another machine or of another source, 407
-    /// `OtherEpoch` where they are an answer to another life of this machine, 406 `NotOutstanding` where no poll of the
-    /// source with this nonce waits.
+    /// Takes a packet that came from source `i` when the clock showed `clock`. If it is the answer to the poll that
+    /// waits, it becomes the source's statement, and no poll of the source waits any more. Refuses, in this order: 401
+    /// `NoSource` where there is no source `i`, 402 `ClockBack`, 404 `BadMessage` where the bytes are not a valid
+    /// message of TTP2, 405 `NotMine` where they are a request, or an answer for another machine or of another source,
+    /// 407 `OtherEpoch` where they are an answer to another life of this machine, 406 `NotOutstanding` where no poll of
+    /// the source with this nonce waits.
     pub fn take(&mut self, i: u8, clock: u64, bytes: &[u8]) -> Result<(), SourceFault>
         ensures taken { OnOk result (take_of self.old i clock bytes.now ≡ Ok self.new) }
         ensures refused { IfErr result (λ e. take_of self.old i clock bytes.now ≡ Err e) }
         ensures unchanged { OnErr result (self.new ≡ self.old) }
-        // An answer is taken exactly where it is the answer to the poll that waits.
+        // A packet is taken exactly if it is the answer to the poll that waits.
         ensures takes_the_awaited { IsOk result ↔ (CanBeCalled self.old i clock ×
             ((sending : Sending) × (span : Interval) × IsAwaitedAnswer self.old i bytes.now sending span)) }
-        // Its span is then the source's statement, from the sending to now, and nothing waits any more.
+        // Its span is then the source's statement, from the sending to now, and no poll of the source waits any more.
         ensures stores_the_awaited { OnOk result ((sending : Sending) (span : Interval) → IsAwaitedAnswer self.old i bytes.now sending span →
             source_at self.new i ≡ record { waiting = None; statement = Some (record { span = span; sent = sending.clock; got = clock }) }) }
     {
@@ -168,7 +168,7 @@ impl Table {
         Ok(())
     }
 
-    /// The statement that the packet makes.
+    /// The statement of the packet, if it is taken.
     fn statement_in(&self, i: u8, clock: u64, bytes: &[u8]) -> Result<Statement, SourceFault>
         requires valid { IsTable self.now }
         requires can_be_called { CanBeCalled self.now i clock }
@@ -184,7 +184,7 @@ impl Table {
         }
     }
 
-    /// The statement that the answer makes, where it is one of source `i` to this life of this machine.
+    /// The statement of the answer, if it is an answer of source `i` to this life of this machine.
     fn statement_by(&self, i: u8, clock: u64, answer: &Answer2) -> Result<Statement, SourceFault>
         requires { CanBeCalled self.now i clock }
         ensures { result ≡ statement_of_message self.now.machine self.now.epoch i (source_at self.now i).waiting clock (Ok (message.Answer answer.now)) }
@@ -198,8 +198,8 @@ impl Table {
         self.sources[usize::from(i)].answered(answer, clock)
     }
 
-    /// The span of source `i` when the clock shows `clock`: its statement, aged, or the whole of time where it has
-    /// made none. Refuses, in this order: 401 `NoSource` where `i` is no source, 402 `ClockBack`.
+    /// The span of source `i` when the clock shows `clock`: its statement, aged, or the whole of time if it has made
+    /// none. Refuses, in this order: 401 `NoSource` where there is no source `i`, 402 `ClockBack`.
     pub fn aged(&self, i: u8, clock: u64) -> Result<Span, SourceFault>
         ensures value { result ≡ aged_of self.now i clock }
         ensures valid { IfOk result (λ span. IsInterval span) }
@@ -208,8 +208,8 @@ impl Table {
         self.sources[index].aged(self.drift, clock)
     }
 
-    /// The statement of source `i`: what the last of its answers stated that `take` took. None where it has made
-    /// none, or where there is no such source.
+    /// The statement of source `i`: the last of its answers that `take` took. None if it has made none, or if there is
+    /// no such source.
     pub fn statement(&self, i: u8) -> Option<Statement>
         ensures value { result ≡ (source_at self.now i).statement }
         ensures in_range { IfSome result (λ statement. IsStatement statement) }
@@ -230,7 +230,7 @@ impl Table {
             .count()
     }
 
-    /// Whether source `i` has made a statement: not so where there is no such source.
+    /// Whether source `i` has made a statement. False if there is no such source.
     pub fn is_known(&self, i: u8) -> bool
         ensures { result ≡ is_known_of self.now i }
     {

@@ -1,4 +1,4 @@
-//! What a clock may go wrong by, and how a span ages.
+//! What a clock may gain or lose, and how a span ages.
 
 ghost use Rattle.std.specs.Prelude.{◌≡◌, ℕ, ◌+◌, ◌<◌, ◌≤◌, ◌↔◌, List, [], ◌∷◌, IsSome, IfSome};
 ghost use Rattle.tt_span.specs.Time.{max_time};
@@ -14,7 +14,8 @@ pub const MAX_DRIFT: u32 = 100_000;
 /// A million: a drift is counted in parts of it.
 const MILLION: u64 = 1_000_000;
 
-/// What a clock may go wrong by, in parts per million, from 0 to [`MAX_DRIFT`]. Spanner assumes 200 (OSDI 2012, section 3).
+/// A bound on what a clock gains or loses, in parts per million, from 0 to [`MAX_DRIFT`]. Spanner assumes 200 (OSDI
+/// 2012, section 3).
 #[derive(Clone, Copy, Debug, PartialEq, Eq)]
 pub struct Drift {
     ppm: u32,
@@ -34,7 +35,7 @@ impl Model for Drift {
 }
 
 impl Drift {
-    /// A drift of `ppm` parts per million, or None above [`MAX_DRIFT`].
+    /// The drift of `ppm` parts per million. None where `ppm` is above [`MAX_DRIFT`].
     pub fn new(ppm: u32) -> Option<Drift>
         ensures taken { IsSome result ↔ (ppm ≤ max_drift) }
         ensures value { IfSome result (λ d. d ≡ ppm) }
@@ -46,7 +47,7 @@ impl Drift {
         }
     }
 
-    /// The parts per million.
+    /// The drift in parts per million.
     pub fn ppm(&self) -> u32
         ensures value { result ≡ self.now }
         ensures bound { self.now ≤ max_drift }
@@ -54,8 +55,8 @@ impl Drift {
         self.ppm
     }
 
-    /// What the clock may be wrong by when it has gone on by `d` nanoseconds: the least whole number that is at
-    /// least `d` times the drift. Requires: `d` is at most [`MAX_TIME`].
+    /// What the clock may be wrong by after it has gone on by `d` nanoseconds: `d` times the drift, rounded up to a
+    /// whole nanosecond. Requires: `d` is at most [`MAX_TIME`].
     pub fn widen(&self, d: u64) -> u64
         requires { d ≤ max_time }
         ensures value { result ≡ widening self.now d }
@@ -66,8 +67,8 @@ impl Drift {
         d / MILLION * ppm + (d % MILLION * ppm).div_ceil(MILLION)
     }
 
-    /// The least time that `x` may have become when the clock has gone on by `d`: `x + d` less the widening, cut
-    /// at [`MAX_TIME`]. The widening is never above `d`. In nanoseconds. Requires: `d` is at most
+    /// The earliest true time when the clock has gone on by `d` since the true time `x`: `x + d` less the widening of
+    /// `d`, cut at [`MAX_TIME`]. All are in nanoseconds. The widening is never above `d`. Requires: `d` is at most
     /// [`MAX_TIME`].
     pub fn age_low(&self, x: u64, d: u64) -> u64
         requires { d ≤ max_time }
@@ -78,8 +79,8 @@ impl Drift {
         x.saturating_add(d - self.widen(d)).min(MAX_TIME)
     }
 
-    /// The greatest time that `x` may have become when the clock has gone on by `d`: `x + d` and the widening,
-    /// cut at [`MAX_TIME`]. In nanoseconds. Requires: `d` is at most [`MAX_TIME`].
+    /// The latest true time when the clock has gone on by `d` since the true time `x`: `x + d` plus the widening of
+    /// `d`, cut at [`MAX_TIME`]. All are in nanoseconds. Requires: `d` is at most [`MAX_TIME`].
     pub fn age_high(&self, x: u64, d: u64) -> u64
         requires { d ≤ max_time }
         ensures value { result ≡ aged_high self.now x d }
@@ -88,14 +89,14 @@ impl Drift {
         x.saturating_add(d + self.widen(d)).min(MAX_TIME)
     }
 
-    /// The span when the clock has gone on by `d` nanoseconds: moved by `d` and widened both ways, each end cut
-    /// at [`MAX_TIME`]. If it held the true time before and the clock kept the drift bound, it holds the true
-    /// time now. Requires: `d` is at most [`MAX_TIME`].
+    /// The span after the clock has gone on by `d` nanoseconds: moved by `d`, widened both ways by the widening of `d`,
+    /// and each end cut at [`MAX_TIME`]. If it held the true time before, and the clock kept the drift, it holds the
+    /// true time now. Requires: `d` is at most [`MAX_TIME`].
     pub fn age(&self, span: &Span, d: u64) -> Span
         requires { d ≤ max_time }
         ensures ages { result ≡ aged self.now span.now d }
         ensures valid { IsInterval result }
-        // In every run in which the clock keeps the drift bound and true time neither falls nor passes the
+        // This holds in every run in which the clock keeps the drift bound, and true time neither falls nor passes the
         // greatest time.
         ensures holds { (before now : Moment) → KeepsDrift self.now (before ∷ now ∷ []) → before.clock + d ≡ now.clock →
             before.time ≤ now.time → now.time ≤ max_time → Holds span.now before.time → Holds result now.time }
@@ -104,9 +105,9 @@ impl Drift {
     }
 }
 
-/// What a clock may go wrong by is the least whole number that is enough for the drift; it is nothing after
-/// nothing, never falls, and is no more for a whole than for its two parts together. Up to the greatest drift
-/// it is never above the time that has gone by.
+/// Laws of the widening. It is the least whole number that is at least the distance times the drift. It is 0 for no
+/// distance, and never falls as the distance grows. For a distance in two parts it is at most the sum of the widenings
+/// of both. Up to the greatest drift it is never above the distance.
 pub fn drift_laws()
     ensures least { (ppm d : ℕ) → IsWidening ppm d (widening ppm d) }
     ensures nothing { (ppm : ℕ) → widening ppm 0 ≡ 0 }

@@ -1,10 +1,17 @@
-//! Spans of time, and what the drift of a clock does to them: the base of every other crate.
+//! Spans of time, and what the drift of a clock does to them. Almost every other crate of the service uses this one.
 //!
-//! Time and clock readings are whole nanoseconds from 0 to [`MAX_TIME`]. A [`Span`] is a closed interval of
-//! them that is known to hold some true time. A [`Drift`] is what a clock may go wrong by, in parts per
-//! million; it widens a span as the clock goes on.
+//! Time and clock readings are whole nanoseconds from 0 to [`MAX_TIME`]. A [`Span`] is a closed interval of times, in
+//! which some true time is said to lie. A [`Drift`] bounds what a clock gains or loses, in parts per million. When the
+//! clock has gone on, a span is aged: it is moved as far as the clock, and widened both ways by the drift.
 //!
-//! Nothing here takes memory, and nothing can fail but the two constructors, which are tests.
+//! ```text
+//! let drift = Drift::new(200).ok_or("a drift above MAX_DRIFT")?;
+//! let span = Span::new(1_000, 2_000)?;
+//! let aged = drift.age(&span, 1_000_000_000);
+//! // a second later by the clock: aged.lo() is 999_801_000, and aged.hi() is 1_000_202_000
+//! ```
+//!
+//! Nothing here takes memory. Only the two constructors refuse: they judge the numbers that they are given.
 #![tactic(auto)]
 
 mod drifts;

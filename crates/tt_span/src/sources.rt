@@ -1,4 +1,4 @@
-//! How many sources of the time a machine may ask.
+//! How many time sources a machine may ask.
 
-/// The greatest number of sources.
+/// The greatest number of time sources of a machine.
 pub const MAX_SOURCES: usize = 16;

@@ -8,10 +8,10 @@ ghost use Rattle.tt_span.specs.Fault.{number_of};
 use std::marker::Model;
 use thiserror::Error;
 
-/// The greatest time and the greatest clock reading, in nanoseconds: some 126 years.
+/// The greatest time and the greatest clock reading: 4 * 10^18 nanoseconds, some 126 years.
 pub const MAX_TIME: u64 = 4_000_000_000_000_000_000;
 
-/// Why two numbers are no span.
+/// Why two numbers are not the ends of a span.
 #[derive(Clone, Copy, Debug, PartialEq, Eq, Error)]
 pub enum SpanFault {
     #[error("the lower end is above the upper end")]
@@ -69,7 +69,7 @@ impl Span {
         Ok(Span { lo, hi })
     }
 
-    /// The span of two ends that are known to be in order and in time.
+    /// The span of two ends that are in order, the upper one at most [`MAX_TIME`].
     pub(crate) fn between(lo: u64, hi: u64) -> Span
         requires ordered { lo ≤ hi }
         requires in_time { hi ≤ max_time }
@@ -104,7 +104,7 @@ impl Span {
         self.hi
     }
 
-    /// Whether the time `x`, in nanoseconds, lies in the span. Both ends do.
+    /// Whether the time `x`, in nanoseconds, lies in the span. Both ends lie in it.
     pub fn contains(&self, x: u64) -> bool
         ensures { IsTrue result ↔ Holds self.now x }
     {
@@ -118,7 +118,7 @@ impl Span {
         self.lo <= other.hi && other.lo <= self.hi
     }
 
-    /// The least span that contains both.
+    /// The least span that contains both spans, and what lies between them.
     pub fn hull(&self, other: &Span) -> Span
         ensures least { IsHull self.now other.now result }
         ensures valid { IsInterval result }

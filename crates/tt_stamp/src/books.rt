@@ -1,4 +1,4 @@
-//! The commits that wait until their stamps have surely passed.
+//! Pending commits, and receipts of the released ones.
 
 ghost use Rattle.std.specs.Prelude.{◌≡◌, ◌≢◌, ℕ, ◌+◌, ◌^◌, ◌<◌, ◌≤◌, ◌↔◌, true, false, IsTrue, List, [], ◌∷◌, ◌++◌, length, reverse, map, Contains, Some, None, Ok, Err, IsOk, OnOk, OnErr, IfOk, IfErr, IsErrOf, IfSome, IfNone, MatchOption, IsOkUnless, IsSome, vec_len, vec_capacity, nat_lt, if◌then◌else◌};
 ghost use Rattle.std.specs.List.Sorted.{IsStrictlyIncreasing, IsNonDecreasing, IsNonDecreasingBy, IsPartitionPoint};
@@ -22,19 +22,20 @@ use std::collections::{BTreeMap, VecDeque};
 use std::marker::Model;
 use tt_publish::Reading;
 
-/// The most commits that may wait in a book.
+/// The most pending commits of a book.
 pub const MAX_WAITING: usize = 65_536;
 
-/// The commits of one machine: which wait, and which were released. Contracts see its history, newest first.
+/// The commits of one machine: the pending ones, and the receipts of the released ones. In contracts a book is its
+/// history, newest first.
 ///
 /// Receipts are kept until their session is forgotten.
 #[derive(Debug, Drop)]
 pub struct Book {
     history: Vec<Entry>,
-    // The commits that wait, least stamp first.
+    // The pending commits, least stamp first.
     waiting: VecDeque<(u64, Id)>,
     standings: BTreeMap<Id, Standing>,
-    // All that were queued, in order: a new one is mostly the greatest, and then goes to the end.
+    // The stamps of all commits that were queued, in order. A new one is mostly the greatest, and goes to the end.
     stamps: Vec<u64>,
 }
 
@@ -64,11 +65,12 @@ impl Book {
         }
     }
 
-    /// Queues a commit with its stamp, in nanoseconds. Its one entry is appended to the history.
+    /// Queues a commit with its stamp, in nanoseconds: it is pending from now on. Its one entry is appended to the
+    /// history.
     ///
-    /// Refuses, in this order: 1001 `Full` where [`MAX_WAITING`] commits wait, 1002 `IdThere` where a commit with
-    /// this id waits or was released, 1003 `StampThere` where one with this stamp does or was, 1 `Memory`. After a
-    /// refusal the book is as it was. The room for the later receipt is taken here.
+    /// Refuses, in this order: 1001 `Full` where [`MAX_WAITING`] commits are pending, 1002 `IdThere` where a commit
+    /// with this id is pending or was released, 1003 `StampThere` where one with this stamp is or was, 1 `Memory`.
+    /// After a refusal the book is as it was. Memory for the later receipt is taken here.
     pub fn queue(&mut self, id: Id, stamp: u64) -> Result<(), BookFault>
         ensures fault { MatchOption (first_queue_fault self.old id stamp)
             (IsOkUnless result BookFault.Memory) (λ fault. result ≡ Err fault) }
@@ -105,9 +107,9 @@ impl Book {
         Ok(())
     }
 
-    /// Releases each waiting commit whose stamp is below the reading's earliest, and so has surely passed, least
-    /// stamp first, and answers how many (commit wait of Spanner, OSDI 2012, section 4.2.1). Their receipts are
-    /// appended to the history. It takes no memory.
+    /// Releases each pending commit whose stamp is below the earliest of this reading, least stamp first, and answers
+    /// how many these are. Such a stamp has surely passed (commit wait of Spanner, OSDI 2012, section 4.2.1). The
+    /// receipts are appended to the history. It takes no memory.
     pub fn release(&mut self, reading: &Reading) -> usize
         ensures receipts { self.new ≡ with_receipts (release_of (waiting_of self.old) reading.now.lo) self.old }
         ensures count { result ≡ length (release_of (waiting_of self.old) reading.now.lo) }
@@ -129,7 +131,7 @@ impl Book {
         count_below(&self.waiting, reading.earliest())
     }
 
-    // Releases the waiting commit with the least stamp, which is below the earliest.
+    // Releases the pending commit with the least stamp, which is below the earliest.
     fn pass(&mut self, earliest: u64)
         requires { 0 < length (release_of (waiting_of self.old) earliest) }
         ensures turn { IsReleaseTurn self.old self.new earliest }
@@ -148,7 +150,7 @@ impl Book {
         }));
     }
 
-    /// The receipt of a commit, if it was released.
+    /// The receipt of a commit if it was released, None if it is pending or unknown.
     pub fn is_released(&self, id: Id) -> Option<Receipt>
         ensures value { result ≡ receipt_of self.now id }
         ensures found { IfSome result (λ receipt. (receipt.id ≡ id) × Contains (released_of self.now) receipt) }
@@ -164,16 +166,16 @@ impl Book {
     }
 
     /// Forgets a session whose commits are all released: the entries of its commits leave the history, and their memory
-    /// is given back. What the other sessions have stays: the commits that wait, the receipts, and that their ids and
-    /// stamps are there. Ids and stamps of the session may be queued again.
+    /// is freed. The pending commits and the receipts of other sessions stay. Ids and stamps of the session may be
+    /// queued again.
     ///
-    /// Refuses, in this order: 1004 `Waits` where a commit of the session waits, 1 `Memory`. After a refusal the book is
-    /// as it was. The book is made anew from what stays, so until that is done both take memory.
+    /// Refuses, in this order: 1004 `Waits` where a commit of the session is pending, 1 `Memory`. After a refusal the
+    /// book is as it was. A new book is made of what stays, so until that is done both books take memory.
     pub fn forget(&mut self, alloc: Global, session: u32) -> Result<(), ForgetFault>
         ensures waits { IsErrOf result ForgetFault.Waits ↔ WaitsIn self.old session }
         ensures ok { OnOk result (self.new ≡ without_session session self.old) }
         ensures err { OnErr result (self.new ≡ self.old) }
-        // So what waits is the same, and each receipt of another session.
+        // So the pending commits stay, and each receipt of another session.
         ensures waiting { waiting_of self.new ≡ waiting_of self.old }
         ensures receipts { (id : Id) → id.session ≢ session → receipt_of self.new id ≡ receipt_of self.old id }
         ensures legal { IsLegalHistory self.new }
@@ -186,7 +188,7 @@ impl Book {
         Ok(())
     }
 
-    // The book in which only what the other sessions did has happened.
+    // A book with the entries of the other sessions alone.
     fn without(&self, alloc: Global, session: u32) -> Result<Book, ForgetFault>
         ensures ok { IfOk result (λ kept. kept ≡ without_session session self.now) }
         ensures err { IfErr result (λ fault. fault ≡ ForgetFault.Memory) }
@@ -200,7 +202,7 @@ impl Book {
         Ok(kept)
     }
 
-    // Does once more what an entry says.
+    // Repeats what an entry says: queues its commit, or releases it.
     fn follow(&mut self, entry: &Entry) -> Result<(), ForgetFault>
         requires { MayFollow self.old entry.now }
         ensures ok { OnOk result (self.new ≡ entry.now ∷ self.old) }
@@ -218,7 +220,7 @@ impl Book {
         }
     }
 
-    /// How many commits wait: at most [`MAX_WAITING`].
+    /// How many commits are pending: at most [`MAX_WAITING`].
     pub fn waiting(&self) -> usize
         ensures value { result ≡ length (waiting_of self.now) }
         ensures bound { result ≤ max_waiting }
@@ -237,10 +239,12 @@ impl Book {
 
 /// Laws of histories.
 ///
-/// A commit may be queued exactly where no fault is found, and each fault is found exactly where its reason holds and
-/// none before it in the order. After a legal history those commits wait that were queued and that no later receipt
-/// names; the stamps of those that wait rise strictly. The receipts of a release are one for each waiting commit whose
-/// stamp is below the earliest, least stamp first; they stand at the end of the history, which stays legal.
+/// - A commit may be queued exactly where no fault is found. A fault is found exactly where its reason holds and no
+///   reason before it in the order does.
+/// - After a legal history a commit is pending if it was queued and no later receipt names it. No two pending commits
+///   have the same stamp.
+/// - A release gives one receipt for each pending commit whose stamp is below the earliest, least stamp first. They
+///   stand at the end of the history, which stays legal.
 pub fn book_laws()
     ensures queue { (past : List Entry) (id : Id) (stamp : ℕ) →
         (first_queue_fault past id stamp ≡ None) ↔ MayQueue past id stamp }
@@ -264,10 +268,10 @@ pub fn book_laws()
         IsLegalHistory (with_receipts (release_of (waiting_of past) earliest) past) }
 {}
 
-/// Laws of histories without a session.
+/// Laws of a history without the entries of one session.
 ///
-/// Without a session a legal history is legal. An id is there exactly where it was and is of another session, and a
-/// stamp where a commit of another session has it.
+/// What is left of a legal history is legal. An id is in it exactly if it was in the history and is of another session,
+/// a stamp exactly if a commit of another session has it.
 pub fn forget_laws()
     ensures legal { (past : List Entry) (session : ℕ) → IsLegalHistory past → IsLegalHistory (without_session session past) }
     ensures receipts { (past : List Entry) (session : ℕ) (id : Id) → id.session ≢ session →
@@ -289,7 +293,7 @@ fn session_of(entry: &Entry) -> u32
     }
 }
 
-// Writes where a commit stands that is there.
+// Writes the new standing of a commit that is in the book.
 fn set_standing(standings: &mut BTreeMap<Id, Standing>, id: Id, standing: Standing)
     requires { IsSome (tree.get id_cmp standings.old id) }
     ensures { (other : Id) → tree.get id_cmp standings.new other ≡
@@ -298,7 +302,7 @@ fn set_standing(standings: &mut BTreeMap<Id, Standing>, id: Id, standing: Standi
     *standings.get_mut(&id).unwrap() = standing;
 }
 
-// Where a new stamp goes among stamps in order. None where it is among them.
+// The place of a new stamp among stamps in order. None where it is one of them.
 fn place_of(stamps: &[u64], stamp: u64) -> Option<usize>
     requires { IsNonDecreasing stamps.now }
     ensures new { IfSome result (λ place. IsPlaceOf stamps.now stamp place) }
@@ -314,7 +318,8 @@ fn place_of(stamps: &[u64], stamp: u64) -> Option<usize>
     stamps.binary_search(&stamp).err()
 }
 
-// Takes the room for one commit more: its entry, the receipts of all that wait then, its place among them, its stamp.
+// Takes the memory for one more commit: its entry, its place among the pending ones, its stamp, and the receipts of all
+// that are pending then.
 fn make_room(
     history: &mut Vec<Entry>,
     waiting: &mut VecDeque<(u64, Id)>,
@@ -330,7 +335,7 @@ fn make_room(
     stamps.reserve(1)
 }
 
-// How many of these commits, which are in order, have a stamp below this one. Mostly all have.
+// How many of these commits, which are in order, have a stamp below this one. Mostly all of them.
 fn count_below(waiting: &VecDeque<(u64, Id)>, stamp: u64) -> usize
     requires { IsNonDecreasingBy (λ commit. commit.0) waiting.now.items }
     ensures within { result ≤ length waiting.now.items }
@@ -356,7 +361,7 @@ fn has_session(commits: &VecDeque<(u64, Id)>, session: u32) -> bool
     false
 }
 
-// Puts a commit with a new stamp in its place among those that wait, for which there is room.
+// Puts a commit with a new stamp in its place among the pending ones. Memory for it has been taken.
 fn put_in_order(waiting: &mut VecDeque<(u64, Id)>, stamp: u64, id: Id)
     requires room { deque_len waiting.old < deque_capacity waiting.old }
     requires order { (past : List Entry) × (waiting.old.items ≡ waiting_of past) × (has_stamp past stamp ≡ false) }
@@ -367,7 +372,7 @@ fn put_in_order(waiting: &mut VecDeque<(u64, Id)>, stamp: u64, id: Id)
     let _ = waiting.insert(place, (stamp, id));
 }
 
-// Why a commit with a new id is not queued, where there is no memory for the id.
+// Why a commit with a new id is not queued if there is no memory for the id.
 fn no_memory_for(stamps: &[u64], stamp: u64) -> BookFault
     requires { IsNonDecreasing stamps.now }
     ensures { result ≡ (if is_among stamps.now stamp then BookFault.StampThere else BookFault.Memory) }

@@ -1,6 +1,6 @@
 //! What a book keeps of a commit.
 
-/// Which commit: the session that began it, and its number there.
+/// The id of a commit: the session that began it, and its number in that session.
 #[derive(Clone, Copy, Debug, PartialEq, Eq, PartialOrd, Ord, Hash)]
 pub struct Id {
     /// The session that began it.
@@ -9,7 +9,7 @@ pub struct Id {
     pub number: u64,
 }
 
-/// That a commit was released: its stamp was below the earliest of a reading, so it has surely passed.
+/// Evidence that a commit was released: its stamp was below the earliest of a reading, so the stamp has surely passed.
 #[derive(Clone, Copy, Debug, PartialEq, Eq)]
 pub struct Receipt {
     /// Which commit.
@@ -20,7 +20,7 @@ pub struct Receipt {
     pub earliest: u64,
 }
 
-/// What happened in a book.
+/// An entry of the history of a book.
 #[derive(Clone, Copy, Debug, PartialEq, Eq)]
 pub enum Entry {
     /// A commit was queued.
@@ -34,7 +34,7 @@ pub enum Entry {
     Passed(Receipt),
 }
 
-/// Where a commit stands that was queued: it waits, or its receipt has this place in the history, oldest first.
+/// The standing of a commit that was queued: it is pending, or its receipt has this place in the history, oldest first.
 #[derive(Clone, Copy, Debug)]
 pub(crate) enum Standing {
     Waits,

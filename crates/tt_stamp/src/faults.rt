@@ -1,4 +1,4 @@
-//! Why a stamp was not given, why a commit did not begin, and why one was not queued.
+//! Why a stamp was not given, a commit did not begin or was not queued, and a session was not forgotten.
 
 ghost use Rattle.std.specs.Prelude.{◌≡◌};
 ghost use Rattle.tt_stamp.specs.Fault.{number_of, begin_number_of, book_number_of, forget_number_of};
@@ -6,7 +6,7 @@ ghost use Rattle.tt_stamp.specs.Fault.{number_of, begin_number_of, book_number_o
 use thiserror::Error;
 use tt_publish::ReadFault;
 
-/// Why no stamp was given, or why a sequencer was not opened.
+/// Why no stamp was given, or a sequencer was not opened.
 #[derive(Clone, Copy, Debug, PartialEq, Eq, Error)]
 pub enum StampFault {
     #[error("no stamp is left up to the greatest time")]
@@ -42,13 +42,13 @@ pub enum BeginFault {
     /// There was no reading. The seat is as it was.
     #[error("no reading: {0}")]
     Read(ReadFault),
-    /// With the reading, no stamp was given.
+    /// There was a reading, and no stamp was given by it.
     #[error("no stamp: {0}")]
     Stamp(StampFault),
 }
 
 impl BeginFault {
-    /// The fault's number, that of the fault within: 801, 802, 803, 901, 902, 903.
+    /// The number of the fault within: 801, 802, 803, 901, 902 or 903.
     pub fn number(&self) -> u16
         ensures { result ≡ begin_number_of self.now }
     {

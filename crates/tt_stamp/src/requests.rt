@@ -2,7 +2,7 @@
 
 use tt_span::Span;
 
-/// The latest of the reading and the floor, in nanoseconds, and the lease.
+/// What a stamp is asked for: the latest of the reading and the floor, both in nanoseconds, and the lease.
 #[derive(Clone, Copy, Debug)]
 pub(crate) struct StampRequest {
     pub(crate) latest: u64,

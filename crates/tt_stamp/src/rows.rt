@@ -13,7 +13,8 @@ use tt_span::{MAX_TIME, Span};
 /// How far a floor may lie ahead of the reading's latest, in nanoseconds: ten seconds.
 pub const MAX_AHEAD: u64 = 10_000_000_000;
 
-/// The sequencer of one thread. Contracts see the greatest of the stamps that it has given, which is the last.
+/// The stamps of one thread, in order. In contracts a row is the greatest stamp that it has given, which is the last
+/// one.
 #[derive(Debug, Drop)]
 pub struct Row {
     last: Option<u64>,
@@ -39,15 +40,15 @@ impl Row {
         Row { last: None }
     }
 
-    /// Gives the commit of this reading its stamp: the least up to [`MAX_TIME`] that is no less than the reading's
-    /// latest, the floor and the lower end of the lease, and above every stamp given before. It lies in the lease: a
+    /// Gives a commit its stamp, in nanoseconds: the least number up to [`MAX_TIME`] that is at least the latest of the
+    /// reading, the floor and the lower end of the lease, and above every stamp given before. It lies in the lease: a
     /// leader gives stamps within its lease alone (Spanner, OSDI 2012, section 4.1.2).
     ///
-    /// Refuses, in this order: 902 `FloorTooFar` where the floor is more than [`MAX_AHEAD`] above the reading's
-    /// latest, 901 `UsedUp` where there is no such stamp, 903 `LeaseOver` where it is above the upper end of the
-    /// lease. After a refusal the row is as it was.
+    /// Refuses, in this order: 902 `FloorTooFar` where the floor is more than [`MAX_AHEAD`] above the latest of the
+    /// reading, 901 `UsedUp` where there is no such number, 903 `LeaseOver` where the least one is above the upper end
+    /// of the lease. After a refusal the row is as it was.
     pub fn stamp(&mut self, reading: &Reading, floor: u64, lease: &Span) -> Result<u64, StampFault>
-        // Whatever stamps were given before, as long as the row's value is the greatest of them.
+        // This holds for any stamps given before of which the row's value is the greatest.
         ensures value { (given : List ℕ) → greatest_of given ≡ self.old →
             result ≡ stamp_of given reading.now.hi floor lease.now }
         ensures least { (given : List ℕ) → greatest_of given ≡ self.old →
@@ -93,8 +94,8 @@ impl Row {
     }
 }
 
-/// The answer of `stamp_of` is the least stamp that may be given, or says truly why there is none. A stamp lies in its
-/// lease, which the whole of time never refuses.
+/// Laws of the rule. `stamp_of` gives the least stamp that may be given, or the right reason why there is none. A stamp
+/// lies in its lease. A lease of the whole of time is never the reason.
 pub fn stamp_laws()
     ensures answer { (given : List ℕ) (latest floor : ℕ) (lease : Interval) →
         IsAnswer given latest floor lease (stamp_of given latest floor lease) }

@@ -1,5 +1,5 @@
-//! The rule under which the seats of a sequencer share its word, which is 0 or one more than the last stamp. The steps
-//! are atomic: a load, and a compare and exchange.
+//! The rule by which the seats of a sequencer share its word, which is 0 or one more than the last stamp. The steps are
+//! atomic: a load, and a compare and exchange.
 
 use crate::requests::StampRequest;
 use crate::stampings::View;
@@ -18,7 +18,7 @@ impl TableRule<StampRequest, View, u64> for InTurn {
     ghost first = { λ seats. view_of seats (range_with_len 0 seats) [] };
 }
 
-/// What a load tells.
+/// What a seat learns by a load.
 pub(crate) struct Look;
 
 impl Play<StampRequest, View> for Look {
@@ -27,7 +27,7 @@ impl Play<StampRequest, View> for Look {
     ghost then = { TellsLook };
 }
 
-/// What a compare and exchange tells.
+/// What a seat learns by a compare and exchange.
 pub(crate) struct Try;
 
 impl Play<StampRequest, View> for Try {
@@ -36,7 +36,7 @@ impl Play<StampRequest, View> for Try {
     ghost then = { TellsTry };
 }
 
-/// How a new seat gets the first of the numbers.
+/// How a new seat gets the first number of another.
 pub(crate) struct Deal;
 
 impl Split<View> for Deal {

@@ -1,4 +1,4 @@
-//! The stamps that several threads draw from one sequencer.
+//! The stamps that one sequencer gives to several threads.
 
 ghost use Rattle.std.specs.Prelude.{◌≡◌, ℕ, ◌<◌, ◌≤◌, ◌↔◌, ◌⊎◌, List, [], All, true, max, map, IfOk, IfErr, OnOk, IsErrOf};
 ghost use Rattle.std.specs.List.{range_with_len};
@@ -25,8 +25,8 @@ use tt_span::{MAX_TIME, Span};
 /// The most seats of a sequencer.
 pub const MAX_SEATS: usize = 32;
 
-/// The sequencer of up to [`MAX_SEATS`] threads, which share it by reference, each with a seat of its own. Contracts
-/// see which one it is.
+/// Gives stamps to up to [`MAX_SEATS`] threads, which share it by reference, each with a seat of its own. In contracts
+/// a sequencer is its identity.
 #[derive(Drop)]
 pub struct Sequencer {
     table: Table<StampRequest, View, u64, InTurn, Global>,
@@ -45,9 +45,9 @@ impl Model for Sequencer {
     ghost invariant = { λ s. s.table.shared.table_id.words ≡ 1 };
 }
 
-/// What a thread draws stamps with. It has no bytes. Contracts see its sequencer, how many seats that has, and what the
-/// seat knows: its numbers, the stamps that it has seen, and its own among them, newest first. What it has seen is legal
-/// at all times, after a refusal too.
+/// The access of one thread to a sequencer. It has no bytes. In contracts a seat is its sequencer, how many seats that
+/// has, and what the seat knows: its numbers, the stamps that it has seen, and its own among them, newest first. What
+/// it has seen is always legal, also after a refusal.
 #[derive(Drop)]
 pub struct Seat {
     token: Token<StampRequest, View>,
@@ -66,8 +66,7 @@ impl Model for Seat {
 }
 
 impl Seat {
-    /// A law of every seat, whatever call came last: what it has seen is legal, and has just its own entries under its
-    /// numbers.
+    /// A law of every seat after any calls: what it has seen is legal, and the entries under its numbers are its own.
     pub fn laws(&self)
         ensures legal { IsLegalRun self.now.seats self.now.seen }
         ensures mine { entries_of self.now.numbers self.now.seen ≡ self.now.own }
@@ -77,9 +76,9 @@ impl Seat {
 }
 
 impl Sequencer {
-    /// Opens a sequencer that has given no stamp, with its seats, which have one number each, from 0 on.
+    /// Opens a sequencer that has given no stamp, with this many seats, whose numbers are 0, 1 and so on.
     ///
-    /// Refuses, in this order: 904 `Seats` where there are to be none, or more than [`MAX_SEATS`], 1 `Memory`.
+    /// Refuses, in this order: 904 `Seats` where `seats` is 0 or above [`MAX_SEATS`], 1 `Memory`.
     pub fn open(alloc: Global, seats: usize) -> Result<(Sequencer, Vec<Seat>), StampFault>
         ensures seats { IsErrOf result StampFault.Seats ↔ ((seats ≡ 0) ⊎ (max_seats < seats)) }
         ensures faults { IfErr result (λ e. (e ≡ StampFault.Seats) ⊎ (e ≡ StampFault.Memory)) }
@@ -103,12 +102,13 @@ impl Sequencer {
         Ok((Sequencer { table }, opened))
     }
 
-    /// Gives the commit of this reading its stamp, as [`Row::stamp`](crate::Row::stamp) does, after all stamps that
-    /// any seat of the sequencer gave before, and within the lease. It is one load and one exchange, and a further
-    /// exchange whenever another seat was faster.
+    /// Gives a commit its stamp as [`Row::stamp`](crate::Row::stamp) does, after all stamps that any seat of the
+    /// sequencer got before, and within the lease. It makes one load and one exchange, and one more exchange each time
+    /// that another seat was faster.
     ///
-    /// Refuses, in this order: 902 `FloorTooFar`, which leaves the seat as it was, 901 `UsedUp` and 903 `LeaseOver`,
-    /// after which the seat may have seen more. It may wait: nothing says that an exchange succeeds.
+    /// Refuses, in this order: 902 `FloorTooFar`, which leaves the seat as it was; 901 `UsedUp` and 903 `LeaseOver`,
+    /// after which the seat may have seen more. It may wait for other threads: nothing promises that an exchange
+    /// succeeds.
     pub fn stamp<R: Wait>(
         &self,
         rt: &R,
@@ -161,8 +161,8 @@ impl Sequencer {
         self.look(seat).checked_sub(1)
     }
 
-    /// One seat of two: it has seen what both had, and has the numbers and the own stamps of both. Once all seats
-    /// are joined, what it has seen are its own stamps alone.
+    /// Makes one seat of two: it has seen what both had seen, and has the numbers and the stamps of both. Once all
+    /// seats are joined, it has seen its own stamps alone.
     pub fn join(&self, first: Seat, second: Seat) -> Seat
         requires first { first.table ≡ self.now }
         requires second { second.table ≡ self.now }
@@ -175,7 +175,7 @@ impl Sequencer {
         Seat { token }
     }
 
-    // Makes one token of two, which keeps what each of them knew.
+    // Makes one token of two. It keeps what each of them knew.
     #[tactic(auto, using(crate::proofs::Turns::join_allowed))]
     fn meet(&self, token: &mut Token<StampRequest, View>, other: Token<StampRequest, View>)
         requires token { token.old.table_id ≡ self.now }
@@ -196,7 +196,7 @@ impl Sequencer {
         self.table.shared.load::<Look>(&mut seat.token, 0)
     }
 
-    // Gives the stamp if the word is still what it was; else answers what it is.
+    // Gives the stamp if the word is still what it was. Otherwise it answers the word.
     fn try_stamp(
         &self,
         seat: &mut Seat,
@@ -224,8 +224,8 @@ impl Sequencer {
     }
 }
 
-/// Once all numbers are joined in one seat, what it has seen are its own stamps alone. Each stamp lies in the lease
-/// under which it was given.
+/// Laws of seats. A seat that has all numbers has seen its own stamps alone. Each stamp lies in the lease under which
+/// it was given.
 pub fn seat_laws()
     ensures alone { (seats : ℕ) (numbers : List ℕ) (seen : List Stamping) → ((n : ℕ) → n < seats → is_in numbers n ≡ true) →
         IsLegalRun seats seen → entries_of numbers seen ≡ seen }

@@ -1,4 +1,4 @@
-//! The two steps of a commit that begin with a reading of their own: its stamp, and the release of those that wait.
+//! The two steps of a commit that take a reading themselves: its stamp, and the release of pending commits.
 
 ghost use Rattle.std.specs.Prelude.{◌≡◌, Some, None, Result};
 ghost use Rattle.tt_span.specs.Interval.{Interval};
@@ -14,11 +14,11 @@ use std::sync::Wait;
 use tt_publish::{Clock, ReadFault, Watch};
 use tt_span::Span;
 
-/// Begins a commit: it is one [`Watch::now`] and, with the reading that this gave, one [`Sequencer::stamp`]. So the
-/// stamp is no less than the latest of a reading that was taken in this call. It lies in the lease.
+/// Begins a commit: one [`Watch::now`], and one [`Sequencer::stamp`] by the reading that this gave. So the stamp, in
+/// nanoseconds, is at least the latest of a reading that was taken in this call. It lies in the lease.
 ///
-/// Refuses as `now` does, which leaves the seat as it was, and then as `stamp` does: 801, 803, 802, 902, 901, 903. The watch
-/// may have seen more all the same. It may wait, as `stamp` does.
+/// Refuses as `now` does, in this order: 801, 803, 802; the seat is then as it was. Then it refuses as `stamp` does:
+/// 902, 901, 903. The watch may have seen more in each case. It may wait, as `stamp` does.
 pub fn begin_step<R: Wait, C: Clock>(
     rt: &R,
     sequencer: &Sequencer,
@@ -40,11 +40,11 @@ pub fn begin_step<R: Wait, C: Clock>(
         .map_err(BeginFault::Stamp)
 }
 
-/// Releases what has surely passed: it is one [`Watch::now`] and, with the reading that this gave, one
-/// [`Book::release`], whose count it answers.
+/// Releases each pending commit whose stamp has surely passed: one [`Watch::now`], and one [`Book::release`] by the
+/// reading that this gave. It answers how many were released.
 ///
-/// Refuses as `now` does: 801, 803, 802. Then the book is as it was; the watch may have seen more all the same. It
-/// takes no memory and does not wait.
+/// Refuses as `now` does, in this order: 801, 803, 802. Then the book is as it was, but the watch may have seen more.
+/// It takes no memory and does not wait.
 pub fn release_step<C: Clock>(
     book: &mut Book,
     watch: &mut Watch,

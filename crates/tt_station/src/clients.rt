@@ -4,10 +4,11 @@ ghost use Rattle.std.specs.Prelude.{◌≡◌, Bool, false};
 
 /// Says whether a client has left, while its commit is pending.
 pub trait Presence {
-    /// What it may say. A client that is always there says so here; one at the far end of a connection claims nothing.
+    /// What the client may answer. A client that is always there answers `false`; a client behind a connection may
+    /// answer anything.
     ghost says: { Self → Bool → Type 0 };
 
-    /// Whether the client has left. It neither waits nor takes bytes of the session.
+    /// Whether the client has left. The call does not wait, and takes no bytes of the session.
     fn has_left(&self) -> bool
         ensures said { says self.now result };
 }

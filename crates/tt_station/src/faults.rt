@@ -1,11 +1,11 @@
-//! What a station refuses beside what its watch, its seat and its book refuse.
+//! The refusals of a station itself. Its watch, its seat and its book have more.
 
 ghost use Rattle.std.specs.Prelude.{◌≡◌};
 ghost use Rattle.tt_station.specs.Fault.{number_of};
 
 use thiserror::Error;
 
-/// What a station refuses beside what its watch, its seat and its book refuse.
+/// Why a station refuses a call that its watch, its seat and its book do not refuse.
 #[derive(Clone, Copy, Debug, PartialEq, Eq, Error)]
 pub enum StationFault {
     #[error("the floor is further ahead than this server allows")]

@@ -23,21 +23,22 @@ use tt_stream::{ByteReader, ByteWriter};
 /// The longest pause of one release step, in nanoseconds: a twentieth of a second.
 pub const MAX_PAUSE: u64 = 50_000_000;
 
-/// By how much a pause is longer than what is missing, in nanoseconds: the clock may be slow.
+/// How much longer a pause is than the time that is missing, in nanoseconds: the clock may be slow.
 const MARGIN: u64 = 1_000;
 
-/// What commits are stamped by.
+/// The settings by which commits are stamped.
 #[derive(Clone, Copy, Debug, PartialEq, Eq)]
 pub struct Terms {
-    /// The lease that stamps lie in.
+    /// The lease, in which stamps lie.
     pub lease: Span,
-    /// How far a floor may lie ahead of the latest of a reading, in nanoseconds. A bound above that of the rule
-    /// ([`tt_stamp::MAX_AHEAD`]) allows no more than the rule.
+    /// How far a floor may lie ahead of the latest of a reading, in nanoseconds. The rule of stamps has a bound too,
+    /// [`tt_stamp::MAX_AHEAD`]: the lower of both counts.
     pub ahead: u64,
 }
 
-/// What a worker keeps from one session to the next: it reads through a watch of its own by a clock of its own, and
-/// draws its stamps with a seat of its own from the sequencer that all workers share. Contracts see its parts.
+/// What a worker keeps from one session to the next: a watch and a clock of its own, by which it takes readings, and a
+/// seat of its own, with which it asks the sequencer that all workers share for stamps. In contracts a post is its
+/// parts.
 #[derive(Drop)]
 pub struct Post<'a, R, C> {
     rt: &'a R,
@@ -47,7 +48,7 @@ pub struct Post<'a, R, C> {
     seat: Seat,
     sequencer: &'a Sequencer,
     terms: Terms,
-    /// What its pauses are made by. Nothing ends one before its time.
+    /// Makes the pauses. Nothing ends one before its time.
     parker: Parker,
 }
 
@@ -88,10 +89,10 @@ impl<'a, R: Wait, C: Clock> Post<'a, R, C> {
         }
     }
 
-    /// Serves one session of this client, as [`serve`] does: its service is a [`Station`] in whose book nothing has
-    /// happened. It answers the post for the next session, and what the session did.
+    /// Serves one session of this client, as [`serve`] does. Its service is a [`Station`] with an empty book. Answers
+    /// the post for the next session, and the counts of this one.
     ///
-    /// Refused as `serve` is: 1105 `ReadFailed`, 1106 `WriteFailed`. The post is there for the next session all the same.
+    /// The counts are refused as by `serve`: 1105 `ReadFailed`, 1106 `WriteFailed`. The post is given back then too.
     pub fn serve<I: ByteReader, O: ByteWriter, V: Presence>(
         self,
         client: &V,
@@ -124,7 +125,7 @@ impl<'a, R: Wait, C: Clock> Post<'a, R, C> {
         self.watch.now(&mut self.clock)
     }
 
-    /// Whether a floor is further ahead of the reading's latest than it may be here.
+    /// Whether a floor lies further ahead of the latest of this reading than the terms allow.
     pub(crate) fn is_above_cap(&self, reading: &Reading, floor: u64) -> bool
         ensures { result ≡ nat_lt (reading.now.hi + self.now.ahead) floor }
     {

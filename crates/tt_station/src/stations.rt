@@ -14,10 +14,11 @@ use tt_publish::{Clock, Reading};
 use tt_session::Service;
 use tt_stamp::{Book, Id, Receipt};
 
-/// The service of one session: the post of its worker, its client, and a book of its own. Contracts see these.
+/// The service of one session: the post of its worker, its client, and a book of its own. In contracts it is these
+/// three.
 ///
-/// A commit is queued into a book in which nothing has happened wherever none is pending. So a session, of whose commits
-/// one is pending at most, keeps two entries at most, however long it goes on.
+/// If no commit of the session is pending, the next one is queued into an empty book. At most one commit of a session
+/// is pending, so its book has two entries at most, however long it goes on.
 #[derive(Drop)]
 pub struct Station<'a, 'c, R, C, V> {
     post: Post<'a, R, C>,
@@ -37,7 +38,7 @@ impl<'a, 'c, R, C, V> Model for Station<'a, 'c, R, C, V> {
 }
 
 impl<'a, 'c, R: Wait, C: Clock, V: Presence> Station<'a, 'c, R, C, V> {
-    /// The service of this client's session, at its beginning.
+    /// The service of this client at the beginning of its session.
     pub fn open(post: Post<'a, R, C>, alloc: Global, client: &'c V) -> Self
         ensures opened { result ≡ record { post = post.entry; client = client.now; book = [] } }
     {
@@ -50,7 +51,7 @@ impl<'a, 'c, R: Wait, C: Clock, V: Presence> Station<'a, 'c, R, C, V> {
         }
     }
 
-    /// The post, once the session has ended.
+    /// Ends the session, and gives the post back.
     pub fn close(self) -> Post<'a, R, C>
         ensures post { result ≡ self.entry.post }
     {
@@ -58,7 +59,7 @@ impl<'a, 'c, R: Wait, C: Clock, V: Presence> Station<'a, 'c, R, C, V> {
         post
     }
 
-    /// Makes the book ready for a commit: where none is pending, a new one begins.
+    /// Makes the book ready for a commit: if none is pending, a new book begins.
     fn turn_page(&mut self)
         ensures { self.new ≡ record self.old { book = book_before self.old.book } }
     {
@@ -67,7 +68,7 @@ impl<'a, 'c, R: Wait, C: Clock, V: Presence> Station<'a, 'c, R, C, V> {
         }
     }
 
-    /// A commit whose reading was taken is stamped and queued.
+    /// Stamps a commit by this reading, and queues it.
     fn commit(&mut self, number: u64, floor: u64, reading: &Reading) -> Result<u64, u16>
         ensures commits { CommitsAt self.old number floor reading.now result self.new }
         ensures same { self.new ≡ record self.old { post = record self.old.post { seat = self.new.post.seat }; book = self.new.book } }
@@ -86,7 +87,7 @@ impl<'a, 'c, R: Wait, C: Clock, V: Presence> Station<'a, 'c, R, C, V> {
         }
     }
 
-    /// What a pending commit is answered: no, after a pause, or a refusal where the client has left.
+    /// The answer for a pending commit: no after a pause, or a refusal if the client has left.
     fn put_off(&self, earliest: u64) -> Result<bool, u16>
         ensures { AnswersReceipt V.says self.now.client result None }
     {
@@ -97,7 +98,8 @@ impl<'a, 'c, R: Wait, C: Clock, V: Presence> Station<'a, 'c, R, C, V> {
         Ok(false)
     }
 
-    /// Releases what has surely passed at the reading, and answers the receipt of the commit, if it is released then.
+    /// Releases each commit whose stamp has surely passed by this reading. Answers the receipt of the commit with this
+    /// number, if it is released then.
     #[tactic(auto, using(crate::proofs::Receipts::sure))]
     fn release(&mut self, number: u64, reading: &Reading) -> Option<Receipt>
         ensures same { self.new ≡ record self.old { book = with_receipts (release_of (waiting_of self.old.book) reading.now.lo) self.old.book } }
@@ -114,7 +116,7 @@ impl<'a, 'c, R: Wait, C: Clock, V: Presence> Station<'a, 'c, R, C, V> {
 impl<'a, 'c, R: Wait, C: Clock, V: Presence> Service for Station<'a, 'c, R, C, V> {
     ghost allows = { Allows C.gives C.failed V.says };
 
-    /// One [`Watch::now`](tt_publish::Watch::now). Refuses as that does: 801, 803, 802.
+    /// One [`Watch::now`](tt_publish::Watch::now). Refuses as `now` does, in this order: 801, 803, 802.
     fn now(&mut self) -> Result<Reading, u16> {
         match self.post.read() {
             Ok(reading) => Ok(reading),
@@ -122,12 +124,14 @@ impl<'a, 'c, R: Wait, C: Clock, V: Presence> Service for Station<'a, 'c, R, C, V
         }
     }
 
-    /// One [`Watch::now`](tt_publish::Watch::now), then one [`Sequencer::stamp`](tt_stamp::Sequencer::stamp) by its reading
-    /// and in the lease, then one [`Book::queue`] of the number with the stamp, which it answers.
+    /// One [`Watch::now`](tt_publish::Watch::now), then one [`Sequencer::stamp`](tt_stamp::Sequencer::stamp) by this
+    /// reading, in the lease, then one [`Book::queue`] of the commit with this number, under the stamp. Answers the
+    /// stamp, in nanoseconds.
     ///
-    /// Refuses, in this order: 801, 803, 802 where there is no reading, 1821 where the floor is further ahead of the
-    /// reading's latest than the terms allow, 902, 901, 903 where there is no stamp, 1001, 1002, 1003, 1 where it is not
-    /// queued: then the stamp is lost. After any other refusal the seat gave no stamp, and the book is as it was.
+    /// Refuses, in this order: 801, 803, 802 if there is no reading, 1821 if the floor lies further ahead of the latest
+    /// of the reading than the terms allow, 902, 901, 903 if there is no stamp, 1001, 1002, 1003, 1 if the commit is
+    /// not queued: then the stamp is lost. After any other refusal the seat has given no stamp, and the book is as it
+    /// was.
     fn begin(&mut self, number: u64, floor: u64) -> Result<u64, u16> {
         let reading = match self.post.read() {
             Ok(reading) => reading,
@@ -139,11 +143,11 @@ impl<'a, 'c, R: Wait, C: Clock, V: Presence> Service for Station<'a, 'c, R, C, V
         self.commit(number, floor, &reading)
     }
 
-    /// One [`Watch::now`](tt_publish::Watch::now), then one [`Book::release`] by its reading, and whether the commit is
-    /// released then. Where it is not, a pause follows: for as long as the stamp of the commit that was begun last is above
-    /// the earliest of the reading, at most [`MAX_PAUSE`](crate::MAX_PAUSE).
+    /// One [`Watch::now`](tt_publish::Watch::now), then one [`Book::release`] by this reading. Answers whether the
+    /// commit with this number is released then. If it is not, a pause follows: as long as the stamp of the commit that
+    /// was begun last lies above the earliest of the reading, and at most [`MAX_PAUSE`](crate::MAX_PAUSE).
     ///
-    /// Refuses with 801, 803, 802 where there is no reading, and with 1822 where the commit is pending and the client has
+    /// Refuses, in this order: 801, 803, 802 if there is no reading, 1822 if the commit is pending and the client has
     /// left.
     fn pass(&mut self, number: u64) -> Result<bool, u16> {
         let reading = match self.post.read() {

@@ -5,6 +5,6 @@
 pub enum Breach {
     /// The clock of this machine has broken its drift bound.
     Drift(u8),
-    /// This machine fuses while more of its statements are false than it tolerates.
+    /// This machine fuses while more than `faulty` of its statements are false.
     FalseStatements(u8),
 }

@@ -1,4 +1,4 @@
-//! What happens in a run, and what is replied.
+//! Events of a run, and the replies to them.
 
 ghost use Rattle.std.specs.Prelude.{◌≡◌, ◌<◌, ◌≤◌, ◌↔◌, length, IsSome, IfSome};
 ghost use Rattle.tt_world.specs.Headline.{IsAction};
@@ -9,7 +9,7 @@ use tt_publish::Reading;
 use tt_span::Span;
 use tt_stamp::{Id, Receipt};
 
-/// How many bytes a forged packet has at most.
+/// The most bytes of a forged packet.
 pub const MAX_PAYLOAD: usize = 64;
 
 /// The bytes of a forged packet, at most [`MAX_PAYLOAD`].
@@ -51,7 +51,8 @@ impl Payload {
     }
 }
 
-/// What happens, and at which true time, in nanoseconds. The machine's code is never told the true time.
+/// An action, and the true time at which it happens, in nanoseconds. The code of the machines is never told the true
+/// time.
 #[derive(Clone, Debug, Drop)]
 pub struct Event {
     pub at: u64,
@@ -59,8 +60,8 @@ pub struct Event {
 }
 
 impl Event {
-    /// Says of the event that an answer's span is an interval, as every `Span` is. It does nothing: a proof about a
-    /// list of events calls it for each of them.
+    /// A law: the span of an answer is an interval, as every `Span` is. It does nothing. A proof about a list of events
+    /// calls it for each event.
     pub fn recall(&self)
         ensures valid { IsAction self.now.action }
     {
@@ -70,8 +71,9 @@ impl Event {
     }
 }
 
-/// What happens. Machines, their sources and their workers are counted from 0, packets from 0 in the order in
-/// which they were sent, and publications from 1 for each machine. Clock readings are in nanoseconds.
+/// What happens in an event. Machines, their sources and their workers are counted from 0. Packets are counted from 0,
+/// in the order in which they were sent. Publications are counted from 1 in each life of a machine. Clock readings are
+/// in nanoseconds.
 #[derive(Clone, Debug, Drop)]
 pub enum Action {
     /// The machine polls the source, and the request is sent.
@@ -80,7 +82,7 @@ pub enum Action {
         source: u8,
         clock: u64,
     },
-    /// The source that the request `packet` asks answers it, and the answer is sent.
+    /// The source answers the request `packet`, which asks it, and the answer is sent.
     Answer {
         packet: u64,
         span: Span,
@@ -91,7 +93,7 @@ pub enum Action {
         source: u8,
         payload: Payload,
     },
-    /// The answer or forged packet reaches its machine from its source.
+    /// The packet, an answer or a forged one, reaches its machine.
     Deliver {
         packet: u64,
         clock: u64,
@@ -108,38 +110,38 @@ pub enum Action {
         clock: u64,
         publication: u64,
     },
-    /// The worker is asked for a commit with this id, whose stamp is to be the floor at least. A task that the
-    /// worker had before is given up.
+    /// The worker is asked for the commit with this id, whose stamp is to be at least the floor. If the worker had a
+    /// task, it is given up.
     Arrive {
         machine: u8,
         worker: u8,
         id: Id,
         floor: u64,
     },
-    /// The worker stamps its task by its last reading, which is later than the arrival.
+    /// The worker stamps its task by its last reading, which it took after the arrival.
     Stamp {
         machine: u8,
         worker: u8,
     },
-    /// The worker queues its stamped task, and has none then.
+    /// The worker queues its stamped task, and has no task then.
     Queue {
         machine: u8,
         worker: u8,
     },
-    /// The machine restarts, and is in a new life from then on: it knows nothing of its sources, has published and
-    /// stamped nothing, its book is empty, its workers have no task and no reading, its nonces begin at 1 again, and
-    /// its clock begins anew at this reading. Its lease stays, and so do the packets in transit.
+    /// The machine restarts and begins a new life: it knows nothing of its sources, has published and stamped nothing,
+    /// its book is empty, its workers have no task and no reading, its nonces begin at 1 again, and its clock begins
+    /// anew at this reading. Its lease stays, and so do the packets in transit.
     Restart {
         machine: u8,
         clock: u64,
     },
-    /// The machine is granted this lease, in place of the one that it had: the stamps that it gives lie within it. A
-    /// machine that was granted none has the whole of time.
+    /// The machine is granted this lease in place of the one that it had. Its stamps lie in its lease. Before the first
+    /// grant the lease is the whole of time.
     Lease {
         machine: u8,
         lease: Span,
     },
-    /// The worker releases, with its last reading, the commits of its machine that have surely passed.
+    /// The worker releases the commits of its machine whose stamps have surely passed by its last reading.
     Release {
         machine: u8,
         worker: u8,
@@ -176,7 +178,7 @@ impl PartialEq for Receipts {
 }
 
 impl Receipts {
-    /// These receipts, in this order, as a reply to compare with has them.
+    /// These receipts, in this order, for a reply to compare with.
     pub fn of(items: Vec<Receipt>) -> Receipts
         ensures { result ≡ items.items }
     {
@@ -191,7 +193,7 @@ impl Receipts {
     }
 }
 
-/// What is replied to an event.
+/// The reply to an event.
 #[derive(Debug, PartialEq, Drop)]
 pub enum Reply {
     /// The request was sent as the packet of this number.
@@ -208,14 +210,14 @@ pub enum Reply {
     Arrived,
     /// The worker's task has this stamp, in nanoseconds.
     Stamped(u64),
-    /// The worker's task waits in the machine's book.
+    /// The worker's commit is pending in the machine's book.
     Queued,
-    /// The machine is in the life of this number.
+    /// The machine began the life with this number.
     Restarted(u64),
     /// The machine has the lease.
     Leased,
     /// These commits were released.
     Released(Receipts),
-    /// The event was refused, for the reason of this number, of this crate or a lower one.
+    /// The event was refused with this number, of this crate or a lower one.
     Refused(u16),
 }

@@ -1,4 +1,4 @@
-//! Why an event is bad, why there is no world, and that an allocation failed.
+//! Why an event is bad, or there is no world.
 
 ghost use Rattle.std.specs.Prelude.{◌≡◌};
 ghost use Rattle.tt_world.specs.Fault.{number_of};
@@ -8,7 +8,7 @@ use crate::events::Reply;
 use std::alloc::{AllocError, AllocFailed};
 use thiserror::Error;
 
-/// Why an event is bad, why there is no world, or that an allocation failed. What is refused changes nothing.
+/// Why an event is bad, why there is no world, or out of memory. What is refused changes nothing.
 #[derive(Clone, Copy, Debug, PartialEq, Eq, Error)]
 pub enum WorldFault {
     #[error("true time fell, or passed the greatest time")]
@@ -52,7 +52,7 @@ impl WorldFault {
 }
 
 impl WorldFault {
-    /// The reply to an event that is bad for this reason. A failed allocation is no reply.
+    /// The reply to an event that is bad for this reason. Out of memory is not a reply.
     pub(crate) fn as_reply(self) -> Result<Reply, WorldFault>
         ensures { result ≡ refusal_reply self }
     {

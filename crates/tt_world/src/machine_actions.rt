@@ -1,30 +1,30 @@
-//! What a machine is asked to do by itself.
+//! The actions of one machine alone.
 
 use crate::workers::Arrival;
 use tt_span::Span;
 
-/// What a machine is asked to do: of the world it changes that machine alone.
+/// An action that changes one machine alone.
 #[derive(Clone, Copy, Debug)]
 pub enum MachineAction {
-    /// To restart, when its clock shows this, in nanoseconds.
+    /// It restarts when its clock shows this, in nanoseconds.
     Restart(u64),
-    /// To have this lease.
+    /// It is granted this lease.
     Lease(Span),
-    /// To let the worker of this number do this.
+    /// The worker with this number does this.
     Work(u8, WorkerAction),
 }
 
-/// What a worker is asked to do.
+/// An action of a worker.
 #[derive(Clone, Copy, Debug)]
 pub enum WorkerAction {
-    /// To read from the publication of this number, when the clock shows this, in nanoseconds.
+    /// It reads from the publication with this number when the clock shows this, in nanoseconds.
     Read { clock: u64, publication: u64 },
-    /// To take this commit as its task.
+    /// It is asked for this commit.
     Arrive(Arrival),
-    /// To stamp its task.
+    /// It stamps its task.
     Stamp,
-    /// To queue its stamped task.
+    /// It queues its stamped task.
     Queue,
-    /// To release with its last reading.
+    /// It releases by its last reading.
     Release,
 }

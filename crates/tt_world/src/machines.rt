@@ -1,4 +1,4 @@
-//! What is kept of one machine.
+//! The state of one machine.
 
 ghost use Rattle.std.specs.Prelude.{◌≡◌, List, [], ℕ, ◌+◌, ◌++◌, ◌<◌, ◌≤◌, length, map, OnOk, OnErr, IfOk, IfErr, IsOk, IfSome, MatchResult, Ok, Err};
 ghost use Rattle.std.specs.Vec.{vec_len, vec_capacity};
@@ -37,8 +37,8 @@ use tt_source::SourceFault;
 use tt_span::{MAX_TIME, Span};
 use tt_stamp::{Book, BookFault, Entry, Receipt, Row, book_laws};
 
-/// One machine in the life that it is in: its daemon, the number of the life, its lease, what its clock showed last, what
-/// it has published, the greatest stamp that it has given, the book of its commits, and its workers.
+/// One machine in its present life: its daemon, the number of the life, its lease, what its clock showed last, what it
+/// has published, the greatest stamp that it has given, the book of its commits, and its workers.
 #[derive(Drop)]
 pub struct Machine {
     daemon: Daemon,
@@ -64,7 +64,7 @@ impl Model for Machine {
 }
 
 impl Machine {
-    /// A machine of which nothing is known yet, as the one of this number.
+    /// The machine with this number, before anything has happened.
     pub fn new(alloc: Global, number: u8, config: Config) -> Machine
         requires { number < max_machines }
         ensures fresh { result ≡ machine_of config [] (life_at [] number) }
@@ -73,7 +73,7 @@ impl Machine {
         Machine::in_life(alloc, number, config, 1, Span::whole(), 0)
     }
 
-    /// The machine of this number as it begins a life, with this lease, when its clock shows `clock`.
+    /// The machine with this number at the beginning of a life, with this lease, when its clock shows `clock`.
     fn in_life(
         alloc: Global,
         number: u8,
@@ -102,7 +102,7 @@ impl Machine {
         }
     }
 
-    /// What the machine is set up with.
+    /// The configuration of the machine.
     pub fn config(&self) -> Config
         ensures value { result ≡ self.now.daemon.config }
         ensures valid { IsMachine self.now }
@@ -118,7 +118,7 @@ impl Machine {
         clock < self.clock || clock > MAX_TIME
     }
 
-    /// Whether the source has made a statement; false where it is not there.
+    /// Whether the source has made a statement. False if there is no such source.
     pub fn is_known(&self, source: u8) -> bool
         ensures { result ≡ is_known_of self.now.daemon.table source }
     {
@@ -138,7 +138,7 @@ impl Machine {
         Ok((self.daemon.last(), self.life))
     }
 
-    /// Takes what a packet from a source says.
+    /// Takes these bytes from a source.
     pub fn take(&mut self, source: u8, clock: u64, bytes: &[u8]) -> Reply
         requires forward { self.old.clock ≤ clock }
         requires in_time { clock ≤ max_time }
@@ -151,7 +151,7 @@ impl Machine {
         }
     }
 
-    /// Takes what a packet says.
+    /// Takes a packet.
     pub fn take_packet(&mut self, clock: u64, packet: &Packet) -> Reply
         requires forward { self.old.clock ≤ clock }
         requires in_time { clock ≤ max_time }
@@ -180,8 +180,8 @@ impl Machine {
         self.daemon.fuse(clock)
     }
 
-    /// Fuses what is known of all sources, and publishes it: the fusion is shown after the others, as one of the
-    /// machine of this number. Memory is wanted only where the fusion was made; want of it changes nothing.
+    /// Fuses what is known of all sources, and publishes it: the fusion is shown after the others, as made by the
+    /// machine with this number. Memory is taken only if there is a fusion. Out of memory changes nothing.
     pub fn fuse(
         &mut self,
         machine: u8,
@@ -195,7 +195,7 @@ impl Machine {
             ++ showing_of (record { machine = machine; number = self.old.life }) (length self.old.publications + 1) (spans_of self.old.daemon clock) self.old.daemon.config.faulty (fusion_on self.old clock)) }
         ensures certified { CertificatesProve shown.old.items → CertificatesProve shown.new.items }
         ensures memory { IfErr result (λ e. e ≡ WorldFault.Memory) }
-        // Memory is taken only where the fusion is not refused.
+        // Memory is taken only if the fusion is not refused.
         ensures memory_only { OnErr result (IsOk (fusion_on self.old clock)) }
         ensures unchanged { OnErr result ((self.new ≡ self.old) × (shown.new.items ≡ shown.old.items)) }
     {
@@ -222,9 +222,9 @@ impl Machine {
         }
     }
 
-    /// Does a deed, as the machine of this number, or answers why it is bad: 1202 `ClockBack`, 1204 `NoPublication`,
-    /// 1205 `NothingThere`, 1206 `UnknownNumber` where there is no such worker, or 1208 `LivesUsedUp`. A bad deed
-    /// changes nothing, and nor does a failed allocation.
+    /// Does an action, as the machine with this number, or answers why it is bad: 1202 `ClockBack`, 1204
+    /// `NoPublication`, 1205 `NothingThere`, 1206 `UnknownNumber` if there is no such worker, or 1208 `LivesUsedUp`. A
+    /// bad action changes nothing, nor does out of memory.
     pub fn act(
         &mut self,
         alloc: Global,
@@ -249,7 +249,7 @@ impl Machine {
         }
     }
 
-    /// Restarts, as the machine of this number.
+    /// Restarts, as the machine with this number.
     fn restart(&mut self, alloc: Global, number: u8, clock: u64) -> Result<Reply, WorldFault>
         requires { number < max_machines }
         ensures { Does TakesMemory (machine_outcome number self.old (MachineAction.Restart clock)) self.old result self.new }
@@ -265,7 +265,7 @@ impl Machine {
         Ok(Reply::Restarted(life))
     }
 
-    /// Lets a worker do its work.
+    /// Does an action of a worker.
     fn work(&mut self, alloc: Global, worker: u8, work: WorkerAction) -> Result<Reply, WorldFault>
         requires { worker < length self.old.workers }
         ensures { Does TakesMemory (worker_outcome self.old worker work) self.old result self.new }
@@ -279,7 +279,7 @@ impl Machine {
         }
     }
 
-    /// The worker reads from the publication of this number.
+    /// The worker reads from the publication with this number.
     fn read(&mut self, worker: u8, clock: u64, number: u64) -> Result<Reply, WorldFault>
         requires { worker < length self.old.workers }
         ensures { Does TakesMemory (worker_outcome self.old worker (WorkerAction.Read clock number)) self.old result self.new }
@@ -303,8 +303,7 @@ impl Machine {
         Ok(Reply::Read(reading))
     }
 
-    /// The publication of this number, or None where it is not there, or older than one that the worker has read
-    /// from.
+    /// The publication with this number. None if there is no such one, or if the worker has read from a later one.
     fn readable(&self, worker: u8, publication: u64) -> Option<FusedSpan>
         requires { worker < length self.now.workers }
         ensures value { result ≡ readable_on self.now worker publication }
@@ -334,7 +333,7 @@ impl Machine {
         Reply::Arrived
     }
 
-    /// The worker stamps its task by its last reading since it was asked for it.
+    /// The worker stamps its task by its last reading after it was asked for the commit.
     fn stamp(&mut self, worker: u8) -> Result<Reply, WorldFault>
         requires { worker < length self.old.workers }
         ensures { Does TakesMemory (worker_outcome self.old worker WorkerAction.Stamp) self.old result self.new }
@@ -376,7 +375,7 @@ impl Machine {
         }
     }
 
-    /// The worker releases with its last reading.
+    /// The worker releases by its last reading.
     fn release(&mut self, alloc: Global, worker: u8) -> Result<Reply, WorldFault>
         requires { worker < length self.old.workers }
         ensures { Does TakesMemory (worker_outcome self.old worker WorkerAction.Release) self.old result self.new }
@@ -393,7 +392,7 @@ impl Machine {
     }
 }
 
-/// Adds the receipts of these entries, for which there is room.
+/// Adds the receipts of these entries. Memory for them has been taken.
 fn copy_receipts(entries: &[Entry], receipts: &mut Vec<Receipt>)
     requires { vec_len receipts.old + length entries.now ≤ vec_capacity receipts.old }
     ensures { (passed : List Receipt) → entries.now ≡ map (λ receipt. Entry.Passed receipt) passed →

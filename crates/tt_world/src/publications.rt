@@ -2,8 +2,8 @@
 
 use tt_daemon::Fused;
 
-/// A publication with all that was fused: which machine made it, in which of its lives, its number among those of this
-/// life, counted from 1, and the fusion with its certificate.
+/// A publication as it is shown: the machine that made it, the number of that life, its number among the publications
+/// of the life, counted from 1, and the fusion with its spans and its certificate.
 #[derive(Debug, Drop)]
 pub struct Shown {
     pub machine: u8,

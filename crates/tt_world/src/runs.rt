@@ -53,21 +53,21 @@ impl Trace {
     }
 }
 
-/// Runs a list of events on these machines, from the beginning, and answers the replies and what was published.
-/// Every list is taken; bad events are replied to with their numbers. Refuses by 1207 `Machines` where there is no
-/// machine, or more than eight, and by 1 `Memory` where memory was refused; there is no trace then.
+/// Runs a list of events on these machines, from the beginning, and answers the replies and what was published. Every
+/// list is taken: the reply to a bad event is its number. Refuses with 1207 `Machines` if there is no machine, or more
+/// than eight, and with 1 `Memory` if it is out of memory; there is no trace then.
 pub fn run(alloc: Global, configs: &[Config], events: &[Event]) -> Result<Trace, WorldFault>
     // The reply to each event is the one that is defined by searching back over the events before it.
     ensures replies { IfOk result (λ trace. trace.replies ≡ replies_from configs.now [] events.now) }
 
-    // Every reading holds the true time of its event, while at most f sources of each machine are faulty, and its
+    // Every reading holds the true time of its event, as long as at most f sources of each machine are faulty and its
     // clock keeps the drift bound.
     ensures readings_hold { IfOk result (λ trace. ReadingsHold configs.now events.now trace.replies) }
 
     // Every fused interval is the shortest that is right whichever sources lie. Nothing is assumed.
     ensures fusions_are_shortest { IfOk result (λ trace. FusionsAreShortest configs.now events.now trace.replies) }
 
-    // Under the assumptions no fusion is refused at which enough sources are known.
+    // Under the assumptions no fusion is refused if enough sources are known.
     ensures no_fusion_refused { IfOk result (λ trace. NoFusionRefused configs.now events.now trace.replies) }
 
     // Every stamp is the least that its rules allow. Nothing is assumed.
@@ -106,8 +106,8 @@ pub fn run(alloc: Global, configs: &[Config], events: &[Event]) -> Result<Trace,
     })
 }
 
-/// What the definitions of a run give for every list of events, without a call that runs it: what [`run`] says of its
-/// replies is said here of the replies that are defined, so none of it waits for memory.
+/// Laws of the definitions, for every list of events. What [`run`] says of its replies, these say of the defined
+/// replies, so they hold without a call, and without memory for one.
 pub fn run_laws()
     // Under the assumptions every reading holds the true time, and a commit that is released before another arrives
     // has the smaller stamp, as `run` says of its own replies.
@@ -116,7 +116,7 @@ pub fn run_laws()
     ensures externally_consistent { (configs : List Configuration) (events : List Event) → AreConfigurations configs → AreEvents events →
         ExternallyConsistent configs events (replies_from configs [] events) }
 
-    // Under the assumptions no fusion is refused at which enough sources are known.
+    // Under the assumptions no fusion is refused if enough sources are known.
     ensures no_fusion_refused { (configs : List Configuration) (events : List Event) → AreConfigurations configs → AreEvents events →
         NoFusionRefused configs events (replies_from configs [] events) }
 
@@ -130,19 +130,19 @@ pub fn run_laws()
     ensures stamps_in_leases { (configs : List Configuration) (events : List Event) → StampsInLeases configs events (replies_from configs [] events) }
     ensures leases_keep_apart { (configs : List Configuration) (events : List Event) → LeasesKeepStampsApart configs events (replies_from configs [] events) }
 
-    // A list of events keeps the assumptions exactly where none of them breaks one.
+    // A list of events keeps the assumptions exactly if none of them breaks one.
     ensures breaches { (configs : List Configuration) (past : List Event) → MeetsAssumptions configs past ↔ NoBreach configs past }
 
-    // An event is accepted exactly where its reply is no number of 1201 to 1208.
+    // An event is accepted exactly if its reply is not a number from 1201 to 1208.
     ensures accepted { (configs : List Configuration) (past : List Event) (event : Event) →
         (first_bad configs (accepted configs past) event ≡ None) ↔ (¬ IsBadReply (reply_of configs past event)) }
 
-    // The reply is `Taken` exactly where the event makes a statement.
+    // The reply is `Taken` exactly if the event makes a statement.
     ensures taken { (configs : List Configuration) (past : List Event) (event : Event) →
         (reply_of configs past event ≡ Reply.Taken) ↔ MakesStatement configs past event }
 
-    // The book of each machine is a legal history: each commit was queued where it might be, and each receipt was the
-    // next one. So a commit waits there when it was queued and no later receipt names it.
+    // The book of each machine is a legal history: each commit was queued when that was allowed, and each receipt was
+    // the next one. So a commit is pending if it was queued and no later receipt names it.
     ensures legal_books { (configs : List Configuration) (past : List Event) (life : Life) →
         IsLegalHistory (book_of (config_at configs life.machine) (accepted configs past) life) }
 {}

@@ -1,4 +1,4 @@
-//! What is kept of a worker.
+//! The state of a worker.
 
 ghost use Rattle.std.specs.Prelude.{◌≡◌};
 ghost use Rattle.tt_world.specs.Private.Step.{new_worker};
@@ -6,7 +6,7 @@ ghost use Rattle.tt_world.specs.Private.Step.{new_worker};
 use tt_publish::Reading;
 use tt_stamp::Id;
 
-/// A commit that a worker was asked for: which one, and the least that its stamp may be, in nanoseconds.
+/// A commit that a worker was asked for: its id, and its floor, the least that its stamp may be, in nanoseconds.
 #[derive(Clone, Copy, Debug, PartialEq, Eq)]
 pub struct Arrival {
     pub id: Id,
@@ -22,8 +22,8 @@ pub enum Task {
     Stamped { id: Id, stamp: u64 },
 }
 
-/// A worker: the number of the last publication that it read from, 0 before the first, its task, its last reading,
-/// and that reading again if it is later than the last commit that the worker was asked for.
+/// A worker: the number of the last publication that it read from (0 before the first), its task, its last reading, and
+/// this reading again if it was taken after the last commit that the worker was asked for.
 #[derive(Clone, Copy, Debug, Default)]
 pub struct Worker {
     pub seen: u64,

@@ -26,10 +26,10 @@ use tt_daemon::Config;
 use tt_poll::Request2;
 use tt_span::{MAX_TIME, Span};
 
-/// How many machines a run has at most.
+/// The most machines of a run.
 pub const MAX_MACHINES: usize = 8;
 
-/// A run of up to eight machines, as far as it has come: the last true time, the packets that were sent, the machines,
+/// A run of up to eight machines after the events so far: the last true time, the packets that were sent, the machines,
 /// and what they have published.
 #[derive(Drop)]
 pub struct World {
@@ -145,7 +145,7 @@ impl World {
         Ok(reply)
     }
 
-    /// The source that a request asks answers it.
+    /// The source answers a request that asks it.
     fn answer(&mut self, at: u64, packet: u64, span: Span) -> Result<Reply, WorldFault>
         ensures { Does TakesMemory (answer_on self.old at (answer_to (slice_get self.old.packets packet) span)) self.old result self.new }
     {
@@ -159,7 +159,7 @@ impl World {
         Ok(Reply::Put(number))
     }
 
-    /// A packet that is no request reaches its machine.
+    /// A packet that is not a request reaches its machine.
     fn deliver(&mut self, at: u64, packet: u64, clock: u64) -> Result<Reply, WorldFault>
         ensures { Does TakesMemory (deliver_on self.old at clock (slice_get self.old.packets packet)) self.old result self.new }
     {
@@ -181,7 +181,7 @@ impl World {
         Ok(reply)
     }
 
-    /// What an event makes, or why it is bad.
+    /// Does what an event says, or answers why it is bad.
     fn act(&mut self, event: &Event) -> Result<Reply, WorldFault>
         ensures does { Does (WantsMemory event.now.action) (event_outcome self.old event.now) self.old result self.new }
         ensures room { OnOk result (HasRoom self.old event.now.action) }
@@ -262,8 +262,8 @@ impl World {
         }
     }
 
-    /// The world of these machines, before anything has happened. Refuses by 1207 `Machines` where there is no
-    /// machine, or more than [`MAX_MACHINES`], and by 1 `Memory` where memory was refused.
+    /// The world of these machines, before anything has happened. Refuses with 1207 `Machines` if there is no machine,
+    /// or more than [`MAX_MACHINES`], and with 1 `Memory` if it is out of memory.
     pub fn new(alloc: Global, configs: &[Config]) -> Result<World, WorldFault>
         ensures stands { IfOk result (λ world. StandsFor configs.now [] world) }
         ensures valid { IfOk result (λ _. AreConfigurations configs.now) }
@@ -286,18 +286,21 @@ impl World {
         })
     }
 
-    /// What an event makes, and the reply to it. Every event is taken: one that is bad is replied to with its
-    /// number, the first that applies of 1201 `TimeBack`, 1206 `UnknownNumber`, 1203 `NoPacket`, 1202 `ClockBack`,
-    /// 1204 `NoPublication`, 1205 `NothingThere` and 1208 `LivesUsedUp`, and changes nothing. A reply with a number of a lower crate moves
-    /// the true time and, where the event reads it, the machine's clock alone. Refuses by 1 `Memory` where memory was
-    /// refused, for events alone that are not bad; the world is then as before.
+    /// Does what an event says, and answers the reply to it. Every event is taken.
+    ///
+    /// A bad event changes nothing. The reply to it is the first number that applies of 1201 `TimeBack`, 1206
+    /// `UnknownNumber`, 1203 `NoPacket`, 1202 `ClockBack`, 1204 `NoPublication`, 1205 `NothingThere` and 1208
+    /// `LivesUsedUp`. If the reply is the number of a lower crate, only the true time moves and, if the event reads it,
+    /// the machine's clock. Refuses with 1 `Memory` if it is out of memory, and never for a bad event; the world is
+    /// then as before.
     pub fn step(&mut self, event: &Event) -> Result<Reply, WorldFault>
-        // Of every run that the world stands for, this is the next reply, and the world stands for the longer run.
+        // For every run that the world stands for, this is the next reply, and the world then stands for the longer
+        // run.
         ensures reply { IfOk result (λ reply. (configs : List Configuration) (past : List Event) → StandsFor configs past self.old →
             (reply ≡ reply_of configs past event.now) × StandsFor configs (event.now ∷ past) self.new) }
         ensures memory { IfErr result (λ e. e ≡ WorldFault.Memory) }
-        // Memory is taken only where the reply would be that something was sent, put, published, queued or released: an
-        // event that is refused has its number even then.
+        // Memory is taken only if the reply would be that something was sent, put, published, queued or released. So an
+        // event that is refused gets its number also when no memory is left.
         ensures memory_only { OnErr result ((configs : List Configuration) (past : List Event) → StandsFor configs past self.old →
             TakesMemory (reply_of configs past event.now)) }
         ensures unchanged { OnErr result (self.new ≡ self.old) }
@@ -308,8 +311,8 @@ impl World {
         }
     }
 
-    /// Whether the source has made a statement to the machine: the machine has taken an answer from it. False where
-    /// there is no such machine, or it asks no such source. It takes no memory.
+    /// Whether the source has made a statement to the machine: the machine has taken an answer from it. False if there
+    /// is no such machine, or if it has no such source. It takes no memory.
     pub fn is_known(&self, machine: u8, source: u8) -> bool
         ensures value { (configs : List Configuration) (past : List Event) → StandsFor configs past self.now →
             result ≡ knows configs (accepted configs past) machine source }
