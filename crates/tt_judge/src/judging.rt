@@ -11,8 +11,8 @@ use crate::history::Commit;
 use crate::order::{Moment, in_order};
 use std::alloc::{AllocError, Global};
 
-/// A commit whose stamp is not above that of another, which ended before it began. Both are numbers of commits,
-/// counted from 0.
+/// A commit whose stamp is not above the stamp of another one, which ended before it began. Both are numbers of
+/// commits, counted from 0.
 #[derive(Clone, Copy, Debug, PartialEq, Eq)]
 pub struct Violation {
     pub later: usize,
@@ -24,7 +24,7 @@ pub struct Violation {
 pub struct Judgement {
     /// How many commits there are.
     pub commits: usize,
-    /// How many of them have a stamp that is not above that of some commit that ended before they began.
+    /// How many of them are violated: their stamp is not above the stamp of some commit that ended before they began.
     pub violations: usize,
     /// The first of these in the order in which they began, if there is one.
     pub first: Option<Violation>,

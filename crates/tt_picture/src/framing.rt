@@ -114,8 +114,8 @@ fn push_lane_title(
     )
 }
 
-/// Writes the title of a machine of so many sources, of which so many may lie, with a clock of this drift, at the end
-/// of the text.
+/// Writes the title of a machine at the end of the text: how many sources it has, how many of them may lie, and the
+/// drift of its clock.
 fn push_set_up(
     alloc: Global,
     text: &mut String,

@@ -228,7 +228,7 @@ pub(crate) fn limit_at(table: &Table, key: &str) -> Result<u32, ScriptFault>
     }
 }
 
-/// The lease. An end that is not given is that of the whole of time.
+/// The lease. If an end is not given, it is 0 or the greatest time.
 fn lease_in(table: &Table) -> Result<Span, ScriptFault>
     ensures { result ≡ lease_in (table_view table.now) }
 {

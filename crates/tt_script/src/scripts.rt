@@ -34,7 +34,7 @@ impl Model for Script {
 }
 
 impl Script {
-    /// The configurations of the machines, from one to eight. The first is that of machine 0.
+    /// The configurations of the machines, from one to eight. The first is the configuration of machine 0.
     pub fn configs(&self) -> &[Config]
         ensures value { result.now ≡ self.now.configs }
         ensures some { 0 < length result.now }

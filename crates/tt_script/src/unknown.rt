@@ -134,7 +134,7 @@ fn names_number(keys: &[(&str, u64)], key: &str) -> bool {
     false
 }
 
-/// Adds the keys of the part for a run in threads that no rule names, and those of its masters.
+/// Adds the keys of the part for a run in threads that no rule names, and such keys of its masters.
 fn unknown_of_live(
     found: &mut Vec<String>,
     alloc: Global,

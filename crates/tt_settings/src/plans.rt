@@ -92,7 +92,7 @@ pub(crate) fn pauses_in(table: &Table) -> Result<Pauses, SettingsFault>
     })
 }
 
-/// The lease. An end that is not given is that of the whole of time.
+/// The lease. If an end is not given, it is 0 or the greatest time.
 pub(crate) fn lease_in(table: &Table) -> Result<Span, SettingsFault>
     ensures { result ≡ lease_in (table_view table.now) }
 {

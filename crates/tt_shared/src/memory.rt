@@ -31,7 +31,7 @@ impl Model for MemoryPlace {
     ghost view = { λ m. record { bytes = m.bytes; fails_at = m.fails_at; calls = m.calls; failures = m.failures } };
 }
 
-/// Whether so many bytes from `offset` on reach past the end of the file.
+/// Whether `len` bytes from `offset` on reach past the end of the file.
 fn reaches_past(offset: u64, len: usize) -> bool
     ensures { result ≡ nat_lt 192 (offset + len) }
 {

@@ -99,8 +99,7 @@ impl<P> SharedReader<P> {
 
 impl<P: ReadPlace> SharedReader<P> {
     /// The reading of the last publication. It copies the slot until the looks at the index before and after the copy
-    /// show the same. Then it reads the clock. So the clock reading is not below that of the publication, if the clock
-    /// does not go back.
+    /// show the same. Then it reads the clock. So the publication was made before the clock was read.
     ///
     /// Refuses, in this order: 801 `Nothing` where nothing was published, 1701 `CannotOpen` where the file could not be
     /// read, 1704 `Contended` where each of 1,000 tries met another publication, 1703 `BadSlot` where no daemon wrote

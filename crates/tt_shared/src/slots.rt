@@ -88,7 +88,7 @@ fn drift_at(bytes: &[u8]) -> Result<Drift, SharedFault>
     Drift::new(number as u32).ok_or(SharedFault::BadSlot)
 }
 
-/// What the bytes of a slot say, if the slot is that of `index`.
+/// What the bytes of a slot say, if they are the slot of `index`.
 #[tactic(auto, unfolding(crate::specs::Reading::read_of))]
 fn slot_at(index: u64, bytes: &[u8]) -> Result<SharedSpan, SharedFault>
     ensures { result ≡ read_of index bytes.now }
@@ -110,7 +110,7 @@ fn slot_at(index: u64, bytes: &[u8]) -> Result<SharedSpan, SharedFault>
     })
 }
 
-/// The publication in these bytes of a slot. Refuses with 1703 `BadSlot` where the slot is not that of `index`, or one
+/// The publication in these bytes of a slot. Refuses with 1703 `BadSlot` where they are not the slot of `index`, or one
 /// of its numbers is out of range.
 pub fn decode(index: u64, bytes: &[u8]) -> Result<SharedSpan, SharedFault>
     // If a publication is read, the bytes are its slot, each of them.
