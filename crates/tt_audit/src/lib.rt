@@ -2,9 +2,8 @@
 //! which its readings and its commits are right.
 //!
 //! - [`audit`] judges a run by its events and its trace, and answers a [`Report`]: its counts, its suspects and the
-//!   first
-//! event that breaks the assumptions are exact. If no event breaks them, no reading is wrong and no commit is out of
-//! order. [`report_text`] writes the report.
+//!   first event that breaks the assumptions are exact. If no event breaks them, no reading is wrong and no commit is
+//!   out of order. [`report_text`] writes the report.
 //! - [`audit_live`] judges the readings of a live service by a reference.
 //!
 //! ```text
@@ -21,8 +20,8 @@
 //! - `counting`: counts over the replies.
 //! - `suspecting`: the suspects of all publications.
 //! - `ordering`: commits out of order.
-//! - `watching`: the first event that breaks the assumptions. It uses `packets`, for where each packet goes and
-//! whether it lies, and `paces`, for the drift of each clock.
+//! - `watching`: the first event that breaks the assumptions. It uses `packets`, for where each packet goes and whether
+//!   it lies, and `paces`, for the drift of each clock.
 //! - `live`: readings of a live service.
 //! - `faults`: why there is no report.
 #![tactic(auto)]

@@ -65,15 +65,14 @@ impl Script {
 ///
 /// - 1301 `NotToml`: the text is not TOML.
 /// - Of the machines, in their order, and of the keys of each in the order `sources`, `faulty`, `workers`, `drift`:
-/// 1302 `MissingKey` where there is no machine or a key is absent, 1303 `WrongValue` where `machine` is not an array of
-/// tables, has more than eight, or a key has a value of another type or out of range; and behind the keys of a machine,
-/// 1303 where no machine can have this configuration.
+///   1302 `MissingKey` where there is no machine or a key is absent, 1303 `WrongValue` where `machine` is not an array
+///   of tables, has more than eight, or a key has a value of another type or out of range; and behind the keys of a
+///   machine, 1303 where no machine can have this configuration.
 /// - 1303 where `event` is not an array of tables, then 1305 `TooManyEvents` above [`MAX_EVENTS`](crate::MAX_EVENTS).
 /// - Of the events, in their order: 1302 and 1303 for `do`, 1304 `UnknownStep` where it is not the word of an event,
-///   then
-/// 1302 and 1303 for the keys of that word, in their order.
+///   then 1302 and 1303 for the keys of that word, in their order.
 /// - Of the part `live`: 1303 where it is not a table, then 1302 and 1303 for its keys in the order `base`, `rounds`,
-/// `turns`, `masters` (of each master `uncertainty`, then `acts`), `sessions`, `lease_lo`, `lease_hi`.
+///   `turns`, `masters` (of each master `uncertainty`, then `acts`), `sessions`, `lease_lo`, `lease_hi`.
 ///
 /// In place of each of these it may refuse with 1 `Memory`, if it is out of memory. Keys with other names are ignored,
 /// whatever they hold.
