@@ -14,10 +14,9 @@ use std::alloc::{AllocError, Global};
 use tt_daemon::Config;
 use tt_world::{Event, Trace, run_laws};
 
-/// Judges a run: what was counted, the suspects of each publication, and the first event that breaks the assumptions.
-/// Where none does, no reading is wrong and no commit is out of order. Requires: the trace is what
-/// [`run`](tt_world::run) gives for these events on these machines. Refuses with 1 `Memory` where an allocation fails,
-/// and never else.
+/// Judges a run: its counts, the suspects of each publication, and the first event that breaks the assumptions. If none
+/// does, no reading is wrong and no commit is out of order. Requires: the trace is what [`run`](tt_world::run) gives
+/// for these events on these machines. Refuses with 1 `Memory` if it is out of memory, and with nothing else.
 pub fn audit(
     alloc: Global,
     configs: &[Config],
@@ -29,7 +28,7 @@ pub fn audit(
     // The counts, the suspects of each publication, and the first event that breaks the assumptions, all exact.
     ensures report { IfOk result (IsReportOf configs.now events.now trace.now) }
 
-    // Where the assumptions were kept, every reading holds the true time, and every commit is in order.
+    // If the assumptions were kept, every reading holds the true time, and every commit is in order.
     ensures kept { IfOk result (λ report. report.broken ≡ None → (report.wrong ≡ 0) × (report.violations ≡ 0)) }
 
     ensures memory { IfErr result (λ fault. fault ≡ AuditFault.Memory) }
@@ -37,7 +36,7 @@ pub fn audit(
     audit_in(alloc, configs, events, trace).map_err(|_error| AuditFault::Memory)
 }
 
-/// The report, unless an allocation fails.
+/// The report, unless it is out of memory.
 fn audit_in(
     alloc: Global,
     configs: &[Config],

@@ -1,4 +1,4 @@
-//! What is counted over the replies of a run.
+//! Counts over the replies of a run.
 
 ghost use Rattle.std.specs.Prelude.{◌≡◌, ◌<◌, ◌^◌, length, count_by, sum_by};
 ghost use Rattle.std.specs.List.{zip};
@@ -17,7 +17,7 @@ pub fn refusals(replies: &[Reply]) -> usize
         .count()
 }
 
-/// How many replies tell of a publication.
+/// How many replies are publications.
 pub fn publications(replies: &[Reply]) -> usize
     ensures { result ≡ count_by is_publication replies.now }
 {

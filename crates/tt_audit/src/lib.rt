@@ -1,21 +1,27 @@
-//! Judges runs of the model: what was counted, which sources the publications speak against, and whether the run kept
-//! the assumptions under which its readings and its commits are right.
+//! Judges runs of the model: counts, the suspects of each publication, and whether the run kept the assumptions under
+//! which its readings and its commits are right.
 //!
-//! - [`audit`] judges a run by its events and its trace, and answers a [`Report`]: its counts, its suspects and the first
-//!   event that breaks the assumptions are exact, and where none does, no reading is wrong and no commit is out of
-//!   order. [`report_text`] writes it.
+//! - [`audit`] judges a run by its events and its trace, and answers a [`Report`]: its counts, its suspects and the
+//!   first event that breaks the assumptions are exact. If no event breaks them, no reading is wrong and no commit is
+//!   out of order. [`report_text`] writes the report.
 //! - [`audit_live`] judges the readings of a live service by a reference.
 //!
-//! Each event costs the same however many came before, but for a fusion, which costs its sources.
+//! ```text
+//! let trace = run(alloc, &configs, &events)?;
+//! let report = audit(alloc, &configs, &events, &trace)?;
+//! // if report.broken is None, report.wrong and report.violations are 0
+//! ```
+//!
+//! The cost of an event does not depend on how many came before. A fusion costs in addition its sources.
 //!
 //! Modules:
 //!
-//! - `audits`: a whole audit. `reports`: what it answers. `writing`: that as text.
-//! - `counting`: what is counted over the replies.
+//! - `audits`: a whole audit. `reports`: its report. `writing`: the report as text.
+//! - `counting`: counts over the replies.
 //! - `suspecting`: the suspects of all publications.
 //! - `ordering`: commits out of order.
-//! - `watching`: the first event that breaks the assumptions, by `packets`, which says of each packet where it goes and
-//!   whether it lies, and `paces`, which says of each clock how it went.
+//! - `watching`: the first event that breaks the assumptions. It uses `packets`, for where each packet goes and whether
+//!   it lies, and `paces`, for the drift of each clock.
 //! - `live`: readings of a live service.
 //! - `faults`: why there is no report.
 #![tactic(auto)]

@@ -7,7 +7,7 @@ ghost use Rattle.tt_audit.specs.Live.{HoldsSomeTime, holds_some_time};
 
 use tt_publish::Reading;
 
-/// A reading, and the reference time, in nanoseconds, just before and just after it was made.
+/// A reading, and the times of a reference, in nanoseconds, just before and just after it was taken.
 #[derive(Clone, Copy, Debug)]
 pub struct LiveNote {
     pub before: u64,
@@ -15,7 +15,8 @@ pub struct LiveNote {
     pub reading: Reading,
 }
 
-/// How many readings were judged, and how many of them hold no time from the first reference time to the second.
+/// How many readings were judged, and how many of them were wrong: they hold no time from the first reference time to
+/// the second.
 #[derive(Clone, Copy, Debug, PartialEq, Eq)]
 pub struct LiveReport {
     pub readings: u64,
@@ -23,8 +24,8 @@ pub struct LiveReport {
 }
 
 impl LiveNote {
-    /// Whether some time from `before` to `after` lies in the reading. Where `after` is below `before`, no time lies
-    /// between, and none does.
+    /// Whether some time from `before` to `after` lies in the reading. False if `after` is below `before`: then no time
+    /// lies between.
     pub fn is_right(&self) -> bool
         ensures { result ≡ holds_some_time self.now }
     {
@@ -34,7 +35,7 @@ impl LiveNote {
     }
 }
 
-/// Counts the notes, and those that are wrong: whose reading holds no time from the first reference time to the second.
+/// Counts the notes, and the wrong ones: their readings hold no time from the first reference time to the second.
 pub fn audit_live(notes: &[LiveNote]) -> LiveReport
     ensures readings { result.readings ≡ length notes.now }
     ensures wrong { result.wrong ≡ count_by (λ note. not (holds_some_time note)) notes.now }
@@ -46,7 +47,8 @@ pub fn audit_live(notes: &[LiveNote]) -> LiveReport
     }
 }
 
-/// A note is judged right exactly where some time from its first to its second reference time lies in its reading.
+/// A law of notes: one is judged right exactly if some time from its first to its second reference time lies in its
+/// reading.
 pub fn live_laws()
     ensures right { (note : LiveNote) → IsInterval note.reading → IsTrue (holds_some_time note) ↔ HoldsSomeTime note }
 {}

@@ -25,8 +25,8 @@ pub struct Stamping {
     pub stamp: u64,
 }
 
-/// The greatest stamp that was released so far, on whatever machine, and for each worker the greatest by the time it
-/// was last asked for a commit.
+/// The greatest stamp that was released so far, on whatever machine, and for each worker the greatest one that was
+/// released before the worker was last asked for a commit.
 #[derive(Drop)]
 pub struct Order {
     released: Option<u64>,
@@ -52,7 +52,7 @@ impl Order {
         }
     }
 
-    /// Adds an event and the reply to it, and tells whether they give a stamp that is out of order.
+    /// Adds an event and its reply, and tells whether they give a stamp that is out of order.
     pub fn note(&mut self, event: &Event, reply: &Reply) -> bool
         requires { IsPlaced event.now.action reply.now }
         ensures keeps { (past : List Answered) → KeepsOrder past self.old →
@@ -151,8 +151,8 @@ fn highest(before: Option<u64>, receipts: &[Receipt]) -> Option<u64>
     so_far
 }
 
-/// How many stamps were no greater than that of a commit that was released before theirs arrived. Requires: the
-/// workers that the events ask and stamp for are there, and each event has its reply.
+/// How many commits are out of order: another commit with the same or a greater stamp was released before they arrived.
+/// Requires: the workers of the events that ask for commits and stamp them are there, and each event has its reply.
 pub fn violations(events: &[Event], replies: &[Reply]) -> usize
     requires long { length replies.now ≡ length events.now }
     requires placed { (k : ℕ) (event : Event) (reply : Reply) → slice_get events.now k ≡ Some event → slice_get replies.now k ≡ Some reply →

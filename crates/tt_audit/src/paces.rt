@@ -1,4 +1,4 @@
-//! How a clock went in one life of its machine.
+//! The drift of a clock in one life of its machine.
 
 ghost use Rattle.std.specs.Prelude.{◌≡◌, ◌≤◌, ◌<◌, ◌^◌};
 ghost use Rattle.tt_span.specs.Time.{max_time};
@@ -6,12 +6,12 @@ ghost use Rattle.tt_audit.specs.Pace.{pace_after, is_in_pace, slow_mark as slow_
 
 use tt_span::MAX_TIME;
 
-/// How many millionths a whole has. A widening is a number of millionths of the time between two moments, rounded up.
+/// A million. A widening is a number of millionths of the time between two moments, rounded up.
 const MILLION: u128 = 1_000_000;
 
-/// What is kept of the moments of a clock, to tell whether a later one breaks the drift bound with any of them: the
-/// greatest of two marks of each moment. A moment breaks the bound exactly where one of its own marks is below the
-/// greatest by a million or more.
+/// What is kept of the moments of a clock, to tell whether a later one breaks the drift bound with any of them. Each
+/// moment has two marks, and the greatest of each is kept. A moment breaks the bound exactly if one of its marks is
+/// below the greatest by a million or more.
 #[derive(Clone, Copy, Debug, PartialEq, Eq)]
 pub struct Pace {
     pub slow: u128,
@@ -26,8 +26,8 @@ impl Pace {
         Pace { slow: 0, fast: 0 }
     }
 
-    /// Whether a moment, at which the clock showed this at this true time, keeps the drift bound, in parts per
-    /// million, with each of those seen.
+    /// Whether a moment keeps the drift bound with each moment that was seen. At the moment the clock showed `clock` at
+    /// the true time `at`, both in nanoseconds; `ppm` is the bound, in parts per million.
     pub fn keeps(&self, ppm: u32, clock: u64, at: u64) -> bool
         requires drift { ppm ≤ 1000000 }
         requires clock { clock ≤ max_time }
@@ -38,7 +38,7 @@ impl Pace {
             && self.fast < fast_mark(ppm, clock, at) + MILLION
     }
 
-    /// What is kept once this moment was seen too.
+    /// What is kept after this moment was seen too.
     pub fn with(&self, ppm: u32, clock: u64, at: u64) -> Pace
         requires drift { ppm ≤ 1000000 }
         requires clock { clock ≤ max_time }
@@ -52,7 +52,7 @@ impl Pace {
     }
 }
 
-/// The mark that a clock which is too slow falls below.
+/// The mark that becomes too low if the clock is too slow.
 fn slow_mark(ppm: u32, clock: u64, at: u64) -> u128
     requires drift { ppm ≤ 1000000 }
     requires clock { clock ≤ max_time }
@@ -63,7 +63,7 @@ fn slow_mark(ppm: u32, clock: u64, at: u64) -> u128
     (MILLION + u128::from(ppm)) * u128::from(clock) + MILLION * u128::from(MAX_TIME - at)
 }
 
-/// The mark that a clock which is too fast falls below.
+/// The mark that becomes too low if the clock is too fast.
 fn fast_mark(ppm: u32, clock: u64, at: u64) -> u128
     requires drift { ppm ≤ 1000000 }
     requires clock { clock ≤ max_time }

@@ -14,7 +14,7 @@ pub struct Carried {
     pub is_lie: bool,
 }
 
-/// What the clock of a machine shows, in nanoseconds.
+/// A machine, and what its clock shows, in nanoseconds.
 #[derive(Clone, Copy, Debug, PartialEq, Eq)]
 pub struct Tick {
     pub machine: u8,
@@ -64,7 +64,7 @@ pub fn put_by(carried: &[Carried], at: u64, action: &Action) -> Option<Carried>
     }
 }
 
-/// What the clock shows that an action reads, if it reads one.
+/// The clock reading that an action has, with its machine, if it has one.
 pub fn tick_of(carried: &[Carried], action: &Action) -> Option<Tick>
     ensures { result ≡ tick_in carried.now action.now }
 {

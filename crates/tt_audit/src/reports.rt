@@ -3,8 +3,8 @@
 use std::marker::Model;
 use tt_world::Breach;
 
-/// A source that a publication speaks against: its span does not meet the fused one. Machines and sources are counted
-/// from 0, the publications of a machine from 1, over all its lives.
+/// A suspect of a publication: a source whose span does not meet the fused span. Machines and sources are counted from
+/// 0, the publications of a machine from 1, over all its lives.
 #[derive(Clone, Copy, Debug, PartialEq, Eq)]
 pub struct Suspect {
     pub machine: u8,
@@ -19,7 +19,7 @@ pub struct Broken {
     pub breach: Breach,
 }
 
-/// What an audit reports of a run.
+/// The report of an audit of a run.
 #[derive(Debug, Drop)]
 pub struct Report {
     /// How many events there were.
@@ -34,11 +34,12 @@ pub struct Report {
     pub wrong: u64,
     /// How many commits were released.
     pub released: u64,
-    /// How many stamps were no greater than that of a commit that was released before theirs arrived.
+    /// How many commits are out of order: another commit with the same or a greater stamp was released before they
+    /// arrived.
     pub violations: u64,
     /// The suspects of each publication, ascending; publications in the order of their events.
     pub suspects: Vec<Suspect>,
-    /// The first event that breaks the assumptions, or None where they were kept.
+    /// The first event that breaks the assumptions, or None if they were kept.
     pub broken: Option<Broken>,
 }
 

@@ -10,8 +10,8 @@ use std::alloc::{AllocError, Global};
 use tt_fuse::suspects;
 use tt_world::Shown;
 
-/// The suspects of the publications, in their order: of each, the sources whose span does not meet its fused span,
-/// ascending, with the publication's number over all lives of its machine.
+/// The suspects of the publications, in the order of these: for each, the sources whose span does not meet its fused
+/// span, ascending, with the number of the publication over all lives of its machine.
 pub(crate) fn all_suspects(alloc: Global, shown: &[Shown]) -> Result<Vec<Suspect>, AllocError>
     ensures { IfOk result (λ v. AreAllSuspects [] (map outline shown.now) v.items) }
 {

@@ -17,7 +17,7 @@ use tt_fuse::MAX_SOURCES;
 use tt_world::{Action, Breach, Event, MAX_MACHINES, Reply};
 
 /// What is kept of the packets that were put, and of each machine in its life: which of its statements are false, and
-/// how its clock went.
+/// the marks of its clock.
 #[derive(Drop)]
 pub struct Watcher {
     carried: Vec<Carried>,
@@ -88,7 +88,8 @@ impl Watcher {
         }
     }
 
-    /// Keeps a tick, if there is one, at a true time, and answers the clock that breaks its drift bound by it.
+    /// Keeps the clock reading of an event at this true time, if it has one, and answers the breach if the clock breaks
+    /// its drift bound by it.
     fn tick(&mut self, configs: &[Config], at: u64, tick: &Option<Tick>) -> Option<Breach>
         requires few { length configs.now ≤ 8 }
         requires time { at ≤ max_time }
@@ -112,7 +113,7 @@ impl Watcher {
         }
     }
 
-    /// Keeps whether a packet lies, if one was taken, as its source's statement.
+    /// If a packet was taken, keeps whether it lies, as the statement of its source.
     fn take(&mut self, taken: &Option<Carried>)
         requires { IfSome taken.now IsRoute }
         ensures { self.new ≡ record self.old { lies = lies_taken self.old.lies taken.now } }
@@ -143,7 +144,7 @@ impl Watcher {
     }
 }
 
-/// How many of the first so many statements are false.
+/// How many of the first `sources` statements are false.
 fn false_among(lies: &[bool], sources: usize) -> usize
     ensures { result ≡ count_by (λ lie. lie) (take sources lies.now) }
 {
@@ -160,7 +161,7 @@ fn is_bad(reply: &Reply) -> bool
     }
 }
 
-/// The first event that breaks the assumptions, or None where they were kept. Requires: these are the replies to the
+/// The first event that breaks the assumptions, or None if they were kept. Requires: these are the replies to the
 /// events on these machines.
 pub fn first_broken(
     alloc: Global,

@@ -10,10 +10,10 @@ use std::alloc::{AllocError, Global};
 use tt_text::push_line;
 use tt_world::Breach;
 
-/// The text of a report: one line each with `events`, `refused`, `fusions`, `readings`, `wrong`, `released` and
-/// `violations` and its count, a line `suspect MACHINE PUBLICATION SOURCE` for each suspect, and at last
-/// `premise kept`, or `premise broken EVENT MACHINE drift` (or `false`). Refuses with 1 `Memory` where an allocation
-/// fails, and never else.
+/// The text of a report: a line for each of `events`, `refused`, `fusions`, `readings`, `wrong`, `released` and
+/// `violations`, with its count, a line `suspect MACHINE PUBLICATION SOURCE` for each suspect, and at last `premise
+/// kept`, or `premise broken EVENT MACHINE drift` (or `false`). Refuses with 1 `Memory` if it is out of memory, and
+/// with nothing else.
 pub fn report_text(alloc: Global, report: &Report) -> Result<String, AuditFault>
     ensures written { IfOk result (λ text. string_bytes text ≡ report_text_of report.now) }
     ensures memory { IfErr result (λ fault. fault ≡ AuditFault.Memory) }
@@ -21,7 +21,7 @@ pub fn report_text(alloc: Global, report: &Report) -> Result<String, AuditFault>
     text_in(alloc, report).map_err(|_error| AuditFault::Memory)
 }
 
-/// The text, unless an allocation fails.
+/// The text, unless it is out of memory.
 fn text_in(alloc: Global, report: &Report) -> Result<String, AllocError>
     ensures { IfOk result (λ text. string_bytes text ≡ report_text_of report.now) }
 {
@@ -33,7 +33,7 @@ fn text_in(alloc: Global, report: &Report) -> Result<String, AllocError>
     Ok(text)
 }
 
-/// Writes the four lines that say what happened at the end.
+/// Writes four lines at the end: `events`, `refused`, `fusions` and `readings`.
 fn push_happenings(text: &mut String, report: &Report) -> Result<(), AllocError>
     ensures { OnOk result (string_bytes text.new ≡ string_bytes text.old ++ happenings_text report.now) }
 {
@@ -43,7 +43,7 @@ fn push_happenings(text: &mut String, report: &Report) -> Result<(), AllocError>
     push_line(text, "readings", &[report.readings])
 }
 
-/// Writes the three lines that say what came of it at the end.
+/// Writes three lines at the end: `wrong`, `released` and `violations`.
 fn push_outcomes(text: &mut String, report: &Report) -> Result<(), AllocError>
     ensures { OnOk result (string_bytes text.new ≡ string_bytes text.old ++ outcomes_text report.now) }
 {
@@ -68,7 +68,7 @@ fn push_suspects(text: &mut String, suspects: &[Suspect]) -> Result<(), AllocErr
 }
 
 /// Writes the last line of a report at the end of the text: `premise kept`, or `premise broken EVENT MACHINE drift` (or
-/// `false`). Refuses only where an allocation fails; then the text may have a part of the line at its end.
+/// `false`). Refuses only if it is out of memory; then the text may have a part of the line at its end.
 pub fn push_verdict(text: &mut String, broken: &Option<Broken>) -> Result<(), AllocError>
     ensures { OnOk result (string_bytes text.new ≡ string_bytes text.old ++ verdict_line broken.now) }
 {

@@ -7,8 +7,8 @@ use crate::inline_lists::InlineList;
 use arrayvec::ArrayVec;
 use std::marker::Model;
 
-/// A stretch of time from `from` to `to`, both in nanoseconds and in it, and how many sources are said to meet it.
-/// Nothing is promised of the three numbers: `check` judges them.
+/// A stretch of time from `from` to `to`, both in nanoseconds and both in it, and how many sources are said to meet it.
+/// The three numbers may be any: `check` judges them.
 #[derive(Clone, Copy, Debug, Default, PartialEq, Eq)]
 pub struct Stretch {
     pub from: u64,
@@ -16,8 +16,8 @@ pub struct Stretch {
     pub depth: u8,
 }
 
-/// Evidence that a claimed span is the fusion: source numbers for each end of the claim, and stretches of time on
-/// each side of it. Nothing is promised of them: `check` judges them.
+/// Evidence that a claimed span is the fusion: source numbers for each end of the claim, and stretches of time on each
+/// side of it. They may be any: `check` judges them.
 #[derive(Debug, Drop)]
 pub struct Certificate {
     left: InlineList<u8, 16>,

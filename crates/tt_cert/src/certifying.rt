@@ -13,9 +13,9 @@ use crate::sweeping::cut_stretches;
 use tt_fuse::{SortedEnds, fusion_laws};
 use tt_span::{MAX_TIME, Span};
 
-/// The canonical certificate of the fusion of the spans, which is valid. At each end of the claim it names the least
-/// source numbers that serve, ascending. Its stretches are cut wherever the span of a source begins, and just after
-/// where one ends, and nowhere else. Requires: `claim` is what `fuse` answers for these spans.
+/// The canonical certificate of the fusion of the spans. It is valid. For each end of the claim it names the least
+/// numbers of sources that hold this end, ascending. Its stretches are cut where the span of a source begins and just
+/// after a span ends, and nowhere else. Requires: `claim` is what `fuse` answers for these spans.
 pub fn certify(spans: &[Span], faulty: usize, claim: &Span) -> Certificate
     requires fusible { CanBeFused (length spans.now) faulty }
     requires fused { IsFusion spans.now faulty claim.now }
@@ -25,8 +25,8 @@ pub fn certify(spans: &[Span], faulty: usize, claim: &Span) -> Certificate
     certify_by(spans, &SortedEnds::of(spans), faulty, claim)
 }
 
-/// The same, by the ends of the spans in their order, for whoever has them from the fusion. Requires: `claim` is what
-/// `fuse` answers for these spans, and `ends` are their ends.
+/// As [`certify`], for a caller that has the ends of the spans in their order from the fusion. Requires: `claim` is
+/// what `fuse` answers for these spans, and `ends` are their ends.
 pub fn certify_by(spans: &[Span], ends: &SortedEnds, faulty: usize, claim: &Span) -> Certificate
     requires fusible { CanBeFused (length spans.now) faulty }
     requires fused { IsFusion spans.now faulty claim.now }
@@ -50,8 +50,8 @@ pub fn certify_by(spans: &[Span], ends: &SortedEnds, faulty: usize, claim: &Span
     Certificate::of(left, right, below, above)
 }
 
-/// Puts into `found` the `need` least numbers of the sources that hold `time`, ascending, or all of them where they
-/// are fewer.
+/// Puts into `found` the `need` least numbers of the sources that hold `time`, ascending, or all of them if there are
+/// fewer.
 fn name_least_sources(found: &mut InlineList<u8, 16>, spans: &[Span], need: usize, time: u64)
     requires empty { found.old ≡ [] }
     requires few { length spans.now ≤ max_sources }

@@ -16,19 +16,21 @@ use tt_fuse::{check_counts, fusion_laws};
 use tt_span::{MAX_TIME, Span};
 
 /// Whether the certificate proves that the claim is the fusion of the spans when at most `faulty` of the sources are
-/// wrong. It says Ok exactly where the certificate is valid, and then the claim is the fusion; whoever made the
+/// wrong. It says Ok exactly if the certificate is valid, and then the claim is the fusion. The maker of the
 /// certificate need not be trusted.
 ///
-/// A certificate is valid when `left` names all sources but `faulty`, each once, and all of them hold the lower end of
-/// the claim; `right` is such a set for the upper end; the stretches lie side by side, in the order in which they are
-/// written, from 0 to just below the claim and from just above it to [`MAX_TIME`]; and each stretch names the number
-/// of sources that meet it, which is less than all but `faulty`.
+/// With n spans a certificate is valid if
 ///
-/// Refuses with the first of these that is so: 501 `NoSource` where there is no span, 502 `TooMany` where there are
-/// more than 16, 503 `TooFew` where there are fewer than `2 * faulty + 1`, 601 `LeftSet` and 602 `RightSet` where that
-/// set is none, 603 `Cover` where the stretches do not lie so, 604 `TooDeep` where all sources but `faulty` or more
-/// meet a stretch of either side, 605 `Depth` where a stretch names another number than that of the sources that meet
-/// it.
+/// - `left` names n - `faulty` sources, each once, and all of them hold the lower end of the claim,
+/// - `right` is such a set for the upper end,
+/// - the stretches lie side by side, in the order in which they are written, from 0 to just below the claim and from
+///   just above it to [`MAX_TIME`],
+/// - each stretch names the number of sources that meet it, and that is below n - `faulty`.
+///
+/// Refuses, in this order: 501 `NoSource` where there is no span, 502 `TooMany` where there are more than 16, 503
+/// `TooFew` where there are fewer than `2 * faulty + 1`, 601 `LeftSet` and 602 `RightSet` where that set is not such a
+/// set, 603 `Cover` where the stretches do not lie in this way, 604 `TooDeep` where n - `faulty` sources or more meet a
+/// stretch on either side, 605 `Depth` where a stretch names another number of sources than meet it.
 pub fn check(
     spans: &[Span],
     faulty: usize,
@@ -128,7 +130,7 @@ fn depth_verdict(spans: &[Span], need: usize, certificate: &Certificate) -> Resu
     }
 }
 
-/// How many of the spans meet the stretch, counted without a branch, which nothing could foretell.
+/// How many of the spans meet the stretch. It counts without a branch, which no processor could predict.
 fn met_by(spans: &[Span], stretch: &Stretch) -> usize
     ensures { result ≡ meeting spans.now stretch.now }
 {
@@ -159,10 +161,10 @@ fn are_named(spans: &[Span], need: usize, stretches: &[Stretch]) -> Result<bool,
     Ok(named)
 }
 
-/// What a certificate shows.
+/// Laws of certificates.
 ///
-/// Where one is valid, its claim is the fusion. The number that a stretch has to name is that of the spans with which
-/// it has a time in common. Of the same spans and claim no two certificates are canonical.
+/// If a certificate is valid, its claim is the fusion. The number that a stretch has to name counts the spans that have
+/// a time in common with it. For the same spans and claim there is at most one canonical certificate.
 pub fn certificate_laws()
     ensures proves { (spans : List Interval) (f : ℕ) (claim : Interval) (proof : Proof) → IsInterval claim →
         IsCertificate spans f claim proof → IsFusion spans f claim }

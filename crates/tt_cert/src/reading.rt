@@ -16,14 +16,14 @@ use arrayvec::ArrayVec;
 use tt_span::{MAX_TIME, Span};
 use tt_text::{after, line_at};
 
-/// The claim and the certificate that the text spells. Source numbers and stretches keep the order in which they are
-/// written; whether they prove the claim is for `check` to say.
+/// The claim and the certificate of this text. Source numbers and stretches keep the order in which they are written.
+/// `check` says whether they prove the claim.
 ///
 /// The text has the line `claim LO HI`, then a line `left I I ..` and a line `right I I ..` with 1 to 16 source
 /// numbers each, then 0 to 33 lines `below FROM TO DEPTH`, then 0 to 33 lines `above FROM TO DEPTH`. Each line ends
 /// with one line feed, and one space stands before each number. Times are nanoseconds, source numbers and depths are
-/// at most 255. Refuses with 606 `BadText` any other text: a number with a zero in front or above 2^64 - 1, a claim
-/// or a stretch that is no span, a line out of order, a line too many.
+/// at most 255. Refuses any other text with 606 `BadText`: a number with leading zeros or above 2^64 - 1, a claim or a
+/// stretch that is not a span, a line out of order, a line too many.
 pub fn read_text(text: &[u8]) -> Result<(Span, Certificate), CertFault>
     ensures found { IfOk result (λ read. HasText read.0 read.1 × (text.now ≡ text_of read.0 read.1)) }
     ensures only { (claim : Interval) (proof : Proof) → HasText claim proof → text.now ≡ text_of claim proof →
@@ -86,7 +86,7 @@ fn sources_line_at(word: &[u8], text: &[u8], at: usize) -> Option<(ArrayVec<u8, 
     Some((sources, next))
 }
 
-/// The numbers as source numbers, where there are some and each is one.
+/// The numbers as source numbers, if there is at least one and each is at most 255.
 fn sources_of(numbers: &[u64]) -> Option<ArrayVec<u8, 16>>
     requires { length numbers.now ≤ max_sources }
     ensures { MatchOption result (AreSources numbers.now → ⊥) (λ sources. AreSources numbers.now × (sources.items ≡ numbers.now)) }

@@ -14,9 +14,9 @@ use tt_text::push_line;
 
 /// The text of a claim and its certificate, which `read_text` reads: the line `claim LO HI`, a line `left I I ..`,
 /// a line `right I I ..`, a line `below FROM TO DEPTH` for each stretch below the claim, and a line
-/// `above FROM TO DEPTH` for each above it, all in the order in which they are kept. Wherever neither set is empty and
-/// each stretch is a span, what is written is a text that `read_text` takes, and it reads back as the same claim and
-/// certificate. Refuses with 1 `Memory` where memory runs out, and never else.
+/// `above FROM TO DEPTH` for each above it, all in the order of the certificate. If neither set is empty and each
+/// stretch is a span, `read_text` takes this text, and gives the same claim and certificate. Refuses with 1 `Memory` if
+/// it is out of memory, and with nothing else.
 pub fn write_text(
     alloc: Global,
     claim: &Span,
@@ -29,7 +29,7 @@ pub fn write_text(
     text_in(alloc, claim, certificate).map_err(|_error| CertFault::Memory)
 }
 
-/// The text, unless memory runs out.
+/// The text, unless it is out of memory.
 fn text_in(alloc: Global, claim: &Span, certificate: &Certificate) -> Result<String, AllocError>
     ensures written { IfOk result (λ text. string_bytes text ≡ text_of claim.now certificate.now) }
     ensures reads_back { IsReadable certificate.now → OnOk result (HasText claim.now certificate.now) }
@@ -43,7 +43,7 @@ fn text_in(alloc: Global, claim: &Span, certificate: &Certificate) -> Result<Str
     Ok(text)
 }
 
-/// Source numbers as numbers of a line, and that each of them is a byte.
+/// Source numbers as numbers of a line. Each of them is a byte.
 fn widened(sources: &[u8]) -> ArrayVec<u64, 16>
     requires { length sources.now ≤ max_sources }
     ensures same { result.items ≡ sources.now }
@@ -56,7 +56,7 @@ fn widened(sources: &[u8]) -> ArrayVec<u64, 16>
     numbers
 }
 
-/// Writes the line of each stretch at the end, and sees that each depth is a byte.
+/// Writes the line of each stretch at the end. Each depth is a byte.
 fn push_stretches(text: &mut String, word: &str, stretches: &[Stretch]) -> Result<(), AllocError>
     ensures written { OnOk result (string_bytes text.new ≡ string_bytes text.old ++ flat_map (stretch_line word.now) stretches.now) }
     ensures bytes { OnOk result (All (λ s. s.depth ≤ 255) stretches.now) }

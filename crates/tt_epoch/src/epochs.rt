@@ -8,7 +8,7 @@ ghost use Rattle.tt_epoch.specs.Lives.{Lives, answers_of, Rises};
 use crate::faults::EpochFault;
 use crate::stores::{ReadFault, Store};
 
-/// The number of a file: 0 where there is none.
+/// The number in a file, or 0 if there is no file.
 fn last_of(file: Option<u64>) -> u64
     ensures { result ≡ number_of file }
 {
@@ -18,7 +18,7 @@ fn last_of(file: Option<u64>) -> u64
     }
 }
 
-/// One more, if there is such a number.
+/// One more than this number, if it is below 2^64.
 fn after(last: u64) -> Option<u64>
     ensures { MatchOption result (next_of last ≡ Over EpochFault.UsedUp) (λ next. next_of last ≡ Writes next) }
 {
@@ -29,7 +29,7 @@ fn after(last: u64) -> Option<u64>
     }
 }
 
-/// What a start that could not read is refused with.
+/// The refusal of a start that could not read.
 fn unread(fault: &ReadFault) -> EpochFault
     ensures { step_of Reads (gave_as (Err fault.now)) ≡ Over result }
 {
@@ -39,7 +39,7 @@ fn unread(fault: &ReadFault) -> EpochFault
     }
 }
 
-/// Takes the next epoch: one more than the last one that the store has, 1 where it has none. It is answered only once
+/// Takes the next epoch: one more than the last one in the store, or 1 if there is none. It answers the epoch only when
 /// the store has it for good.
 ///
 /// Refuses with 1811 `ReadFailed` where the store can't be read, with 1813 `NotAnEpochFile` where what it holds is
@@ -77,8 +77,8 @@ fn keep<S: Store>(store: &mut S, next: u64) -> Result<u64, EpochFault>
     Ok(next)
 }
 
-/// A law of all lives of a machine: where the store keeps what it has synced, each epoch that is answered is greater
-/// than all that were answered before, whatever ended each life, at whatever moment.
+/// A law of all lives of a machine. If the store keeps what it has synced, each epoch that is answered is greater than
+/// all that were answered before, whatever ended each life, at any moment.
 pub fn epoch_laws()
     ensures rises { (disk : Disk) (lives : List (List Gift)) (k : ℕ) → Bound k disk → Lives disk lives → Rises k (answers_of lives) }
 {}

@@ -8,11 +8,12 @@ use std::fs::{self, DirBuilder, File, Files, OpenFile, OpenOptions};
 use std::io::{self, ErrorKind, Read, Write};
 use std::os::unix::fs::{DirBuilderExt, OpenOptionsExt};
 
-/// No epoch file is longer, in bytes.
+/// The greatest length of an epoch file, in bytes.
 const MAX_LEN: usize = 32;
 
-/// A folder with the file `epoch`, its draft `epoch.new`, and the file `lock`, which is locked as long as the store
-/// lives: so no other process takes an epoch from this folder. Of what the system's calls do nothing is claimed.
+/// A folder with the file `epoch`, its draft `epoch.new`, and the file `lock`. The lock is held as long as the store
+/// lives, so no other process takes an epoch from this folder. Nothing is claimed of what the calls of the operating
+/// system do.
 #[derive(Drop)]
 pub struct FolderStore<'a, R> {
     rt: &'a R,
@@ -23,11 +24,10 @@ pub struct FolderStore<'a, R> {
 }
 
 impl<'a, R: Files<File = File>> FolderStore<'a, R> {
-    /// The store in this folder, which is made where it is missing, for its owner alone (mode 0700), as its files are
-    /// (mode 0600).
+    /// The store in this folder. A missing folder is made, for its owner alone (mode 0700); its files have mode 0600.
     ///
-    /// Refuses with 1 `Memory` where memory runs out, with 1812 `WriteFailed` where the folder or the lock file can't
-    /// be made, and with 1815 `Locked` where another process holds the folder. No epoch has been read or taken then.
+    /// Refuses with 1 `Memory` where it is out of memory, with 1812 `WriteFailed` where the folder or the lock file
+    /// can't be made, and with 1815 `Locked` where another process holds the folder. No epoch was read or taken then.
     pub fn open(rt: &'a R, alloc: Global, folder: &'a str) -> Result<Self, EpochFault> {
         let path = path_in(alloc, folder, "epoch")?;
         let draft = path_in(alloc, folder, "epoch.new")?;
@@ -43,7 +43,7 @@ impl<'a, R: Files<File = File>> FolderStore<'a, R> {
         })
     }
 
-    /// The number in the file; None where there is no file.
+    /// The number in the file. None if there is no file.
     fn load(&self) -> Result<Option<u64>, ReadFault> {
         match File::open(self.rt, self.path.as_str()) {
             Ok(mut file) => number_in(&mut file),
@@ -84,7 +84,7 @@ fn path_in(alloc: Global, folder: &str, name: &str) -> Result<String, EpochFault
     }
 }
 
-/// Makes the folder where it is missing, for its owner alone.
+/// Makes the folder if it is missing, for its owner alone.
 fn make_folder<R: Files>(rt: &R, folder: &str) -> Result<(), EpochFault> {
     let mut builder = DirBuilder::new();
     builder.recursive(true);

@@ -1,14 +1,19 @@
-//! Epochs: the numbers of a machine's lives, each greater than all before it, whatever crash came between.
+//! Epochs: the numbers of a machine's lives. Each is greater than all before it, whatever crash came between.
 //!
-//! A machine that was started anew remembers nothing of the life before but one number. Each start takes the next
-//! one, and answers it only once the store has it for good: a draft is written and synced, takes the place of the
-//! file, and the folder of both is synced.
+//! After a start a machine remembers one number of its earlier lives. Each start takes the next number, and answers it
+//! only when the store has it for good: a draft is written and synced, takes the place of the file, and the folder of
+//! both is synced.
+//!
+//! ```text
+//! let mut store = FolderStore::open(&rt, rt.alloc(), "/var/lib/truetime")?;   // locks the folder
+//! let epoch = next_epoch(&mut store)?;                                        // 1 at the first start, then 2, 3 ..
+//! ```
 //!
 //! - `epochs`: `next_epoch`, over any store, and the law of all lives and all crashes.
 //! - `stores`: `Store`, what a store has to do.
 //! - `text`: the text of the file.
 //! - `folder`: `FolderStore`, the store in a folder of files, which one process holds at a time.
-//! - `memory`: `MemoryStore`, a store in memory that fails at the call it is told to.
+//! - `memory`: `MemoryStore`, a store in memory, for tests, which fails at the call that it is told to.
 //! - `faults`: why there is no next epoch.
 #![tactic(auto)]
 

@@ -24,11 +24,11 @@ pub enum WriteFault {
 
 /// A file with one number, and a draft beside it that may take its place.
 pub trait Store {
-    /// What a call of the store as it was gave, and the store after it. A store that keeps what it does says here
-    /// what; a device of the world claims nothing.
+    /// The store before a call, the call, what it gave, and the store after it. A store in memory says here what it
+    /// does; a real device claims nothing.
     ghost does: { Self → Call → Gift → Self → Type 0 };
 
-    /// The number in the file; `None` where there is no file.
+    /// The number in the file. `None` if there is no file.
     fn read(&mut self) -> Result<Option<u64>, ReadFault>
         ensures { does self.old Read (gave_as result) self.new };
 

@@ -20,8 +20,8 @@ pub fn epoch_text(epoch: u64) -> ArrayString<32>
     text
 }
 
-/// The epoch that the whole text spells, as [`epoch_text`] writes it; None for any other text: another version, a
-/// number above 2^64 - 1 or with a zero or a sign in front, a byte too few or too many.
+/// The epoch of this text, if it is as [`epoch_text`] writes it. None for any other text: another version, a number
+/// above 2^64 - 1 or with a leading zero or a sign, a byte too few or too many.
 pub fn epoch_of(text: &[u8]) -> Option<u64>
     ensures read { MatchOption result ((epoch : ℕ) → IsEpoch epoch → text.now ≡ text_of epoch → ⊥) (λ epoch. text.now ≡ text_of epoch) }
 {

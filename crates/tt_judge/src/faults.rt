@@ -1,4 +1,4 @@
-//! Why a text is no history.
+//! Why a text is not a history.
 
 ghost use Rattle.std.specs.Prelude.{◌≡◌};
 ghost use Rattle.tt_judge.specs.Fault.{number_of};
@@ -11,7 +11,7 @@ pub enum HistoryFault {
     /// This line of the text, counted from 1, is the first that is not a commit's line.
     #[error("line {0} is not a commit's line")]
     BadLine(usize),
-    /// Memory ran out.
+    /// Out of memory.
     #[error("out of memory")]
     Memory,
 }

@@ -11,38 +11,38 @@ use crate::history::Commit;
 use crate::order::{Moment, in_order};
 use std::alloc::{AllocError, Global};
 
-/// A commit whose stamp is not above that of another, which ended before it began. Both are numbers of commits,
-/// counted from 0.
+/// A commit whose stamp is not above the stamp of another one, which ended before it began. Both are numbers of
+/// commits, counted from 0.
 #[derive(Clone, Copy, Debug, PartialEq, Eq)]
 pub struct Violation {
     pub later: usize,
     pub earlier: usize,
 }
 
-/// What a history was judged to be.
+/// The judgement of a history.
 #[derive(Clone, Copy, Debug, PartialEq, Eq)]
 pub struct Judgement {
     /// How many commits there are.
     pub commits: usize,
-    /// How many of them have a stamp that is not above that of some commit that ended before they began.
+    /// How many of them are violated: their stamp is not above the stamp of some commit that ended before they began.
     pub violations: usize,
     /// The first of these in the order in which they began, if there is one.
     pub first: Option<Violation>,
 }
 
-/// The commit with the greatest stamp of those whose end has been passed, which are `count`.
+/// Of the commits that ended before a time: how many there are, and the one with the greatest stamp.
 #[derive(Clone, Copy)]
 struct Passed {
     count: usize,
     greatest: Option<usize>,
 }
 
-/// Judges a history, whose commits may stand in any order.
+/// Judges a history. Its commits may stand in any order, and times may be any numbers.
 ///
-/// The commits need no order, and a time may stand at the greatest number. A commit that ended at the very moment at
-/// which another began did not end before it. Of several violated commits the one that began first is named, and of
-/// several that it contradicts the one with the greatest stamp; of equals the one with the lower number. Takes memory
-/// for two numbers of each commit, twice, and refuses only where there is none.
+/// If one commit ended at the time at which another began, it did not end before it. Of several violated commits the
+/// judgement names the one that began first, and of the commits that it contradicts the one with the greatest stamp; of
+/// equal ones the one with the lower number. Takes memory for four numbers of each commit, and refuses only if it is
+/// out of memory.
 pub fn judge(alloc: Global, commits: &[Commit]) -> Result<Judgement, AllocError>
     ensures commits { IfOk result (λ judgement. judgement.commits ≡ length commits.now) }
     ensures violations { IfOk result (λ judgement. judgement.violations ≡ violations_of commits.now) }
@@ -53,7 +53,7 @@ pub fn judge(alloc: Global, commits: &[Commit]) -> Result<Judgement, AllocError>
     Ok(judge_in_order(commits, &arrivals, &endings))
 }
 
-/// Judges a history whose commits are known in the order in which they began, and in that in which they ended.
+/// Judges a history. Its commits are also given in the order in which they began, and in the order in which they ended.
 fn judge_in_order(
     commits: &[Commit],
     arrivals: &[(u64, usize)],
@@ -85,7 +85,7 @@ fn judge_in_order(
     }
 }
 
-/// Passes the ends that lie before a time.
+/// Goes on to the commits that ended before this time.
 fn pass(commits: &[Commit], endings: &[(u64, usize)], passed: Passed, time: u64) -> Passed
     requires endings { IsOrderOf Ended commits.now endings.now }
     requires passed { IsPassed commits.now endings.now passed.count passed.greatest }
@@ -122,8 +122,8 @@ fn greater(commits: &[Commit], greatest: Option<usize>, number: usize) -> usize
     }
 }
 
-/// The violation of a commit, if it is violated, where of the commits that ended before it began this one has the
-/// greatest stamp.
+/// The violation of a commit, if it is violated. Of the commits that ended before it began, `greatest` has the greatest
+/// stamp.
 fn violation_of(commits: &[Commit], greatest: Option<usize>, later: usize) -> Option<Violation>
     requires inside { later < length commits.now }
     requires greatest { IsGreatestIfAny commits.now (commit_at commits.now later).began greatest }
@@ -141,7 +141,7 @@ fn violation_of(commits: &[Commit], greatest: Option<usize>, later: usize) -> Op
     }
 }
 
-/// What the count of violations means.
+/// Laws of the count of violations.
 pub fn consistency_laws()
     ensures decided { (history : List Commit) (commit : Commit) → (is_violated history commit ≡ true) ↔ IsViolated history commit }
     ensures none { (history : List Commit) → (violations_of history ≡ 0) ↔ IsConsistent history }

@@ -1,10 +1,15 @@
 //! The judge of a history of commits: whether it is externally consistent.
 //!
-//! Whoever saw one commit end before he began another may rely on it that the second has the greater stamp. That is
-//! what a database on this service owes its clients, and what can be checked of any history without a word about how
-//! its stamps were made.
+//! A history is externally consistent if each commit has a greater stamp than every commit that ended before it began.
+//! A database on this service promises this to its clients. It can be checked of any history, however the stamps were
+//! made:
 //!
-//! - `faults`: `HistoryFault`, why a text is no history.
+//! ```text
+//! commit 10 20 7      began at 10, ended at 20, stamp 7
+//! commit 30 40 6      violated: it began after the other ended, and its stamp is lower
+//! ```
+//!
+//! - `faults`: `HistoryFault`, why a text is not a history.
 //! - `history`: `Commit`, one commit of a history: when it began and ended, and its stamp.
 //! - `judging`: `judge`, which counts the commits that were out of order, and names the first.
 //! - `order`: commits in the order of one of their times.

@@ -23,7 +23,8 @@ fn time_of(commit: &Commit, moment: Moment) -> u64
     }
 }
 
-/// The times of the commits with the commits' numbers, in ascending order: of equal times the lower number first.
+/// This time of each commit with the number of the commit, in ascending order. Of equal times the lower number comes
+/// first.
 pub(crate) fn in_order(
     alloc: Global,
     commits: &[Commit],

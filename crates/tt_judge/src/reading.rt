@@ -12,13 +12,13 @@ use tt_text::line_at;
 
 /// The commits of a history's text, in the order of their lines.
 ///
-/// The text has one line `commit BEGAN ENDED STAMP` for each commit, in any order. Each line ends with one line feed, and
-/// one space stands before each number. A number is decimal, has no zero in front, and is at most 2^64 - 1; BEGAN is at
-/// most ENDED. An empty text is a history of no commits.
+/// The text has one line `commit BEGAN ENDED STAMP` for each commit, in any order. Each line ends with one line feed,
+/// and one space stands before each number. A number is decimal, without leading zeros, and at most 2^64 - 1. BEGAN is
+/// at most ENDED. An empty text is a history of no commits.
 ///
-/// Refuses any other text with 1603 `BadLine` and the number of the first line, counted from 1, that is not such a line;
-/// a last line with no line feed at its end is not. Refuses with 1 `Memory` where no memory is left for a commit whose line
-/// stands before any such line: never for an empty text, nor where the first line is bad.
+/// Refuses any other text with 1603 `BadLine` and the number, counted from 1, of the first line that is not such a
+/// line. A last line without its line feed is not such a line. Refuses with 1 `Memory` if there is no memory for a
+/// commit before the first bad line: never for an empty text, nor if the first line is bad.
 pub fn read_history(alloc: Global, text: &[u8]) -> Result<Vec<Commit>, HistoryFault>
     ensures found { IfOk result (λ commits. IsHistoryText text.now commits.items) }
     ensures only { IfOk result (λ commits. (others : List Commit) → IsHistoryText text.now others → others ≡ commits.items) }

@@ -7,8 +7,8 @@ use crate::judging::{Judgement, Violation};
 use std::alloc::{AllocError, Global};
 use tt_text::push_line;
 
-/// The text of a judgement: the line `commits N`, the line `violations N`, and where there is a violation the line
-/// `first LATER EARLIER`, with the lines of the two commits counted from 1. Refuses only where memory runs out.
+/// The text of a judgement: the line `commits N`, the line `violations N` and, if there is a violation, the line `first
+/// LATER EARLIER`, the lines of the two commits, counted from 1. Refuses only if it is out of memory.
 pub fn judgement_text(alloc: Global, judgement: &Judgement) -> Result<String, AllocError>
     ensures written { IfOk result (λ text. string_bytes text ≡ text_of judgement.now) }
 {

@@ -1,7 +1,7 @@
 //! What a master does with a request.
 
-/// How a master treats one request. A right master is always honest; the other acts are those of a master that is
-/// wrong, broken or hostile.
+/// How a master treats one request. A right master is always honest. A master that is wrong, broken or hostile does the
+/// other acts.
 ///
 /// The numbers are nanoseconds, any of 64 bits: the span of the answer is cut at 0 and `MAX_TIME`. In scripts they are
 /// at most `MAX_TIME`.

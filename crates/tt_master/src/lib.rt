@@ -11,12 +11,11 @@
 //!
 //! - `acts`: [`Act`], what a master does with one request: it is honest, or faulty in one of these ways.
 //! - `references`: [`Reference`], the device from which a master reads the time. `memory`: [`MemoryReference`], one
-//! that gives the times of a list.
+//!   that gives the times of a list.
 //! - `masters`: [`Master`], with its calls [`answer`](Master::answer) and [`play`](Master::play) for requests of TTP1,
-//! [`answer2`](Master::answer2) and [`play2`](Master::play2) for requests of TTP2.
+//!   [`answer2`](Master::answer2) and [`play2`](Master::play2) for requests of TTP2.
 //! - `hearing`: what a master reads in the bytes that came, and the packet that it answers. `spans`: the span in this
-//!   packet,
-//! and its laws.
+//!   packet, and its laws.
 //! - `faults`: why a packet is not answered, and why a reference gave no time.
 #![tactic(auto)]
 

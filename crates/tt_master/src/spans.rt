@@ -32,9 +32,9 @@ pub(crate) fn span_played(uncertainty: u64, act: Act, time: u64) -> Span
     Span::new(lo.min(MAX_TIME), hi.min(MAX_TIME)).unwrap()
 }
 
-/// Laws of these spans. The ends are always those of a span. The span of an honest answer holds exactly the times that
-/// differ from the time of the reference by at most the uncertainty. Apart from 0 and the greatest time, the span of
-/// any act holds exactly the times between its ends before the cut.
+/// Laws of these spans. The ends always form a span. The span of an honest answer holds exactly the times that differ
+/// from the time of the reference by at most the uncertainty. Apart from 0 and the greatest time, the span of any act
+/// holds exactly the times between its ends before the cut.
 pub fn act_laws()
     ensures valid { (uncertainty : ℕ) (act : Act) (time : ℕ) → IsInterval (span_of_act uncertainty act time) }
     ensures honest { (uncertainty time x : ℕ) → time ≤ max_time → x ≤ max_time →

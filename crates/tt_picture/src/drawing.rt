@@ -12,7 +12,7 @@ use crate::marks::{Band, Course, Flag, Mark};
 use crate::sheets::{Sheet, middle};
 use std::alloc::{AllocError, Global};
 
-/// Writes a mark at the end: a group with a title and shapes.
+/// Writes a mark at the end of the text: a group with a title and shapes.
 pub fn push_mark(
     alloc: Global,
     text: &mut String,
@@ -41,7 +41,7 @@ fn class_of(band: &Band) -> &'static str
     }
 }
 
-/// Writes a band at the end: upright from the latest to the earliest, with its middle at the true time.
+/// Writes a band at the end of the text: upright from the latest to the earliest, with its middle at the true time.
 fn push_band(
     alloc: Global,
     text: &mut String,
@@ -59,7 +59,7 @@ fn push_band(
     push_closing(text)
 }
 
-/// Writes the rectangle of a band at the end.
+/// Writes the rectangle of a band at the end of the text.
 fn push_band_shape(
     alloc: Global,
     text: &mut String,
@@ -78,7 +78,7 @@ fn push_band_shape(
     push_rectangle(alloc, text, left, top.saturating_sub(1), width, height)
 }
 
-/// Writes a lying answer at the end: a flag above the bands.
+/// Writes a lying answer at the end of the text: a flag above the bands.
 fn push_lie(alloc: Global, text: &mut String, sheet: &Sheet, band: &Band) -> Result<(), AllocError>
     ensures { OnOk result (string_bytes text.new ≡ string_bytes text.old ++ branch_text (lie_group sheet.now band.now)) }
 {
@@ -91,7 +91,7 @@ fn push_lie(alloc: Global, text: &mut String, sheet: &Sheet, band: &Band) -> Res
     push_closing(text)
 }
 
-/// Writes made up bytes that were taken at the end: a flag above the bands.
+/// Writes made up bytes that were taken at the end of the text: a flag above the bands.
 fn push_forgery(
     alloc: Global,
     text: &mut String,
@@ -109,7 +109,8 @@ fn push_forgery(
     push_closing(text)
 }
 
-/// Writes a commit at the end: a bar from its arrival to its release, a line where it was queued, and a dot at its stamp.
+/// Writes a commit at the end of the text: a bar from its arrival to its release, a line where it was queued, and a dot
+/// at its stamp.
 fn push_course(
     alloc: Global,
     text: &mut String,
@@ -124,7 +125,7 @@ fn push_course(
     push_closing(text)
 }
 
-/// Writes the shapes of a commit at the end.
+/// Writes the shapes of a commit at the end of the text.
 fn push_bar(
     alloc: Global,
     text: &mut String,
@@ -143,7 +144,7 @@ fn push_bar(
     push_shapes(alloc, text, from, top, width, over, spot, course.stamp)
 }
 
-/// Writes the shapes of a commit at these places at the end.
+/// Writes the shapes of a commit at these places at the end of the text.
 fn push_shapes(
     alloc: Global,
     text: &mut String,

@@ -8,7 +8,7 @@ use thiserror::Error;
 /// Why a call of this crate refuses.
 #[derive(Debug, Clone, Copy, PartialEq, Eq, Error)]
 pub enum PictureFault {
-    /// An allocation failed.
+    /// Out of memory.
     #[error("out of memory")]
     Memory,
 }

@@ -1,4 +1,4 @@
-//! What stands around the marks: the opening of the document, its legend, the lanes and the ticks.
+//! The text around the marks: the opening of the document, its legend, the lanes and the ticks.
 
 ghost use Rattle.std.specs.Prelude.{◌≡◌, ◌<◌, ◌≤◌, ◌++◌, [], OnOk, length, string_bytes};
 ghost use Rattle.std.specs.List.{flat_map, range_with_len};
@@ -20,7 +20,7 @@ const STYLE: &str =
 const LEGEND: &str =
     "<g class=\"legend\">\n<text x=\"170\" y=\"24\">line: the true time</text>\n<rect class=\"fusion\" x=\"308\" y=\"14\" width=\"13\" height=\"12\"></rect>\n<text x=\"328\" y=\"24\">fusion</text>\n<rect class=\"reading\" x=\"382\" y=\"14\" width=\"5\" height=\"12\"></rect>\n<text x=\"392\" y=\"24\">reading</text>\n<rect class=\"wrong\" x=\"457\" y=\"14\" width=\"5\" height=\"12\"></rect>\n<text x=\"467\" y=\"24\">wrong reading</text>\n<rect class=\"commit\" x=\"574\" y=\"15\" width=\"24\" height=\"10\"></rect>\n<text x=\"604\" y=\"24\">commit: arrival to release</text>\n<rect class=\"queued\" x=\"792\" y=\"15\" width=\"1\" height=\"10\"></rect>\n<text x=\"801\" y=\"24\">queued</text>\n<circle cx=\"862\" cy=\"20\" r=\"3\"></circle>\n<text x=\"871\" y=\"24\">stamp</text>\n<rect class=\"lie\" x=\"924\" y=\"17\" width=\"9\" height=\"6\"></rect>\n<text x=\"938\" y=\"24\">lie</text>\n<text x=\"974\" y=\"24\">bands: earliest to latest</text>\n</g>\n";
 
-/// Writes the opening of the document at the end: its size.
+/// Writes the opening of the document at the end of the text: its size.
 pub fn push_head(alloc: Global, text: &mut String, machines: u64) -> Result<(), AllocError>
     requires { machines ≤ 8 }
     ensures { OnOk result (string_bytes text.new ≡ string_bytes text.old ++ opening_of machines) }
@@ -33,7 +33,7 @@ pub fn push_head(alloc: Global, text: &mut String, machines: u64) -> Result<(), 
     text.push_str(part.as_str())
 }
 
-/// Writes the style and the legend at the end.
+/// Writes the style and the legend at the end of the text.
 pub fn push_legend(text: &mut String) -> Result<(), AllocError>
     ensures { OnOk result (string_bytes text.new ≡ string_bytes text.old ++ (branch_text style_group ++ branch_text legend_group)) }
 {
@@ -41,7 +41,7 @@ pub fn push_legend(text: &mut String) -> Result<(), AllocError>
     text.push_str(LEGEND)
 }
 
-/// Writes the lanes of these machines at the end.
+/// Writes the lanes of these machines at the end of the text.
 pub fn push_lanes(
     alloc: Global,
     text: &mut String,
@@ -57,7 +57,7 @@ pub fn push_lanes(
     Ok(())
 }
 
-/// Writes the lane of a machine at the end.
+/// Writes the lane of a machine at the end of the text.
 fn push_lane(
     alloc: Global,
     text: &mut String,
@@ -75,7 +75,7 @@ fn push_lane(
     push_closing(text)
 }
 
-/// Writes the shapes of the lane of a machine at the end.
+/// Writes the shapes of the lane of a machine at the end of the text.
 fn push_lane_shapes(
     alloc: Global,
     text: &mut String,
@@ -94,7 +94,7 @@ fn push_lane_shapes(
     push_measure(alloc, text, 154, middle + 54, "-", reach)
 }
 
-/// Writes what a machine is set up with as a title at the end.
+/// Writes what a machine is set up with as a title at the end of the text.
 fn push_lane_title(
     alloc: Global,
     text: &mut String,
@@ -114,7 +114,8 @@ fn push_lane_title(
     )
 }
 
-/// Writes the title of a machine of so many sources, of which so many may lie, with a clock of this drift, at the end.
+/// Writes the title of a machine at the end of the text: how many sources it has, how many of them may lie, and the
+/// drift of its clock.
 fn push_set_up(
     alloc: Global,
     text: &mut String,
@@ -148,7 +149,7 @@ pub fn push_ticks(
     Ok(())
 }
 
-/// Writes a tick at the end.
+/// Writes a tick at the end of the text.
 fn push_tick(
     alloc: Global,
     text: &mut String,
@@ -165,7 +166,7 @@ fn push_tick(
     push_closing(text)
 }
 
-/// Writes the shapes of a tick at the end.
+/// Writes the shapes of a tick at the end of the text.
 fn push_tick_shapes(
     alloc: Global,
     text: &mut String,

@@ -7,14 +7,14 @@ ghost use Rattle.tt_picture.specs.Drawing.{band_title, course_title, flag_title,
 use crate::marks::{Band, Course, Flag};
 use std::alloc::{AllocError, Global};
 
-/// Writes words at the end.
+/// Writes words at the end of the text.
 pub fn push_words(text: &mut String, words: &str) -> Result<(), AllocError>
     ensures { OnOk result (string_bytes text.new ≡ string_bytes text.old ++ words.now) }
 {
     text.push_str(words)
 }
 
-/// Writes the opening of a group of a class at the end.
+/// Writes the opening of a group of a class at the end of the text.
 pub fn push_opening(alloc: Global, text: &mut String, class: &str) -> Result<(), AllocError>
     ensures { OnOk result (string_bytes text.new ≡ string_bytes text.old ++ opening_then (codes "g") (word_attribute (codes "class") class.now ∷ []) (codes "\n")) }
 {
@@ -22,14 +22,14 @@ pub fn push_opening(alloc: Global, text: &mut String, class: &str) -> Result<(),
     text.push_str(part.as_str())
 }
 
-/// Writes the closing of a group at the end.
+/// Writes the closing of a group at the end of the text.
 pub fn push_closing(text: &mut String) -> Result<(), AllocError>
     ensures { OnOk result (string_bytes text.new ≡ string_bytes text.old ++ closing_then (codes "g") []) }
 {
     text.push_str("</g>\n")
 }
 
-/// Writes a rectangle at the end.
+/// Writes a rectangle at the end of the text.
 pub fn push_rectangle(
     alloc: Global,
     text: &mut String,
@@ -47,7 +47,7 @@ pub fn push_rectangle(
     text.push_str(part.as_str())
 }
 
-/// Writes a line at the end.
+/// Writes a line at the end of the text.
 pub fn push_line(
     alloc: Global,
     text: &mut String,
@@ -65,7 +65,7 @@ pub fn push_line(
     text.push_str(part.as_str())
 }
 
-/// Writes a word with a number behind it at a place, at the end.
+/// Writes a word with a number behind it at a place, at the end of the text.
 pub fn push_label(
     alloc: Global,
     text: &mut String,
@@ -80,7 +80,7 @@ pub fn push_label(
     text.push_str(part.as_str())
 }
 
-/// Writes a time in nanoseconds at a place, behind a word, at the end.
+/// Writes a time in nanoseconds at a place, behind a word, at the end of the text.
 pub fn push_measure(
     alloc: Global,
     text: &mut String,
@@ -98,7 +98,7 @@ pub fn push_measure(
     text.push_str(part.as_str())
 }
 
-/// Writes a dot at the end.
+/// Writes a dot at the end of the text.
 pub fn push_dot(alloc: Global, text: &mut String, x: u64, y: u64) -> Result<(), AllocError>
     ensures { OnOk result (string_bytes text.new ≡ string_bytes text.old ++ leaf_text (dot x y)) }
 {
@@ -106,7 +106,7 @@ pub fn push_dot(alloc: Global, text: &mut String, x: u64, y: u64) -> Result<(), 
     text.push_str(part.as_str())
 }
 
-/// Writes the title of a band at the end.
+/// Writes the title of a band at the end of the text.
 pub fn push_band_title(
     alloc: Global,
     text: &mut String,
@@ -122,7 +122,7 @@ pub fn push_band_title(
     text.push_str(part.as_str())
 }
 
-/// Writes the title of made up bytes at the end.
+/// Writes the title of made up bytes at the end of the text.
 pub fn push_flag_title(alloc: Global, text: &mut String, flag: &Flag) -> Result<(), AllocError>
     ensures { OnOk result (string_bytes text.new ≡ string_bytes text.old ++ leaf_text (flag_title flag.now)) }
 {
@@ -133,7 +133,7 @@ pub fn push_flag_title(alloc: Global, text: &mut String, flag: &Flag) -> Result<
     text.push_str(part.as_str())
 }
 
-/// Writes the title of a commit at the end.
+/// Writes the title of a commit at the end of the text.
 pub fn push_course_title(
     alloc: Global,
     text: &mut String,

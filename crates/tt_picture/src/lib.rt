@@ -1,16 +1,21 @@
 //! Draws runs of the model: a picture in SVG, for people.
 //!
-//! [`picture`] draws a run by its events and its trace: true time runs across, and each machine has a lane. A line in
-//! the lane is the true time; each reading and each fusion is an upright band from its earliest to its latest, at the
-//! true time of its event, so that a band is right exactly where it holds the line. Below stand the commits, each a bar
-//! from its arrival to its release, with its stamp. Lies are marked above the bands.
+//! [`picture`] draws a run by its events and its trace. True time runs from left to right, and each machine has a lane.
+//! A line in the lane is the true time. Each reading and each fusion is an upright band from its earliest to its
+//! latest, at the true time of its event; a reading is right exactly if its band crosses the line. Below the bands each
+//! released commit is a bar from its arrival to its release, with its stamp. Lies have flags above the bands.
 //!
-//! The text is that of one tree of elements, and each reading is one band of it.
+//! The text is one tree of elements, and each reading is one band in it.
+//!
+//! ```text
+//! let trace = run(alloc, &configs, &events)?;
+//! let svg = picture(alloc, &configs, &events, &trace)?;   // a text for a file that a browser shows
+//! ```
 //!
 //! Modules:
 //!
-//! - `pictures`: whole pictures. `marks`: what is drawn of a run. `lookups`: what is looked up in the events before.
-//! - `sheets`: where a time stands on the sheet. `drawing`: what is drawn, as text. `framing`: what stands around it.
+//! - `pictures`: whole pictures. `marks`: what is drawn of a run. `lookups`: what is looked up in earlier events.
+//! - `sheets`: the place of a time on the sheet. `drawing`: the marks as text. `framing`: the text around the marks.
 //! - `faults`: why there is no picture.
 #![tactic(auto)]
 

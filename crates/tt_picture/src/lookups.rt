@@ -1,4 +1,4 @@
-//! What is looked up in the events before one.
+//! What is looked up in the events before an event.
 
 ghost use Rattle.std.specs.Prelude.{◌≡◌};
 ghost use Rattle.std.specs.List.{zip};
@@ -7,15 +7,15 @@ ghost use Rattle.tt_picture.specs.Lookups.{errand_of, errand_after, errand_by, t
 use tt_stamp::Id;
 use tt_world::{Action, Event, Reply};
 
-/// To which machine a packet goes, or of which machine it asks, and whether its bytes were made up.
+/// The machine of a packet, which sent it or gets it, and whether its bytes were made up.
 #[derive(Clone, Copy, Debug, PartialEq, Eq)]
 pub struct Errand {
     pub machine: u8,
     pub is_forged: bool,
 }
 
-/// When a worker was asked for a commit, and when it queued it, both in nanoseconds of true time. A commit that was not
-/// queued yet has the time of its arrival for that.
+/// The true times, in nanoseconds, at which a worker was asked for a commit and queued it. If the commit was not queued
+/// yet, both are the time of its arrival.
 #[derive(Clone, Copy, Debug, PartialEq, Eq)]
 pub struct Task {
     pub worker: u8,
@@ -24,7 +24,7 @@ pub struct Task {
     pub is_queued: bool,
 }
 
-/// What is known of a packet once an event was replied to, if it is a request or made up.
+/// What is known of a packet after an event and its reply, if it is a request or made up.
 fn errand_next(packet: u64, found: Option<Errand>, action: &Action, reply: &Reply) -> Option<Errand>
     ensures { result ≡ errand_by packet found action.now reply.now }
 {
@@ -64,7 +64,7 @@ pub fn find_errand(packet: u64, events: &[Event], replies: &[Reply]) -> Option<E
     found
 }
 
-/// What is known of a commit of this machine once an event at this true time was replied to.
+/// What is known of a commit of this machine after an event at this true time and its reply.
 fn task_next(
     machine: u8,
     id: Id,

@@ -28,7 +28,7 @@ impl Band {
     }
 }
 
-/// A commit, from its arrival over its queueing to its release, in nanoseconds of true time, with its stamp.
+/// A commit: the true times of its arrival, its queueing and its release, in nanoseconds, and its stamp.
 #[derive(Clone, Copy, Debug, PartialEq, Eq)]
 pub struct Course {
     pub machine: u8,
@@ -61,7 +61,7 @@ pub enum Mark {
     Forgery(Flag),
 }
 
-/// What is drawn of a run: for each event, in order, what comes of its reply.
+/// What is drawn of a run: the marks of each event and its reply, in order.
 pub fn find_marks(
     alloc: Global,
     events: &[Event],
@@ -85,7 +85,7 @@ pub fn find_marks(
     Ok(marks)
 }
 
-/// Adds what comes of the reply to an event, after these events with their replies.
+/// Adds the marks of an event and its reply, after these events with their replies.
 fn push_marks(
     marks: &mut Vec<Mark>,
     event: &Event,
@@ -130,7 +130,7 @@ fn push_marks(
     }
 }
 
-/// Adds the mark of a lie, where the answer to this packet is one.
+/// Adds the mark of a lie, if the answer to this packet is one.
 fn push_lie(
     marks: &mut Vec<Mark>,
     at: u64,
@@ -156,7 +156,7 @@ fn push_lie(
     Ok(())
 }
 
-/// Adds the mark of made up bytes, where this packet is of such.
+/// Adds the mark of made up bytes, if this packet has such bytes.
 fn push_forgery(
     marks: &mut Vec<Mark>,
     at: u64,

@@ -23,7 +23,7 @@ use tt_daemon::Config;
 use tt_world::{Event, Trace};
 
 /// Draws a run as SVG. Requires: the trace is what [`run`](tt_world::run) gives for these events on these machines.
-/// Refuses with 1 `Memory` where an allocation fails, and never else.
+/// Refuses with 1 `Memory` if it is out of memory, and with nothing else.
 pub fn picture(
     alloc: Global,
     configs: &[Config],
@@ -37,7 +37,7 @@ pub fn picture(
     picture_in(alloc, configs, events, trace).map_err(|_error| PictureFault::Memory)
 }
 
-/// The picture, unless an allocation fails.
+/// The picture, unless it is out of memory.
 fn picture_in(
     alloc: Global,
     configs: &[Config],
@@ -56,7 +56,7 @@ fn picture_in(
     Ok(text)
 }
 
-/// Writes the whole document at the end.
+/// Writes the whole document at the end of the text.
 fn push_sheet(
     alloc: Global,
     text: &mut String,
@@ -76,7 +76,7 @@ fn push_sheet(
     push_words(text, "</svg>\n")
 }
 
-/// Writes all marks at the end.
+/// Writes all marks at the end of the text.
 fn push_all(
     alloc: Global,
     text: &mut String,
@@ -91,9 +91,10 @@ fn push_all(
     Ok(())
 }
 
-/// What the definitions of a picture give for every run. Among the marks, each of which is one branch of the picture, the
-/// bands of readings are those of the run, each once and in the order of its events, with its machine, true time and ends.
-/// Every picture is well-formed: tags have names, and attributes of different names with plain values; words are plain.
+/// Laws of the definitions of a picture, for every run. Each mark is one branch of the picture. The bands of readings
+/// among the marks are the readings of the run, each once and in the order of the events, with machine, true time and
+/// ends. Every picture is well-formed: tags have names, and attributes with different names and plain values; words are
+/// plain.
 pub fn picture_laws()
     ensures drawn_once { (events : List Event) (replies : List Reply) → bands_of (marks_of events replies) ≡ readings_of events replies }
     ensures well_formed { (configs : List Configuration) (events : List Event) (trace : RunTrace) → is_well_formed (picture_of configs events trace) ≡ true }

@@ -1,4 +1,4 @@
-//! Where a time stands on the sheet.
+//! The place of a time on the sheet.
 
 ghost use Rattle.std.specs.Prelude.{◌≡◌, ◌≤◌, ◌<◌};
 ghost use Rattle.tt_picture.specs.Sheet.{sheet_of, sheet_with, first_time, last_time, reach_of, share_of, across_of, middle_of as middle_at, upright_of, tick_of};
@@ -90,8 +90,8 @@ impl Sheet {
         )
     }
 
-    /// How far down a time stands in the lane of a machine, at a true time: 50 at most from the lane's middle, above
-    /// it where it is later.
+    /// How far down a time stands in the lane of a machine, when the true time is `at`: at most 50 from the middle of
+    /// the lane, and above the middle if the time is later.
     pub fn upright(&self, machine: u64, at: u64, time: u64) -> u64
         requires { machine < 256 }
         ensures value { result ≡ upright_of self.now machine at time }
@@ -121,7 +121,7 @@ pub fn middle(machine: u64) -> u64
     132 + 190 * machine
 }
 
-/// The share of a length that a part is of a whole, the whole length at most.
+/// The length times the share that the part has of the whole, at most the length.
 fn share(part: u64, whole: u64, length: u64) -> u64
     ensures value { result ≡ share_of part whole length }
     ensures bound { result ≤ length }

@@ -96,10 +96,10 @@ fn read2(bytes: &[u8]) -> Result<Message2, PollFault>
 }
 
 /// The message of TTP1 with this spelling. Refuses, in this order: 201 `Length` where the length is neither 16 nor 32;
-/// 202 `Magic` where the bytes do not begin with `TTP1`; 203 `Kind` where the kind is not that of messages of this
-/// length; 204 `Reserved` where byte 7 is not 0; 205 `Number` where the machine is above 7 or the source is above 15;
-/// 206 `Nonce` where the nonce is 0; 207 `Span` where the lower end of an answer is above its upper end, or the upper
-/// end is above `MAX_TIME`.
+/// 202 `Magic` where the bytes do not begin with `TTP1`; 203 `Kind` where messages of this length have another kind;
+/// 204 `Reserved` where byte 7 is not 0; 205 `Number` where the machine is above 7 or the source is above 15; 206
+/// `Nonce` where the nonce is 0; 207 `Span` where the lower end of an answer is above its upper end, or the upper end
+/// is above `MAX_TIME`.
 pub fn decode(bytes: &[u8]) -> Result<Message, PollFault>
     ensures exact { result ≡ read_of bytes.now }
     // If a message is read, the bytes are its spelling, each of them.

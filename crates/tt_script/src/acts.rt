@@ -17,7 +17,7 @@ use toml::value::Array;
 use tt_master::Act;
 use tt_span::MAX_TIME;
 
-/// How many acts a master of a script has at most.
+/// The most acts of a master in a script.
 pub const MAX_ACTS: usize = 64;
 
 /// The acts of a master, in the order in which it plays them: from one to [`MAX_ACTS`].
@@ -48,10 +48,11 @@ impl Acts {
     }
 }
 
-/// What the text of an act is: `honest`, `ahead N`, `behind N`, `silent`, `garbage` or `repeat`, where N is a time in
-/// nanoseconds, in decimal digits with no zero in front.
+/// Laws of the texts of acts. The text of an act is `honest`, `ahead N`, `behind N`, `silent`, `garbage` or `repeat`,
+/// where N is a time in nanoseconds, at most the greatest time, in decimal digits without leading zeros.
 ///
-/// The text of each act whose time is one reads as this act, and a text that reads as an act is the text of it.
+/// If the time of an act is in range, the text of the act is read as this act. If a text is read as an act, it is the
+/// text of this act.
 pub fn act_laws()
     ensures reads_back { (act : AnyAct) → offset_of act ≤ max_time → act_in (act_text act) ≡ Ok act }
     ensures only { (text : List ℕ) (act : AnyAct) → act_in text ≡ Ok act → (act_text act ≡ text) × (offset_of act ≤ max_time) }
@@ -90,7 +91,7 @@ fn acts_of(alloc: Global, items: &Array) -> Result<Vec<Act>, ScriptFault>
     Ok(acts)
 }
 
-/// The act that a value writes.
+/// The act in this value.
 fn act_of(value: &Value) -> Result<Act, ScriptFault>
     ensures { result ≡ act_of (view value.now) }
 {
@@ -100,7 +101,7 @@ fn act_of(value: &Value) -> Result<Act, ScriptFault>
     }
 }
 
-/// The act that a text writes, as [`act_laws`] says. Refuses any other text with `WrongValue`.
+/// The act of this text, as [`act_laws`] says. Refuses any other text with 1303 `WrongValue`.
 pub fn act_in(text: &str) -> Result<Act, ScriptFault>
     ensures { result ≡ act_in text.now }
 {
@@ -113,7 +114,7 @@ pub fn act_in(text: &str) -> Result<Act, ScriptFault>
     }
 }
 
-/// The act with a time that a text writes.
+/// The act with a time in this text.
 fn act_with_time(text: &str) -> Result<Act, ScriptFault>
     ensures { result ≡ act_with_time (time_behind (codes "ahead ") text.now) (time_behind (codes "behind ") text.now) }
 {
@@ -126,7 +127,7 @@ fn act_with_time(text: &str) -> Result<Act, ScriptFault>
     }
 }
 
-/// The time that the text writes behind a word.
+/// The time behind this word in the text.
 fn time_behind(word: &str, text: &str) -> Option<u64>
     ensures { result ≡ time_behind word.now text.now }
 {
@@ -136,7 +137,7 @@ fn time_behind(word: &str, text: &str) -> Option<u64>
     }
 }
 
-/// The time that the digits write in decimal, with no zero in front.
+/// The time of these decimal digits without leading zeros.
 fn time_of(digits: &str) -> Option<u64>
     ensures { result ≡ time_of digits.now }
 {
@@ -149,7 +150,7 @@ fn time_of(digits: &str) -> Option<u64>
     if time <= MAX_TIME { Some(time) } else { None }
 }
 
-/// Whether the digits begin with no plus, and with a zero only where it stands alone.
+/// Whether the digits begin without a plus, and with a zero only if it stands alone.
 fn begins_plainly(digits: &[u8]) -> bool
     ensures plain { IsTrue result → (slice_index digits.now 0 ≢ 43) × (slice_index digits.now 0 ≡ 48 → length digits.now ≤ 1) }
     ensures other { IsFalse result → (slice_index digits.now 0 ≡ 43) ⊎ ((slice_index digits.now 0 ≡ 48) × (1 < length digits.now)) }

@@ -21,7 +21,7 @@ use tt_span::Span;
 use tt_stamp::Id;
 use tt_world::{Action, Event, MAX_PAYLOAD, Payload};
 
-/// How many events a script has at most.
+/// The most events of a script.
 pub const MAX_EVENTS: usize = 4096;
 
 /// The events of a document.
@@ -62,7 +62,7 @@ fn events_of(alloc: Global, items: &Array) -> Result<Vec<Event>, ScriptFault>
     Ok(events)
 }
 
-/// The event that the value is.
+/// The event in this value.
 pub(crate) fn event_of(value: &Value) -> Result<Event, ScriptFault>
     ensures { result ≡ of_table event_in (view value.now) }
 {
@@ -83,7 +83,7 @@ fn event_in(table: &Table) -> Result<Event, ScriptFault>
     })
 }
 
-/// What happens, by its word.
+/// The action of an event, by its word.
 fn action_in(word: Word, table: &Table) -> Result<Action, ScriptFault>
     ensures { result ≡ action_in word (table_view table.now) }
 {
@@ -222,7 +222,7 @@ fn restart_in(table: &Table) -> Result<Action, ScriptFault>
     })
 }
 
-/// The span of two ends that are times, where they are in order.
+/// The span of two ends, both times. Refuses with 1303 `WrongValue` if they are out of order.
 pub(crate) fn span_if(lo: u64, hi: u64) -> Result<Span, ScriptFault>
     requires { hi ≤ max_time }
     ensures { result ≡ span_if lo hi }
@@ -233,7 +233,7 @@ pub(crate) fn span_if(lo: u64, hi: u64) -> Result<Span, ScriptFault>
     }
 }
 
-/// The payload that hex text spells.
+/// The payload of this hex text.
 fn payload_of(text: &str) -> Result<Payload, ScriptFault>
     ensures { result ≡ payload_if (decode_of text.now) }
 {

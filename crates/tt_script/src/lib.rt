@@ -1,18 +1,32 @@
-//! Scripts: a run of the service, written down as text.
+//! Scripts: a run of the service as text.
 //!
-//! A script is a TOML document (toml.io, version 1.1). It has the machines of a run, what happens to them event by
-//! event, and perhaps a part for a run in threads. docs/FORMATS.md lists its keys. [`read`] gives the script that a
-//! text says, or the first refusal in the order of that list; keys that are not listed are ignored.
+//! A script is a TOML document (toml.io, version 1.1). It has the machines of a run, its events, and perhaps a part for
+//! a run in threads:
+//!
+//! ```text
+//! event = [
+//!   { do = "send", at = 150, machine = 0, source = 0, clock = 0 },
+//!   { do = "answer", at = 150, packet = 0, lo = 100, hi = 200 },
+//! ]
+//!
+//! [[machine]]
+//! sources = 1
+//! faulty = 0
+//! workers = 1
+//! ```
+//!
+//! docs/FORMATS.md lists its keys. [`read`] gives the script of a text, or the first refusal in the order of that list.
+//! Keys that are not listed are ignored.
 //!
 //! - `scripts`: a whole script, and [`read`].
 //! - `machines`: the machines' configurations.
-//! - `words`: the words that name what happens.
-//! - `events`: the events, and what each word's keys say.
+//! - `words`: the words of events.
+//! - `events`: the events, and the keys of each word.
 //! - `lives`: the part for a run in threads: [`Live`], its masters and its sessions.
 //! - `acts`: the acts of a master.
 //! - `lookups`: values of a table by their keys.
 //! - `faults`: why a text is refused.
-//! - `places`: where it is refused, for a person: [`refusal_of`].
+//! - `places`: where a text is refused, for a person: [`refusal_of`].
 //! - `unknown`: keys that no rule names: [`unknown_keys`].
 //! - `keys`: the keys of each table.
 #![tactic(auto)]

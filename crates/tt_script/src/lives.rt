@@ -19,10 +19,10 @@ use toml::{Table, Value};
 use tt_master::Act;
 use tt_span::{MAX_TIME, Span};
 
-/// How many rounds a run in threads has at most, and how many turns a round.
+/// The most rounds of a run in threads, and the most turns of a round.
 pub const MAX_LIMIT: u64 = 1000;
 
-/// One line of a session, as the script writes it. It may be any text, a line feed in it too.
+/// One line of a session, as the script has it. It may be any text, also one that holds line feeds.
 #[derive(Debug, Drop)]
 pub struct Line {
     text: String,
@@ -68,7 +68,7 @@ impl Session {
     }
 }
 
-/// A master of a run in threads: its uncertainty, and what it does with one request after the other.
+/// A master of a run in threads: its uncertainty, and its acts, one for each request in order.
 #[derive(Debug, Drop)]
 pub struct LiveMaster {
     uncertainty: u64,
@@ -155,7 +155,7 @@ impl Live {
         self.turns
     }
 
-    /// The masters, in the order in which the script lists them, the first being that of source 0. There may be more
+    /// The masters, in the order in which the script lists them. The first is the master of source 0. There may be more
     /// or fewer than the machine has sources.
     pub fn masters(&self) -> &[LiveMaster]
         ensures value { result.now ≡ self.now.masters }
@@ -163,15 +163,15 @@ impl Live {
         self.masters.as_slice()
     }
 
-    /// The sessions, in the order in which the script lists them, the first being that of worker 0. There may be more
-    /// or fewer than the machine has workers.
+    /// The sessions, in the order in which the script lists them. The first is the session of worker 0. There may be
+    /// more or fewer than the machine has workers.
     pub fn sessions(&self) -> &[Session]
         ensures value { result.now ≡ self.now.sessions }
     {
         self.sessions.as_slice()
     }
 
-    /// The lease of the machine, in nanoseconds: the whole of time where the script gives none.
+    /// The lease of the machine, in nanoseconds: the whole of time if the script gives none.
     pub fn lease(&self) -> Span
         ensures value { result ≡ self.now.lease }
     {
@@ -190,7 +190,7 @@ pub(crate) fn live_at(alloc: Global, table: &Table) -> Result<Option<Live>, Scri
     }
 }
 
-/// The part that the value is.
+/// The part for a run in threads in this value.
 fn live_of(alloc: Global, value: &Value) -> Result<Live, ScriptFault>
     ensures { let defined = of_table live_in (view value.now) in
         MatchResult result (λ live. defined ≡ Ok live) (IsRefusal defined) }
@@ -228,7 +228,7 @@ pub(crate) fn limit_at(table: &Table, key: &str) -> Result<u32, ScriptFault>
     }
 }
 
-/// The lease, which is the whole of time where neither end is given.
+/// The lease. If an end is not given, it is 0 or the greatest time.
 fn lease_in(table: &Table) -> Result<Span, ScriptFault>
     ensures { result ≡ lease_in (table_view table.now) }
 {
@@ -270,7 +270,7 @@ fn masters_of(alloc: Global, items: &Array) -> Result<Vec<LiveMaster>, ScriptFau
     Ok(masters)
 }
 
-/// The master that the value is.
+/// The master in this value.
 pub(crate) fn master_of(alloc: Global, value: &Value) -> Result<LiveMaster, ScriptFault>
     ensures { let defined = of_table master_in (view value.now) in
         MatchResult result (λ master. defined ≡ Ok master) (IsRefusal defined) }
@@ -312,7 +312,7 @@ fn sessions_of(alloc: Global, items: &Array) -> Result<Vec<Session>, ScriptFault
     Ok(sessions)
 }
 
-/// The session that an array of lines is.
+/// The session of these lines.
 pub(crate) fn session_in(alloc: Global, value: &Value) -> Result<Session, ScriptFault>
     ensures { let defined = session_in (view value.now) in
         MatchResult result (λ session. defined ≡ Ok session) (IsRefusal defined) }
@@ -333,7 +333,7 @@ fn lines_of(alloc: Global, items: &Array) -> Result<Vec<Line>, ScriptFault>
     Ok(lines)
 }
 
-/// The line that a text is.
+/// The line of this text.
 fn line_in(alloc: Global, value: &Value) -> Result<Line, ScriptFault>
     ensures { let defined = line_in (view value.now) in
         MatchResult result (λ line. defined ≡ Ok line) (IsRefusal defined) }

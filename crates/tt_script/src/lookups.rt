@@ -48,7 +48,7 @@ pub(crate) fn number_at(table: &Table, key: &str, most: u64) -> Result<u64, Scri
     number_in(value_at(table, key)?, most)
 }
 
-/// The number at a key, which is any that a key can hold.
+/// The number at a key: any number that a key can hold.
 pub(crate) fn any_at(table: &Table, key: &str) -> Result<u64, ScriptFault>
     ensures { result ≡ any_at key.now (table_view table.now) }
 {
@@ -82,7 +82,7 @@ pub(crate) fn session_at(table: &Table, key: &str) -> Result<u32, ScriptFault>
     }
 }
 
-/// The number at a key, from 0 to the greatest, or the default where the key is absent.
+/// The number at a key, from 0 to the greatest, or the default if the key is absent.
 pub(crate) fn optional_at(
     table: &Table,
     key: &str,
@@ -126,7 +126,7 @@ pub(crate) fn has_none(items: &Array) -> bool
     items.is_empty()
 }
 
-/// Whether there are so many items at most.
+/// Whether there are at most `most` items.
 pub(crate) fn has_at_most(items: &Array, most: usize) -> bool
     ensures { result ≡ nat_le (count_of (array_view items.now)) most }
 {

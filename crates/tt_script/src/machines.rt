@@ -16,7 +16,7 @@ use tt_daemon::Config;
 use tt_span::{Drift, MAX_DRIFT};
 use tt_world::MAX_MACHINES;
 
-/// The drift of a machine's clock that gives none, in parts per million.
+/// The drift of a machine whose table gives none, in parts per million.
 pub const DEFAULT_DRIFT: u32 = 200;
 
 /// The machines of a document.
@@ -27,7 +27,7 @@ pub(crate) fn machines_in(alloc: Global, table: &Table) -> Result<Vec<Config>, S
     configurations_of(alloc, machine_items_in(table)?)
 }
 
-/// The tables of the machines: one at least, and eight at most.
+/// The tables of the machines: one to eight.
 pub(crate) fn machine_items_in(table: &Table) -> Result<&Array, ScriptFault>
     ensures { let defined = machine_items_in (table_view table.now) in
         MatchResult result (λ items. defined ≡ Ok (array_view items.now)) (λ fault. defined ≡ Err fault) }
@@ -43,7 +43,7 @@ pub(crate) fn machine_items_in(table: &Table) -> Result<&Array, ScriptFault>
     }
 }
 
-/// The set-ups of the machines.
+/// The configurations of the machines.
 fn configurations_of(alloc: Global, items: &Array) -> Result<Vec<Config>, ScriptFault>
     ensures { let defined = each (of_table configuration_in) (array_view items.now) in
         MatchResult result (λ configs. defined ≡ Ok configs.items) (IsRefusal defined) }
@@ -55,7 +55,7 @@ fn configurations_of(alloc: Global, items: &Array) -> Result<Vec<Config>, Script
     Ok(configs)
 }
 
-/// The set-up of the machine that the value is.
+/// The configuration of the machine in this value.
 pub(crate) fn configuration_of(value: &Value) -> Result<Config, ScriptFault>
     ensures { result ≡ of_table configuration_in (view value.now) }
 {
@@ -65,7 +65,7 @@ pub(crate) fn configuration_of(value: &Value) -> Result<Config, ScriptFault>
     }
 }
 
-/// The set-up of a machine, by its table.
+/// The configuration of a machine, by its table.
 fn configuration_in(table: &Table) -> Result<Config, ScriptFault>
     ensures { result ≡ configuration_in (table_view table.now) }
 {
@@ -81,7 +81,7 @@ fn configuration_in(table: &Table) -> Result<Config, ScriptFault>
     configuration_if(sources, faulty, drift, workers)
 }
 
-/// The set-up with these numbers, where a machine can have it.
+/// The configuration with these numbers. Refuses with 1303 `WrongValue` if a machine cannot have it.
 fn configuration_if(
     sources: u64,
     faulty: u64,

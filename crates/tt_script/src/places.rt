@@ -40,7 +40,7 @@ impl Model for Refusal {
 }
 
 impl Refusal {
-    /// The fault by which [`read`](crate::read) refuses the text.
+    /// The fault with which [`read`](crate::read) refuses the text.
     pub fn fault(&self) -> ScriptFault
         ensures value { result ≡ self.now }
     {
@@ -54,9 +54,9 @@ impl Refusal {
     }
 }
 
-/// Why and where [`read`](crate::read) refuses a text, or None where it takes it.
+/// Why and where [`read`](crate::read) refuses a text, or None if it takes the text.
 ///
-/// Refuses only where an allocation failed.
+/// Refuses only if it is out of memory.
 pub fn refusal_of(alloc: Global, text: &str) -> Result<Option<Refusal>, AllocError>
     ensures refused { IfOk result (λ found. IfSome found (λ refusal. script_in text.now ≡ Err refusal)) }
     ensures taken { IfOk result (λ found. IsNone found → IsOk (script_in text.now)) }
@@ -101,8 +101,8 @@ fn refusal_in(alloc: Global, table: &Table) -> Result<Option<Refusal>, AllocErro
     Ok(None)
 }
 
-/// The refusal by this fault, with what a note says of it, or else with this part of the document. That an allocation failed is no
-/// refusal.
+/// The refusal with this fault, at the place that a note names, or otherwise at this part of the document. Out of
+/// memory is not a refusal.
 fn refused(
     alloc: Global,
     fault: ScriptFault,

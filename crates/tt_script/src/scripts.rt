@@ -15,7 +15,7 @@ use toml::Table;
 use tt_daemon::Config;
 use tt_world::Event;
 
-/// A script: the machines of a run, what happens to them, and perhaps a part for a run in threads.
+/// A script: the machines of a run, its events, and perhaps a part for a run in threads.
 #[derive(Debug, Drop)]
 pub struct Script {
     configs: Vec<Config>,
@@ -34,7 +34,7 @@ impl Model for Script {
 }
 
 impl Script {
-    /// The set-ups of the machines, the first being that of machine 0: from one to eight.
+    /// The configurations of the machines, from one to eight. The first is the configuration of machine 0.
     pub fn configs(&self) -> &[Config]
         ensures value { result.now ≡ self.now.configs }
         ensures some { 0 < length result.now }
@@ -43,7 +43,7 @@ impl Script {
         self.configs.as_slice()
     }
 
-    /// What happens, in its order: at most [`MAX_EVENTS`](crate::MAX_EVENTS).
+    /// The events in their order, at most [`MAX_EVENTS`](crate::MAX_EVENTS).
     pub fn to_events(&self) -> &[Event]
         ensures value { result.now ≡ self.now.events }
         ensures few { length result.now ≤ 4096 }
@@ -51,7 +51,7 @@ impl Script {
         self.events.as_slice()
     }
 
-    /// The part for a run in threads, or None where the script has none.
+    /// The part for a run in threads, or None if the script has none.
     pub fn live(&self) -> Option<&Live>
         ensures value { option_copied result ≡ self.now.live }
     {
@@ -59,23 +59,23 @@ impl Script {
     }
 }
 
-/// The script that a text says.
+/// The script of this text.
 ///
 /// Refuses with the first that applies, in this order:
 ///
 /// - 1301 `NotToml`: the text is not TOML.
 /// - Of the machines, in their order, and of the keys of each in the order `sources`, `faulty`, `workers`, `drift`:
-///   1302 `MissingKey` where there is no machine or a key is absent, 1303 `WrongValue` where `machine` is no array of
-///   tables, has more than eight, or a key has a value of another type or out of range; and behind the keys of a
-///   machine, 1303 where no machine can be set up so.
-/// - 1303 where `event` is no array of tables, then 1305 `TooManyEvents` above [`MAX_EVENTS`](crate::MAX_EVENTS).
-/// - Of the events, in their order: 1302 and 1303 for `do`, 1304 `UnknownStep` where it is no word of an event, then
-///   1302 and 1303 for the keys of that word, in their order.
-/// - Of the part `live`: 1303 where it is no table, then 1302 and 1303 for its keys in the order `base`, `rounds`,
+///   1302 `MissingKey` where there is no machine or a key is absent, 1303 `WrongValue` where `machine` is not an array
+///   of tables, has more than eight, or a key has a value of another type or out of range; and behind the keys of a
+///   machine, 1303 where no machine can have this configuration.
+/// - 1303 where `event` is not an array of tables, then 1305 `TooManyEvents` above [`MAX_EVENTS`](crate::MAX_EVENTS).
+/// - Of the events, in their order: 1302 and 1303 for `do`, 1304 `UnknownStep` where it is not the word of an event,
+///   then 1302 and 1303 for the keys of that word, in their order.
+/// - Of the part `live`: 1303 where it is not a table, then 1302 and 1303 for its keys in the order `base`, `rounds`,
 ///   `turns`, `masters` (of each master `uncertainty`, then `acts`), `sessions`, `lease_lo`, `lease_hi`.
 ///
-/// In place of each of these it may refuse with 1 `Memory`, where an allocation failed. Keys with other names are
-/// ignored, whatever they hold.
+/// In place of each of these it may refuse with 1 `Memory`, if it is out of memory. Keys with other names are ignored,
+/// whatever they hold.
 pub fn read(alloc: Global, text: &str) -> Result<Script, ScriptFault>
     ensures found { IfOk result (λ script. script_in text.now ≡ Ok script) }
     ensures refused { IfErr result (IsRefusal (script_in text.now)) }

@@ -6,13 +6,14 @@ use crate::words::{Word, word_of};
 use std::alloc::{AllocError, Global};
 use toml::{Table, Value};
 
-/// How many keys [`unknown_keys`] lists at most.
+/// The most keys that [`unknown_keys`] lists.
 pub const MAX_UNKNOWN: usize = 20;
 
-/// The keys of a text that no rule names, with their places, as `event 3 (send): key "drfit"`: the first [`MAX_UNKNOWN`] of
-/// them. [`read`](crate::read) ignores them, so it is worth a warning. None of a text that is not TOML. The wording is not fixed.
+/// The keys of a text that no rule names, with their places, as `event 3 (send): key "drfit"`: the first
+/// [`MAX_UNKNOWN`] of them. [`read`](crate::read) ignores such a key, which may be a mistyped one. A text that is not
+/// TOML has none. The wording is not fixed.
 ///
-/// Refuses only where an allocation failed.
+/// Refuses only if it is out of memory.
 pub fn unknown_keys(alloc: Global, text: &str) -> Result<Vec<String>, AllocError> {
     let mut found = Vec::new(alloc);
     match toml::table_from_str(alloc, text) {
@@ -133,7 +134,7 @@ fn names_number(keys: &[(&str, u64)], key: &str) -> bool {
     false
 }
 
-/// Adds the keys of the part for a run in threads that no rule names, and those of its masters.
+/// Adds the keys of the part for a run in threads that no rule names, and such keys of its masters.
 fn unknown_of_live(
     found: &mut Vec<String>,
     alloc: Global,

@@ -1,11 +1,11 @@
-//! The words that name what happens.
+//! The words of events.
 
 ghost use Rattle.std.specs.Prelude.{◌≡◌};
 ghost use Rattle.tt_script.specs.Words.{word_of};
 
 use crate::faults::ScriptFault;
 
-/// What an event is called.
+/// The word of an event, which names its action.
 #[derive(Clone, Copy)]
 pub(crate) enum Word {
     Send,
@@ -22,7 +22,7 @@ pub(crate) enum Word {
     Restart,
 }
 
-/// The word that a text is.
+/// The word of this text.
 pub(crate) fn word_of(text: &str) -> Result<Word, ScriptFault>
     ensures { result ≡ word_of text.now }
 {

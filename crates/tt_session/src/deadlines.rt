@@ -21,8 +21,7 @@ pub struct Deadline {
 
 /// A reader with a deadline. It asks its device until bytes come or the input ends, as long as its clock shows a time
 /// before the deadline. It reads the clock each time before it asks the device. So if the reads of the device end by
-/// themselves, like those of a socket with a timeout, the session ends soon after its deadline, however many bytes came
-/// before.
+/// themselves, as on a socket with a timeout, the session ends soon after its deadline, however many bytes came before.
 ///
 /// A read fails if the device or the clock failed, if the deadline is reached, or if nothing came in
 /// [`Deadline::tries`] tries. Each of these counts as a failure of this reader, and takes no byte. If a read of the

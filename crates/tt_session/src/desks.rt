@@ -13,8 +13,7 @@ use tt_stamp::{Book, Id, Row, release_step};
 /// The service of one thread: a watch with its clock, a row of stamps and a book of its own. In contracts it is its
 /// parts.
 ///
-/// The numbers of commits are those of one session. Only `begin` takes memory, from the book's allocator. No call
-/// waits.
+/// Commits are numbered within one session. Only `begin` takes memory, from the book's allocator. No call waits.
 #[derive(Drop)]
 pub struct Desk<C> {
     session: u32,

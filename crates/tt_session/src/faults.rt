@@ -14,7 +14,7 @@ pub enum LineFault {
     /// The line has more than 64 bytes.
     #[error("the line is too long")]
     LongLine,
-    /// The number of a commit is below that of the last one.
+    /// The number of a commit is below the number of the last one.
     #[error("the number of the commit is below the last one")]
     OldId,
     /// The number of a commit is new, and the last commit is not known as released.

@@ -22,8 +22,7 @@
 //! - `talks`: from bytes to lines. `serving`: `serve`, with its faults in `faults`.
 //! - `desks`: `Desk`.
 //! - `timed`: devices whose calls may end before anything came. `deadlines`: a reader and a writer over such devices,
-//!   which end
-//! a session at a time of its clock.
+//!   which end a session at a time of its clock.
 #![tactic(auto)]
 
 mod answers;

@@ -42,10 +42,9 @@ pub struct Served {
 ///
 /// Refuses with
 /// - 1105 `ReadFailed`: a read failed, or none of `turns.reads` reads said that the input has ended. The replies to the
-/// whole lines that were read are written.
+///   whole lines that were read are written.
 /// - 1106 `WriteFailed`: a write or a flush failed. All replies but the last are written, and a first part of the last
-///   one; the
-/// service was not called after it.
+///   one; the service was not called after it.
 ///
 /// After a refusal the session is over.
 pub fn serve<R: ByteReader, W: ByteWriter, S: Service>(

@@ -34,9 +34,9 @@ pub trait TimedWriter {
     /// Its failures so far. The count stays at 2^64 - 1 once it is reached.
     ghost failed: { Self → ℕ };
 
-    /// Takes a front of `bytes`, and answers how many. `None`: none was taken in time, which is no failure. A write
-    /// that takes none of some bytes is a failure. A fault is answered only where the device failed, and then no byte
-    /// was taken.
+    /// Takes the first of these bytes, and answers how many. `None` says that none was taken in time. That is not a
+    /// failure. If there are bytes to take, a write that takes none of them is a failure. A fault is answered only if
+    /// the device failed, and then no byte was taken.
     fn write(&mut self, bytes: &[u8]) -> Result<Option<usize>, DeviceFault>
         ensures count { IfOk result (λ took. IfSome took (λ n. n ≤ length bytes.now)) }
         ensures some { IfOk result (λ took. IfSome took (λ n. 0 < length bytes.now → 0 < n)) }

@@ -14,11 +14,11 @@ use std::alloc::Global;
 use toml::value::Array;
 use toml::{Table, Value};
 
-/// How many masters a machine has at most.
+/// The most masters of a machine.
 const MAX_MASTERS: usize = 16;
 
-/// The port of the address of this host that a text writes, which is `127.0.0.1:` and the port, in decimal digits with
-/// no zero in front. None for any other text.
+/// The port of an address of this host. The text is `127.0.0.1:` and the port, from 0 to 65535, in decimal digits
+/// without leading zeros. None for any other text.
 pub fn port_of(text: &str) -> Option<u16>
     ensures { result ≡ port_of text.now }
 {
@@ -31,7 +31,7 @@ pub fn port_of(text: &str) -> Option<u16>
     }
 }
 
-/// The port of the address that a value is.
+/// The port of the address in this value.
 fn port_in(key: Key, value: &Value) -> Result<u16, SettingsFault>
     ensures { result ≡ port_in key (view value.now) }
 {

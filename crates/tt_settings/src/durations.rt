@@ -8,8 +8,8 @@ use crate::numerals::number_of;
 /// The greatest number before a unit.
 const MAX_AMOUNT: u64 = 1_000_000_000;
 
-/// The length of time that a text writes, in nanoseconds: a whole number up to 1,000,000,000, in decimal digits with no
-/// zero in front, and behind it its unit, which is `ns`, `us`, `ms` or `s`.
+/// The length of time of this text, in nanoseconds. The text is a whole number up to 1,000,000,000, in decimal digits
+/// without leading zeros, and behind it its unit: `ns`, `us`, `ms` or `s`. None for any other text.
 pub fn duration_of(text: &str) -> Option<u64>
     ensures value { result ≡ duration_of text.now }
 {
@@ -25,7 +25,7 @@ pub fn duration_of(text: &str) -> Option<u64>
     in_unit("s", 1_000_000_000, text)
 }
 
-/// The length of time that a text writes in this unit, which is `scale` nanoseconds.
+/// The length of time of this text, in nanoseconds, if it has this unit, which is `scale` nanoseconds.
 fn in_unit(unit: &str, scale: u64, text: &str) -> Option<u64>
     requires small { scale ≤ 1000000000 }
     ensures { result ≡ in_unit unit.now scale text.now }
@@ -36,7 +36,7 @@ fn in_unit(unit: &str, scale: u64, text: &str) -> Option<u64>
     }
 }
 
-/// So many times the scale.
+/// The amount times the scale.
 fn scaled(amount: Option<u64>, scale: u64) -> Option<u64>
     requires small { scale ≤ 1000000000 }
     requires bound { IfSome amount (λ n. n ≤ max_amount) }

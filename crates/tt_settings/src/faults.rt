@@ -14,7 +14,7 @@ impl Display for Key {
     }
 }
 
-/// Why a configuration is refused. The message begins with the key, where there is one.
+/// Why a configuration is refused. The message begins with the key, if there is one.
 #[derive(Clone, Copy, Debug, PartialEq, Eq, Error)]
 pub enum SettingsFault {
     #[error("the text is not TOML")]

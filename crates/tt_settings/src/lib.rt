@@ -1,10 +1,17 @@
 //! The settings of a machine: what its configuration file means.
 //!
-//! The file is a TOML document (toml.io, version 1.1), and [`read`] gives the settings that a text says, or the first
-//! refusal in a fixed order. It opens no file and no socket.
+//! The file is a TOML document (toml.io, version 1.1). [`read`] gives the settings of such a text, or the first refusal
+//! in a fixed order. It opens no file and no socket. These four keys are enough, since the others have defaults:
+//!
+//! ```text
+//! machine = 0
+//! masters = ["127.0.0.1:5701", "127.0.0.1:5702", "127.0.0.1:5703"]
+//! listen = "127.0.0.1:5601"
+//! state = "state"
+//! ```
 //!
 //! - `settings`: [`Settings`], and [`read`].
-//! - `plans`: the settings that are numbers. `texts`: those that are paths.
+//! - `plans`: the settings that are numbers. `texts`: the settings that are paths.
 //! - `addresses`: addresses of this host. `durations`: lengths of time with a unit. `numerals`: decimal numbers.
 //! - `keys`: the keys of the file. `lookups`: values of a table by their keys.
 //! - `faults`: why a text is refused, with the place.

@@ -62,7 +62,7 @@ pub(crate) fn number_at(
     number_in(key, least, most, value_at(table, key)?)
 }
 
-/// The number at a key, from the least to the greatest, or the default where the key is absent.
+/// The number at a key, from the least to the greatest, or the default if the key is absent.
 pub(crate) fn optional_at(
     table: &Table,
     key: Key,
@@ -99,7 +99,7 @@ fn duration_in(key: Key, least: u64, most: u64, value: &Value) -> Result<u64, Se
     }
 }
 
-/// The length of time at a key, from the least to the greatest, or the default where the key is absent.
+/// The length of time at a key, from the least to the greatest, or the default if the key is absent.
 pub(crate) fn duration_at(
     table: &Table,
     key: Key,
@@ -133,7 +133,7 @@ pub(crate) fn has_none(items: &Array) -> bool
     items.is_empty()
 }
 
-/// Whether there are so many items at most.
+/// Whether there are at most `most` items.
 pub(crate) fn has_at_most(items: &Array, most: usize) -> bool
     ensures { result ≡ nat_le (count_of (array_view items.now)) most }
 {

@@ -25,13 +25,13 @@ pub struct Pauses {
     pub poll: u64,
     /// How long a round waits for answers: from a millisecond to ten seconds.
     pub wait: u64,
-    /// How far a floor may lie ahead: at most ten seconds.
+    /// How far a floor may lie ahead of the latest of a reading: at most ten seconds.
     pub floor_ahead: u64,
-    /// After how long a silent client is let go: from a second to a day.
+    /// After how long the connection of a silent client is closed: from a second to a day.
     pub idle: u64,
 }
 
-/// The set-up of a machine with so many masters.
+/// The configuration of a machine with this many masters.
 pub(crate) fn configuration_in(table: &Table, masters: u64) -> Result<Config, SettingsFault>
     requires some { 0 < masters }
     requires few { masters ≤ 16 }
@@ -44,7 +44,8 @@ pub(crate) fn configuration_in(table: &Table, masters: u64) -> Result<Config, Se
     configuration_if(masters, faulty, workers, drift)
 }
 
-/// The set-up with these numbers, where no more masters may be faulty than their number allows.
+/// The configuration with these numbers. Refuses with 1806 `TooManyFaulty` if there are fewer than `2 * faulty + 1`
+/// masters.
 fn configuration_if(
     masters: u64,
     faulty: u64,
@@ -91,7 +92,7 @@ pub(crate) fn pauses_in(table: &Table) -> Result<Pauses, SettingsFault>
     })
 }
 
-/// The lease, which is the whole of time where neither end is given.
+/// The lease. If an end is not given, it is 0 or the greatest time.
 pub(crate) fn lease_in(table: &Table) -> Result<Span, SettingsFault>
     ensures { result ≡ lease_in (table_view table.now) }
 {

@@ -17,7 +17,7 @@ use toml::Table;
 use tt_daemon::Config;
 use tt_span::Span;
 
-/// The settings of a machine. Contracts see what each of them is.
+/// The settings of a machine. In contracts they are their values.
 #[derive(Debug, Drop)]
 pub struct Settings {
     machine: u8,
@@ -62,21 +62,21 @@ impl Settings {
         self.pauses
     }
 
-    /// The lease that stamps lie in, in nanoseconds: the whole of time where none is given.
+    /// The lease, in which stamps lie, in nanoseconds: the whole of time if none is given.
     pub fn lease(&self) -> Span
         ensures value { result ≡ self.now.lease }
     {
         self.lease
     }
 
-    /// The port of 127.0.0.1 that it serves clients at.
+    /// The port of 127.0.0.1 at which it serves clients.
     pub fn listen(&self) -> u16
         ensures value { result ≡ self.now.listen }
     {
         self.listen
     }
 
-    /// The ports of 127.0.0.1 that its masters answer at, in the order of the sources.
+    /// The ports of 127.0.0.1 at which its masters answer, in the order of the sources.
     pub fn masters(&self) -> &[u16]
         ensures value { result.now ≡ self.now.masters }
     {
@@ -90,21 +90,21 @@ impl Settings {
         self.state.as_str()
     }
 
-    /// The path of the Unix socket that it serves clients at, if there is one.
+    /// The path of the Unix socket at which it serves clients, if there is one.
     pub fn socket(&self) -> Option<&FilePath>
         ensures value { option_copied result ≡ self.now.socket }
     {
         self.socket.as_ref()
     }
 
-    /// The file that it publishes into for readers of shared memory, if there is one.
+    /// The shared file, into which it writes each publication for other processes, if there is one.
     pub fn shared(&self) -> Option<&FilePath>
         ensures value { option_copied result ≡ self.now.shared }
     {
         self.shared.as_ref()
     }
 
-    /// The file that it writes its status into, if there is one.
+    /// The file into which it writes its status, if there is one.
     pub fn status(&self) -> Option<&FilePath>
         ensures value { option_copied result ≡ self.now.status }
     {
@@ -112,7 +112,7 @@ impl Settings {
     }
 }
 
-/// The settings that a text says.
+/// The settings of this text.
 ///
 /// The keys `machine` (0 to 7), `masters` (from one to 16 addresses), `listen` (an address) and `state` (a folder) have to
 /// be there. The others may be absent: `faulty` (default: as many as the number of masters allows), `workers` (1 to 32;
@@ -131,7 +131,7 @@ impl Settings {
 ///   range, 1805 `NotLocal` where a text is not an address of this host; and behind `drift`, 1806 `TooManyFaulty` where
 ///   fewer than `2 * faulty + 1` masters are listed. A lease that ends before it begins is refused with 1804 at `lease_hi`.
 ///
-/// In place of each of these it may refuse with 1 `Memory`, where an allocation failed.
+/// In place of each of these it may refuse with 1 `Memory`, if it is out of memory.
 pub fn read(alloc: Global, text: &str) -> Result<Settings, SettingsFault>
     ensures found { IfOk result (λ settings. settings_in text.now ≡ Ok settings) }
     ensures refused { IfErr result (IsRefusal (settings_in text.now)) }

@@ -14,7 +14,7 @@ use std::alloc::Global;
 use std::marker::Model;
 use toml::{Table, Value};
 
-/// A path as the file writes it. Contracts see its bytes.
+/// A path as the file has it. In contracts it is its bytes.
 #[derive(Debug, Drop)]
 pub struct FilePath {
     text: String,
@@ -37,7 +37,7 @@ impl FilePath {
     }
 }
 
-/// The path that a value is.
+/// The path in this value.
 fn path_in(alloc: Global, key: Key, value: &Value) -> Result<FilePath, SettingsFault>
     ensures { let defined = typed_value key (as_str (view value.now)) in
         MatchResult result (λ path. defined ≡ Ok path) (IsRefusal defined) }
@@ -56,7 +56,7 @@ pub(crate) fn path_at(alloc: Global, table: &Table, key: Key) -> Result<FilePath
     path_in(alloc, key, value_at(table, key)?)
 }
 
-/// The path at a key, or None where the key is absent.
+/// The path at a key, or None if the key is absent.
 pub(crate) fn optional_path(
     alloc: Global,
     table: &Table,

@@ -1,4 +1,4 @@
-//! What is answered where a call refuses.
+//! Why calls are refused.
 
 ghost use Rattle.std.specs.Prelude.{◌≡◌};
 ghost use Rattle.tt_shared.specs.Fault.{shared_number_of, write_number_of, place_number_of};

@@ -1,4 +1,4 @@
-//! The file of the world: how a writer opens or makes it, and how a reader opens it.
+//! Files of the operating system: how a writer opens or makes one, and how a reader opens it.
 
 ghost use Rattle.std.specs.Prelude.{◌≡◌, ◌⊎◌, false, IfOk, IfErr};
 
@@ -15,8 +15,8 @@ use std::os::unix::fs::{DirBuilderExt, FileExt, OpenOptionsExt};
 /// Where Linux names the boot of the machine.
 const BOOT_PATH: &str = "/proc/sys/kernel/random/boot_id";
 
-/// The file of the world, open to be written, and its lock, which is held as long as this lives. Of what the file
-/// keeps nothing is claimed.
+/// A file of the operating system, open for writing, and its lock, which is held as long as this lives. Nothing is
+/// claimed of what the file keeps.
 #[derive(Drop)]
 pub struct FilePlace {
     file: File,
@@ -72,7 +72,7 @@ fn found_at<R: Files<File = File>>(rt: &R, path: &str, boot: &[u8; BOOT_LEN]) ->
     Some(file)
 }
 
-/// Makes an empty file under another name, and gives it its name when it is whole and synced.
+/// Makes an empty file under another name, and renames it when it is whole and synced.
 fn made_at<R: Files<File = File>>(
     rt: &R,
     path: &str,
@@ -126,7 +126,7 @@ fn lock_at<R: Files<File = File>>(rt: &R, path: &str) -> Result<File, WriteFault
     }
 }
 
-/// Makes the folder where it is missing, so that all may read in it (mode 0755).
+/// Makes the folder if it is missing, so that all may read in it (mode 0755).
 fn make_folder<R: Files>(rt: &R, folder: &str) -> io::Result<()> {
     let mut builder = DirBuilder::new();
     builder.recursive(true);
@@ -151,13 +151,13 @@ fn paths_in(alloc: Global, folder: &str, name: &str) -> Result<Paths, AllocError
     })
 }
 
-/// The writer of the file `name` in this folder, which is made where it is missing (mode 0755). It holds `name.lock` as
-/// long as it lives. A shared file of this boot stays as it is, and publications go on behind its last one, so readers
-/// that have it open need nothing. Else a whole new file (mode 0644) is made as `name.new`, synced, and renamed.
+/// Opens the file `name` in this folder for writing. A missing folder is made (mode 0755). The writer locks `name.lock`
+/// as long as it lives. A shared file of this boot stays as it is, and publications go on behind its last one, so
+/// readers that have mapped it go on. Otherwise a new file (mode 0644) is made as `name.new`, synced, and renamed.
 ///
 /// Refuses with 1707 `Locked` where another process writes the file, and with 1701 `CannotOpen` where the folder, the
-/// lock, the name of the boot or the file can't be opened, read or made, or memory runs out. A file that was there is as
-/// it was then.
+/// lock, the name of the boot or the file can't be opened, read or made, or where it is out of memory. A file that was
+/// there is then as it was.
 pub fn open_file<R: Files<File = File>>(
     rt: &R,
     alloc: Global,
@@ -191,7 +191,7 @@ pub fn open_file<R: Files<File = File>>(
     Ok(SharedTeller::resume(place, &index))
 }
 
-/// The file of the world, open to be read. Of what it shows nothing is claimed.
+/// A file of the operating system, open for reading. Nothing is claimed of what it shows.
 #[derive(Drop)]
 pub struct FileView {
     file: File,
@@ -213,8 +213,8 @@ impl ReadPlace for FileView {
     }
 }
 
-/// A reader of the file at this path, which stays good while its writer lives and dies and another one goes on; it has to
-/// be opened again where the file was made anew. Refuses with 1701 `CannotOpen` where the file or the name of the boot
+/// Opens the file at this path for reading. The reader goes on if the writer dies and another one goes on. If the file
+/// was made anew, it has to be opened again. Refuses with 1701 `CannotOpen` where the file or the name of the boot
 /// can't be opened or read, and with 1702 `BadFile` where it is not a shared file of this boot.
 pub fn open_view<R: Files<File = File>>(
     rt: &R,

@@ -1,4 +1,4 @@
-//! The head of a shared file: all in front of its slots.
+//! The head of a shared file: all bytes before its slots.
 
 ghost use Rattle.std.specs.Prelude.{◌≡◌, List, ℕ, length, slice_range, Ok, IfOk, IfErr};
 ghost use Rattle.tt_shared.specs.Head.{head_of};
@@ -6,16 +6,16 @@ ghost use Rattle.tt_shared.specs.declared.faults.SharedFault.TheVariants.{BadFil
 
 use crate::faults::SharedFault;
 
-/// How many bytes a shared file has.
+/// The length of a shared file, in bytes.
 pub const FILE_LEN: usize = 192;
 
-/// How many bytes of it are in front of the slots.
+/// The length of the head, the bytes before the slots.
 pub const HEAD_LEN: usize = 64;
 
-/// How many bytes the name of a boot has.
+/// The length of the name of a boot, in bytes.
 pub const BOOT_LEN: usize = 36;
 
-/// The head of a file of this boot of the machine, while the index has these counters. Never refuses.
+/// The head of a file of this boot of the host, with these counters of the index. Never refuses.
 #[tactic(auto, unfolding(crate::specs::Head::head_of))]
 pub fn encode_head(index: &[u8; 8], boot: &[u8; BOOT_LEN]) -> [u8; HEAD_LEN]
     ensures { result ≡ head_of index.now boot.now }
@@ -39,12 +39,12 @@ fn index_in(bytes: &[u8]) -> [u8; 8]
     index
 }
 
-/// The index in the head of a file of this boot of the machine. Refuses with 1702 `BadFile` where the bytes are no such
-/// head: another length or beginning, another boot, or a byte behind it that is not 0.
+/// The index in the head of a file of this boot of the host. Refuses with 1702 `BadFile` where the bytes are not such a
+/// head: another length or beginning, another boot, or a byte behind the boot that is not 0.
 pub fn decode_head(bytes: &[u8], boot: &[u8; BOOT_LEN]) -> Result<[u8; 8], SharedFault>
-    // What is read is spelled so, each byte of it.
+    // If an index is read, the bytes are its head, each of them.
     ensures found { IfOk result (λ index. bytes.now ≡ head_of index boot.now) }
-    // What is spelled so is read.
+    // If the bytes are the head of an index, it is read.
     ensures taken { (index : List ℕ) → length index ≡ 8 → bytes.now ≡ head_of index boot.now → result ≡ Ok index }
     ensures refused { IfErr result (λ fault. fault ≡ BadFile) }
 {

@@ -1,9 +1,9 @@
-//! The index: eight counters of one byte, of which each publication adds one to exactly one.
+//! The index: eight counters of one byte. Each publication adds one to exactly one of them.
 
 ghost use Rattle.std.specs.Prelude.{◌≡◌, ◌+◌, ◌<◌, ◌^◌, ℕ, length};
 ghost use Rattle.tt_shared.specs.Index.{index_at, turn_at, next_counters};
 
-/// The index of a count of publications: each counter is a byte of the count less the next higher one, modulo 256.
+/// The index of a count of publications: each counter is a byte of the count minus the next higher byte, modulo 256.
 pub fn index_of(count: u64) -> [u8; 8]
     ensures { result ≡ index_at count }
 {
@@ -20,15 +20,15 @@ pub fn index_of(count: u64) -> [u8; 8]
     ]
 }
 
-/// The count of publications whose index has these counters: the only one, by [`index_laws`]. Each byte of the count is
-/// the sum of the counters from its own on, modulo 256.
+/// The count of publications with this index. There is only one, by [`index_laws`]. Each byte of the count is the sum
+/// of the counters from its own on, modulo 256.
 pub fn count_of(index: &[u8; 8]) -> u64
     ensures { index_at result ≡ index.now }
 {
     count_in(index)
 }
 
-/// The same of eight bytes.
+/// The count of publications with the index in these eight bytes.
 fn count_in(index: &[u8]) -> u64
     requires { length index.now ≡ 8 }
     ensures { index_at result ≡ index.now }
@@ -44,8 +44,8 @@ fn count_in(index: &[u8]) -> u64
     u64::from_le_bytes([d0, d1, d2, d3, d4, d5, d6, d7])
 }
 
-/// Which of the eight counters the publication after so many adds to: as many as are the lowest bytes of the count that
-/// are 255, at most 7.
+/// The number of the counter to which the publication after `count` others adds one. It is how many of the lowest bytes
+/// of the count are 255 without a gap, and at most 7.
 pub fn turn_of(count: u64) -> usize
     ensures value { result ≡ turn_at count }
     ensures bound { result < 8 }
@@ -70,8 +70,8 @@ pub fn turn_of(count: u64) -> usize
     }
 }
 
-/// A law, not a call to make: a publication more adds one, modulo 256, to one of the eight counters, and leaves the
-/// others. Two counts below 2^64 with the same index are the same.
+/// Laws, not a call to make. One more publication adds one, modulo 256, to one of the eight counters, and leaves the
+/// others. Two counts below 2^64 with the same index are equal.
 pub fn index_laws()
     ensures one_byte { (n : ℕ) → index_at (n + 1) ≡ next_counters (turn_at n) (index_at n) }
     ensures one_count { (m n : ℕ) → m < 2 ^ 64 → n < 2 ^ 64 → index_at m ≡ index_at n → m ≡ n }

@@ -1,4 +1,4 @@
-//! Why readers need no lock: laws of the file's format, and not calls to make.
+//! Why readers need no lock: laws of the format of the file, and not calls to make.
 
 ghost use Rattle.std.specs.Prelude.{◌≡◌, ◌+◌, ◌≤◌, ◌<◌, ◌%◌, ◌^◌, ◌⊎◌, ℕ, List, length, slice_index};
 ghost use Rattle.tt_shared.specs.Index.{index_at};
@@ -7,8 +7,8 @@ ghost use Rattle.tt_shared.specs.declared.slots.SharedSpan.{SharedSpan};
 ghost use Rattle.tt_shared.specs.Writing.{index_word};
 ghost use Rattle.tt_shared.specs.Seeing.{MaySee, Shows, DiesWriting};
 
-/// A reader that finds the same index before and after it has copied a slot has copied it as it was written: the index
-/// has been that of one count all the while. Each byte may have been seen at a moment of its own.
+/// If a reader finds the same index before and after it copied a slot, it copied the slot as it was written: the index
+/// was the index of one count all the time. Each byte may have been read at a moment of its own.
 pub fn copy_laws()
     ensures whole { (published : ℕ → SharedSpan) (first last slot : ℕ) (then bytes : ℕ → ℕ) → first < 2 ^ 64 → last < 2 ^ 64 →
         ((i : ℕ) → (first ≤ then i) × (then i ≤ last) × MaySee published (then i) slot i (bytes i)) →
@@ -16,8 +16,8 @@ pub fn copy_laws()
         (i : ℕ) → bytes i ≡ slice_index (slot_of (index_word first) (published first)) i }
 {}
 
-/// Where a writer dies at any moment of a publication, a file that showed its readers some slot still shows them that
-/// one, byte for byte, or shows them the new publication whole.
+/// If a writer dies at any moment of a publication, the file still shows its readers the slot that it showed before,
+/// byte for byte, or it shows them the new publication whole.
 pub fn crash_laws()
     ensures old_or_new { (n : ℕ) (p : SharedSpan) (before after bytes : List ℕ) → length before ≡ 192 →
         Shows before n bytes → DiesWriting n p before after →

@@ -1,7 +1,11 @@
-//! The last publication of a machine in a file of 192 bytes, which any process of the machine can map and read, without
-//! a lock, a system call or a wait.
+//! The last publication of a machine in a file of 192 bytes. Any process of the host can map and read it, without a
+//! lock, a system call or a wait.
 //!
-//! All numbers are little endian and have 8 bytes, but where said.
+//! A daemon writes by a [`SharedTeller`], which [`open_file`] gives, and calls [`SharedTeller::publish`]. Readers in
+//! Rattle use a [`SharedReader`], which [`open_view`] gives, and call [`SharedReader::now`]. The folder `clients/` has
+//! readers in other languages.
+//!
+//! All numbers are little endian and have 8 bytes, if nothing else is said.
 //!
 //! | bytes | content | changes |
 //! |---|---|---|
@@ -24,23 +28,25 @@
 //! | 48..56 | the number of the publication in that life | any |
 //! | 56..64 | the drift in parts per million | at most `MAX_DRIFT` |
 //!
-//! The count goes on through all lives of the daemon. Counter i of the index is byte i of the count less byte i + 1,
-//! modulo 256, so a publication moves exactly one counter by one, and no index comes twice below 2^64.
+//! The count of publications goes on through all lives of the daemon. Counter i of the index is byte i of the count
+//! minus byte i + 1, modulo 256. So a publication adds one to exactly one counter, and no two counts below 2^64 have
+//! the same index.
 //!
 //! A publication is two writes: the slot that is not current, and then the one byte of the index. A reader loads the
-//! index, the slot that it names, and the index again; where both are the same, no byte of the slot changed between
-//! them ([`copy_laws`]). A writer that dies at any moment leaves the publication before or the new one ([`crash_laws`]).
+//! index, the slot that it names, and the index again. If both loads gave the same index, no byte of the slot changed
+//! between them ([`copy_laws`]). If the writer dies at any moment, the file shows the publication before or the new one
+//! ([`crash_laws`]).
 //!
 //! - `heads`: the head as bytes, and back.
 //! - `slots`: a publication as the bytes of a slot, and back; a reading of it.
 //! - `indexes`: the index of each count, and the count of each index.
 //! - `places`: where a writer puts the bytes, and where readers find them.
 //! - `readers`: the reader, which copies a slot between two looks at the index.
-//! - `memory`: a file in memory that fails at the write it is told to.
-//! - `files`: the file of the world: how a writer opens or makes it, and how a reader opens it.
+//! - `memory`: a file in memory, for tests, which fails at the write that it is told to.
+//! - `files`: files of the operating system: how a writer opens or makes one, and how a reader opens it.
 //! - `teller`: the writer, and the two writes of a publication in their order.
 //! - `laws`: why readers need no lock.
-//! - `faults`: what is answered where a call refuses.
+//! - `faults`: why calls are refused.
 #![tactic(auto)]
 
 mod faults;

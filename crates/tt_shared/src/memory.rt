@@ -12,10 +12,11 @@ use crate::heads::FILE_LEN;
 use crate::places::{Place, ReadPlace};
 use std::marker::Model;
 
-/// A shared file in memory, for tests. It fails at one of its writes, if it is told to, and keeps the first half of
-/// the bytes of that one.
+/// A shared file in memory, for tests. It fails at one of its writes, if it is told to, and keeps the first half of the
+/// bytes of that write.
 ///
-/// Contracts see its bytes, the number of the write that is to fail, how many there were, and how many failed.
+/// In contracts it is its bytes, the number of the write that is to fail, how many writes there were, and how many
+/// failed.
 #[derive(Drop)]
 pub struct MemoryPlace {
     bytes: [u8; FILE_LEN],
@@ -30,7 +31,7 @@ impl Model for MemoryPlace {
     ghost view = { λ m. record { bytes = m.bytes; fails_at = m.fails_at; calls = m.calls; failures = m.failures } };
 }
 
-/// Whether so many bytes from `offset` on reach past the end of the file.
+/// Whether `len` bytes from `offset` on reach past the end of the file.
 fn reaches_past(offset: u64, len: usize) -> bool
     ensures { result ≡ nat_lt 192 (offset + len) }
 {
@@ -38,7 +39,7 @@ fn reaches_past(offset: u64, len: usize) -> bool
 }
 
 impl MemoryPlace {
-    /// A file with these bytes. Its write number `fails_at`, counted from 1, fails; `None`: none does.
+    /// A file with these bytes. Its write number `fails_at`, counted from 1, fails; with `None` no write does.
     pub fn new(bytes: [u8; FILE_LEN], fails_at: Option<u64>) -> MemoryPlace
         ensures { result ≡ record { bytes = bytes; fails_at = fails_at; calls = 0; failures = 0 } }
     {
@@ -50,7 +51,7 @@ impl MemoryPlace {
         }
     }
 
-    /// What stands in it.
+    /// The bytes of the file.
     pub fn bytes(&self) -> [u8; FILE_LEN]
         ensures { result ≡ self.now.bytes }
     {
@@ -71,8 +72,8 @@ impl Place for MemoryPlace {
 
     ghost failed = { λ place. place.failures };
 
-    /// Puts the bytes into the file. Fails where they reach past its end, which changes none of its bytes, and at the
-    /// call that is to fail, which puts the first half of them.
+    /// Puts the bytes into the file. If they reach past its end, it fails and changes no byte. At the call that is to
+    /// fail it puts the first half of them.
     fn write_all_at(&mut self, offset: u64, bytes: &[u8]) -> Result<(), PlaceFault>
         ensures did { MemoryDoes self.old (record { offset = offset; bytes = bytes.now }) (is_ok result) self.new }
         ensures sound { OnOk result (self.new.failures ≡ self.old.failures) }
@@ -120,8 +121,8 @@ impl ReadPlace for MemoryPlace {
     }
 }
 
-/// A law, not a call to make: a writer over memory whose write failed leaves the file as one that died then, so its
-/// readers find what [`crash_laws`](crate::crash_laws) says.
+/// A law, not a call to make. If a write of a writer over memory failed, the file is as if the writer had died then. So
+/// its readers find what [`crash_laws`](crate::crash_laws) says.
 pub fn memory_laws()
     ensures { (n : ℕ) (p : SharedSpan) (before after : MemoryState) → StopsShort MemoryDoes n p before after → DiesWriting n p before.bytes after.bytes }
 {}

@@ -1,4 +1,4 @@
-//! Readings of a shared file, as any process makes them.
+//! Readings of a shared file.
 
 ghost use Rattle.std.specs.Prelude.{◌≡◌, ◌≢◌, ◌⊎◌, ℕ, List, Some, None, IfOk, IfErr, IsErrOf, nat_le};
 ghost use Rattle.tt_publish.specs.Reading.{CanBeReadAt, reading_at};
@@ -14,7 +14,7 @@ use crate::places::ReadPlace;
 use crate::slots::{SLOT_LEN, decode};
 use tt_publish::{Clock, Reading};
 
-/// How often a copy is tried.
+/// How often a reader tries to copy a slot.
 const MAX_TRIES: u32 = 1000;
 
 /// A copy of a slot, and the index before and after it.
@@ -25,7 +25,7 @@ struct Copied {
     again: [u8; 8],
 }
 
-/// Where the slot begins that an index names.
+/// The offset of the slot that an index names, in bytes.
 fn offset_of(index: &[u8; 8]) -> u64
     ensures { IsNamedBy index.now result }
 {
@@ -77,8 +77,8 @@ fn copy<P: ReadPlace>(place: &mut P) -> Result<Copied, SharedFault>
 pub struct SharedReading {
     /// The reading.
     pub reading: Reading,
-    /// Whether the clock had not passed 'valid until' of the publication. Where it had, the daemon is late or gone; the
-    /// reading is right all the same, and only wide.
+    /// Whether the clock had not passed `valid_until` of the publication. If it had, the daemon is late or gone. The
+    /// reading still holds the true time, and grows wider.
     pub fresh: bool,
 }
 
@@ -98,13 +98,13 @@ impl<P> SharedReader<P> {
 }
 
 impl<P: ReadPlace> SharedReader<P> {
-    /// The reading of the last publication. The slot is copied until two looks at the index, before and after the copy,
-    /// show the same; then the clock is asked. So no newer publication lies before the clock's reading.
+    /// The reading of the last publication. It copies the slot until the looks at the index before and after the copy
+    /// show the same. Then it reads the clock. So the publication was made before the clock was read.
     ///
     /// Refuses, in this order: 801 `Nothing` where nothing was published, 1701 `CannotOpen` where the file could not be
     /// read, 1704 `Contended` where each of 1,000 tries met another publication, 1703 `BadSlot` where no daemon wrote
-    /// the slot, and the clock is not asked by these; 803 `ClockFailed` where the clock failed; 802 `ClockBack` where it
-    /// shows less than the publication's clock, or more than the greatest time.
+    /// the slot: all these without reading the clock. Then 803 `ClockFailed` where the clock failed, 802 `ClockBack`
+    /// where it shows less than the clock of the publication, or more than the greatest time.
     pub fn now<C: Clock>(&mut self, clock: &mut C) -> Result<SharedReading, SharedFault>
         ensures read { IfOk result (λ seen. (index bytes : List ℕ) × (p : Published) × (c : ℕ)
             × Finds P.looks index bytes self.old.place self.new.place × IsSlotOf (word_of index) p bytes

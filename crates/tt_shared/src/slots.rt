@@ -13,7 +13,7 @@ use crate::faults::SharedFault;
 use tt_publish::{FusedSpan, Reading};
 use tt_span::{Drift, MAX_DRIFT, MAX_TIME, Span};
 
-/// How many bytes a slot has.
+/// The length of a slot, in bytes.
 pub const SLOT_LEN: usize = 64;
 
 /// A publication as other processes read it: a fused span, and what a reader needs to age it.
@@ -21,10 +21,10 @@ pub const SLOT_LEN: usize = 64;
 pub struct SharedSpan {
     /// The fused span, and the clock reading at which it was made, in nanoseconds.
     pub fused: FusedSpan,
-    /// The last clock reading at which it is fresh, in nanoseconds: past it the daemon is late or gone. The reading
-    /// holds the true time all the same, and is only wide.
+    /// The last clock reading at which it is fresh, in nanoseconds. Later the daemon is late or gone: a reading still
+    /// holds the true time, and grows wider.
     pub valid_until: u64,
-    /// The life of the daemon: each has a greater one than those before.
+    /// The epoch of the daemon's life. It is greater than the epoch of each earlier life.
     pub epoch: u64,
     /// The number of the publication in that life.
     pub number: u64,
@@ -68,7 +68,7 @@ fn is_other(index: u64, bytes: &[u8]) -> bool
     bytes.len() != SLOT_LEN || number_at(bytes, 0) != index || number_at(bytes, 8) > MAX_TIME
 }
 
-/// The two ends that stand at their places, where they are a span.
+/// The span at its place, if the two ends are a span.
 fn span_at(bytes: &[u8]) -> Result<Span, SharedFault>
     requires { length bytes.now ≡ 64 }
     ensures { result ≡ (if are_no_span (ends_at bytes.now) then Err BadSlot else Ok (ends_at bytes.now)) }
@@ -76,7 +76,7 @@ fn span_at(bytes: &[u8]) -> Result<Span, SharedFault>
     Span::new(number_at(bytes, 16), number_at(bytes, 24)).map_err(|_| SharedFault::BadSlot)
 }
 
-/// The drift that stands at its place, where it is one.
+/// The drift at its place, if the number is one.
 fn drift_at(bytes: &[u8]) -> Result<Drift, SharedFault>
     requires { length bytes.now ≡ 64 }
     ensures { result ≡ (if nat_lt max_drift (number_at_place bytes.now 56) then Err BadSlot else Ok (number_at_place bytes.now 56)) }
@@ -88,7 +88,7 @@ fn drift_at(bytes: &[u8]) -> Result<Drift, SharedFault>
     Drift::new(number as u32).ok_or(SharedFault::BadSlot)
 }
 
-/// What the bytes of a slot say, if the slot is that of `index`.
+/// What the bytes of a slot say, if they are the slot of `index`.
 #[tactic(auto, unfolding(crate::specs::Reading::read_of))]
 fn slot_at(index: u64, bytes: &[u8]) -> Result<SharedSpan, SharedFault>
     ensures { result ≡ read_of index bytes.now }
@@ -110,22 +110,22 @@ fn slot_at(index: u64, bytes: &[u8]) -> Result<SharedSpan, SharedFault>
     })
 }
 
-/// The publication whose slot the bytes are. Refuses with 1703 `BadSlot` where they are not the slot that `index`
-/// names, or one of its numbers is out of range.
+/// The publication in these bytes of a slot. Refuses with 1703 `BadSlot` where they are not the slot of `index`, or one
+/// of its numbers is out of range.
 pub fn decode(index: u64, bytes: &[u8]) -> Result<SharedSpan, SharedFault>
-    // What is read is spelled so, each byte of it.
+    // If a publication is read, the bytes are its slot, each of them.
     ensures found { IfOk result (λ p. IsShared p × (bytes.now ≡ slot_of index p)) }
-    // What is spelled so is read.
+    // If the bytes are the slot of a publication, it is read.
     ensures taken { (p : SharedSpan) → IsShared p → bytes.now ≡ slot_of index p → result ≡ Ok p }
     ensures refused { IfErr result (λ fault. fault ≡ BadSlot) }
 {
     slot_at(index, bytes)
 }
 
-/// The reading of the slot that `index` names, when the clock shows `clock`, in nanoseconds: the span of the publication
-/// whose slot the bytes are, aged by what the clock has gone on since. Refuses, in this order: 801 `Nothing` where the
-/// index is 0, as nothing was published; 1703 `BadSlot` where the bytes are not the slot of a publication; 802
-/// `ClockBack` where the clock is below that of the publication, or above the greatest time.
+/// The reading of the publication in these bytes of a slot, when the clock shows `clock`, in nanoseconds: its span,
+/// aged by what the clock has gone on since. Refuses, in this order: 801 `Nothing` where the index is 0, since nothing
+/// was published; 1703 `BadSlot` where the bytes are not the slot of a publication under `index`; 802 `ClockBack` where
+/// `clock` is below the clock of the publication, or above the greatest time.
 pub fn read(index: u64, bytes: &[u8], clock: u64) -> Result<Reading, SharedFault>
     ensures nothing { index ≡ 0 → result ≡ Err Nothing }
     // The slot of a publication gives exactly what the publication gives.

@@ -13,9 +13,10 @@ use crate::slots::{SharedSpan, encode};
 use std::marker::Model;
 use tt_span::MAX_TIME;
 
-/// The writer of a shared file. It has to be the only one, as one that holds the file's lock is.
+/// The writer of a shared file. A file has to have one writer only; the lock that [`open_file`](crate::open_file) takes
+/// sees to that.
 ///
-/// Contracts see its place, how many publications stand in the file, and whether a write failed.
+/// In contracts it is its place, how many publications stand in the file, and whether a write failed.
 #[derive(Drop)]
 pub struct SharedTeller<P> {
     place: P,
@@ -29,7 +30,7 @@ impl<P> Model for SharedTeller<P> {
     ghost view = { λ t. record { place = t.place; count = t.count; broken = t.broken } };
 }
 
-/// The first write of the publication after so many: its slot.
+/// The first write of the publication after `count` others: its slot.
 fn next_slot(count: u64, shared: &SharedSpan) -> (u64, [u8; 64])
     requires { count + 1 < 2 ^ 64 }
     ensures { record { offset = result.0; bytes = result.1 } ≡ slot_write (count + 1) shared.now }
@@ -41,7 +42,7 @@ fn next_slot(count: u64, shared: &SharedSpan) -> (u64, [u8; 64])
     )
 }
 
-/// The second: the byte of the index that changes after so many.
+/// The second write of the publication after `count` others: the byte of the index that changes.
 fn next_counter(count: u64) -> (u64, [u8; 1])
     requires { count + 1 < 2 ^ 64 }
     ensures { record { offset = result.0; bytes = result.1 } ≡ index_write count }
@@ -51,8 +52,7 @@ fn next_counter(count: u64) -> (u64, [u8; 1])
 }
 
 impl<P> SharedTeller<P> {
-    /// The writer of a place that shows this index: the count of its publications is the one of that index, and it goes
-    /// on behind it.
+    /// The writer of a place that shows this index. It goes on behind the publications that this index counts.
     pub fn resume(place: P, index: &[u8; 8]) -> SharedTeller<P>
         ensures place { result.place ≡ place }
         ensures learned { index_at result.count ≡ index.now }
@@ -74,7 +74,7 @@ impl<P: Place> SharedTeller<P> {
         self.count
     }
 
-    /// How often its place failed.
+    /// How many writes of its place failed.
     pub fn failures(&self) -> u64
         ensures { result ≡ P.failed self.now.place }
     {
@@ -83,16 +83,16 @@ impl<P: Place> SharedTeller<P> {
 
     /// Puts a publication into the file, by two writes: its slot, and then one byte of the index. Refuses, in this
     /// order: 1706 `Broken` where an earlier write failed, 805 `UsedUp` after 2^64 - 1 publications, 802 `ClockBack`
-    /// where the publication's clock is above the greatest time, and nothing is written by these; 1705 `Failed` where a
-    /// write failed. Then the file shows its readers the publication before or this one, and this writer writes no
-    /// more: drop it, and open the file again.
+    /// where the clock of the publication is above the greatest time: by these nothing is written. Then 1705 `Failed`
+    /// where a write failed: the file shows its readers the publication before or this one, and this writer writes no
+    /// more. Drop it, and open the file again.
     pub fn publish(&mut self, shared: &SharedSpan) -> Result<(), WriteFault>
         ensures published { OnOk result (Publishes P.does self.old.count shared.now self.old.place self.new.place) }
         ensures counted { OnOk result ((self.new.count ≡ self.old.count + 1) × (self.new.broken ≡ false)) }
         ensures broken { IsErrOf result WriteFault.Broken ↔ (self.old.broken ≡ true) }
         ensures used_up { IsErrOf result WriteFault.UsedUp ↔ ((self.old.broken ≡ false) × (self.old.count + 1 ≡ 2 ^ 64)) }
         ensures clock_back { IsErrOf result WriteFault.ClockBack ↔ ((self.old.broken ≡ false) × (self.old.count + 1 < 2 ^ 64) × (max_time < shared.now.fused.clock)) }
-        // A call that refuses made no write, or the first that failed was its last; and there is none after it.
+        // A call that refuses made no write, or its last write failed, and then no later call writes.
         ensures stopped { OnErr result ((self.new ≡ self.old) ⊎ (StopsShort P.does self.old.count shared.now self.old.place self.new.place × (self.new.broken ≡ true))) }
         ensures cause { IsErrOf result WriteFault.Failed → StopsShort P.does self.old.count shared.now self.old.place self.new.place × HasFailed (P.failed self.old.place) (P.failed self.new.place) }
         ensures sound { OnOk result (P.failed self.new.place ≡ P.failed self.old.place) }

@@ -54,7 +54,7 @@ impl Statement {
         self.span
     }
 
-    /// The reading of the machine's clock when the poll was sent, in nanoseconds, at most that of the receipt.
+    /// The reading of the machine's clock when the poll was sent, in nanoseconds, at most the reading at the receipt.
     pub fn sent(&self) -> u64
         ensures value { result ≡ self.now.sent }
         ensures valid { IsStatement self.now }

@@ -24,9 +24,9 @@ use tt_span::{Drift, MAX_SOURCES, MAX_TIME, Span};
 /// in the same way (OSDI 2012, section 3). The nonces of all polls of a table are one count, so it recognises an answer
 /// to an earlier poll. Its epoch is the number of the machine's life, so it recognises an answer to an earlier life.
 ///
-/// Clock readings are in nanoseconds. Each call that takes one refuses with 402 `ClockBack` a reading below that of the
-/// last `poll` or `take` that was not refused, or above [`MAX_TIME`]. A refused call changes nothing. In particular
-/// later readings are not compared with its reading.
+/// Clock readings are in nanoseconds. Each call that takes one refuses with 402 `ClockBack` a reading below the reading
+/// of the last `poll` or `take` that was not refused, or above [`MAX_TIME`]. A refused call changes nothing. In
+/// particular later readings are not compared with its reading.
 #[derive(Drop)]
 pub struct Table {
     machine: u8,
@@ -114,8 +114,8 @@ impl Table {
         Ok(index)
     }
 
-    /// Whether the clock reading `clock`, in nanoseconds, would be refused with 402 `ClockBack`: it is below that of
-    /// the last `poll` or `take` that was not refused, if there was one, or above [`MAX_TIME`].
+    /// Whether the clock reading `clock`, in nanoseconds, would be refused with 402 `ClockBack`: it is below the
+    /// reading of the last `poll` or `take` that was not refused, if there was one, or above [`MAX_TIME`].
     pub fn is_back(&self, clock: u64) -> bool
         ensures value { result ≡ is_back_of self.now clock }
         ensures valid { IsTable self.now }

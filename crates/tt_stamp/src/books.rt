@@ -372,7 +372,7 @@ fn put_in_order(waiting: &mut VecDeque<(u64, Id)>, stamp: u64, id: Id)
     let _ = waiting.insert(place, (stamp, id));
 }
 
-// Why a commit with a new id is not queued if there is no memory for the id.
+// Why a commit with a new id is not queued when memory for the id is missing.
 fn no_memory_for(stamps: &[u64], stamp: u64) -> BookFault
     requires { IsNonDecreasing stamps.now }
     ensures { result ≡ (if is_among stamps.now stamp then BookFault.StampThere else BookFault.Memory) }

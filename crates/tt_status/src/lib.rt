@@ -4,7 +4,7 @@
 //!
 //! - `statuses`: [`Status`], and its text in the format that Prometheus collects.
 //! - `lines`: [`Event`], and the line of a log that says it.
-//! - `limits`: [`Limit`], which says one line of a kind in ten seconds and counts what it leaves out.
+//! - `limits`: [`Limit`], which lets one line of a kind pass in ten seconds and counts the others.
 #![tactic(auto)]
 
 mod limits;

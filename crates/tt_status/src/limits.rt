@@ -1,12 +1,12 @@
-//! How often a line is said.
+//! How often a line of a kind is written.
 
 ghost use Rattle.std.specs.Prelude.{◌≡◌, ℕ, List, [], ◌∷◌};
 ghost use Rattle.tt_status.specs.Limit.{StandsFor, answer_of};
 
-/// For how long a kind of line is not said again, in nanoseconds: ten seconds.
+/// For how long no second line of a kind is written, in nanoseconds: ten seconds.
 pub const QUIET: u64 = 10_000_000_000;
 
-/// What is kept of one kind of line: when it was said last, and how many were left out since.
+/// What is kept of one kind of line: when one was written last, and how many were left out since.
 #[derive(Clone, Copy, Debug, PartialEq, Eq)]
 pub struct Limit {
     last: Option<u64>,
@@ -14,7 +14,7 @@ pub struct Limit {
 }
 
 impl Limit {
-    /// Nothing was said so far.
+    /// No line was written so far.
     pub fn new() -> Limit
         ensures nothing { StandsFor [] result }
     {
@@ -24,9 +24,10 @@ impl Limit {
         }
     }
 
-    /// Whether a line of this kind is said at this moment, in nanoseconds of one clock: how many were left out since the
-    /// last one that was said, and None where it is left out itself. It is said where none was said before, or the last
-    /// one [`QUIET`] before or earlier. The count stays at 2^64 - 1 once it is there.
+    /// Whether a line of this kind is written now, at this reading of one clock in nanoseconds. `Some` says that it is,
+    /// and how many were left out since the last one. `None` says that it is left out. It is written if none was
+    /// written before, or if the last one was written at least [`QUIET`] ago. The count stays at 2^64 - 1 once it is
+    /// reached.
     pub fn admit(&mut self, now: u64) -> Option<u64>
         ensures says { (past : List ℕ) → StandsFor past self.old → result ≡ answer_of past now }
         ensures stands { (past : List ℕ) → StandsFor past self.old → StandsFor (now ∷ past) self.new }

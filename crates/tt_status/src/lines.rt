@@ -5,7 +5,7 @@ ghost use Rattle.tt_status.specs.Event.{event_line, field, name_of, numbers_of};
 
 use std::alloc::AllocError;
 
-/// What an operator may have to act on, or wants to see.
+/// An event that an operator wants to see, or may have to act on.
 #[derive(Clone, Copy, Debug, PartialEq, Eq)]
 pub enum Event {
     /// The machine has started in this epoch, and serves clients at this port.
@@ -14,17 +14,17 @@ pub enum Event {
     FirstPublication { width: u64 },
     /// No answer of this source came in a round.
     SourceSilent { source: u64 },
-    /// The fusion speaks against this source.
+    /// This source is a suspect of the fusion: its span does not meet the fused span.
     SourceSuspect { source: u64 },
     /// A fusion was refused with this number. 504 says that more than f sources are faulty.
     FusionRefused { number: u64 },
     /// The clock could not be read, or went back.
     ClockBack,
-    /// So many answers of sources were refused in a round.
+    /// This many answers of sources were refused in a round.
     AnswersRefused { count: u64 },
-    /// A round ended with a fault of this number: its link failed, or its fusion was not published.
+    /// A round ended with the fault of this number: its link failed, or its fusion was not published.
     RoundFailed { number: u64 },
-    /// The shared file is no longer written, for a fault of this number.
+    /// The shared file is no longer written, because of the fault of this number.
     SharingEnded { number: u64 },
     /// The status file was not written.
     StatusUnwritten,
@@ -45,7 +45,7 @@ pub enum Event {
 }
 
 impl Event {
-    /// How the event is called in a line, with its level.
+    /// The level and the name of the event in a line.
     fn name(self) -> &'static str
         ensures { result.now ≡ name_of self }
     {
@@ -71,9 +71,9 @@ impl Event {
     }
 }
 
-/// Adds the line of an event to a text: when it was, in nanoseconds since 1970, its level and its name, its numbers, how
-/// many of its kind were left out before it where some were, and a line feed. Refuses only where memory runs out; then the
-/// text may have a part of the line at its end.
+/// Adds the line of an event to a text: its time, in nanoseconds since 1970, its level and its name, its numbers, how
+/// many of its kind were left out before it if any were, and a line feed, like `time=5 level=warn event=fusion_refused
+/// number=504`. Refuses only if it is out of memory; then the text may have a part of the line at its end.
 pub fn push_event(
     text: &mut String,
     time: u64,

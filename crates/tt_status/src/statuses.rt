@@ -18,9 +18,9 @@ pub struct Status {
     pub age: u64,
     /// How many sources are asked.
     pub sources: u64,
-    /// Of how many of them a statement is known.
+    /// How many of them have made a statement.
     pub known: u64,
-    /// How many of them the last fusion speaks against.
+    /// How many of them are suspects of the last fusion.
     pub suspects: u64,
     /// How many rounds were made.
     pub rounds: u64,
@@ -32,7 +32,7 @@ pub struct Status {
     pub no_point: u64,
     /// How many fusions were refused with 701: too few sources are known.
     pub too_few: u64,
-    /// 1 as long as a shared file is written, and 0 where there is none or its writing has ended.
+    /// 1 as long as a shared file is written, and 0 if there is none or its writing has ended.
     pub sharing: u64,
     /// How many sessions have ended.
     pub sessions: u64,
@@ -43,7 +43,7 @@ pub struct Status {
 }
 
 /// Adds the status to a text, in the format that Prometheus collects (its text format, version 0.0.4): one line for each
-/// number. Refuses only where memory runs out; then the text may have a part of it at its end.
+/// number. Refuses only if it is out of memory; then the text may have a part of it at its end.
 pub fn push_status(text: &mut String, status: &Status) -> Result<(), AllocError>
     ensures written { OnOk result (string_bytes text.new ≡ string_bytes text.old ++ status_text status.now) }
 {

@@ -13,8 +13,8 @@ use arrayvec::ArrayVec;
 /// The numbers of the line that stands at the place `at` of the text, and the place behind that line.
 ///
 /// A line is the word, then 0 to 16 numbers, each behind one space, and one line feed at the end. A number is decimal,
-/// without leading zeros, and at most 2^64 - 1. `at` counts bytes, and is at most the length of the text. `None`
-/// where no such line stands there; what stands behind the line is not looked at.
+/// without leading zeros, and at most 2^64 - 1. `at` counts bytes, and is at most the length of the text. `None` if no
+/// such line stands there. The text behind the line is not read.
 pub fn line_at(word: &[u8], text: &[u8], at: usize) -> Option<(ArrayVec<u64, 16>, usize)>
     requires { at ≤ length text.now }
     ensures read { MatchOption result (ReadsNothing (line_of word.now) AreNumbers Anything (drop at text.now))
@@ -23,8 +23,8 @@ pub fn line_at(word: &[u8], text: &[u8], at: usize) -> Option<(ArrayVec<u64, 16>
     numbers_at(text, after(word, text, at)?)
 }
 
-/// The numbers of a line, given with its line feed, where it is the word and numbers alone, as [`line_at`] reads them.
-/// `None` for any other line, also where something stands behind its line feed.
+/// The numbers of a line, which is given with its line feed, if the line is this word and numbers, as [`line_at`] reads
+/// them. `None` for any other bytes, also if anything stands behind the line feed.
 pub fn numbers_behind(word: &[u8], line: &[u8]) -> Option<ArrayVec<u64, 16>>
     ensures read { MatchOption result
         ((numbers : List ℕ) → AreNumbers numbers → line.now ≢ line_of word.now numbers)
@@ -39,12 +39,11 @@ pub fn numbers_behind(word: &[u8], line: &[u8]) -> Option<ArrayVec<u64, 16>>
     Some(numbers)
 }
 
-/// What the line that [`line_at`] reads says of what its numbers stand for, where that is one number, or a span by its
-/// two ends.
+/// Laws of lines that stand for one number, or for a span by its two ends.
 ///
-/// Where no such line stands, neither that of a number nor that of a span does. Where one stands, it is that of the
-/// number or the span whose numbers it has, if there is one, and of no other. What comes after the line of a span
-/// stands further on.
+/// If [`line_at`] reads no line, the line of a number or of a span does not stand there. If it reads one, the line
+/// stands for the number or the span with its numbers, if there is one, and for no other. The place behind the line of
+/// a span lies further on.
 pub fn text_laws()
     ensures no_number { (word bytes : List ℕ) → ReadsNothing (line_of word) AreNumbers Anything bytes →
         ReadsNothing (λ n. line_of word (n ∷ [])) IsNumber Anything bytes }
@@ -64,8 +63,8 @@ pub fn text_laws()
         ReadsUpTo (λ span. line_of word (ends_of span)) IsInterval Anything text at span next → at < next }
 {}
 
-/// The place behind the word, where it stands at the place `at` of the text, and `None` where it does not. Places count
-/// bytes, and `at` is at most the length of the text.
+/// The place behind the word, if it stands at the place `at` of the text, otherwise `None`. Places count bytes, and
+/// `at` is at most the length of the text.
 pub fn after(word: &[u8], text: &[u8], at: usize) -> Option<usize>
     requires { at ≤ length text.now }
     ensures found { MatchOption result (NoWord word.now (drop at text.now))
@@ -119,7 +118,7 @@ fn number_at(text: &[u8], at: usize) -> Option<(u64, usize)>
     Some((number, at + len))
 }
 
-/// How many digits the bytes begin with.
+/// How many digits stand at the beginning of the bytes.
 fn digits_len(bytes: &[u8]) -> usize
     ensures within { result ≤ length bytes.now }
     ensures digits { AllDigits 10 (take result bytes.now) }
@@ -133,7 +132,7 @@ fn digits_len(bytes: &[u8]) -> usize
     bytes.len()
 }
 
-/// The number that these digits spell, unless they begin with a zero that may not stand there or it is too large.
+/// The number that these digits spell. None if they have a leading zero, or the number is above 2^64 - 1.
 fn number_of(digits: &[u8]) -> Option<u64>
     requires { AllDigits 10 digits.now }
     ensures { MatchOption result ((n : ℕ) → IsNumber n → digits.now ≡ decimal n → ⊥) (λ n. IsNumber n × (digits.now ≡ decimal n)) }

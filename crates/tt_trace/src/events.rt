@@ -7,9 +7,9 @@ use crate::numbers::push_phrase;
 use std::alloc::{AllocError, Global};
 use tt_world::{Action, Event, Payload};
 
-/// Writes the line of an event at the end: its word, its true time and its numbers, each behind one space, and a line feed;
-/// times are in nanoseconds, and forged bytes stand in hex. Refuses only where out of memory, with some of the line written
-/// by then.
+/// Writes the line of an event at the end of the text: its word, its true time and its numbers, each behind one space,
+/// and a line feed. Times are in nanoseconds, and forged bytes stand in hex. Refuses only if it is out of memory; then
+/// the text may have a part of the line at its end.
 pub fn push_event(alloc: Global, text: &mut String, event: &Event) -> Result<(), AllocError>
     ensures { OnOk result (string_bytes text.new ≡ string_bytes text.old ++ event_line event.now) }
 {

@@ -1,15 +1,15 @@
 //! The text of a run: each event with its number and its reply, one on each line, for people to follow.
 //!
-//! [`trace_text`] writes a line for each event: its number, counted from 0, the event as a line of its own has it, an
-//! arrow, and the reply with its numbers. Behind a reading that does not hold the true time of its event stands `wrong`:
+//! [`trace_text`] writes a line for each event: its number, counted from 0, the event with its numbers, an arrow, and
+//! the reply with its numbers. `wrong` stands behind a reading that does not hold the true time of its event:
 //!
 //! ```text
 //! 9 fuse 50 0 0 -> Published 1 45 55
 //! 10 read 50 0 0 0 1 -> Read 45 55
 //! ```
 //!
-//! [`push_event`] writes the line of one event alone. Each event and each reply has one text: nothing depends on what
-//! came before. Where out of memory, there is no text.
+//! [`push_event`] writes the line of one event alone. Each event and each reply has one text, which does not depend on
+//! what came before. If it is out of memory, there is no text.
 //!
 //! Modules:
 //!

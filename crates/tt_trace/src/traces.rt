@@ -8,12 +8,13 @@ use crate::replies::push_reply;
 use std::alloc::{AllocError, Global};
 use tt_world::{Event, Reply};
 
-/// The text of a run's trace: a line for each event that has a reply, in their order. A line has the number of the event,
-/// counted from 0, the event, ` -> `, and the reply by its name and its numbers: times are in nanoseconds. `Released` has
-/// the receipts, least stamp first, each by the session and the number of its commit, its stamp, and the earliest of the
-/// reading that released it. Behind a reading that does not hold the true time of its event stands ` wrong`.
+/// The text of a run's trace: a line for each event that has a reply, in their order. A line has the number of the
+/// event, counted from 0, the event, ` -> `, and the name and the numbers of the reply. Times are in nanoseconds.
+/// `Released` has the receipts, least stamp first, each with the session and the number of its commit, its stamp, and
+/// the earliest of the reading that released it. ` wrong` stands behind a reading that does not hold the true time of
+/// its event.
 ///
-/// Events beyond the last reply have no line, nor have replies beyond the last event. Answers no text only where out of
+/// Events beyond the last reply have no line, nor have replies beyond the last event. Refuses only if it is out of
 /// memory.
 pub fn trace_text(alloc: Global, events: &[Event], replies: &[Reply]) -> Result<String, AllocError>
     ensures value { IfOk result (λ text. string_bytes text ≡ trace_text_of events.now replies.now) }
@@ -47,8 +48,8 @@ fn push_trace_line(
     text.push_str("\n")
 }
 
-/// What stands behind the reply to an event at this true time, in nanoseconds: that it is a reading that does not hold that
-/// time, or nothing.
+/// What stands behind the reply to an event at this true time, in nanoseconds: ` wrong` if it is a reading that does
+/// not hold this time, otherwise nothing.
 fn verdict_of(at: u64, reply: &Reply) -> &str
     ensures { result.now ≡ verdict_text at reply.now }
 {

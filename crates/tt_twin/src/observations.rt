@@ -21,15 +21,16 @@ pub(crate) struct Glance {
     pub clock: u64,
 }
 
-/// How a publication was made: its place among all publications that are shown, and the sources that its machine knew.
+/// A publication: its place among all publications that are shown, and the sources that its machine knew when it was
+/// made.
 #[derive(Drop)]
 pub(crate) struct Made {
     pub place: usize,
     pub known: Vec<u8>,
 }
 
-/// What a machine has seen of one publication: how many publications all machines have made, how this one was made, and
-/// the looks at it since.
+/// What a machine has seen of one publication: how many publications all machines have made, this one if it was made,
+/// and the looks at it since.
 #[derive(Drop)]
 pub(crate) struct Observation {
     pub shown: usize,
@@ -60,13 +61,13 @@ fn known_sources(
 pub(crate) enum News {
     /// Nothing.
     Nothing,
-    /// The machine has made its publication of this number.
+    /// The machine made its publication with this number.
     Published(u8, u64),
-    /// A worker of the machine has looked at its publication of this number.
+    /// A worker of the machine looked at its publication with this number.
     Looked(u8, u64, Glance),
 }
 
-/// What an event that was replied to so tells of publications.
+/// What an event with this reply tells of publications.
 fn news_of(event: &Event, reply: &Reply) -> News
     ensures { result ≡ news_in event.now.action reply.now }
 {
@@ -96,7 +97,7 @@ fn news_of(event: &Event, reply: &Reply) -> News
 }
 
 impl Observation {
-    /// Goes on by one event that tells this, where the world stands for the run that ends with it.
+    /// Goes on by one event that tells this. The world stands for the run that ends with it.
     fn see(
         &mut self,
         alloc: Global,
@@ -134,7 +135,7 @@ impl Observation {
     }
 }
 
-/// What a machine has seen of one publication when these events have happened.
+/// What a machine has seen of one publication after these events.
 pub(crate) fn observation_of(
     alloc: Global,
     configs: &[Config],

@@ -42,7 +42,8 @@ impl Side {
         }
     }
 
-    /// What `x` may have become at this side when the clock has gone on by `d`, in nanoseconds, cut at the greatest time.
+    /// The end `x` on this side after the clock has gone on by `d`, both in nanoseconds: aged, and cut at the greatest
+    /// time.
     fn after(self, drift: Drift, x: u64, d: u64) -> u64
         requires { d ≤ max_time }
         ensures { result ≡ cut (end_after self drift x d) }
@@ -53,7 +54,7 @@ impl Side {
         }
     }
 
-    /// Whether that lies past the greatest time before it is cut.
+    /// Whether that end lies past the greatest time before it is cut.
     fn is_cut(self, drift: Drift, x: u64, d: u64) -> bool
         requires at { x ≤ max_time }
         requires on { d ≤ max_time }
@@ -131,7 +132,7 @@ fn spans_at(alloc: Global, spans: &[Span], sources: &[u8]) -> Result<Vec<Span>, 
     Ok(chosen)
 }
 
-/// Each known source states again what it is worth, and the machine fuses that.
+/// Each known source states again what its statement was worth, and the machine fuses these.
 fn fuse_again(
     alloc: Global,
     at: u64,
@@ -152,8 +153,8 @@ fn fuse_again(
     Ok(twin)
 }
 
-/// What a twin is made at: the machine and its drift, the clock reading of the fusion, the chosen side, and the end of the
-/// fused span on that side, which is the true time of the fusion.
+/// What a twin is made by: the machine and its drift, the clock reading of the fusion, the chosen side, and the end of
+/// the fused span on that side, which is the true time of the fusion.
 #[derive(Clone, Copy)]
 struct Scene {
     side: Side,
@@ -163,7 +164,7 @@ struct Scene {
     end: u64,
 }
 
-/// The looks are taken again.
+/// Takes the looks again.
 fn look_all_again(
     twin: &mut Vec<Event>,
     scene: &Scene,
@@ -195,7 +196,7 @@ struct Asked {
     publication: u64,
 }
 
-/// What an event asks for, if it reads.
+/// The publication and the clock reading of an event, if it reads.
 fn asked_by(event: &Event) -> Option<Asked>
     ensures { result ≡ asked_in event.now.action }
 {
@@ -214,14 +215,14 @@ fn asked_by(event: &Event) -> Option<Asked>
     }
 }
 
-/// Whether an event was replied to by a reading.
+/// Whether a reply is a reading.
 fn is_reading(reply: &Reply) -> bool
     ensures { result ≡ is_read reply.now }
 {
     matches!(reply, Reply::Read(_))
 }
 
-/// The twin of a reading by what its machine saw of the publication.
+/// The twin of a reading, made by what its machine saw of the publication.
 fn twin_by(
     alloc: Global,
     config: &Config,
@@ -271,14 +272,15 @@ fn twin_by(
     Ok(twin)
 }
 
-/// The run in which a machine sees what it saw in event `k`, a reading, and the true time lies at the chosen end of that
-/// reading: the sources that it knew state again, at one true time, what they were worth at the fusion that the reading
-/// is from, the machine fuses that, and its workers read from it again what they read up to then. Times are in
-/// nanoseconds. Refuses, in this order, by 1207 `Machines` where there is no machine, or more than eight, by 1401
-/// `NotAReading` where event `k` is not there or its reply is no reading, by 1402 `Cut` where that end lies past the
-/// greatest time before it is cut, and by 1 `Memory` where an allocation failed. That can only be where event `k` is there
-/// and reads: in place of a twin, of 1402, or of 1401 where its reply is no reading; never in place of 1207, nor of 1401
-/// where event `k` is not there or does not read.
+/// Makes the twin of the reading of event `k`: a run in which the machine sees what it saw up to that event, and in
+/// which the true time at the end is the chosen end of that reading. Its sources state again, at one true time, what
+/// their statements were worth at the fusion of that publication. The machine fuses these, and its workers read from it
+/// again what they read up to event `k`. Times are in nanoseconds.
+///
+/// Refuses, in this order: 1207 `Machines` where there is no machine, or more than eight; 1401 `NotAReading` where
+/// there is no event `k` or its reply is not a reading; 1402 `Cut` where that end lies past the greatest time before it
+/// is cut. 1 `Memory` comes only if event `k` is there and reads: in place of a twin, of 1402, or of 1401 where its
+/// reply is not a reading.
 pub fn twin(
     alloc: Global,
     configs: &[Config],
@@ -286,12 +288,12 @@ pub fn twin(
     k: usize,
     side: Side,
 ) -> Result<Vec<Event>, TwinFault>
-    // The twin is the one that is defined, and so is the refusal, unless an allocation failed.
+    // The twin or the refusal is the defined one, unless it is out of memory.
     ensures value { IfOk result (λ twin. twin_of configs.now events.now k side ≡ Ok twin.items) }
     ensures refused { IfErr result (λ e. (e ≡ TwinFault.Memory) ⊎ (twin_of configs.now events.now k side ≡ Err e)) }
 
-    // Memory is taken only where there is a machine and no more than eight, and event k is there and reads: the run up to
-    // it has to be made before it is known whether it is a reading, and whether that ends in time.
+    // Memory is taken only if there are one to eight machines, and event k is there and reads. Only the run up to it
+    // shows whether its reply is a reading, and whether the end of that is cut.
     ensures memory_only { IfErr result (λ e. e ≡ TwinFault.Memory → AsksToRead events.now k × (0 < length configs.now) × (length configs.now ≤ max_machines)) }
 
     // In the twin no event is refused and the assumptions are kept; the machine sees the same spans, the same number of
@@ -335,18 +337,18 @@ pub fn twin(
     )
 }
 
-/// When the twin that is defined is refused, and what it is worth where it is not, without a call that makes it and so
-/// without memory.
+/// Laws of the defined twin: when it is refused, and what it is worth. They hold without a call of [`twin`], and
+/// without memory for one.
 pub fn twin_laws()
-    // By 1207 where there is no machine, or more than eight.
+    // It is refused with 1207 if there is no machine, or more than eight.
     ensures machines { (configs : List Configuration) (events : List Event) (k : ℕ) (side : Side) →
         (twin_of configs events k side ≡ Err TwinFault.Machines) ↔ ((length configs ≡ 0) ⊎ (max_machines < length configs)) }
 
-    // Else by 1401 where event k is not there, or its reply is no reading.
+    // Otherwise with 1401 if there is no event k, or its reply is not a reading.
     ensures not_a_reading { (configs : List Configuration) (events : List Event) (k : ℕ) (side : Side) →
         twin_of configs events k side ≡ Err TwinFault.NotAReading → (m number : ℕ) (reading : Interval) → ¬ IsReadingOf configs events k m number reading }
 
-    // Else by 1402 where the reading ends past the greatest time before it is cut.
+    // Otherwise with 1402 if that end of the reading lies past the greatest time before it is cut.
     ensures cut { (configs : List Configuration) (events : List Event) (k : ℕ) (side : Side) →
         twin_of configs events k side ≡ Err TwinFault.Cut → (x : ℕ) × (max_time < x) × HasReading configs events k side x }
 

@@ -26,15 +26,16 @@
 //!
 //! - Each reply is the defined one, which is found by searching back over the events before it.
 //! - Every reading holds the true time of its event, as long as at most f sources of each machine are faulty and its
-//! clock keeps its drift bound (Spanner's `TT.now()`, OSDI 2012, section 3).
+//!   clock keeps its drift bound (Spanner's `TT.now()`, OSDI 2012, section 3).
 //! - Every published span is the shortest that is right whichever sources lie (Marzullo and Owicki, 1983).
 //! - Under the same assumptions no fusion is refused if enough sources are known.
 //! - Every stamp is the least that is at least the latest of the reading, the floor and the start of the machine's
-//! lease, and above all stamps of the machine's life. It lies in the lease (the start rule, OSDI 2012, section 4.1.2).
+//!   lease, and above all stamps of the machine's life. It lies in the lease (the start rule, OSDI 2012, section
+//!   4.1.2).
 //! - Under the same assumptions a commit that is released before another arrives, on whatever machine, has the smaller
-//! stamp (commit wait and external consistency, OSDI 2012, sections 4.1.2 and 4.2.1).
-//! - The book of each machine is a legal history: a commit is pending if it was queued and no later receipt
-//! names it ([`run_laws`]).
+//!   stamp (commit wait and external consistency, OSDI 2012, sections 4.1.2 and 4.2.1).
+//! - The book of each machine is a legal history: a commit is pending if it was queued and no later receipt names it
+//!   ([`run_laws`]).
 //! - Every publication is shown with the spans that were fused and the canonical certificate of their fusion.
 //!
 //! Modules:
