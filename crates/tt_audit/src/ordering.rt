@@ -151,8 +151,9 @@ fn highest(before: Option<u64>, receipts: &[Receipt]) -> Option<u64>
     so_far
 }
 
-/// How many commits are out of order: another commit with the same or a greater stamp was released before they arrived.
-/// Requires: the workers of the events that ask for commits and stamp them are there, and each event has its reply.
+/// How many stamps are out of order: each is no greater than the stamp of a commit that was released before its own
+/// commit arrived. Requires: the workers of the events that ask for commits and stamp them are there, and each event
+/// has its reply.
 pub fn violations(events: &[Event], replies: &[Reply]) -> usize
     requires long { length replies.now ≡ length events.now }
     requires placed { (k : ℕ) (event : Event) (reply : Reply) → slice_get events.now k ≡ Some event → slice_get replies.now k ≡ Some reply →

@@ -34,8 +34,8 @@ pub struct Report {
     pub wrong: u64,
     /// How many commits were released.
     pub released: u64,
-    /// How many commits are out of order: another commit with the same or a greater stamp was released before they
-    /// arrived.
+    /// How many stamps are out of order: each is no greater than the stamp of a commit that was released before its own
+    /// commit arrived.
     pub violations: u64,
     /// The suspects of each publication, ascending; publications in the order of their events.
     pub suspects: Vec<Suspect>,
