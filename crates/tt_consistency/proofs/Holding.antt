@@ -1,5 +1,5 @@
 -- What a running machine published held the true time.
-use Rattle.std.proofs.Common.{◌≡◌, ℕ, ◌++◌, List, refl, sym, ap, subst, ◌∙◌}
+use Rattle.std.proofs.Common.{◌≡◌, List, refl, sym, ap, subst, ◌∙◌}
 use Rattle.std.specs.List.{AllByRecursion}
 use Rattle.std.proofs.lemmas.List.FromFn.{length-map-range_with_len}
 use Rattle.tt_world.specs.Private.Machine.{source_of}
@@ -8,7 +8,7 @@ use Rattle.tt_runs.specs.Tale.{AreOf, HeldTrueTime, IsRunOf, events_of, moments_
 use Rattle.tt_runs.proofs.Holding.{publications-held}
 use Rattle.tt_runs.proofs.Naming.{size}
 use Rattle.tt_runs.proofs.Running.{tale-is_run, run-leaves}
-use Rattle.tt_consistency.specs.Running.{Machine, IsRunning, begun_with, clock_moments, configuration_of, events_until, left_by, life_of_machine, published_by, steps_of}
+use Rattle.tt_consistency.specs.Running.{Machine, IsRunning, begun_with, clock_moments, configuration_of, events_until, left_by, life_of_machine, published_by}
 use Rattle.tt_consistency.proofs.Calling.{left-made, names-calls}
 
 module _ (machine : Machine) (running : IsRunning machine) where

@@ -2,3 +2,5 @@ mod Calling
 mod Holding
 mod Serving
 mod Starting
+mod WorkedRun
+mod WorkedOrder

@@ -1,5 +1,5 @@
 -- A machine that begins its life with a new daemon runs.
-use Rattle.std.proofs.Common.{◌≡◌, ℕ, zero, suc, ◌+◌, ◌-◌, ◌<◌, ◌≤◌, ◌^◌, List, [], ◌∷◌, ◌++◌, sym, ap, subst, arith}
+use Rattle.std.proofs.Common.{◌≡◌, ℕ, zero, suc, ◌+◌, ◌≤◌, List, [], ◌∷◌, ◌++◌, sym, subst, arith}
 use Rattle.std.specs.List.{AllByRecursion}
 use Rattle.tt_span.specs.Drift.{Moment, AgreesWith, KeepsDrift}
 use Rattle.tt_daemon.specs.Config.{Configuration}
@@ -9,7 +9,7 @@ use Rattle.tt_world.specs.Life.{life_at}
 use Rattle.tt_world.specs.Past.{time_of, clock_of, moments_of}
 use Rattle.tt_world.specs.declared.events.Event.{Event}
 use Rattle.tt_runs.specs.Steps.{Kept}
-use Rattle.tt_runs.specs.Tale.{Happening, Does, Answers, Timed, BeginsLife, IsForward, IsTale, clock_of_step, last_shown, last_time, moments_told, restarts_of, shows_after}
+use Rattle.tt_runs.specs.Tale.{Happening, Does, Answers, Timed, BeginsLife, IsForward, IsTale, last_shown, last_time, moments_told, restarts_of, shows_after}
 use Rattle.tt_runs.proofs.Beginning.{begins-life}
 use Rattle.tt_consistency.specs.Running.{AreInTurn, DaemonCall, IsRunning, RunsFrom, Start, from_start}
 
