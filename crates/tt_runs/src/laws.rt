@@ -138,6 +138,15 @@ pub fn assumption_laws()
         KeepsDrift config.drift (moments_told tale ++ record { clock = clock; time = at } ∷ []) →
         FewFaulty config (record { machine = m; number = lives + 1 }) tale →
         AllByRecursion (HeldTrueTime (moments_told tale ++ record { clock = clock; time = at } ∷ [])) (kept_after (new_kept config m (lives + 1)) calls).published }
+
+    // The same after any base after which the machine begins the life, other machines in it included.
+    ensures publications_hold_after { (configs : List Configuration) (m number at clock : ℕ) (base : List Event) (tale : List Timed) (calls : List RoundsCall) →
+        m < length configs → BeginsLife configs m number at clock base → AllByRecursion (λ event. IsAction event.action) base →
+        IsConfiguration (config_at configs m) → AreInTurn (new_kept (config_at configs m) m number) calls → steps_told tale ≡ calls_steps calls →
+        IsTale at clock tale → AreOfTime tale → length tale < 2 ^ 64 →
+        KeepsDrift (config_at configs m).drift (moments_told tale ++ record { clock = clock; time = at } ∷ []) →
+        FewFaulty (config_at configs m) (record { machine = m; number = number }) tale →
+        AllByRecursion (HeldTrueTime (moments_told tale ++ record { clock = clock; time = at } ∷ [])) (kept_after (new_kept (config_at configs m) m number) calls).published }
 {}
 
 /// Laws of readings of publications that held the true time, as those of `tale_laws` did: by the clock of their machine,
