@@ -13,3 +13,4 @@ pub mod Faulting
 pub mod Assuming
 pub mod Calling
 pub mod Telling
+pub mod WorkedCalls

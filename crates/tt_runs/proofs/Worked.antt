@@ -22,15 +22,15 @@ abbrev span : Interval
 span = record { lo = 1000; hi = 1008 }
 
 -- the answer to the first poll of machine 0 in its first life
-abbrev bytes : List ℕ
+abbrev pub bytes : List ℕ
 bytes = spelling_of2 (message.Answer (record { machine = 0; source = 0; nonce = 1; epoch = 1; span = span }))
 
 -- a machine with one source, whose clock may drift by 100 parts per million
-abbrev one : Configuration
+abbrev pub one : Configuration
 one = record { sources = 1; faulty = 0; drift = 100; workers = 1 }
 
 -- polled at the true time 1000, answered at 1005, taken at 1010 and fused at 1011
-abbrev tale : List Timed
+abbrev pub tale : List Timed
 tale =
     record { at = 1011; happening = Does (Fuses 111) }
     ∷ record { at = 1010; happening = Does (Takes 0 bytes 110) }
@@ -62,10 +62,10 @@ unfolding spelling_of2 read_of2 first_poll_fault2
 none_false = refl
 
 -- the course of one round of one turn, by a new daemon
-abbrev begin : Stand
+abbrev pub begin : Stand
 begin = record { daemon = new_daemon 0 one 1; published = []; exchanges = []; refused = 0 }
 
-abbrev given : Given
+abbrev pub given : Given
 given = record { readings = Some 100 ∷ Some 110 ∷ Some 111 ∷ []; gifts = Went ∷ Came (record { peer = 0; bytes = bytes }) ∷ []; grants = true ∷ [] }
 
 steps_are : steps_told tale ≡ rounds_steps 1 1 begin given
