@@ -7,3 +7,10 @@ pub mod Holding
 pub mod Reading
 pub mod Beginning
 pub mod Worked
+pub mod Putting
+pub mod Lying
+pub mod Faulting
+pub mod Assuming
+pub mod Calling
+pub mod Telling
+pub mod WorkedCalls

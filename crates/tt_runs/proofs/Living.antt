@@ -207,7 +207,7 @@ sends_more : (b : Bool) (sends : ℕ) → sends ≤ cond b (sends + 1) sends
 sends_more true sends = omega arith
 sends_more false sends = omega arith
 
-sends_of-le : (base events : List Event) (life : Life) → sends_of base life ≤ sends_of (events ++ base) life
+pub sends_of-le : (base events : List Event) (life : Life) → sends_of base life ≤ sends_of (events ++ base) life
 sends_of-le base [] life = omega arith
 sends_of-le base (event ∷ events) life =
     let more = sends_more (is_send_of (events ++ base) life event.action) (sends_of (events ++ base) life) in

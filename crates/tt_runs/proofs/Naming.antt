@@ -52,7 +52,7 @@ after_step-size kept (Takes source bytes clock) =
     (stated-size kept.daemon.table source clock (not (has_source kept.daemon.table source)) (is_back kept.daemon.table clock) _)
 after_step-size kept (Fuses clock) = with_fusion-size kept (fusion_at kept.daemon clock)
 
-after_steps-size : (kept : Kept) (steps : List Step) → size (after_steps kept steps) ≡ size kept
+pub after_steps-size : (kept : Kept) (steps : List Step) → size (after_steps kept steps) ≡ size kept
 after_steps-size kept [] = refl
 after_steps-size kept (step ∷ steps) = after_step-size (after_steps kept steps) step ∙ after_steps-size kept steps
 

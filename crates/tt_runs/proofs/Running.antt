@@ -63,7 +63,7 @@ module _ (configs : List Configuration) (past : List Event) (at : ℕ) (later : 
 -- ---- packets that are found
 
 -- a packet that passes a test stands at this place
-abbrev StandsAt : (Packet → Bool) → List Packet → ℕ → Type 0
+abbrev pub StandsAt : (Packet → Bool) → List Packet → ℕ → Type 0
 StandsAt test packets k = (p : Packet) × (slice_get packets k ≡ Some p) × (test p ≡ true)
 
 first_stands : (test : Packet → Bool) (packet : Packet) (packets : List Packet) (k : ℕ) (b : Bool) → test packet ≡ b → cond b (Some 0) None ≡ Some k → StandsAt test (packet ∷ packets) k
@@ -79,11 +79,11 @@ place-later test packet packets (suc k) stands (Some j) is found =
     let same : j ≡ k = cc in
     stands k (is ∙ ap (λ (n : ℕ). Some n) same)
 
-place-stands : (test : Packet → Bool) (packets : List Packet) (k : ℕ) → last_place test packets ≡ Some k → StandsAt test packets k
+pub place-stands : (test : Packet → Bool) (packets : List Packet) (k : ℕ) → last_place test packets ≡ Some k → StandsAt test packets k
 place-stands test [] k found = absurd cc
 place-stands test (packet ∷ packets) k found = place-later test packet packets k (λ j. place-stands test packets j) (last_place test packets) refl found
 
-same_bytes : (one other : List ℕ) → are_same one other ≡ true → one ≡ other
+pub same_bytes : (one other : List ℕ) → are_same one other ≡ true → one ≡ other
 same_bytes [] [] is = refl
 same_bytes (a ∷ one) (b ∷ other) is =
     let parts = and_parts (eqb a b) (are_same one other) is in
@@ -97,13 +97,13 @@ request-asked life source nonce (Answered answer) is = absurd cc
 request-asked life source nonce (Forged machine s payload) is = absurd cc
 
 -- what is known of an answer that was found
-record IsAnswer (m source : ℕ) (bytes : List ℕ) (p : Packet) : Type 0 where
-  machine : machine_of_packet p ≡ m
-  source_is : source_of_packet p ≡ source
-  bytes_are : bytes_of p ≡ bytes
-  no_request : is_asked p ≡ false
+pub record IsAnswer (m source : ℕ) (bytes : List ℕ) (p : Packet) : Type 0 where
+  pub machine : machine_of_packet p ≡ m
+  pub source_is : source_of_packet p ≡ source
+  pub bytes_are : bytes_of p ≡ bytes
+  pub no_request : is_asked p ≡ false
 
-answer-found : (m source : ℕ) (bytes : List ℕ) (p : Packet) → is_answer_with m source bytes p ≡ true → IsAnswer m source bytes p
+pub answer-found : (m source : ℕ) (bytes : List ℕ) (p : Packet) → is_answer_with m source bytes p ≡ true → IsAnswer m source bytes p
 answer-found m source bytes (Answered answer) is =
     let parts = and_parts (eqb answer.machine m && eqb answer.source source) (are_same (bytes_of (Answered answer)) bytes) is in
     let more = and_parts (eqb answer.machine m) (eqb answer.source source) parts.0 in
@@ -120,17 +120,17 @@ answer-found m source bytes (Forged machine s payload) is = absurd cc
 
 module _ (configs : List Configuration) (m : ℕ) (there : m < length configs) (base : List Event) where
   -- the life of the base
-  abbrev life : Life
+  abbrev pub life : Life
   life = life_at base m
 
   -- a run after the base: no event is bad, the life is the same, and these are its steps and moments; no event is after this time, and the clock shows this
-  record Reached (past : List Event) (steps : List Step) (moments : List Moment) (time shown : ℕ) : Type 0 where
-    good : accepted configs past ≡ past
-    same : life_of past m ≡ life_of base m
-    steps_are : steps_in past m ≡ steps ++ steps_in base m
-    moments_are : moments_of past life ≡ moments ++ moments_of base life
-    by_time : time_of past ≤ time
-    shows : clock_of past life ≡ shown
+  pub record Reached (past : List Event) (steps : List Step) (moments : List Moment) (time shown : ℕ) : Type 0 where
+    pub good : accepted configs past ≡ past
+    pub same : life_of past m ≡ life_of base m
+    pub steps_are : steps_in past m ≡ steps ++ steps_in base m
+    pub moments_are : moments_of past life ≡ moments ++ moments_of base life
+    pub by_time : time_of past ≤ time
+    pub shows : clock_of past life ≡ shown
 
   has-source : (s : ℕ) → s < (config_at configs m).sources → has_source configs m s ≡ true
   has-source s named = let a = lt-ltb m (length configs) there in let b = lt-ltb s (config_at configs m).sources named in rw (a, b) refl
@@ -257,12 +257,12 @@ module _ (configs : List Configuration) (m : ℕ) (there : m < length configs) (
     happened (Does (Fuses clock)) named on = reached-fuse past steps moments time shown reached at later in_time clock on.0 on.1
     happened (Answers source nonce span) named on = answered source nonce span (last_place (is_request_in (life_at past m) source nonce) (packets_of past)) refl
 
-  named_before : (happening : Happening) (steps : List Step) → AreOf (config_at configs m).sources (step_of happening ++ steps) → AreOf (config_at configs m).sources steps
+  pub named_before : (happening : Happening) (steps : List Step) → AreOf (config_at configs m).sources (step_of happening ++ steps) → AreOf (config_at configs m).sources steps
   named_before (Does step) steps named = named.1
   named_before (Answers source nonce span) steps named = named
 
   -- a whole tale
-  told : accepted configs base ≡ base → (tale : List Timed) → AreOf (config_at configs m).sources (steps_told tale) → IsTale (time_of base) (clock_of base life) tale
+  pub told : accepted configs base ≡ base → (tale : List Timed) → AreOf (config_at configs m).sources (steps_told tale) → IsTale (time_of base) (clock_of base life) tale
       → Reached (events_of base m tale ++ base) (steps_told tale) (moments_told tale) (last_time (time_of base) tale) (last_shown (clock_of base life) tale)
   told good [] named is = record { good = good; same = refl; steps_are = refl; moments_are = refl; by_time = omega arith; shows = refl }
   told good (timed ∷ tale) named is =

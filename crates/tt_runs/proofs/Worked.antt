@@ -1,5 +1,5 @@
 -- A worked tale, in which every premise of the laws of tales holds: one source is polled, answers, and is fused.
-use Rattle.std.proofs.Common.{◌≡◌, ℕ, true, List, [], ◌∷◌, Some, refl, arith}
+use Rattle.std.proofs.Common.{◌≡◌, ℕ, true, false, List, [], ◌∷◌, ◌++◌, length, map, Some, refl, sym, ap, subst, arith, length-append}
 use Rattle.tt_span.specs.Drift.{widening, KeepsDrift}
 use Rattle.tt_span.specs.Interval.{Interval}
 use Rattle.tt_poll.specs.Reading.{read_of2, first_poll_fault2}
@@ -10,25 +10,27 @@ use Rattle.tt_daemon.specs.Daemon.{new_daemon}
 use Rattle.tt_node.specs.Link.{Went, Came}
 use Rattle.tt_node.specs.Course.{Given, Stand, ◌>>=◌, each_below, next_reading, next_gift, send, receive, put_table, send_polled, poll_at, poll_all, put_taken, take_at, take_next, turn, count_refusal, publish, publish_fused, fuse_at, round_of, rounds_of}
 use Rattle.tt_world.specs.Assumptions.{false_count}
+use Rattle.tt_world.specs.Life.{Life}
 use Rattle.tt_world.specs.declared.events.Event.{Event}
 use Rattle.tt_world.specs.declared.events.Action.TheVariants as action
+use Rattle.tt_runs.specs.Faulty.{IsCorrect, HasFewFaulty, FewFaulty}
 use Rattle.tt_runs.specs.Steps.{Polls, Takes, Fuses, kept_at}
 use Rattle.tt_runs.specs.CourseSteps.{steps_below, rounds_steps}
-use Rattle.tt_runs.specs.Tale.{Does, Answers, Timed, steps_told, moments_told, events_of, IsTale}
+use Rattle.tt_runs.specs.Tale.{Happening, Does, Answers, Timed, steps_told, moments_told, events_of, IsTale}
 
 abbrev span : Interval
 span = record { lo = 1000; hi = 1008 }
 
 -- the answer to the first poll of machine 0 in its first life
-abbrev bytes : List ℕ
+abbrev pub bytes : List ℕ
 bytes = spelling_of2 (message.Answer (record { machine = 0; source = 0; nonce = 1; epoch = 1; span = span }))
 
 -- a machine with one source, whose clock may drift by 100 parts per million
-abbrev one : Configuration
+abbrev pub one : Configuration
 one = record { sources = 1; faulty = 0; drift = 100; workers = 1 }
 
 -- polled at the true time 1000, answered at 1005, taken at 1010 and fused at 1011
-abbrev tale : List Timed
+abbrev pub tale : List Timed
 tale =
     record { at = 1011; happening = Does (Fuses 111) }
     ∷ record { at = 1010; happening = Does (Takes 0 bytes 110) }
@@ -60,10 +62,10 @@ unfolding spelling_of2 read_of2 first_poll_fault2
 none_false = refl
 
 -- the course of one round of one turn, by a new daemon
-abbrev begin : Stand
+abbrev pub begin : Stand
 begin = record { daemon = new_daemon 0 one 1; published = []; exchanges = []; refused = 0 }
 
-abbrev given : Given
+abbrev pub given : Given
 given = record { readings = Some 100 ∷ Some 110 ∷ Some 111 ∷ []; gifts = Went ∷ Came (record { peer = 0; bytes = bytes }) ∷ []; grants = true ∷ [] }
 
 steps_are : steps_told tale ≡ rounds_steps 1 1 begin given
@@ -73,3 +75,49 @@ steps_are = refl
 published_are : (kept_at (one ∷ []) (events_of [] 0 tale) 0).published ≡ record { clock = 111; span = record { lo = 1000; hi = 1020 } } ∷ []
 unfolding spelling_of2 read_of2 first_poll_fault2 widening
 published_are = refl
+
+-- ---- what is assumed of the source
+
+abbrev life : Life
+life = record { machine = 0; number = 1 }
+
+-- what was told before the fusion
+abbrev earlier : List Timed
+earlier =
+    record { at = 1010; happening = Does (Takes 0 bytes 110) }
+    ∷ record { at = 1005; happening = Answers 0 1 span }
+    ∷ record { at = 1000; happening = Does (Polls 0 100) }
+    ∷ []
+
+correct : IsCorrect one life earlier 0
+unfolding spelling_of2 read_of2 first_poll_fault2
+correct = (omega arith, omega arith)
+
+-- where nobody gave the bytes, the source is not correct
+made_up : IsCorrect one life (record { at = 1010; happening = Does (Takes 0 bytes 110) } ∷ record { at = 1000; happening = Does (Polls 0 100) } ∷ []) 0 → ⊥
+unfolding spelling_of2 read_of2 first_poll_fault2
+made_up h = h
+
+-- nor where the answer did not hold the true time when it was given
+too_late : IsCorrect one life (record { at = 1010; happening = Does (Takes 0 bytes 110) } ∷ record { at = 1009; happening = Answers 0 1 span } ∷ record { at = 1000; happening = Does (Polls 0 100) } ∷ []) 0 → ⊥
+unfolding spelling_of2 read_of2 first_poll_fault2
+too_late h = omega (arith, h.1)
+
+abbrev happenings : List Timed → List Happening
+happenings tale = map (λ (timed : Timed). timed.happening) tale
+
+-- the one fusion of the tale
+the_fusion : (later rest : List Timed) (at clock : ℕ) → tale ≡ later ++ record { at = at; happening = Does (Fuses clock) } ∷ rest → rest ≡ earlier
+the_fusion [] rest at clock is = cc
+the_fusion (a ∷ []) rest at clock is = let same = ap happenings is in absurd cc
+the_fusion (a ∷ b ∷ []) rest at clock is = let same = ap happenings is in absurd cc
+the_fusion (a ∷ b ∷ c ∷ []) rest at clock is = let same = ap happenings is in absurd cc
+the_fusion (a ∷ b ∷ c ∷ d ∷ later) rest at clock is =
+    absurd (omega (arith, ap length is, length-append later (record { at = at; happening = Does (Fuses clock) } ∷ rest)))
+
+few_faulty : FewFaulty one life tale
+few_faulty later rest at clock is = subst (HasFewFaulty one life) (sym (the_fusion later rest at clock is)) (record {
+  faulty = false ∷ [];
+  few = record { one_flag_each = refl; few = omega arith };
+  others = λ source out. let only : 0 ≡ source = omega (arith, out.0) in subst (IsCorrect one life earlier) only correct;
+})

@@ -2,3 +2,5 @@ pub mod Steps
 pub mod CourseSteps
 pub mod Tale
 pub mod Reads
+pub mod Faulty
+pub mod Calls

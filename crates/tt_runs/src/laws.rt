@@ -1,4 +1,4 @@
-//! The laws of steps, of the courses of rounds, of tales, and of readings.
+//! The laws of steps, of the courses of rounds, of tales, of what is assumed of sources, and of readings.
 
 ghost use Rattle.std.specs.Prelude.{◌≡◌, ℕ, ◌<◌, ◌≤◌, ◌+◌, ◌-◌, ◌^◌, List, [], ◌∷◌, ◌++◌, map, length, Result, IfOk};
 ghost use Rattle.std.specs.List.{AllByRecursion};
@@ -23,9 +23,11 @@ ghost use Rattle.tt_world.specs.Headline.{IsAction};
 ghost use Rattle.tt_world.specs.Life.{life_of, life_at};
 ghost use Rattle.tt_world.specs.Past.{time_of, clock_of, moments_of, sends_now};
 ghost use Rattle.tt_world.specs.declared.events.Event.{Event};
+ghost use Rattle.tt_runs.specs.Calls.{AreInTurn, RoundsCall, calls_steps, kept_after};
 ghost use Rattle.tt_runs.specs.CourseSteps.{IsMadeBy, kept_in, rounds_steps};
+ghost use Rattle.tt_runs.specs.Faulty.{FewFaulty};
 ghost use Rattle.tt_runs.specs.Reads.{IsNoEarlier, IsReadAt};
-ghost use Rattle.tt_runs.specs.Steps.{Step, after_steps, kept_at, new_kept, steps_in};
+ghost use Rattle.tt_runs.specs.Steps.{Kept, Step, after_steps, kept_at, new_kept, steps_in};
 ghost use Rattle.tt_runs.specs.Tale.{AreOf, AreOfTime, BeginsLife, HeldTrueTime, IsRunOf, IsTale, Timed, events_of, moments_told, restarts_of, steps_told};
 
 use tt_publish::Clock;
@@ -101,6 +103,50 @@ pub fn tale_laws()
         KeepsDrift (config_at configs m).drift (moments_told tale ++ moments_of base (life_at base m)) →
         FewLie configs (events_of base m tale ++ base) →
         AllByRecursion (HeldTrueTime (moments_told tale ++ moments_of base (life_at base m))) (kept_in (to exchanges)).published }
+{}
+
+/// Laws of what is assumed of the sources of a running daemon, told without the events of the model. A machine is in the
+/// life of this number since the true time `at`, at which its clock showed `clock`.
+pub fn assumption_laws()
+    // If at each fusion of a tale few sources are faulty, then in its events few lie, as the model assumes. The tale may
+    // follow any base after which the machine begins the life.
+    ensures few_lie { (configs : List Configuration) (m number at clock : ℕ) (base : List Event) (tale : List Timed) →
+        m < length configs → BeginsLife configs m number at clock base → AreOf (config_at configs m).sources (steps_told tale) →
+        IsTale (time_of base) (clock_of base (life_at base m)) tale → sends_now (events_of base m tale ++ base) m < 2 ^ 64 →
+        FewFaulty (config_at configs m) (record { machine = m; number = number }) tale → FewLie configs (events_of base m tale ++ base) }
+
+    // And the other way round: the tale asks no more of the sources than the model does.
+    ensures few_are_faulty { (configs : List Configuration) (m number at clock : ℕ) (base : List Event) (tale : List Timed) →
+        m < length configs → BeginsLife configs m number at clock base → AreOf (config_at configs m).sources (steps_told tale) →
+        IsTale (time_of base) (clock_of base (life_at base m)) tale →
+        sends_now (events_of base m tale ++ base) m < 2 ^ 64 → FewLie configs (events_of base m tale ++ base) →
+        FewFaulty (config_at configs m) (record { machine = m; number = number }) tale }
+
+    // What calls that are made in turn leave of daemon and publications is what their steps make of what the first of
+    // them began with. So one tale tells all of them, whatever their answers were.
+    ensures calls_made_by_steps { (begun : Kept) (calls : List RoundsCall) →
+        AreInTurn begun calls → kept_after begun calls ≡ after_steps begun (calls_steps calls) }
+
+    // So each publication of such calls, of which the first began with a new daemon, held the true time at a moment of
+    // the life at which the clock showed the reading of the publication, if in the tale of all their steps true times
+    // and clock readings do not fall, the clock keeps its drift bound, and at each fusion few sources are faulty. The
+    // model stands in none of these premises.
+    ensures publications_hold { (config : Configuration) (m at clock lives : ℕ) (tale : List Timed) (calls : List RoundsCall) →
+        at ≤ max_time → clock ≤ max_time → lives < 2 ^ 64 - 1 → IsConfiguration config →
+        AreInTurn (new_kept config m (lives + 1)) calls → steps_told tale ≡ calls_steps calls →
+        IsTale at clock tale → AreOfTime tale → length tale < 2 ^ 64 →
+        KeepsDrift config.drift (moments_told tale ++ record { clock = clock; time = at } ∷ []) →
+        FewFaulty config (record { machine = m; number = lives + 1 }) tale →
+        AllByRecursion (HeldTrueTime (moments_told tale ++ record { clock = clock; time = at } ∷ [])) (kept_after (new_kept config m (lives + 1)) calls).published }
+
+    // The same after any base after which the machine begins the life, other machines in it included.
+    ensures publications_hold_after { (configs : List Configuration) (m number at clock : ℕ) (base : List Event) (tale : List Timed) (calls : List RoundsCall) →
+        m < length configs → BeginsLife configs m number at clock base → AllByRecursion (λ event. IsAction event.action) base →
+        IsConfiguration (config_at configs m) → AreInTurn (new_kept (config_at configs m) m number) calls → steps_told tale ≡ calls_steps calls →
+        IsTale at clock tale → AreOfTime tale → length tale < 2 ^ 64 →
+        KeepsDrift (config_at configs m).drift (moments_told tale ++ record { clock = clock; time = at } ∷ []) →
+        FewFaulty (config_at configs m) (record { machine = m; number = number }) tale →
+        AllByRecursion (HeldTrueTime (moments_told tale ++ record { clock = clock; time = at } ∷ [])) (kept_after (new_kept (config_at configs m) m number) calls).published }
 {}
 
 /// Laws of readings of publications that held the true time, as those of `tale_laws` did: by the clock of their machine,

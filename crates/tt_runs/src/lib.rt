@@ -6,9 +6,9 @@
 //! sources gave; it has events of the model, in which each packet that came is the answer that had its bytes, given when
 //! the tale says so, or else was made up.
 //!
-//! - `laws`: `step_laws`, `round_laws`, `tale_laws` and `reading_laws`.
+//! - `laws`: `step_laws`, `round_laws`, `tale_laws`, `assumption_laws` and `reading_laws`.
 #![tactic(auto)]
 
 mod laws;
 
-pub use laws::{reading_laws, round_laws, step_laws, tale_laws};
+pub use laws::{assumption_laws, reading_laws, round_laws, step_laws, tale_laws};

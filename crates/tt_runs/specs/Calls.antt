@@ -1,0 +1,34 @@
+-- Calls of a daemon's rounds one after another, as one life of its machine. Each list has the newest first.
+use Rattle.std.specs.Prelude.{◌≡◌, ℕ, List, [], ◌∷◌, ◌++◌, Result}
+use Rattle.tt_node.specs.Course.{Given, Stand, rounds_of}
+use Rattle.tt_node.specs.Link.{Exchange}
+use Rattle.tt_node.specs.Making.{Leads}
+use Rattle.tt_node.specs.declared.faults.NodeFault.{NodeFault}
+use Rattle.tt_runs.specs.CourseSteps.{kept_in, rounds_steps}
+use Rattle.tt_runs.specs.Steps.{Kept, Step}
+
+-- a call of so many rounds: what it was given and what it exchanged, where it began and ended, and its answer
+pub record RoundsCall : Type 0 where
+  pub rounds : ℕ
+  pub turns : ℕ
+  pub given : Given
+  pub exchanges : List Exchange
+  pub from : List Exchange → Stand
+  pub to : List Exchange → Stand
+  pub answer : Result (Unit {0}) NodeFault
+
+-- what is kept of the daemon after these calls, of which the first began with this
+abbrev pub kept_after : Kept → List RoundsCall → Kept
+kept_after begun [] = begun
+kept_after begun (call ∷ calls) = kept_in (call.to call.exchanges)
+
+-- each call is the course of its rounds, and begins with the daemon and the publications with which the one before it ended, whatever its answer was
+abbrev pub AreInTurn : Kept → List RoundsCall → Type 0
+AreInTurn begun [] = Unit {0}
+AreInTurn begun (call ∷ calls) =
+    Leads (rounds_of call.rounds call.turns) call.given call.exchanges call.from call.to call.answer × (kept_in (call.from []) ≡ kept_after begun calls) × AreInTurn begun calls
+
+-- the steps of all these calls
+abbrev pub calls_steps : List RoundsCall → List Step
+calls_steps [] = []
+calls_steps (call ∷ calls) = rounds_steps call.rounds call.turns (call.from []) call.given ++ calls_steps calls
