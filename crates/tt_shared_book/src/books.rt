@@ -200,16 +200,6 @@ pub struct SharedBook<J: WhichBook> {
 }
 
 impl<J: WhichBook> SharedBook<J> {
-    /// A view that has seen all that happened so far.
-    pub fn view(&self, rt: &impl Wait) -> BookView<J>
-        ensures legal { IsLegalHistory result }
-    {
-        let kept = self.kept.lock(rt);
-        let view = kept.view();
-        view.legal();
-        view
-    }
-
     /// Queues a commit with its stamp, in nanoseconds: one [`Book::queue`], in one hold of the lock. Then the view has
     /// seen all that had happened in the book, and the commit's entry as the last.
     ///
