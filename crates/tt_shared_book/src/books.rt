@@ -1,6 +1,6 @@
 //! The book, beside its history, under a lock, and what each thread has seen of the history.
 
-ghost use Rattle.std.specs.Prelude.{◌≡◌, ◌∷◌, [], List, None, OnOk, OnErr, IfErr, MatchOption, ◌⊎◌};
+ghost use Rattle.std.specs.Prelude.{◌≡◌, ◌∷◌, [], List, None, OnOk, OnErr, IfErr, ◌⊎◌};
 ghost use Rattle.tt_stamp.specs.History.{IsLegalHistory, waiting_of, release_of, with_receipts, first_queue_fault, receipt_of};
 ghost use Rattle.tt_stamp.specs.declared.commits.Entry.{Entry};
 ghost use Rattle.tt_shared_book.specs.Known.{GoesOn, AnswersFault};
