@@ -1,7 +1,8 @@
 //! The thread of a master.
 
-ghost use Rattle.std.specs.Prelude.{◌≡◌, ◌<◌, ◌≤◌, IfSome};
+ghost use Rattle.std.specs.Prelude.{◌≡◌, ◌<◌, ◌≤◌, IfSome, IfErr};
 ghost use Rattle.tt_poll.specs.Message.{max_source};
+ghost use Rattle.tt_node.specs.Fault.{IsTurnsFault};
 
 use crate::clocks::{LiveClock, Origin};
 use std::sync::atomic::{AtomicBool, Ordering};
@@ -43,7 +44,9 @@ pub(crate) fn play<R: SystemClock>(
     origin: Origin,
     role: Role<'_>,
     link: &mut UdpLink,
-) -> Result<(), NodeFault> {
+) -> Result<(), NodeFault>
+    ensures fault { IfErr result IsTurnsFault }
+{
     let acts = role.plan.acts();
     let mut master = Master::new(
         role.source,

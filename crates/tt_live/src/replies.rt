@@ -1,101 +1,140 @@
 //! Which replies a session may give to a line.
 
-ghost use Rattle.std.specs.Prelude.{◌≡◌, ◌⊎◌, [], ◌∷◌, ℕ, codes, IfSome, IsTrue};
+ghost use Rattle.std.specs.Prelude.{◌≡◌, ◌≢◌, ◌↔◌, [], ◌∷◌, ℕ, IsTrue, MatchOption};
 ghost use Rattle.tt_text.specs.Line.{line_of};
-ghost use Rattle.tt_session.specs.Replies.{text_of};
-ghost use Rattle.tt_session.specs.declared.replies.LineReply.TheVariants as says;
-ghost use Rattle.tt_live.specs.Replies.{MayAnswer};
+ghost use Rattle.tt_text.specs.Reading.{IsNumber, IsLineOf};
+ghost use Rattle.tt_session.specs.Requests.{spelling_of};
+ghost use Rattle.tt_session.specs.declared.requests.Request.TheVariants as asks;
+ghost use Rattle.tt_live.specs.Replies.{MayAnswer, IsRefusal, GivesAsked, IsReading, IsYesOrNo, IsQuestion, TellsOf, TellsOfAsked};
 
+use tt_span::Span;
 use tt_text::numbers_behind;
 
-/// Whether a session may give this reply to this line, whatever it was asked before: it may refuse any line, it answers
-/// `now` with a reading, `after` and `before` with `yes` or `no`, and `commit` with the number of that commit. Both
-/// with their line feed.
+/// Whether a session may give this reply to this line, whatever it was asked before: it may refuse any line, by a number
+/// below 2^16; it answers `now` with a reading, whose ends are in order and in time, `after` and `before` with `yes` or
+/// `no`, and `commit` with the number of that commit. Both with their line feed.
 pub fn may_answer(line: &[u8], reply: &[u8]) -> bool
-    ensures { IsTrue result → MayAnswer line.now reply.now }
+    ensures { IsTrue result ↔ MayAnswer line.now reply.now }
 {
-    has_one_number(b"refused", reply)
-        || answers_now(line, reply)
-        || answers_question(line, reply)
-        || answers_commit(line, reply)
+    is_refusal(reply) || gives_asked(line, reply)
 }
 
-/// Whether a line is this word and one number.
-fn has_one_number(word: &[u8], line: &[u8]) -> bool
-    ensures { IsTrue result → (number : ℕ) × (line.now ≡ line_of word.now (number ∷ [])) }
+/// Whether the reply gives what the line asks for.
+fn gives_asked(line: &[u8], reply: &[u8]) -> bool
+    ensures { IsTrue result ↔ GivesAsked line.now reply.now }
 {
-    let Some(numbers) = numbers_behind(word, line) else {
-        return false;
-    };
-    match numbers.as_slice() {
-        [_number] => true,
-        _ => false,
+    if answers_now(line, reply) {
+        return true;
     }
+    answers_question(line, reply) || answers_commit(line, reply)
 }
 
-/// The first number of a line, where it is this word and two numbers.
-fn first_of_two(word: &[u8], line: &[u8]) -> Option<u64>
-    ensures { IfSome result (λ first. (second : ℕ) × (line.now ≡ line_of word.now (first ∷ second ∷ []))) }
+/// The number of a line, where it is this word and one number.
+fn only_number(word: &[u8], line: &[u8]) -> Option<u64>
+    ensures { MatchOption result ((n : ℕ) → IsNumber n → line.now ≢ line_of word.now (n ∷ []))
+        (λ number. IsLineOf word.now line.now (number ∷ [])) }
 {
     let Some(numbers) = numbers_behind(word, line) else {
         return None;
     };
     match numbers.as_slice() {
-        [first, _second] => Some(*first),
+        [number] => Some(*number),
         _ => None,
+    }
+}
+
+/// The numbers of a line, where it is this word and two numbers.
+fn two_numbers(word: &[u8], line: &[u8]) -> Option<(u64, u64)>
+    ensures { MatchOption result ((m n : ℕ) → IsNumber m → IsNumber n → line.now ≢ line_of word.now (m ∷ n ∷ []))
+        (λ both. IsLineOf word.now line.now (both.0 ∷ both.1 ∷ [])) }
+{
+    let Some(numbers) = numbers_behind(word, line) else {
+        return None;
+    };
+    match numbers.as_slice() {
+        [first, second] => Some((*first, *second)),
+        _ => None,
+    }
+}
+
+/// Whether the reply is a refusal, with a number that a refusal may have.
+fn is_refusal(reply: &[u8]) -> bool
+    ensures { IsTrue result ↔ IsRefusal reply.now }
+{
+    match only_number(b"refused", reply) {
+        Some(number) => number <= u64::from(u16::MAX),
+        None => false,
     }
 }
 
 /// Whether the line is `now`.
 fn asks_now(line: &[u8]) -> bool
-    ensures { IsTrue result → line.now ≡ codes "now\n" }
+    ensures { IsTrue result ↔ line.now ≡ spelling_of asks.Now }
 {
     line == b"now\n".as_slice()
 }
 
-/// Whether the line is `now` and the reply a reading.
-fn answers_now(line: &[u8], reply: &[u8]) -> bool
-    ensures { IsTrue result → MayAnswer line.now reply.now }
+/// Whether the reply is a reading.
+fn is_reading(reply: &[u8]) -> bool
+    ensures { IsTrue result ↔ IsReading reply.now }
 {
-    let Some(_earliest) = first_of_two(b"now", reply) else {
-        return false;
-    };
-    asks_now(line)
-}
-
-/// Whether the reply is `yes` or `no`.
-fn is_yes_or_no(reply: &[u8]) -> bool
-    ensures { IsTrue result → (reply.now ≡ text_of says.Yes) ⊎ (reply.now ≡ text_of says.No) }
-{
-    reply == b"yes\n".as_slice() || reply == b"no\n".as_slice()
-}
-
-/// Whether the line is `after T` or `before T`, and the reply `yes` or `no`.
-fn answers_question(line: &[u8], reply: &[u8]) -> bool
-    ensures { IsTrue result → MayAnswer line.now reply.now }
-{
-    if !is_yes_or_no(reply) {
-        return false;
-    }
-    has_one_number(b"after", line) || has_one_number(b"before", line)
-}
-
-/// Whether the reply is this word, this number, and one more.
-fn names(word: &[u8], number: u64, reply: &[u8]) -> bool
-    ensures { IsTrue result → (second : ℕ) × (reply.now ≡ line_of word.now (number ∷ second ∷ [])) }
-{
-    match first_of_two(word, reply) {
-        Some(first) => first == number,
+    match two_numbers(b"now", reply) {
+        Some((lo, hi)) => Span::new(lo, hi).is_ok(),
         None => false,
     }
 }
 
+/// Whether the line is `now` and the reply a reading.
+fn answers_now(line: &[u8], reply: &[u8]) -> bool
+    ensures { IsTrue result ↔ (line.now ≡ spelling_of asks.Now) × IsReading reply.now }
+{
+    asks_now(line) && is_reading(reply)
+}
+
+/// Whether the reply is `yes` or `no`.
+fn is_yes_or_no(reply: &[u8]) -> bool
+    ensures { IsTrue result ↔ IsYesOrNo reply.now }
+{
+    reply == b"yes\n".as_slice() || reply == b"no\n".as_slice()
+}
+
+/// Whether the line is `after T` or `before T`.
+fn asks_question(line: &[u8]) -> bool
+    ensures { IsTrue result ↔ IsQuestion line.now }
+{
+    only_number(b"after", line).is_some() || only_number(b"before", line).is_some()
+}
+
+/// Whether the line is `after T` or `before T`, and the reply `yes` or `no`.
+fn answers_question(line: &[u8], reply: &[u8]) -> bool
+    ensures { IsTrue result ↔ IsQuestion line.now × IsYesOrNo reply.now }
+{
+    asks_question(line) && is_yes_or_no(reply)
+}
+
+/// Whether the reply is this word, this number, and one more.
+fn names(word: &[u8], number: u64, reply: &[u8]) -> bool
+    ensures { IsTrue result ↔ (stamp : ℕ) × IsNumber stamp × (reply.now ≡ line_of word.now (number ∷ stamp ∷ [])) }
+{
+    match two_numbers(word, reply) {
+        Some((named, _stamp)) => named == number,
+        None => false,
+    }
+}
+
+/// Whether the reply is `committed ID S` or `waiting ID S` with this number.
+fn tells_of(number: u64, reply: &[u8]) -> bool
+    ensures { IsTrue result ↔ TellsOf number reply.now }
+{
+    names(b"committed", number, reply) || names(b"waiting", number, reply)
+}
+
 /// Whether the line is `commit ID FLOOR`, and the reply `committed ID S` or `waiting ID S` with that number.
 fn answers_commit(line: &[u8], reply: &[u8]) -> bool
-    ensures { IsTrue result → MayAnswer line.now reply.now }
+    ensures { IsTrue result ↔ TellsOfAsked line.now reply.now }
 {
-    let Some(asked) = first_of_two(b"commit", line) else {
-        return false;
-    };
-    names(b"committed", asked, reply) || names(b"waiting", asked, reply)
+    match two_numbers(b"commit", line) {
+        Some((number, _floor)) => tells_of(number, reply),
+        None => false,
+    }
 }

@@ -1,12 +1,8 @@
-use Rattle.tt_live.proofs.Answering.{committed_answered, waiting_answered}
+use Rattle.tt_live.proofs.Answering.{told_of_asked, asked_of_told}
 use Rattle.tt_live.proofs.replies.answers_commit.Goals as goal
 
-pub returns-then-names : goal.returns-then-names
-returns-then-names c = λ is.
-    let told = c.names.ensures is in
-    committed_answered c.args.line.now c.args.reply.now c.in-Some.asked c.in-Some.ensures.0 told.0 c.in-Some.ensures.1 told.1
-
-pub returns-else-names : goal.returns-else-names
-returns-else-names c = λ is.
-    let told = c.names-else-names.ensures is in
-    waiting_answered c.args.line.now c.args.reply.now c.in-Some.asked c.in-Some.ensures.0 told.0 c.in-Some.ensures.1 told.1
+pub returns-in-Some : goal.returns-in-Some
+returns-in-Some c = (
+  λ is. told_of_asked c.args.line.now c.args.reply.now c.in-Some.number c.in-Some._floor c.in-Some.ensures (c.tells_of.ensures.0 is),
+  λ told. c.tells_of.ensures.1 (asked_of_told c.args.line.now c.args.reply.now c.in-Some.number c.in-Some._floor c.in-Some.ensures told),
+)
