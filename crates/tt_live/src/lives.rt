@@ -78,6 +78,18 @@ impl Promise<End> for EndsSo {
 /// A thread of a master or a client that was started.
 type Started = PromisedHandle<End, EndsSo>;
 
+/// Plays the role of a master over this link.
+fn play_by<'s, R: Wait + SystemClock>(
+    shared: Shared<'s, R>,
+    role: Role<'s>,
+    link: UdpLink,
+) -> End
+    ensures { IfErr result IsEndFault }
+{
+    let mut link = link;
+    play(shared.rt, shared.ended, shared.origin, role, &mut link)
+}
+
 /// Starts the thread of a master, if one can be made.
 fn start_master<'s, E, R: Wait + SystemClock + Sync>(
     scope: &Scope<'s, E>,
@@ -90,10 +102,7 @@ fn start_master<'s, E, R: Wait + SystemClock + Sync>(
             EndsSo,
             move || -> End
                 ensures { IfErr result IsEndFault }
-            {
-                let mut link = link;
-                play(shared.rt, shared.ended, shared.origin, role, &mut link)
-            },
+            { play_by(shared, role, link) },
         )
         .ok()
 }
