@@ -1,6 +1,7 @@
 //! A run: its threads are started and joined.
 
 ghost use Rattle.std.specs.Prelude.{◌≡◌, ◌<◌, ◌≤◌, Some, None, Err, IfOk, IfSome, IfErr, vec_len};
+ghost use Rattle.tt_poll.specs.Message.{max_source};
 ghost use Rattle.tt_publish.specs.Known.{max_watches};
 ghost use Rattle.tt_node.specs.declared.faults.NodeFault.{NodeFault};
 ghost use Rattle.tt_live.specs.Fault.{EndsRun, IsEndFault, IsLiveFault};
@@ -9,7 +10,7 @@ ghost use Rattle.tt_live.specs.Plan.{refusal_of};
 use crate::clients::talk;
 use crate::clocks::{LiveClock, Origin};
 use crate::faults::LiveFault;
-use crate::masters::{Role, play, role_of};
+use crate::masters::{play, source_at};
 use crate::plans::machine_of;
 use crate::reports::report_of;
 use crate::sockets::{Links, Sessions, connect_clients, connect_masters};
@@ -23,7 +24,7 @@ use std::time::{Clock as SystemClock, Instant};
 use tt_audit::LiveReport;
 use tt_daemon::{Config, Daemon};
 use tt_node::{Clocks, Limits, NodeEnd, NodeFault, OpenGate, RoundLink, UdpLink, run_node};
-use tt_script::{Live, Script, Session};
+use tt_script::{Live, LiveMaster, Script, Session};
 use tt_session::Turns;
 use tt_stream::Counted;
 
@@ -78,31 +79,33 @@ impl Promise<End> for EndsSo {
 /// A thread of a master or a client that was started.
 type Started = PromisedHandle<End, EndsSo>;
 
-/// Plays the role of a master over this link.
-fn play_by<'s, R: Wait + SystemClock>(
-    shared: Shared<'s, R>,
-    role: Role<'s>,
-    link: UdpLink,
-) -> End
-    ensures { IfErr result IsEndFault }
-{
-    let mut link = link;
-    play(shared.rt, shared.ended, shared.origin, role, &mut link)
-}
-
 /// Starts the thread of a master, if one can be made.
 fn start_master<'s, E, R: Wait + SystemClock + Sync>(
     scope: &Scope<'s, E>,
     shared: Shared<'s, R>,
-    role: Role<'s>,
+    source: u8,
+    plan: &'s LiveMaster,
     link: UdpLink,
-) -> Option<Started> {
+) -> Option<Started>
+    requires is_source { source ≤ max_source }
+{
     scope
         .spawn_with(
             EndsSo,
             move || -> End
+                requires { source ≤ max_source }
                 ensures { IfErr result IsEndFault }
-            { play_by(shared, role, link) },
+            {
+                let mut link = link;
+                play(
+                    shared.rt,
+                    shared.ended,
+                    shared.origin,
+                    source,
+                    plan,
+                    &mut link,
+                )
+            },
         )
         .ok()
 }
@@ -141,14 +144,13 @@ fn start_masters<'s, E, R: Wait + SystemClock + Sync>(
         let Some(link) = links.pop() else {
             return false;
         };
-        let source = links.len();
-        let Some(master) = masters.get(source) else {
+        let Some(plan) = masters.get(links.len()) else {
             return false;
         };
-        let Some(role) = role_of(source, master) else {
+        let Some(source) = source_at(links.len()) else {
             return false;
         };
-        let Some(handle) = start_master(scope, shared, role, link) else {
+        let Some(handle) = start_master(scope, shared, source, plan, link) else {
             return false;
         };
         if handles.push(handle).is_err() {
