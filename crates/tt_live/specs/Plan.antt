@@ -1,5 +1,5 @@
 -- Which scripts can be run live.
-use Rattle.std.specs.Prelude.{ℕ, Bool, false, ◌&&◌, nat_eq, if◌then◌else◌, List, [], ◌∷◌, length, Option, Some, None}
+use Rattle.std.specs.Prelude.{Bool, false, ◌&&◌, nat_eq, if◌then◌else◌, List, [], ◌∷◌, length, Option, Some, None}
 use Rattle.tt_daemon.specs.Config.{Configuration}
 use Rattle.tt_script.specs.Lives.{LiveRun}
 use Rattle.tt_live.specs.declared.faults.LiveFault.{LiveFault}

@@ -1,6 +1,7 @@
 //! The thread of a client.
 
 ghost use Rattle.std.specs.Prelude.{◌≡◌, ◌++◌, [], ◌∷◌, IfOk, IfErr};
+ghost use Rattle.tt_live.specs.Fault.{IsSocketFault};
 
 use crate::replies::may_answer;
 use arrayvec::ArrayVec;
@@ -90,7 +91,9 @@ pub(crate) fn talk<R: SystemClock, S: ByteReader + ByteWriter>(
     alloc: Global,
     stream: &mut S,
     lines: &[Line],
-) -> Result<(), NodeFault> {
+) -> Result<(), NodeFault>
+    ensures fault { IfErr result IsSocketFault }
+{
     for text in lines {
         for line in text.as_str().split('\n') {
             let Ok(message) = message_of(alloc, line) else {

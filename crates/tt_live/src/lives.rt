@@ -1,13 +1,16 @@
 //! A run: its threads are started and joined.
 
-ghost use Rattle.std.specs.Prelude.{◌≡◌, Some, None, Err, IfSome, IfErr};
+ghost use Rattle.std.specs.Prelude.{◌≡◌, ◌<◌, ◌≤◌, Some, None, Err, IfOk, IfSome, IfErr, vec_len};
+ghost use Rattle.tt_poll.specs.Message.{max_source};
+ghost use Rattle.tt_publish.specs.Known.{max_watches};
 ghost use Rattle.tt_node.specs.declared.faults.NodeFault.{NodeFault};
+ghost use Rattle.tt_live.specs.Fault.{EndsRun, IsEndFault, IsLiveFault};
 ghost use Rattle.tt_live.specs.Plan.{refusal_of};
 
 use crate::clients::talk;
 use crate::clocks::{LiveClock, Origin};
 use crate::faults::LiveFault;
-use crate::masters::{Role, play, role_of};
+use crate::masters::{play, source_at};
 use crate::plans::machine_of;
 use crate::reports::report_of;
 use crate::sockets::{Links, Sessions, connect_clients, connect_masters};
@@ -16,12 +19,12 @@ use std::net::{Net, TcpListener, TcpStream};
 use std::sync::Wait;
 use std::sync::atomic::{AtomicBool, Ordering};
 use std::thread;
-use std::thread::{JoinHandle, Scope, Threads};
+use std::thread::{Promise, PromisedHandle, Scope, Threads};
 use std::time::{Clock as SystemClock, Instant};
 use tt_audit::LiveReport;
 use tt_daemon::{Config, Daemon};
-use tt_node::{Clocks, Limits, NodeEnd, NodeFault, OpenGate, UdpLink, run_node};
-use tt_script::{Live, Script, Session};
+use tt_node::{Clocks, Limits, NodeEnd, NodeFault, OpenGate, RoundLink, UdpLink, run_node};
+use tt_script::{Live, LiveMaster, Script, Session};
 use tt_session::Turns;
 use tt_stream::Counted;
 
@@ -62,18 +65,48 @@ impl<'a, R> Copy for Shared<'a, R> {}
 /// How a thread of a master or a client ended.
 type End = Result<(), NodeFault>;
 
+/// That a thread of a master or a client ends with the faults of such a thread alone.
+#[derive(Drop)]
+struct EndsSo;
+
+impl Promise<End> for EndsSo {
+    ghost use Rattle.std.specs.Prelude.{IfErr};
+    ghost use Rattle.tt_live.specs.Fault.{IsEndFault};
+
+    ghost kept_by = { λ _ result. IfErr result IsEndFault };
+}
+
+/// A thread of a master or a client that was started.
+type Started = PromisedHandle<End, EndsSo>;
+
 /// Starts the thread of a master, if one can be made.
 fn start_master<'s, E, R: Wait + SystemClock + Sync>(
     scope: &Scope<'s, E>,
     shared: Shared<'s, R>,
-    role: Role<'s>,
+    source: u8,
+    plan: &'s LiveMaster,
     link: UdpLink,
-) -> Option<JoinHandle<End>> {
+) -> Option<Started>
+    requires is_source { source ≤ max_source }
+{
     scope
-        .spawn(move || {
-            let mut link = link;
-            play(shared.rt, shared.ended, shared.origin, role, &mut link)
-        })
+        .spawn_with(
+            EndsSo,
+            move || -> End
+                requires { source ≤ max_source }
+                ensures { IfErr result IsEndFault }
+            {
+                let mut link = link;
+                play(
+                    shared.rt,
+                    shared.ended,
+                    shared.origin,
+                    source,
+                    plan,
+                    &mut link,
+                )
+            },
+        )
         .ok()
 }
 
@@ -83,12 +116,17 @@ fn start_client<'s, E, R: Wait + SystemClock + Sync>(
     shared: Shared<'s, R>,
     session: &'s Session,
     stream: TcpStream,
-) -> Option<JoinHandle<End>> {
+) -> Option<Started> {
     scope
-        .spawn(move || {
-            let mut stream = Counted::new(stream);
-            talk(shared.rt, shared.alloc, &mut stream, session.lines())
-        })
+        .spawn_with(
+            EndsSo,
+            move || -> End
+                ensures { IfErr result IsEndFault }
+            {
+                let mut stream = Counted::new(stream);
+                talk(shared.rt, shared.alloc, &mut stream, session.lines())
+            },
+        )
         .ok()
 }
 
@@ -98,7 +136,7 @@ fn start_masters<'s, E, R: Wait + SystemClock + Sync>(
     shared: Shared<'s, R>,
     live: &'s Live,
     links: Vec<UdpLink>,
-    handles: &mut Vec<JoinHandle<End>>,
+    handles: &mut Vec<Started>,
 ) -> bool {
     let mut links = links;
     let masters = live.masters();
@@ -106,14 +144,13 @@ fn start_masters<'s, E, R: Wait + SystemClock + Sync>(
         let Some(link) = links.pop() else {
             return false;
         };
-        let source = links.len();
-        let Some(master) = masters.get(source) else {
+        let Some(plan) = masters.get(links.len()) else {
             return false;
         };
-        let Some(role) = role_of(source, master) else {
+        let Some(source) = source_at(links.len()) else {
             return false;
         };
-        let Some(handle) = start_master(scope, shared, role, link) else {
+        let Some(handle) = start_master(scope, shared, source, plan, link) else {
             return false;
         };
         if handles.push(handle).is_err() {
@@ -129,7 +166,7 @@ fn start_clients<'s, E, R: Wait + SystemClock + Sync>(
     shared: Shared<'s, R>,
     live: &'s Live,
     streams: Vec<TcpStream>,
-    handles: &mut Vec<JoinHandle<End>>,
+    handles: &mut Vec<Started>,
 ) -> bool {
     let mut streams = streams;
     let sessions = live.sessions();
@@ -152,7 +189,9 @@ fn start_clients<'s, E, R: Wait + SystemClock + Sync>(
 
 /// Joins the threads, from the one that was started last to the first, and answers the first fault that one ended
 /// with.
-fn join_all<R: Threads>(rt: &R, handles: Vec<JoinHandle<End>>) -> End {
+fn join_all<R: Threads>(rt: &R, handles: Vec<Started>) -> End
+    ensures fault { IfErr result IsEndFault }
+{
     let mut handles = handles;
     let mut first = Ok(());
     for _ in 0..handles.len() {
@@ -170,7 +209,10 @@ fn join_all<R: Threads>(rt: &R, handles: Vec<JoinHandle<End>>) -> End {
 fn clocks_of<'s, R: SystemClock>(
     shared: Shared<'s, R>,
     workers: usize,
-) -> Result<Clocks<LiveClock<'s, R>>, NodeFault> {
+) -> Result<Clocks<LiveClock<'s, R>>, NodeFault>
+    ensures all { IfOk result (λ clocks. vec_len clocks.workers ≡ workers) }
+    ensures fault { IfErr result (λ fault. fault ≡ NodeFault.Memory) }
+{
     let mut clocks = Vec::new(shared.alloc);
     for _ in 0..workers {
         if clocks
@@ -186,21 +228,26 @@ fn clocks_of<'s, R: SystemClock>(
     })
 }
 
-/// Starts the threads of the masters and the clients, runs the node, and joins all that were started.
-fn run_threads<'s, E, R: Threads + Wait + SystemClock + Sync>(
-    scope: &Scope<'s, E>,
+/// Runs the node over these streams, with one clock for each, unless some thread was not started.
+fn run_streams<'s, R: Threads + Wait + SystemClock + Sync>(
     shared: Shared<'s, R>,
     config: Config,
     live: &'s Live,
-    links: Links<'s, R>,
-    sessions: Sessions,
-) -> Result<NodeEnd, NodeFault> {
-    let Links {
-        daemon: link,
-        masters,
-    } = links;
-    let Sessions { clients, workers } = sessions;
-    let clocks = clocks_of(shared, workers.len())?;
+    link: RoundLink<'s, R>,
+    clocks: Clocks<LiveClock<'s, R>>,
+    streams: Vec<(Counted<TcpStream>, Counted<TcpStream>)>,
+    started: bool,
+) -> Result<NodeEnd, NodeFault>
+    requires some { 0 < vec_len streams }
+    requires few { vec_len streams ≤ max_watches }
+    requires each { vec_len clocks.workers ≡ vec_len streams }
+    ensures fault { IfErr result EndsRun }
+{
+    if !started {
+        // The clients that were started wait for replies, until the other ends of their connections are gone.
+        drop(streams);
+        return Err(NodeFault::Memory);
+    }
     let limits = Limits {
         rounds: live.rounds(),
         turns: live.turns(),
@@ -210,26 +257,42 @@ fn run_threads<'s, E, R: Threads + Wait + SystemClock + Sync>(
         },
         lease: live.lease(),
     };
+    let daemon = Daemon::new(MACHINE, &config, EPOCH);
+    run_node(
+        shared.rt,
+        shared.alloc,
+        daemon,
+        link,
+        clocks,
+        streams,
+        shared.gate,
+        limits,
+    )
+}
+
+/// Starts the threads of the masters and the clients, runs the node, and joins all that were started.
+fn run_threads<'s, E, R: Threads + Wait + SystemClock + Sync>(
+    scope: &Scope<'s, E>,
+    shared: Shared<'s, R>,
+    config: Config,
+    live: &'s Live,
+    links: Links<'s, R>,
+    sessions: Sessions,
+) -> Result<NodeEnd, NodeFault>
+    requires some { 0 < vec_len sessions.workers }
+    requires few { vec_len sessions.workers ≤ max_watches }
+    ensures fault { IfErr result EndsRun }
+{
+    let Links {
+        daemon: link,
+        masters,
+    } = links;
+    let Sessions { clients, workers } = sessions;
+    let clocks = clocks_of(shared, workers.len())?;
     let (mut playing, mut talking) = (Vec::new(shared.alloc), Vec::new(shared.alloc));
     let started = start_masters(scope, shared, live, masters, &mut playing)
         && start_clients(scope, shared, live, clients, &mut talking);
-    let ended = if started {
-        let daemon = Daemon::new(MACHINE, &config, EPOCH);
-        run_node(
-            shared.rt,
-            shared.alloc,
-            daemon,
-            link,
-            clocks,
-            workers,
-            shared.gate,
-            limits,
-        )
-    } else {
-        // The clients that were started wait for replies, until the other ends of their connections are gone.
-        drop(workers);
-        Err(NodeFault::Memory)
-    };
+    let ended = run_streams(shared, config, live, link, clocks, workers, started);
     shared.ended.store(true, Ordering::SeqCst);
     let played = join_all(shared.rt, playing);
     let talked = join_all(shared.rt, talking);
@@ -243,9 +306,11 @@ fn run_threads<'s, E, R: Threads + Wait + SystemClock + Sync>(
 fn run<
     'a,
     R: Threads + Wait + SystemClock + Sync + Net<Listener = TcpListener, Stream = TcpStream>,
->(rt: &'a R, alloc: Global, config: Config, live: &'a Live) -> Result<LiveReport, NodeFault> {
+>(rt: &'a R, alloc: Global, config: Config, live: &'a Live) -> Result<LiveReport, NodeFault>
+    ensures fault { IfErr result EndsRun }
+{
     let links = connect_masters(rt, alloc, live.masters().len())?;
-    let sessions = connect_clients(rt, alloc, live.sessions().len())?;
+    let sessions = connect_clients(rt, alloc, config.workers())?;
     let Ok(start) = Instant::now(rt) else {
         return Err(NodeFault::ClockFailed);
     };
@@ -264,9 +329,10 @@ fn run<
     let end = thread::scope(
         thread::scope_env(),
         rt,
-        move |scope| -> Result<NodeEnd, NodeFault> {
-            run_threads(scope, shared, config, live, links, sessions)
-        },
+        move |scope| -> Result<NodeEnd, NodeFault>
+            requires { (0 < vec_len sessions.workers) × (vec_len sessions.workers ≤ max_watches) }
+            ensures { IfErr result EndsRun }
+        { run_threads(scope, shared, config, live, links, sessions) },
     )?;
     if end.workers.iter().any(|worker| worker.served.is_err()) {
         return Err(NodeFault::LinkFailed);
@@ -290,12 +356,14 @@ fn run<
 /// machine, whose masters are not one for each source, or whose sessions are not one for each worker. Then with the
 /// fault of the node: 1 `Memory` where an allocation failed or a thread was not started, 1501 `LinkFailed` where a
 /// socket failed or a session broke off, 1502 `ClockFailed` and 304 `ReferenceFailed` where the clock failed, 802 where
-/// a fusion was not published.
+/// a fusion was not published, 804 where no place for a reader was given, which no clause excludes and no run has shown.
+/// It is none but these.
 pub fn live<
     R: Threads + Wait + SystemClock + Sync + Net<Listener = TcpListener, Stream = TcpStream>,
 >(rt: &R, alloc: Global, script: &Script) -> Result<LiveReport, LiveFault>
     ensures refused { IfSome (refusal_of script.now.configs script.now.live) (λ fault. result ≡ Err fault) }
     ensures run { refusal_of script.now.configs script.now.live ≡ None → IfErr result (λ fault. (node : NodeFault) × (fault ≡ LiveFault.Node node)) }
+    ensures fault { IfErr result IsLiveFault }
 {
     let config = machine_of(script)?;
     let Some(live) = script.live() else {

@@ -1,7 +1,8 @@
 //! The thread of a master.
 
-ghost use Rattle.std.specs.Prelude.{◌≡◌, ◌<◌, ◌≤◌, IfSome};
+ghost use Rattle.std.specs.Prelude.{◌≡◌, ◌<◌, ◌≤◌, IfSome, IfErr};
 ghost use Rattle.tt_poll.specs.Message.{max_source};
+ghost use Rattle.tt_node.specs.Fault.{IsTurnsFault};
 
 use crate::clocks::{LiveClock, Origin};
 use std::sync::atomic::{AtomicBool, Ordering};
@@ -11,17 +12,9 @@ use tt_node::{NodeFault, UdpLink, master_rounds};
 use tt_poll::MAX_SOURCE;
 use tt_script::LiveMaster;
 
-/// A master of a script, and the source that it is.
-#[derive(Clone, Copy)]
-pub(crate) struct Role<'a> {
-    source: u8,
-    plan: &'a LiveMaster,
-    ghost is_source: { source ≤ max_source },
-}
-
-/// The role of the master at this place, which is that of its source; None where no source has such a number.
-pub(crate) fn role_of(place: usize, plan: &LiveMaster) -> Option<Role<'_>>
-    ensures { IfSome result (λ role. role.source ≡ place) }
+/// The source that the master at this place is; None where no source has such a number.
+pub(crate) fn source_at(place: usize) -> Option<u8>
+    ensures { IfSome result (λ source. (source ≡ place) × (source ≤ max_source)) }
 {
     let Ok(source) = u8::try_from(place) else {
         return None;
@@ -29,7 +22,7 @@ pub(crate) fn role_of(place: usize, plan: &LiveMaster) -> Option<Role<'_>>
     if source > MAX_SOURCE {
         return None;
     }
-    Some(Role { source, plan })
+    Some(source)
 }
 
 /// Answers polls until the run has ended: it does one act for each request that comes, in the order of the script, and
@@ -41,15 +34,15 @@ pub(crate) fn play<R: SystemClock>(
     rt: &R,
     ended: &AtomicBool,
     origin: Origin,
-    role: Role<'_>,
+    source: u8,
+    plan: &LiveMaster,
     link: &mut UdpLink,
-) -> Result<(), NodeFault> {
-    let acts = role.plan.acts();
-    let mut master = Master::new(
-        role.source,
-        role.plan.uncertainty(),
-        LiveClock::new(rt, origin),
-    );
+) -> Result<(), NodeFault>
+    requires is_source { source ≤ max_source }
+    ensures fault { IfErr result IsTurnsFault }
+{
+    let acts = plan.acts();
+    let mut master = Master::new(source, plan.uncertainty(), LiveClock::new(rt, origin));
     let mut played: usize = 0;
     for _ in 0..u64::MAX {
         if ended.load(Ordering::SeqCst) {

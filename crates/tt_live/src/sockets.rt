@@ -1,5 +1,8 @@
 //! The sockets of a run, all on this computer.
 
+ghost use Rattle.std.specs.Prelude.{◌≡◌, IfOk, IfErr, vec_len};
+ghost use Rattle.tt_live.specs.Fault.{IsSocketFault};
+
 use std::alloc::Global;
 use std::io::{self, ErrorKind};
 use std::net::{Net, SocketAddr, TcpListener, TcpStream, UdpSocket};
@@ -20,7 +23,9 @@ const MASTER_WAIT: u64 = 10;
 const MAX_ACCEPTS: u32 = 1_000;
 
 /// The fault of a socket that failed.
-fn fault_of(error: io::Error) -> NodeFault {
+fn fault_of(error: io::Error) -> NodeFault
+    ensures { IsSocketFault result }
+{
     if error.kind() == ErrorKind::OutOfMemory {
         NodeFault::Memory
     } else {
@@ -55,7 +60,9 @@ pub(crate) fn connect_masters<'a, R: Net + SystemClock>(
     rt: &'a R,
     alloc: Global,
     masters: usize,
-) -> Result<Links<'a, R>, NodeFault> {
+) -> Result<Links<'a, R>, NodeFault>
+    ensures fault { IfErr result IsSocketFault }
+{
     let (daemon, address) = socket(rt).map_err(fault_of)?;
     let (mut links, mut addresses) = (Vec::new(alloc), Vec::new(alloc));
     for _ in 0..masters {
@@ -111,7 +118,10 @@ pub(crate) fn connect_clients<R: Net<Listener = TcpListener, Stream = TcpStream>
     net: &R,
     alloc: Global,
     count: usize,
-) -> Result<Sessions, NodeFault> {
+) -> Result<Sessions, NodeFault>
+    ensures all { IfOk result (λ sessions. vec_len sessions.workers ≡ count) }
+    ensures fault { IfErr result IsSocketFault }
+{
     let listener = TcpListener::bind(net, HERE).map_err(fault_of)?;
     let (mut clients, mut workers) = (Vec::new(alloc), Vec::new(alloc));
     for _ in 0..count {
