@@ -1,6 +1,4 @@
-mod Calling
 mod Holding
 mod Serving
-mod Starting
 mod WorkedRun
 mod WorkedOrder

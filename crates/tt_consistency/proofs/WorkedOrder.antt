@@ -174,13 +174,13 @@ shown : (clock other : ℕ) (later : Clocks) → Some clock ∷ later ≡ Some o
 shown clock other later is = cc
 
 keeps : (m clock : ℕ) → 112 ≤ clock → KeepsDrift 100 (record { clock = clock; time = 900 + clock } ∷ clock_moments (machine m))
-keeps m clock late = ((omega arith, (omega arith, (omega arith, tt))), ((omega arith, (omega arith, tt)), ((omega arith, tt), (tt, tt))))
+keeps m clock late = ((omega arith, (omega arith, (omega arith, (omega arith, tt)))), ((omega arith, (omega arith, (omega arith, tt))), ((omega arith, (omega arith, tt)), ((omega arith, tt), (tt, tt)))))
 
 is_read : (m clock : ℕ) (later : Clocks) → 112 ≤ clock → clock ≤ 1000 → IsReadAt GivesInTurn (clock_moments (machine m)) watch (Some clock ∷ later) later (900 + clock)
 is_read m clock later late early = record {
   in_time = omega arith;
   drift = λ other is. subst (λ (c : ℕ). KeepsDrift 100 (record { clock = c; time = 900 + clock } ∷ clock_moments (machine m))) (shown clock other later is) (keeps m clock late);
-  no_earlier = λ last is made among. among-by (900 + clock) (fused_span_of last).clock made (clock_moments (machine m)) (omega arith, (omega arith, (omega arith, tt))) among;
+  no_earlier = λ last is made among. among-by (900 + clock) (fused_span_of last).clock made (clock_moments (machine m)) (omega arith, (omega arith, (omega arith, (omega arith, tt)))) among;
 }
 
 served-0 : IsServedOn GivesInTurn failed says (machine 0) earlier

@@ -2,7 +2,6 @@
 
 ghost use Rattle.std.specs.Prelude.{ℕ, ◌<◌, ◌≤◌, List, ◌∷◌, ◌++◌, Option, None, All};
 ghost use Rattle.std.specs.List.{AllByRecursion};
-ghost use Rattle.tt_daemon.specs.Config.{Configuration};
 ghost use Rattle.tt_judge.specs.Consistency.{IsConsistent};
 ghost use Rattle.tt_judge.specs.declared.history.Commit.{Commit};
 ghost use Rattle.tt_session.specs.Answers.{AnswersLines};
@@ -11,8 +10,8 @@ ghost use Rattle.tt_session.specs.declared.replies.LineReply.{LineReply};
 ghost use Rattle.tt_order.specs.Timed.{TimedSession, IsTimed, times_at};
 ghost use Rattle.tt_order.specs.Order.{BeginsAt, IsCommitted, IsSeen, IsWithin};
 ghost use Rattle.tt_order.specs.Told.{IsTold};
-ghost use Rattle.tt_runs.specs.Tale.{HeldTrueTime, Timed};
-ghost use Rattle.tt_consistency.specs.Running.{DaemonCall, Machine, IsRunning, RunsFrom, Start, clock_moments, from_start, published_by};
+ghost use Rattle.tt_runs.specs.Tale.{HeldTrueTime};
+ghost use Rattle.tt_consistency.specs.Running.{Machine, IsRunning, clock_moments, published_by};
 ghost use Rattle.tt_consistency.specs.Served.{IsServedOn, IsSeenOnOneOf};
 
 use tt_order::{order_laws, session_laws};
@@ -22,10 +21,6 @@ use tt_station::Presence;
 
 /// Laws of one running machine.
 pub fn machine_laws()
-    // A machine runs that begins its life with a new daemon, whose calls follow: of what was before nothing is assumed.
-    ensures runs_from_start { (configs : List Configuration) (number : ℕ) (start : Start) (calls : List DaemonCall) (tale : List Timed) →
-        RunsFrom configs number start calls tale → IsRunning (from_start configs number start calls tale) }
-
     // All that its calls published, one after the other, held the true time, each at a moment of the machine's life at
     // which the clock showed the reading of the publication.
     ensures publications_hold { (machine : Machine) →
