@@ -1,5 +1,5 @@
 -- Workers that share a sequencer.
-use Rattle.std.proofs.Common.{◌≡◌, ℕ, ◌+◌, ◌-◌, Bool, true, false, List, [], ◌∷◌, ◌++◌, length, map, Option, Result, Ok, Err, IfOk, IsErrOf, refl, sym, ap, ◌∙◌, subst, arith}
+use Rattle.std.proofs.Common.{◌≡◌, ℕ, zero, suc, ◌+◌, ◌-◌, Bool, true, false, List, [], ◌∷◌, ◌++◌, length, map, Option, Result, Ok, Err, IfOk, IsErrOf, refl, sym, ap, ◌∙◌, subst, arith}
 use Rattle.std.specs.List.{range_with_len}
 use Rattle.atomic_table.specs.Seated.{TableId}
 use Rattle.tt_span.specs.Interval.{Interval}
@@ -85,14 +85,14 @@ later-trans a b c f g = record {
 }
 
 later-stamps : (floor : ℕ) (lease reading : Interval) (old : SeatState) (answer : Result ℕ StampFault) (new : SeatState) → Stamps floor lease reading old answer new → IsLater old new
-later-stamps floor lease reading old (Ok stamp) new s = later-gives old new reading.hi floor lease stamp s.1.0
+later-stamps floor lease reading old (Ok stamp) new s = later-gives old new reading.hi floor lease stamp s.1
 later-stamps floor lease reading old (Err FloorTooFar) new s = later-same old new s.1
-later-stamps floor lease reading old (Err UsedUp) new s = later-looks old new s.1.0
-later-stamps floor lease reading old (Err LeaseOver) new s = later-looks old new s.1.0
+later-stamps floor lease reading old (Err UsedUp) new s = later-looks old new s.1
+later-stamps floor lease reading old (Err LeaseOver) new s = later-looks old new s.1
 later-stamps floor lease reading old (Err _) new s = absurd s
 
 later-begins : (floor : ℕ) (lease : Interval) (looked : Result Interval ReadFault) (old : SeatState) (answer : Result ℕ BeginFault) (new : SeatState) → Begins (Stamps floor lease) looked old answer new → IsLater old new
-later-begins floor lease (Ok reading) old answer new b = later-stamps floor lease reading old b.0 new b.1.0
+later-begins floor lease (Ok reading) old answer new b = later-stamps floor lease reading old b.0 new b.1
 later-begins floor lease (Err fault) old answer new b = later-same old new b.1
 
 -- ---- so does the seat of a worker
@@ -111,7 +111,7 @@ module _ {C G : Type 0} (gives : C → Option ℕ → C → Type 0) (failed : C 
   later-call : (before : WorkerState C G) (one : Call) (after : WorkerState C G) → Allows gives failed says hears before one after → IsLater before.seat after.seat
   later-call before (call.Now answer) after allowed = later-passes _ before answer after (λ b a does. later-same b.seat a.seat does.seat) allowed
   later-call before (call.Begin number floor answer) after allowed =
-      later-passes _ before answer after (λ b a does. later-begins floor b.lease does.begins.0 b.seat does.begins.1.1.0 a.seat does.begins.1.1.1.0) allowed
+      later-passes _ before answer after (λ b a does. let (looked, looks, begun, begins, answers) = does.begins in later-begins floor b.lease looked b.seat begun a.seat begins) allowed
   later-call before (call.Pass number answer) after allowed = later-passes _ before answer after (λ b a does. later-same b.seat a.seat does.seat) allowed
 
   pub later-talked : (before : WorkerState C G) (calls : List Call) (after : WorkerState C G) → Conversation (Allows gives failed says hears) before calls after → IsLater before.seat after.seat
@@ -216,7 +216,7 @@ module _ {C G : Type 0} (gives : C → Option ℕ → C → Type 0) (failed : C 
         each =
             AllFrom-snoc (EndsIn both) 0 ends end
             (AllFrom-map (EndsIn all) (EndsIn both) (λ k e i. record { clock = i.clock; serves = i.serves; joined = in-first all seat both e.seat.value u i.joined }) 0 ends h.each)
-            (record { clock = clock; serves = serves; joined = subst (λ s. IsIn both s) (sym is) (in-second all seat both u) });
+            (let e : length ends ≡ 0 + length ends = omega arith in subst (λ n. EndsIn both n end) e (record { clock = clock; serves = serves; joined = subst (λ s. IsIn both s) (sym is) (in-second all seat both u) }));
       }
 
   shares-at : (ends : List WorkerEnd) (all : SeatState) → table ≡ all.table → seats ≡ length ends → HasJoined ends all → SharesSequencer gives failed says hears waits gate lease ends all

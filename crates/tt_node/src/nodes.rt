@@ -225,7 +225,7 @@ fn start<
             move || -> (WorkerEnd, Seat)
                 requires { seat.table ≡ sequencer.now }
                 ensures { (result.0.seat.value ≡ result.1)
-                    × ServesWith C.gives C.failed G.says G.hears limits.now.serve.waits session gate.now limits.now.lease clock seat result.0 }
+                    × ServesWith C.gives C.failed G.says G.hears limits.entry.now.serve.waits session gate.entry.now limits.entry.now.lease clock seat result.0 }
             {
                 let (mut reader, mut writer) = (reader, writer);
                 work(
