@@ -57,6 +57,13 @@ AllDown-unsnoc Holds end (y ∷ ys) x (here, rest) =
     let (front, one) = AllDown-unsnoc Holds (end - 1) ys x rest in
     let e : end - 1 - 1 - length ys ≡ end - 1 - length (y ∷ ys) = omega arith in ((here, front), subst (λ n. Holds n x) e one)
 
+-- the seat that is taken from the end of the new seats
+pub seat-popped : (table : TableId) (seats : ℕ) (old new : List SeatState) (seat : SeatState) → old ≡ new ++ seat ∷ [] → AllFrom (IsNewSeat table seats) 0 old
+    → AllFrom (IsNewSeat table seats) 0 new × (seat ≡ new_seat table seats (length new))
+seat-popped table seats old new seat is all =
+    let (front, one) = AllFrom-unsnoc (IsNewSeat table seats) 0 new seat (subst (λ s. AllFrom (IsNewSeat table seats) 0 s) is all) in
+    let e : 0 + length new ≡ length new = omega arith in (front, subst (λ n. seat ≡ new_seat table seats n) e one)
+
 -- ---- a seat goes on
 later-same : (old new : SeatState) → new ≡ old → IsLater old new
 later-same old new same = subst (λ s. IsLater old s) (sym same) (record { table = refl; seats = refl; numbers = refl; seen = ([], refl); own = ([], refl) })

@@ -1,0 +1,28 @@
+use Rattle.std.proofs.Common.{◌≡◌, ℕ, ◌-◌, ◌∷◌, [], length, vec_len, rules, sym, ap, ◌∙◌, subst, arith}
+use Rattle.tt_stamp.specs.Stamping.{new_seat}
+use Rattle.tt_node.specs.Sharing.{AllDown, ServesAt}
+use Rattle.tt_node.proofs.Sharing.{AllDown-unsnoc, HasJoined, serves-at, joined-first, joined-next, shares}
+use Rattle.tt_node.proofs.nodes.join_workers.Goals as goal
+
+pub loop-init : goal.loop-init
+loop-init g c =
+    let n = vec_len c.args.handles in
+    let Serves = λ number handle. ServesAt c.args.sequencer.now n c.args._gate.now c.args._limits.now.serve.waits c.args._limits.now.lease number handle.promise in
+    let handle = c.in_ok-pop.field-0 in
+    let (each, last) = AllDown-unsnoc Serves n c.pop.new.self.items handle (subst (λ hs. AllDown Serves n hs) c.in_ok-pop.ensures.items c.requires.each) in
+    let first : n - 1 - vec_len c.pop.new.self ≡ 0 = search rules in
+    let serves = serves-at g.C.Clock.gives g.C.Clock.failed g.G.Gate.says g.G.Gate.hears c.args._limits.now.serve.waits c.args._gate.now c.args._limits.now.lease c.args.sequencer.now n
+        0 handle.promise c.join-end.result.0 (subst (λ k. Serves k handle) first last) c.join-end.ensures.1 in
+    record {
+      len = search rules;
+      left = search rules;
+      room = search rules;
+      each = each;
+      joined = joined-first g.C.Clock.gives g.C.Clock.failed g.G.Gate.says g.G.Gate.hears c.args._limits.now.serve.waits c.args._gate.now c.args._limits.now.lease c.args.sequencer.now n
+          handle.promise.clock.value c.join-end.result.0 c.join-end.result.1 serves c.join-end.ensures.0 c.laws.ensures.legal c.laws.ensures.mine;
+    }
+
+pub returns-clause-shares : goal.returns-clause-shares
+returns-clause-shares g c =
+    shares g.C.Clock.gives g.C.Clock.failed g.G.Gate.says g.G.Gate.hears c.args._limits.now.serve.waits c.args._gate.now c.args._limits.now.lease c.args.sequencer.now (vec_len c.args.handles)
+    c.loop.ends.items c.loop.all (search rules) c.loop.invariant.joined
