@@ -2,6 +2,7 @@
 use Rattle.std.specs.Prelude.{◌≡◌, ℕ, ◌+◌, ◌-◌, List, [], ◌∷◌, ◌++◌, length, count_by, Bool, Option, None, Result, Ok, Err, IfOk}
 use Rattle.atomic_table.specs.Seated.{TableId}
 use Rattle.tt_span.specs.Interval.{Interval}
+use Rattle.tt_publish.specs.Known.{WatchState}
 use Rattle.tt_session.specs.Answers.{AnswersLines}
 use Rattle.tt_session.specs.Conversation.{Conversation}
 use Rattle.tt_session.specs.Replies.{is_refused}
@@ -49,10 +50,11 @@ pub record IsServed (waits : ℕ) (calls : List Call) (served : Served) : Type 0
 -- a new worker with this session, gate, lease, clock and seat served its session by calls that a worker allows; its end tells the notes and the seat that it had then
 pub record ServesWith {C G : Type 0} (gives : C → Option ℕ → C → Type 0) (failed : C → ℕ) (says : G → ℕ → ℕ → Bool → G → Type 0) (hears : G → ℕ → ℕ → G → Type 0)
     (waits session : ℕ) (gate : G) (lease : Interval) (clock : C) (seat : SeatState) (end : WorkerEnd) : Type 0 where
+  pub watch : WatchState
   pub before : WorkerState C G
   pub after : WorkerState C G
   pub calls : List Call
-  pub new : before ≡ record { session = session; gate = gate; calls = 0; watch = before.watch; clock = clock; seat = seat; lease = lease; notes = [] }
+  pub new : before ≡ record { session = session; gate = gate; calls = 0; watch = watch; clock = clock; seat = seat; lease = lease; notes = [] }
   pub talked : Conversation (Allows gives failed says hears) before calls after
   pub served : IfOk end.served (IsServed waits calls)
   pub notes : end.notes.items ≡ after.notes

@@ -1,4 +1,8 @@
 use Rattle.std.proofs.Common.{◌≡◌, ℕ, ◌-◌, ◌∷◌, [], length, vec_len, rules, sym, ap, ◌∙◌, subst, arith}
+use Rattle.std.specs.declared.thread.PromisedHandle.{PromisedHandle}
+use Rattle.tt_stamp.specs.declared.sequencers.Seat.{Seat}
+use Rattle.tt_node.specs.declared.nodes.ServesSession.{ServesSession}
+use Rattle.tt_node.specs.declared.nodes.WorkerEnd.{WorkerEnd}
 use Rattle.tt_stamp.specs.Stamping.{new_seat}
 use Rattle.tt_node.specs.Sharing.{AllDown, ServesAt}
 use Rattle.tt_node.proofs.Sharing.{AllDown-unsnoc, HasJoined, serves-at, joined-first, joined-next, shares}
@@ -7,7 +11,7 @@ use Rattle.tt_node.proofs.nodes.join_workers.Goals as goal
 pub loop-init : goal.loop-init
 loop-init g c =
     let n = vec_len c.args.handles in
-    let Serves = λ number handle. ServesAt c.args.sequencer.now n c.args._gate.now c.args._limits.now.serve.waits c.args._limits.now.lease number handle.promise in
+    let Serves : ℕ → PromisedHandle (WorkerEnd × Seat) (ServesSession g.row.C.Denot g.row.G.Denot) → Type 0 = λ number handle. ServesAt c.args.sequencer.now n c.args._gate.now c.args._limits.now.serve.waits c.args._limits.now.lease number handle.promise in
     let handle = c.in_ok-pop.field-0 in
     let (each, last) = AllDown-unsnoc Serves n c.pop.new.self.items handle (subst (λ hs. AllDown Serves n hs) c.in_ok-pop.ensures.items c.requires.each) in
     let first : n - 1 - vec_len c.pop.new.self ≡ 0 = search rules in

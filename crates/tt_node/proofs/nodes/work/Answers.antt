@@ -12,6 +12,7 @@ returns-clause-serves g c =
         c.serve-served.ensures.served c.serve-served.ensures.read_failed c.serve-served.ensures.write_failed in
     let seat = c.of.ensures ∙ c.into_parts-notes.ensures.seat in
     record {
+      watch = c.args.watch;
       before = before;
       after = after;
       calls = calls;
