@@ -17,11 +17,11 @@ loop-preserved g c =
     let n = vec_len c.args.streams in
     let table = c.args.sequencer.now in
     let popped = seat-popped table n c.loop.seats.items c.pop-in-loop.new.self.items c.in-Some-Some-Some.seat c.in-Some-Some-Some.ensures.items c.loop.invariant.new in
-    let place : length c.pop-in-loop.new.self.items ≡ n - 1 - vec_len c.loop.handles = search rules in
-    let session : c.in-Ok.session ≡ n - 1 - vec_len c.loop.handles = search rules in
+    let place : length c.pop-in-loop.new.self.items ≡ n - 1 - length c.loop.handles.items = search rules in
+    let session : c.in-Ok.session ≡ n - 1 - length c.loop.handles.items = search rules in
     let serves = subst (λ s. IsServing c.args.gate.now c.args.limits.now.serve.waits c.args.limits.now.lease c.in-Ok.session s c.in-Some-start.handle.promise) popped.1 c.in-Some-start.ensures.promise in
     let placed = subst (λ k. IsServing c.args.gate.now c.args.limits.now.serve.waits c.args.limits.now.lease c.in-Ok.session (new_seat table n k) c.in-Some-start.handle.promise) place serves in
-    let at = subst (λ k. IsServing c.args.gate.now c.args.limits.now.serve.waits c.args.limits.now.lease k (new_seat table n (n - 1 - vec_len c.loop.handles)) c.in-Some-start.handle.promise) session placed in
+    let at = subst (λ k. IsServing c.args.gate.now c.args.limits.now.serve.waits c.args.limits.now.lease k (new_seat table n (n - 1 - length c.loop.handles.items)) c.in-Some-start.handle.promise) session placed in
     let Serves : ℕ → PromisedHandle (WorkerEnd × Seat) (ServesSession g.row.C.Denot g.row.G.Denot) → Type 0 = λ number handle. ServesAt table n c.args.gate.now c.args.limits.now.serve.waits c.args.limits.now.lease number handle.promise in
     record {
       len = search rules;
