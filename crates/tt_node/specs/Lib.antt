@@ -1,6 +1,7 @@
 pub mod Fault
 pub mod Link
 pub mod Datagrams
+pub mod Ending
 pub mod Counting
 pub mod Fusing
 pub mod Course

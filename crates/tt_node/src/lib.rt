@@ -15,6 +15,7 @@
 #![tactic(auto)]
 
 mod datagrams;
+mod endings;
 mod faults;
 mod gates;
 mod links;
@@ -25,6 +26,7 @@ mod rounds;
 mod workers;
 
 pub use datagrams::{MAX_DROPPED, MAX_STRANGERS, RoundLink, UdpLink};
+pub use endings::EndingReader;
 pub use faults::{LinkFault, NodeFault};
 pub use gates::{Gate, OpenGate};
 pub use links::{Link, PACKET_LEN};
