@@ -31,7 +31,7 @@ Refused:
   1601          invalid arguments
   1604          the file can't be read; the status is 4
   1603          the file is too long or not UTF-8
-  1801 to 1806  the configuration: standard error names the key
+  1801 to 1806  the configuration: standard error says why
   1807 to 1816  the server does not start: its sockets, workers, epoch or threads; the status is 4
                 for 1807 to 1809, 1811 and 1812";
 
