@@ -22,6 +22,7 @@ pub(crate) enum Call {
     DaemonRounds,
     OpenSequencer,
     Queue,
+    QueueShared,
     BeginAtDesk,
     NowOfWorker,
     BeginOfWorker,
@@ -29,7 +30,7 @@ pub(crate) enum Call {
 }
 
 /// All of them, in the order in which they are made.
-pub(crate) const CALLS: [Call; 17] = [
+pub(crate) const CALLS: [Call; 18] = [
     Call::WriteText,
     Call::ReadScript,
     Call::Audit,
@@ -43,6 +44,7 @@ pub(crate) const CALLS: [Call; 17] = [
     Call::DaemonRounds,
     Call::OpenSequencer,
     Call::Queue,
+    Call::QueueShared,
     Call::BeginAtDesk,
     Call::NowOfWorker,
     Call::BeginOfWorker,
@@ -66,6 +68,7 @@ impl Call {
             Call::DaemonRounds => "tt_node::daemon_rounds",
             Call::OpenSequencer => "tt_stamp::Sequencer::open",
             Call::Queue => "tt_stamp::Book::queue",
+            Call::QueueShared => "tt_shared_book::SharedBook::queue",
             Call::BeginAtDesk => "tt_session::Desk::begin",
             Call::NowOfWorker => "tt_node::Worker::now",
             Call::BeginOfWorker => "tt_node::Worker::begin",
@@ -93,6 +96,7 @@ impl Call {
             Call::DaemonRounds => publications::rounds(rt, alloc),
             Call::OpenSequencer => commits::sequencer(rt, alloc),
             Call::Queue => commits::book(alloc),
+            Call::QueueShared => commits::shared_book(rt, alloc),
             Call::BeginAtDesk => commits::desk(rt, alloc),
             Call::NowOfWorker => commits::worker_now(rt, alloc),
             Call::BeginOfWorker => commits::worker_begin(rt, alloc),

@@ -1,11 +1,15 @@
 //! Stamps, books, and the services that begin commits.
 
+ghost use Rattle.std.specs.Prelude.{◌≡◌};
+
 use crate::outcomes::{MEMORY, Outcome};
 use std::alloc::Global;
-use std::sync::{Mutex, Wait};
+use std::marker::Brand;
+use std::sync::Wait;
 use tt_node::{OpenGate, Worker};
 use tt_publish::{MemoryClock, Reading, Watch, open};
 use tt_session::{Desk, Service};
+use tt_shared_book::{BookView, OpenedBook, SharedBook, WhichBook};
 use tt_span::{Drift, Span};
 use tt_stamp::{Book, BookFault, Id, Row, Sequencer};
 
@@ -108,6 +112,13 @@ pub(crate) fn desk<R: Wait>(rt: &R, alloc: Global) -> Outcome {
 /// Reads the time often as a worker. A reading that is refused for memory leaves no note, and is given when it is asked
 /// for again.
 pub(crate) fn worker_now<R: Wait>(rt: &R, alloc: Global) -> Outcome {
+    now_on::<R, Brand>(rt, alloc, OpenedBook::new())
+}
+
+fn now_on<R: Wait, J: WhichBook>(rt: &R, alloc: Global, opened: OpenedBook) -> Outcome
+    requires { opened ≡ J.source }
+{
+    let (book, view) = opened.named::<J>(alloc);
     let Some(watch) = watch_of(rt, alloc) else {
         return Outcome::Unprepared;
     };
@@ -117,11 +128,10 @@ pub(crate) fn worker_now<R: Wait>(rt: &R, alloc: Global) -> Outcome {
     let Some(seat) = seats.pop() else {
         return Outcome::Wrong;
     };
-    let book = Mutex::new(Book::new(alloc));
     let clock = MemoryClock::new(&CLOCK, None);
     let lease = Span::whole();
     let mut worker = Worker::new(
-        rt, alloc, 0, watch, clock, seat, &sequencer, &book, OpenGate, lease,
+        rt, alloc, 0, watch, clock, seat, &sequencer, &book, view, OpenGate, lease,
     );
     let mut was_refused = false;
     for _ in 0..MANY {
@@ -141,8 +151,16 @@ pub(crate) fn worker_now<R: Wait>(rt: &R, alloc: Global) -> Outcome {
     Outcome::of(worker.notes().len() == 40, was_refused)
 }
 
-/// Begins many commits as a worker, as at a desk.
+/// Begins many commits as a worker, as at a desk. One that was refused for memory is not in the book: it would be
+/// refused again.
 pub(crate) fn worker_begin<R: Wait>(rt: &R, alloc: Global) -> Outcome {
+    begin_on::<R, Brand>(rt, alloc, OpenedBook::new())
+}
+
+fn begin_on<R: Wait, J: WhichBook>(rt: &R, alloc: Global, opened: OpenedBook) -> Outcome
+    requires { opened ≡ J.source }
+{
+    let (book, mut view) = opened.named::<J>(alloc);
     let Some(watch) = watch_of(rt, alloc) else {
         return Outcome::Unprepared;
     };
@@ -152,27 +170,67 @@ pub(crate) fn worker_begin<R: Wait>(rt: &R, alloc: Global) -> Outcome {
     let Some(seat) = seats.pop() else {
         return Outcome::Wrong;
     };
-    let book = Mutex::new(Book::new(alloc));
     let clock = MemoryClock::new(&CLOCK, None);
     let lease = Span::whole();
     let mut worker = Worker::new(
-        rt, alloc, 0, watch, clock, seat, &sequencer, &book, OpenGate, lease,
+        rt,
+        alloc,
+        0,
+        watch,
+        clock,
+        seat,
+        &sequencer,
+        &book,
+        view.again(),
+        OpenGate,
+        lease,
     );
     let mut was_refused = false;
     for number in 1..MANY {
-        let history = book.lock(rt).history().len();
         let mut begun = worker.begin(number, 0);
         if begun == Err(MEMORY) {
             was_refused = true;
-            if book.lock(rt).history().len() != history {
-                return Outcome::Wrong;
-            }
             begun = worker.begin(number, 0);
         }
         if begun != Ok(199 + number + u64::from(was_refused)) {
             return Outcome::Wrong;
         }
     }
-    let waiting = book.lock(rt).waiting();
-    Outcome::of(waiting == 39, was_refused)
+    Outcome::of(all_pass(rt, &book, &mut view), was_refused)
+}
+
+/// Whether the commits 1 to 39 of session 0 are released by the reading [300, 400].
+fn all_pass<R: Wait, J: WhichBook>(rt: &R, book: &SharedBook<J>, view: &mut BookView<J>) -> bool {
+    let reading = Reading::of(tt_scenes::span(300, 400));
+    for number in 1..MANY {
+        let id = Id { session: 0, number };
+        if book.release_and_ask(rt, view, &reading, id).is_none() {
+            return false;
+        }
+    }
+    true
+}
+
+/// Queues many commits in a shared book, as in a book of one's own.
+pub(crate) fn shared_book<R: Wait>(rt: &R, alloc: Global) -> Outcome {
+    queue_on::<R, Brand>(rt, alloc, OpenedBook::new())
+}
+
+fn queue_on<R: Wait, J: WhichBook>(rt: &R, alloc: Global, opened: OpenedBook) -> Outcome
+    requires { opened ≡ J.source }
+{
+    let (book, mut view) = opened.named::<J>(alloc);
+    let mut was_refused = false;
+    for number in 1..MANY {
+        let id = Id { session: 0, number };
+        let mut queued = book.queue(rt, &mut view, id, number);
+        if queued == Err(BookFault::Memory) {
+            was_refused = true;
+            queued = book.queue(rt, &mut view, id, number);
+        }
+        if queued.is_err() {
+            return Outcome::Wrong;
+        }
+    }
+    Outcome::of(all_pass(rt, &book, &mut view), was_refused)
 }

@@ -1,5 +1,5 @@
 -- The service of one worker.
-use Rattle.std.specs.Prelude.{◌≡◌, ◌≢◌, ℕ, ◌⊎◌, List, [], ◌∷◌, ◌++◌, Bool, true, false, Option, Some, None, is_some, Result, Ok, Err, IfOk, IfErr, IsOk, IsOkAnd, OnErr}
+use Rattle.std.specs.Prelude.{◌≡◌, ◌≢◌, ℕ, List, [], ◌∷◌, ◌++◌, Bool, true, false, Option, Some, None, is_some, Result, Ok, Err, IfOk, IfErr, OnErr}
 use mathlib.Core.List.{IsPrefix}
 use Rattle.tt_stream.specs.Counts.{HasFailed, count_after}
 use Rattle.tt_span.specs.Interval.{Interval}
@@ -8,20 +8,21 @@ use Rattle.tt_publish.specs.Known.{WatchState}
 use Rattle.tt_publish.specs.Looks.{Looks}
 use Rattle.tt_publish.specs.declared.faults.ReadFault.{ReadFault}
 use Rattle.tt_stamp.specs.Fault.{begin_number_of, book_number_of}
-use Rattle.tt_stamp.specs.History.{waiting_of, release_of, with_receipts, receipt_of}
+use Rattle.tt_shared_book.specs.Known.{GoesOn, AnswersFault}
+use Rattle.tt_stamp.specs.History.{IsLegalHistory, waiting_of, release_of, with_receipts, first_queue_fault, receipt_of}
 use Rattle.tt_stamp.specs.Stamping.{SeatState}
 use Rattle.tt_stamp.specs.Steps.{Stamps, Begins}
 use Rattle.tt_stamp.specs.declared.commits.Id.{Id}
 use Rattle.tt_stamp.specs.declared.commits.Entry.{Entry}
+use Rattle.tt_stamp.specs.declared.commits.Entry.TheVariants.{Queued}
 use Rattle.tt_stamp.specs.declared.faults.BeginFault.{BeginFault}
 use Rattle.tt_stamp.specs.declared.faults.BookFault.{BookFault}
 use Rattle.tt_audit.specs.declared.live.LiveNote.{LiveNote}
 use Rattle.tt_node.specs.Gating.{Asks}
-use Rattle.tt_node.specs.declared.workers.Step.{Step}
 use Rattle.tt_session.specs.declared.calls.Call.{Call}
 use Rattle.tt_session.specs.declared.calls.Call.TheVariants.{Now, Begin, Pass}
 
--- a worker: its session, its gate and how many calls it was asked about, its watch and its clock, its seat, the lease that it stamps in, and its notes, oldest first
+-- a worker: its session, its gate and how many calls it was asked about, its watch and its clock, its seat, the lease that it stamps in, its notes, oldest first, and what it has seen of its book, newest first
 pub record WorkerState (C G : Type 0) : Type 0 where
   pub session : ℕ
   pub gate : G
@@ -31,6 +32,7 @@ pub record WorkerState (C G : Type 0) : Type 0 where
   pub seat : SeatState
   pub lease : Interval
   pub notes : List LiveNote
+  pub book : List Entry
 
 -- the worker with this gate
 abbrev pub with_gate : {C G : Type 0} → WorkerState C G → G → WorkerState C G
@@ -73,25 +75,25 @@ pub data GivesNone {C G : Type 0} (gives : C → Option ℕ → C → Type 0) (f
   FailedAfter : (first : ℕ) (clock later : C) (reading : Interval) → number ≡ 803 → gives before.clock (Some first) clock
       → Looks gives failed before.watch clock (Ok reading) after.watch later → gives later None after.clock → HasFailed (failed later) (failed after.clock) → GivesNone gives failed before number after
 
--- the answer to a commit that has begun, and that a book takes which others change too: its stamp, or the number of a refusal of the book; where it has not begun, the number of that refusal
-abbrev pub AnswersBegun : Result ℕ BeginFault → Result ℕ ℕ → Type 0
-AnswersBegun (Ok stamp) answer = (answer ≡ Ok stamp) ⊎ ((fault : BookFault) × (answer ≡ Err (book_number_of fault)))
-AnswersBegun (Err fault) answer = answer ≡ Err (begin_number_of fault)
+-- the answer to a commit that has begun, by what was seen of the book before and after: what is seen goes on from what was seen to a history in which the commit has no fault, and ends with the commit and its stamp, which is the answer; or the commit is refused by the first fault of what is seen, or for want of memory where that has none. Where it has not begun, the answer is the number of that refusal, and nothing more is seen
+abbrev pub AnswersBegun : Id → List Entry → Result ℕ BeginFault → Result ℕ ℕ → List Entry → Type 0
+AnswersBegun id old (Ok stamp) (Ok given) new = (given ≡ stamp) × IsLegalHistory new
+    × ((past : List Entry) × GoesOn old past × (first_queue_fault past id stamp ≡ None) × (new ≡ Queued id stamp ∷ past))
+AnswersBegun id old (Ok stamp) (Err number) new = GoesOn old new × IsLegalHistory new
+    × ((fault : BookFault) × (number ≡ book_number_of fault) × AnswersFault (first_queue_fault new id stamp) fault)
+AnswersBegun id old (Err fault) answer new = (answer ≡ Err (begin_number_of fault)) × (new ≡ old)
 
--- a commit whose reading was taken is stamped by the seat; where it was refused, the seat stays; and this is the answer
-abbrev pub BeginsAt : SeatState → ℕ → Interval → Result Interval ReadFault → Result ℕ ℕ → SeatState → Type 0
-BeginsAt old floor lease looked answer new = (begun : Result ℕ BeginFault) × Begins (Stamps floor lease) looked old begun new × AnswersBegun begun answer
+-- a commit of this number whose reading was taken is stamped by the seat, and then queued; where the reading was refused, the seat stays; and this is the answer
+abbrev pub BeginsAt : {C G : Type 0} → ℕ → ℕ → WorkerState C G → Result Interval ReadFault → Result ℕ ℕ → WorkerState C G → Type 0
+BeginsAt number floor before looked answer after = (begun : Result ℕ BeginFault) × Begins (Stamps floor before.lease) looked before.seat begun after.seat
+    × AnswersBegun (record { session = before.session; number = number }) before.book begun answer after.book
 
--- a release step on a book: what has surely passed at the reading is released, and told are whether the commit is and the reading's earliest; where the reading was refused, so is the step, and the book stays
-abbrev pub StepsOn : Result Interval ReadFault → List Entry → Id → Result Step ReadFault → List Entry → Type 0
-StepsOn (Ok reading) old id answer new = (new ≡ with_receipts (release_of (waiting_of old) reading.lo) old)
-    × IsOkAnd answer (λ step. (step.released ≡ is_some (receipt_of new id)) × (step.earliest ≡ reading.lo))
-StepsOn (Err fault) old id answer new = (answer ≡ Err fault) × (new ≡ old)
-
--- a release step that took a reading is answered, by a book that others change too; one whose reading was refused, by the number of that
-abbrev pub PassesAt : Result Interval ReadFault → Result Bool ℕ → Type 0
-PassesAt (Ok reading) answer = IsOk answer
-PassesAt (Err fault) answer = answer ≡ Err (read_number_of fault)
+-- a release step for the commit of this number: what is seen of the book goes on from what was seen, and ends with the receipts of what has surely passed at the reading; the answer is whether it has one of the commit. Where the reading was refused, so is the step, and nothing more is seen
+abbrev pub PassesAt : {C G : Type 0} → ℕ → WorkerState C G → Result Interval ReadFault → Result Bool ℕ → WorkerState C G → Type 0
+PassesAt number before (Ok reading) answer after = IsLegalHistory after.book
+    × ((past : List Entry) × GoesOn before.book past × (after.book ≡ with_receipts (release_of (waiting_of past) reading.lo) past))
+    × (answer ≡ Ok (is_some (receipt_of after.book (record { session = before.session; number = number }))))
+PassesAt number before (Err fault) answer after = (answer ≡ Err (read_number_of fault)) × (after.book ≡ before.book)
 
 -- a call that begins with one `now` on the watch, and then does this with what it answered
 abbrev pub LooksThen : {C G : Type 0} → (C → Option ℕ → C → Type 0) → (C → ℕ) → WorkerState C G → (Result Interval ReadFault → Type 0) → WorkerState C G → Type 0
@@ -113,29 +115,30 @@ pub record PassesGate {C G A : Type 0} (says : G → ℕ → ℕ → Bool → G 
   pub told : hears done.gate before.session before.calls after.gate
   pub kept : after ≡ with_gate done after.gate
 
--- a `now` that the gate lets pass: a reading is given and noted, or there is a reason why none is, and nothing is noted
+-- a `now` that the gate lets pass: a reading is given and noted, or there is a reason why none is, and nothing is noted. It sees nothing of the book
 pub record Reads {C G : Type 0} (gives : C → Option ℕ → C → Type 0) (failed : C → ℕ) (before : WorkerState C G) (answer : Result Interval ℕ) (after : WorkerState C G) : Type 0 where
   pub works : Works before after
   pub seat : after.seat ≡ before.seat
+  pub book : after.book ≡ before.book
   pub read : IfOk answer (λ reading. HasRead gives failed before reading after)
   pub unread : OnErr answer (after.notes ≡ before.notes)
   pub refused : IfErr answer (λ number. GivesNone gives failed before number after)
 
--- a `begin` that the gate lets pass looks once, and then stamps once
-pub record Commits {C G : Type 0} (gives : C → Option ℕ → C → Type 0) (failed : C → ℕ) (floor : ℕ) (before : WorkerState C G) (answer : Result ℕ ℕ) (after : WorkerState C G) : Type 0 where
+-- a `begin` that the gate lets pass looks once, then stamps once, and then queues once
+pub record Commits {C G : Type 0} (gives : C → Option ℕ → C → Type 0) (failed : C → ℕ) (number floor : ℕ) (before : WorkerState C G) (answer : Result ℕ ℕ) (after : WorkerState C G) : Type 0 where
   pub works : Works before after
   pub notes : after.notes ≡ before.notes
-  pub begins : LooksThen gives failed before (λ looked. BeginsAt before.seat floor before.lease looked answer after.seat) after
+  pub begins : LooksThen gives failed before (λ looked. BeginsAt number floor before looked answer after) after
 
--- a `pass` that the gate lets pass looks once, and answers yes or no where that gave a reading
-pub record Releases {C G : Type 0} (gives : C → Option ℕ → C → Type 0) (failed : C → ℕ) (before : WorkerState C G) (answer : Result Bool ℕ) (after : WorkerState C G) : Type 0 where
+-- a `pass` that the gate lets pass looks once, and then releases and asks once
+pub record Releases {C G : Type 0} (gives : C → Option ℕ → C → Type 0) (failed : C → ℕ) (number : ℕ) (before : WorkerState C G) (answer : Result Bool ℕ) (after : WorkerState C G) : Type 0 where
   pub works : Works before after
   pub seat : after.seat ≡ before.seat
   pub notes : after.notes ≡ before.notes
-  pub passes : LooksThen gives failed before (λ looked. PassesAt looked answer) after
+  pub passes : LooksThen gives failed before (λ looked. PassesAt number before looked answer after) after
 
 -- what a worker promises of each call of its service
 abbrev pub Allows : {C G : Type 0} → (C → Option ℕ → C → Type 0) → (C → ℕ) → (G → ℕ → ℕ → Bool → G → Type 0) → (G → ℕ → ℕ → G → Type 0) → WorkerState C G → Call → WorkerState C G → Type 0
 Allows gives failed says hears before (Now answer) after = PassesGate says hears (Reads gives failed) before answer after
-Allows gives failed says hears before (Begin number floor answer) after = PassesGate says hears (Commits gives failed floor) before answer after
-Allows gives failed says hears before (Pass number answer) after = PassesGate says hears (Releases gives failed) before answer after
+Allows gives failed says hears before (Begin number floor answer) after = PassesGate says hears (Commits gives failed number floor) before answer after
+Allows gives failed says hears before (Pass number answer) after = PassesGate says hears (Releases gives failed number) before answer after

@@ -11,16 +11,18 @@ use crate::links::Link;
 use crate::rounds::{Rounds, daemon_rounds};
 use crate::workers::Worker;
 use std::alloc::Global;
+use std::marker::Brand;
 use std::snapshot::Snapshot;
-use std::sync::{Mutex, Wait};
+use std::sync::Wait;
 use std::thread;
 use std::thread::{JoinHandle, Promise, PromisedHandle, Scope, Threads};
 use tt_audit::LiveNote;
 use tt_daemon::Daemon;
 use tt_publish::{Clock, MAX_WATCHES, Teller, Watch, open};
 use tt_session::{ServeFault, Served, Turns, serve};
+use tt_shared_book::{BookView, OpenedBook, SharedBook, WhichBook};
 use tt_span::Span;
-use tt_stamp::{Book, Seat, Sequencer};
+use tt_stamp::{Seat, Sequencer};
 use tt_stream::{ByteReader, ByteWriter};
 
 /// The clocks of a node.
@@ -64,25 +66,28 @@ pub struct NodeEnd {
 }
 
 /// What the workers of a node share.
-struct Shared<'a, R, G> {
+struct Shared<'a, R, G, J: WhichBook> {
     rt: &'a R,
     alloc: Global,
-    book: &'a Mutex<Book>,
+    book: &'a SharedBook<J>,
+    /// What was seen of the book before any worker began.
+    view: &'a BookView<J>,
     gate: &'a G,
 }
 
-impl<'a, R, G> Clone for Shared<'a, R, G> {
+impl<'a, R, G, J: WhichBook> Clone for Shared<'a, R, G, J> {
     fn clone(&self) -> Result<Self, std::alloc::AllocError> {
         Ok(Shared {
             rt: self.rt,
             alloc: self.alloc,
             book: self.book,
+            view: self.view,
             gate: self.gate,
         })
     }
 }
 
-impl<'a, R, G> Copy for Shared<'a, R, G> {}
+impl<'a, R, G, J: WhichBook> Copy for Shared<'a, R, G, J> {}
 
 /// A seat, with the sequencer that it is of.
 #[derive(Drop)]
@@ -134,8 +139,8 @@ fn first_rounds<R: Wait, L: Link + Drop, C: Clock + Drop>(
 }
 
 /// Serves a session as the worker that has these parts.
-fn work<'a, R: Wait, C: Clock + Drop, I: ByteReader, O: ByteWriter, G: Gate + Copy>(
-    shared: Shared<'a, R, G>,
+fn work<'a, R: Wait, C: Clock + Drop, I: ByteReader, O: ByteWriter, G: Gate + Copy, J: WhichBook>(
+    shared: Shared<'a, R, G, J>,
     serving: Turns,
     lease: Span,
     session: u32,
@@ -155,6 +160,7 @@ fn work<'a, R: Wait, C: Clock + Drop, I: ByteReader, O: ByteWriter, G: Gate + Co
         seat,
         sequencer,
         shared.book,
+        shared.view.again(),
         *shared.gate,
         lease,
     );
@@ -174,9 +180,10 @@ fn start<
     I: ByteReader + Send + Drop + 's,
     O: ByteWriter + Send + Drop + 's,
     G: Gate + Copy + Sync,
+    J: WhichBook + Send + Sync,
 >(
     scope: &Scope<'s, E>,
-    shared: Shared<'s, R, G>,
+    shared: Shared<'s, R, G, J>,
     serving: Turns,
     lease: Span,
     session: u32,
@@ -282,9 +289,10 @@ fn start_workers<
     I: ByteReader + Send + Drop + 's,
     O: ByteWriter + Send + Drop + 's,
     G: Gate + Copy + Sync,
+    J: WhichBook + Send + Sync,
 >(
     scope: &Scope<'s, E>,
-    shared: Shared<'s, R, G>,
+    shared: Shared<'s, R, G, J>,
     serving: Turns,
     lease: Span,
     places: Vec<Place<'s>>,
@@ -351,9 +359,10 @@ fn run_threads<
     I: ByteReader + Send + Drop + 's,
     O: ByteWriter + Send + Drop + 's,
     G: Gate + Copy + Sync,
+    J: WhichBook + Send + Sync,
 >(
     scope: &Scope<'s, E>,
-    shared: Shared<'s, R, G>,
+    shared: Shared<'s, R, G, J>,
     rounds: u32,
     turns: u32,
     serving: Turns,
@@ -447,11 +456,51 @@ pub fn run_node<
     ensures all { IfOk result (λ end. vec_len end.workers ≡ vec_len streams) }
 {
     check_limits(streams.len(), clocks.workers.len(), &limits)?;
+    run_on_book::<R, L, C, I, O, G, Brand>(
+        rt,
+        alloc,
+        OpenedBook::new(),
+        daemon,
+        link,
+        clocks,
+        streams,
+        gate,
+        limits,
+    )
+}
+
+/// Runs a node within its limits, on a book that was just opened.
+fn run_on_book<
+    'n,
+    R: Threads + Wait + Sync,
+    L: Link + Send + Drop,
+    C: Clock + Send + Drop,
+    I: ByteReader + Send + Drop,
+    O: ByteWriter + Send + Drop,
+    G: Gate + Copy + Sync,
+    J: WhichBook + Send + Sync,
+>(
+    rt: &'n R,
+    alloc: Global,
+    opened: OpenedBook,
+    daemon: Daemon,
+    link: L,
+    clocks: Clocks<C>,
+    streams: Vec<(I, O)>,
+    gate: &'n G,
+    limits: Limits,
+) -> Result<NodeEnd, NodeFault>
+    requires book { opened ≡ J.source }
+    ensures within { ¬ IsErrOf result NodeFault.BadLimits }
+    ensures fault { IfErr result IsRunFault }
+    ensures runs { RunsNode C.gives C.failed L.does L.failed limits.rounds limits.turns daemon clocks.daemon link result }
+    ensures all { IfOk result (λ end. vec_len end.workers ≡ vec_len streams) }
+{
     let Ok((sequencer, seats)) = Sequencer::open(alloc, streams.len()) else {
         return Err(NodeFault::Memory);
     };
     let places = places_of(alloc, &sequencer, seats)?;
-    let book = Mutex::new(Book::new(alloc));
+    let (book, view) = opened.named::<J>(alloc);
     let drift = daemon.config().drift();
     let (mut teller, watches) = match open(rt, alloc, drift, streams.len()) {
         Ok(opened) => opened,
@@ -461,6 +510,7 @@ pub fn run_node<
         rt,
         alloc,
         book: &book,
+        view: &view,
         gate,
     };
     let lent = &mut teller;

@@ -1,25 +1,23 @@
 //! The service of one worker of a running node.
 
-ghost use Rattle.std.specs.Prelude.{◌≡◌, [], Some, None, Result, IfOk, IfErr, IsErrOf, OnErr};
+ghost use Rattle.std.specs.Prelude.{◌≡◌, [], Some, None, IfOk, IfErr, IsErrOf, OnErr};
 ghost use Rattle.tt_stream.specs.Counts.{HasFailed};
-ghost use Rattle.tt_span.specs.Interval.{Interval};
-ghost use Rattle.tt_publish.specs.Looks.{Looks};
-ghost use Rattle.tt_publish.specs.declared.faults.ReadFault.{ReadFault};
 ghost use Rattle.tt_node.specs.Gating.{Asks};
-ghost use Rattle.tt_node.specs.Working.{Works, HasRead, GivesNone, LooksThen, BeginsAt, StepsOn, PassesAt, DoesWhere, Reads, Commits, Releases, Allows, after_asking, with_gate};
+ghost use Rattle.tt_node.specs.Working.{Works, HasRead, GivesNone, LooksThen, BeginsAt, PassesAt, DoesWhere, Reads, Commits, Releases, Allows, after_asking, with_gate};
 
 use crate::faults::NodeFault;
 use crate::gates::Gate;
 use std::alloc::Global;
 use std::marker::Model;
-use std::sync::{Mutex, Wait};
+use std::sync::Wait;
 use std::thread::Parker;
 use std::time::Duration;
 use tt_audit::LiveNote;
-use tt_publish::{Clock, ReadFault, Reading, Watch};
+use tt_publish::{Clock, Reading, Watch};
 use tt_session::Service;
+use tt_shared_book::{BookView, SharedBook, WhichBook};
 use tt_span::Span;
-use tt_stamp::{Book, Id, Seat, Sequencer, begin_step};
+use tt_stamp::{Id, Seat, Sequencer, begin_step};
 
 /// How often a gate is asked for one call, at most.
 pub const MAX_TURNS: u32 = 10_000;
@@ -45,24 +43,25 @@ struct Step {
 
 /// The service of one worker, for one session: it reads through a watch of its own by a clock of its own, draws its
 /// stamps with a seat of its own from the sequencer that it shares, and queues and releases commits in the book that
-/// it shares. A gate may hold each of its calls.
+/// it shares, of which it has a view of its own. A gate may hold each of its calls.
 ///
 /// It keeps a note of each reading that `now` gave, with what the clock showed just before and just after it. Contracts
-/// see its watch, its clock, its seat, its lease and its notes.
+/// see its watch, its clock, its seat, its lease, its notes and what its view has seen.
 ///
 /// Each call asks the gate first, with the session and the call's number, which counts from 0 and stays at 2^64 - 1
 /// once it is there, until the gate says yes. It is asked [`MAX_TURNS`] times at most; where it says no each time, the
 /// call is refused by 1504 and does nothing. After each call, refused or not, the gate is told once that it was
 /// answered.
 #[derive(Drop)]
-pub struct Worker<'a, R, C, G> {
+pub struct Worker<'a, R, C, G, J: WhichBook> {
     rt: &'a R,
     session: u32,
     watch: Watch,
     clock: C,
     seat: Seat,
     sequencer: &'a Sequencer,
-    book: &'a Mutex<Book>,
+    book: &'a SharedBook<J>,
+    book_view: BookView<J>,
     gate: G,
     lease: Span,
     calls: u64,
@@ -73,18 +72,18 @@ pub struct Worker<'a, R, C, G> {
     parker: Parker,
 }
 
-impl<'a, R, C, G> Model for Worker<'a, R, C, G> {
+impl<'a, R, C, G, J: WhichBook> Model for Worker<'a, R, C, G, J> {
     ghost use Rattle.std.specs.Prelude.{◌≡◌};
     ghost use Rattle.tt_node.specs.Working.{WorkerState};
 
     ghost Value = { WorkerState C G };
 
-    ghost view = { λ w. record { session = w.session; gate = w.gate; calls = w.calls; watch = w.watch; clock = w.clock; seat = w.seat; lease = w.lease; notes = w.notes.items } };
+    ghost view = { λ w. record { session = w.session; gate = w.gate; calls = w.calls; watch = w.watch; clock = w.clock; seat = w.seat; lease = w.lease; notes = w.notes.items; book = w.book_view } };
 
     ghost invariant = { λ w. w.seat.table ≡ w.sequencer.now };
 }
 
-impl<'a, R: Wait, C: Clock, G: Gate> Worker<'a, R, C, G> {
+impl<'a, R: Wait, C: Clock, G: Gate, J: WhichBook> Worker<'a, R, C, G, J> {
     /// The worker of a session, which has no notes yet. Requires: the seat is of the sequencer.
     pub fn new(
         rt: &'a R,
@@ -94,12 +93,13 @@ impl<'a, R: Wait, C: Clock, G: Gate> Worker<'a, R, C, G> {
         clock: C,
         seat: Seat,
         sequencer: &'a Sequencer,
-        book: &'a Mutex<Book>,
+        book: &'a SharedBook<J>,
+        book_view: BookView<J>,
         gate: G,
         lease: Span,
     ) -> Self
         requires of_it { seat.table ≡ sequencer.now }
-        ensures made { result ≡ record { session = session; gate = gate; calls = 0; watch = watch; clock = clock; seat = seat; lease = lease; notes = [] } }
+        ensures made { result ≡ record { session = session; gate = gate; calls = 0; watch = watch; clock = clock; seat = seat; lease = lease; notes = []; book = book_view } }
     {
         Worker {
             rt,
@@ -109,6 +109,7 @@ impl<'a, R: Wait, C: Clock, G: Gate> Worker<'a, R, C, G> {
             seat,
             sequencer,
             book,
+            book_view,
             gate,
             lease,
             calls: 0,
@@ -126,7 +127,7 @@ impl<'a, R: Wait, C: Clock, G: Gate> Worker<'a, R, C, G> {
     }
 }
 
-impl<'a, R, C: Drop, G: Drop> Worker<'a, R, C, G> {
+impl<'a, R, C: Drop, G: Drop, J: WhichBook> Worker<'a, R, C, G, J> {
     /// Its notes, oldest first, once it has ended.
     pub fn into_notes(self) -> Vec<LiveNote>
         ensures notes { result.items ≡ self.entry.notes }
@@ -136,7 +137,7 @@ impl<'a, R, C: Drop, G: Drop> Worker<'a, R, C, G> {
     }
 }
 
-impl<'a, R: Wait, C: Clock, G: Gate> Worker<'a, R, C, G> {
+impl<'a, R: Wait, C: Clock, G: Gate, J: WhichBook> Worker<'a, R, C, G, J> {
     /// Whether the gate lets the next call pass, with the session and the number of that call.
     fn passes(&mut self) -> (bool, u32, u64)
         ensures asks { Asks G.says self.old.session self.old.calls self.old.gate result.0 self.new.gate }
@@ -171,7 +172,7 @@ impl<'a, R: Wait, C: Clock, G: Gate> Worker<'a, R, C, G> {
 
     /// A commit is stamped and queued, where the gate is open.
     fn commit_where(&mut self, passes: bool, number: u64, floor: u64) -> Result<u64, u16>
-        ensures does { DoesWhere passes (Commits C.gives C.failed floor) self.old result self.new }
+        ensures does { DoesWhere passes (Commits C.gives C.failed number floor) self.old result self.new }
     {
         if passes {
             let answer = self.commit(number, floor);
@@ -184,7 +185,7 @@ impl<'a, R: Wait, C: Clock, G: Gate> Worker<'a, R, C, G> {
 
     /// One release step, where the gate is open.
     fn release_where(&mut self, passes: bool, number: u64) -> Result<bool, u16>
-        ensures does { DoesWhere passes (Releases C.gives C.failed) self.old result self.new }
+        ensures does { DoesWhere passes (Releases C.gives C.failed number) self.old result self.new }
     {
         if passes {
             self.release(number)
@@ -198,6 +199,7 @@ impl<'a, R: Wait, C: Clock, G: Gate> Worker<'a, R, C, G> {
         ensures works { Works self.old self.new }
         ensures open { ¬ IsErrOf result 1504 }
         ensures seat { self.new.seat ≡ self.old.seat }
+        ensures book { self.new.book ≡ self.old.book }
         ensures read { IfOk result (λ reading. HasRead C.gives C.failed self.old reading self.new) }
         ensures unread { OnErr result (self.new.notes ≡ self.old.notes) }
         ensures refused { IfErr result (λ number. GivesNone C.gives C.failed self.old number self.new) }
@@ -227,7 +229,7 @@ impl<'a, R: Wait, C: Clock, G: Gate> Worker<'a, R, C, G> {
         ensures works { Works self.old self.new }
         ensures open { ¬ IsErrOf result 1504 }
         ensures notes { self.new.notes ≡ self.old.notes }
-        ensures begins { LooksThen C.gives C.failed self.old (λ looked. BeginsAt self.old.seat floor self.old.lease looked result self.new.seat) self.new }
+        ensures begins { LooksThen C.gives C.failed self.old (λ looked. BeginsAt number floor self.old looked result self.new) self.new }
     {
         let stamp = match begin_step(
             self.rt,
@@ -245,7 +247,7 @@ impl<'a, R: Wait, C: Clock, G: Gate> Worker<'a, R, C, G> {
             session: self.session,
             number,
         };
-        match self.book.lock(self.rt).queue(id, stamp) {
+        match self.book.queue(self.rt, &mut self.book_view, id, stamp) {
             Ok(()) => Ok(stamp),
             Err(fault) => Err(fault.number()),
         }
@@ -266,22 +268,28 @@ impl<'a, R: Wait, C: Clock, G: Gate> Worker<'a, R, C, G> {
         ensures open { ¬ IsErrOf result 1504 }
         ensures seat { self.new.seat ≡ self.old.seat }
         ensures notes { self.new.notes ≡ self.old.notes }
-        ensures passes { LooksThen C.gives C.failed self.old (λ looked. PassesAt looked result) self.new }
+        ensures passes { LooksThen C.gives C.failed self.old (λ looked. PassesAt number self.old looked result self.new) self.new }
     {
         let id = Id {
             session: self.session,
             number,
         };
-        let mut book = self.book.lock(self.rt);
-        let answer = step_on(&mut book, &mut self.watch, &mut self.clock, id);
-        drop(book);
-        match answer {
-            Ok(step) => {
-                self.pause(number, step);
-                Ok(step.released)
-            }
-            Err(fault) => Err(fault.number()),
-        }
+        let reading = match self.watch.now(&mut self.clock) {
+            Ok(reading) => reading,
+            Err(fault) => return Err(fault.number()),
+        };
+        let receipt = self
+            .book
+            .release_and_ask(self.rt, &mut self.book_view, &reading, id);
+        let released = receipt.is_some();
+        self.pause(
+            number,
+            Step {
+                released,
+                earliest: reading.earliest(),
+            },
+        );
+        Ok(released)
     }
 
     /// Waits for as long as the stamp of the commit is above the earliest that the step read, at most [`MAX_PAUSE`].
@@ -298,7 +306,7 @@ impl<'a, R: Wait, C: Clock, G: Gate> Worker<'a, R, C, G> {
     }
 }
 
-impl<'a, R: Wait, C: Clock, G: Gate> Service for Worker<'a, R, C, G> {
+impl<'a, R: Wait, C: Clock, G: Gate, J: WhichBook> Service for Worker<'a, R, C, G, J> {
     ghost allows = { Allows C.gives C.failed G.says G.hears };
 
     /// One [`Watch::now`] between two readings of the clock, of which a note is kept.
@@ -312,8 +320,8 @@ impl<'a, R: Wait, C: Clock, G: Gate> Service for Worker<'a, R, C, G> {
         answer
     }
 
-    /// One [`begin_step`], in the lease, and then one [`Book::queue`] of the session and the number with the stamp,
-    /// which it answers. The book is held for the queueing alone.
+    /// One [`begin_step`], in the lease, and then one [`SharedBook::queue`] of the session and the number with the
+    /// stamp, which it answers. The book is held for the queueing alone.
     ///
     /// Refuses with 1504 where the gate is closed, and then with the number of the first that refuses: 801, 803, 802,
     /// 902, 901, 903, 1001, 1002, 1003, 1. A stamp that was given before a refused queueing is lost.
@@ -324,11 +332,11 @@ impl<'a, R: Wait, C: Clock, G: Gate> Service for Worker<'a, R, C, G> {
         answer
     }
 
-    /// One release step ([`tt_stamp::release_step`]), and whether the commit is released then: the book is held once
-    /// for both. Where the commit is the one that was begun last and is not released, it then waits, without the book,
-    /// for as long as the stamp is above the earliest of the reading, at most [`MAX_PAUSE`], and answers no.
+    /// One [`Watch::now`], and then one [`SharedBook::release_and_ask`] by that reading: whether the commit is
+    /// released then. Where the commit is the one that was begun last and is not released, it then waits, without the
+    /// book, for as long as the stamp is above the earliest of the reading, at most [`MAX_PAUSE`], and answers no.
     ///
-    /// Refuses with 1504 where the gate is closed, and then as the step does: 801, 803, 802.
+    /// Refuses with 1504 where the gate is closed, and then as the reading does: 801, 803, 802.
     fn pass(&mut self, number: u64) -> Result<bool, u16> {
         let (passes, session, call) = self.passes();
         let answer = self.release_where(passes, number);
@@ -358,23 +366,4 @@ fn show<C: Clock>(clock: &mut C) -> Result<u64, u16>
         Ok(reading) => Ok(reading),
         Err(fault) => Err(fault.number()),
     }
-}
-
-/// One release step on a book: whether the commit is released then, and the earliest that was read.
-fn step_on<C: Clock>(
-    book: &mut Book,
-    watch: &mut Watch,
-    clock: &mut C,
-    id: Id,
-) -> Result<Step, ReadFault>
-    ensures steps { (looked : Result Interval ReadFault) × Looks C.gives C.failed watch.old clock.old looked watch.new clock.new
-        × StepsOn looked book.old id result book.new }
-{
-    let reading = watch.now(clock)?;
-    book.release(&reading);
-    let released = book.is_released(id).is_some();
-    Ok(Step {
-        released,
-        earliest: reading.earliest(),
-    })
 }

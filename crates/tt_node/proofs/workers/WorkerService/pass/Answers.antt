@@ -8,7 +8,7 @@ returns g c = record {
   asked = c.passes-passes.new.self.gate;
   done = c.release_where-answer.new.self;
   asks = c.passes-passes.ensures.asks;
-  does = subst (λ w. DoesWhere c.passes-passes.result.0 (Releases g.C.Clock.gives g.C.Clock.failed) w c.release_where-answer.result c.release_where-answer.new.self) c.passes-passes.ensures.counted c.release_where-answer.ensures.does;
+  does = subst (λ w. DoesWhere c.passes-passes.result.0 (Releases g.C.Clock.gives g.C.Clock.failed c.args.number) w c.release_where-answer.result c.release_where-answer.new.self) c.passes-passes.ensures.counted c.release_where-answer.ensures.does;
   told =
       subst (λ (n : ℕ). g.G.Gate.hears c.release_where-answer.new.self.gate n c.args.self.now.calls c.tell.new.self.gate) c.passes-passes.ensures.session
       (subst (λ (n : ℕ). g.G.Gate.hears c.release_where-answer.new.self.gate c.passes-passes.result.1 n c.tell.new.self.gate) c.passes-passes.ensures.call c.tell.ensures.told);

@@ -1,5 +1,5 @@
 use Rattle.std.proofs.Common.{rules}
-use Rattle.tt_node.proofs.nodes.run_node.Goals as goal
+use Rattle.tt_node.proofs.nodes.run_on_book.Goals as goal
 
 pub scoped-ended-requires : goal.scoped-ended-requires
 scoped-ended-requires g c = record {
