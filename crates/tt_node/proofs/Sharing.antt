@@ -1,6 +1,7 @@
 -- Workers that share a sequencer.
-use Rattle.std.proofs.Common.{◌≡◌, ℕ, zero, suc, ◌+◌, ◌-◌, Bool, true, false, List, [], ◌∷◌, ◌++◌, length, map, Option, Result, Ok, Err, IfOk, IsErrOf, refl, sym, ap, ◌∙◌, subst, arith}
+use Rattle.std.proofs.Common.{◌≡◌, ℕ, zero, suc, ◌+◌, ◌-◌, Bool, true, false, List, [], ◌∷◌, ◌++◌, length, map, Option, Result, Ok, Err, IfOk, IsErrOf, refl, sym, ap, ◌∙◌, subst, length-append, arith}
 use Rattle.std.specs.List.{range_with_len}
+use Rattle.std.proofs.lemmas.List.FromFn.{length-map-range_with_len}
 use Rattle.atomic_table.specs.Seated.{TableId}
 use Rattle.tt_span.specs.Interval.{Interval}
 use Rattle.tt_publish.specs.declared.faults.ReadFault.{ReadFault}
@@ -21,7 +22,7 @@ use Rattle.tt_stamp.specs.declared.faults.StampFault.TheVariants.{UsedUp, FloorT
 use Rattle.tt_stamp.specs.declared.stampings.Stamping.{Stamping}
 use Rattle.tt_stamp.proofs.Runs.{entries_of-within, AreAmong-append_left, AreAmong-append_right}
 use Rattle.tt_stamp.proofs.Seats.{Continues-trans}
-use Rattle.tt_node.specs.Sharing.{AllFrom, AllDown, IsNewSeat, IsLater, IsServed, ServesWith, HasPart, HasShare, IsServing, SharesSequencer}
+use Rattle.tt_node.specs.Sharing.{AllFrom, AllDown, IsNewSeat, IsLater, IsServed, ServesWith, HasPart, HasShare, IsServing, ServesAt, SharesSequencer}
 use Rattle.tt_node.specs.Working.{WorkerState, PassesGate, DoesWhere, Allows, after_asking, with_gate}
 use Rattle.tt_node.specs.declared.nodes.ServesSession.{ServesSession}
 use Rattle.tt_node.specs.declared.nodes.WorkerEnd.{WorkerEnd}
@@ -63,6 +64,24 @@ pub seat-popped : (table : TableId) (seats : ℕ) (old new : List SeatState) (se
 seat-popped table seats old new seat is all =
     let (front, one) = AllFrom-unsnoc (IsNewSeat table seats) 0 new seat (subst (λ s. AllFrom (IsNewSeat table seats) 0 s) is all) in
     let e : 0 + length new ≡ length new = omega arith in (front, subst (λ n. seat ≡ new_seat table seats n) e one)
+
+-- the next thread that is started serves the session of the seat that is taken from the end
+pub started-next : {H : Type 0} (Serves : ℕ → SeatState → H → Type 0) (table : TableId) (count : ℕ) (old new : List SeatState) (seat : SeatState) (session : ℕ) (handles : List H) (handle : H)
+    → old ≡ new ++ seat ∷ [] → session ≡ length new → length old + length handles ≡ count → AllFrom (IsNewSeat table count) 0 old
+    → AllDown (λ number h. Serves number (new_seat table count number) h) count handles → Serves session seat handle
+    → AllFrom (IsNewSeat table count) 0 new × AllDown (λ number h. Serves number (new_seat table count number) h) count (handles ++ handle ∷ [])
+started-next Serves table count old new seat session handles handle is at counts all each serves =
+    let popped = seat-popped table count old new seat is all in
+    let longer : length old ≡ length new + 1 = ap length is ∙ length-append new (seat ∷ []) in
+    let place : session ≡ count - 1 - length handles = omega (arith, at, counts, longer) in
+    let of_it : seat ≡ new_seat table count session = popped.1 ∙ ap (λ n. new_seat table count n) (sym at) in
+    (popped.0, AllDown-snoc (λ number h. Serves number (new_seat table count number) h) count handles handle each
+        (subst (λ n. Serves n (new_seat table count n) handle) place (subst (λ s. Serves session s handle) of_it serves)))
+
+-- the seats of a new sequencer
+pub opened-seats : (table : TableId) (count : ℕ) (seats : List SeatState) → seats ≡ map (new_seat table count) (range_with_len 0 count) → (length seats ≡ count) × AllFrom (IsNewSeat table count) 0 seats
+opened-seats table count seats opened =
+    (ap length opened ∙ length-map-range_with_len (new_seat table count) 0 count, subst (λ s. AllFrom (IsNewSeat table count) 0 s) (sym opened) (AllFrom-new table count 0 count))
 
 -- ---- a seat goes on
 later-same : (old new : SeatState) → new ≡ old → IsLater old new
@@ -199,6 +218,17 @@ module _ {C G : Type 0} (gives : C → Option ℕ → C → Type 0) (failed : C 
       (subst (λ g. ServesWith gives failed says hears waits number g promise.lease promise.clock.value promise.seat.value end) is.gate_is
       (subst (λ n. ServesWith gives failed says hears waits n promise.gate.value promise.lease promise.clock.value promise.seat.value end) is.session_is
       (subst (λ n. ServesWith gives failed says hears n promise.session promise.gate.value promise.lease promise.clock.value promise.seat.value end) is.waits_are serves))))
+
+  -- the thread that is taken from the end served the session of its place, and those before it are as they were
+  pub taken-serves : {H : Type 0} (promise : H → ServesSession C G) (old new : List H) (handle : H) (number : ℕ) (end : WorkerEnd) → old ≡ new ++ handle ∷ [] → seats ≡ length new + number + 1
+      → AllDown (λ k h. ServesAt table seats gate waits lease k (promise h)) seats old
+      → (let p = promise handle in ServesWith gives failed says hears p.waits p.session p.gate.value p.lease p.clock.value p.seat.value end)
+      → AllDown (λ k h. ServesAt table seats gate waits lease k (promise h)) seats new
+          × (let p = promise handle in ServesWith gives failed says hears waits number gate lease p.clock.value (new_seat table seats number) end)
+  taken-serves promise old new handle number end is count each serves =
+      let (front, last) = AllDown-unsnoc (λ k h. ServesAt table seats gate waits lease k (promise h)) seats new handle (subst (λ hs. AllDown (λ k h. ServesAt table seats gate waits lease k (promise h)) seats hs) is each) in
+      let place : seats - 1 - length new ≡ number = omega (arith, count) in
+      (front, serves-at number (promise handle) end (subst (λ k. ServesAt table seats gate waits lease k (promise handle)) place last) serves)
 
   pub joined-first : (clock : C) (end : WorkerEnd) (seat : SeatState) → ServesWith gives failed says hears waits 0 gate lease clock (new_seat table seats 0) end → end.seat.value ≡ seat
       → IsLegalRun seat.seats seat.seen → entries_of seat.numbers seat.seen ≡ seat.own → HasJoined (end ∷ []) seat

@@ -1,11 +1,11 @@
-use Rattle.std.proofs.Common.{◌≡◌, ℕ, ◌-◌, length, vec_len, rules, ap, subst, arith}
+use Rattle.std.proofs.Common.{◌≡◌, ◌+◌, ℕ, length, vec_len, rules, ap, arith}
 use Rattle.std.specs.declared.thread.PromisedHandle.{PromisedHandle}
 use Rattle.tt_stamp.specs.declared.sequencers.Seat.{Seat}
+use Rattle.tt_stamp.specs.Stamping.{SeatState}
 use Rattle.tt_node.specs.declared.nodes.ServesSession.{ServesSession}
 use Rattle.tt_node.specs.declared.nodes.WorkerEnd.{WorkerEnd}
-use Rattle.tt_stamp.specs.Stamping.{new_seat}
-use Rattle.tt_node.specs.Sharing.{AllDown, IsServing, ServesAt}
-use Rattle.tt_node.proofs.Sharing.{AllDown-snoc, seat-popped}
+use Rattle.tt_node.specs.Sharing.{IsServing}
+use Rattle.tt_node.proofs.Sharing.{seat-popped, started-next}
 use Rattle.tt_node.proofs.nodes.start_workers.Goals as goal
 
 pub start-requires-clause-of_it : goal.start-requires-clause-of_it
@@ -14,20 +14,19 @@ start-requires-clause-of_it g c κs within =
 
 pub loop-preserved : goal.loop-preserved
 loop-preserved g c =
-    let n = vec_len c.args.streams in
-    let table = c.args.sequencer.now in
-    let popped = seat-popped table n c.loop.seats.items c.pop-in-loop.new.self.items c.in-Some-Some-Some.seat c.in-Some-Some-Some.ensures.items c.loop.invariant.new in
-    let place : length c.pop-in-loop.new.self.items ≡ n - 1 - length c.loop.handles.items = search rules in
-    let session : c.in-Ok.session ≡ n - 1 - length c.loop.handles.items = search rules in
-    let serves = subst (λ s. IsServing c.args.gate.now c.args.limits.now.serve.waits c.args.limits.now.lease c.in-Ok.session s c.in-Some-start.handle.promise) popped.1 c.in-Some-start.ensures.promise in
-    let placed = subst (λ k. IsServing c.args.gate.now c.args.limits.now.serve.waits c.args.limits.now.lease c.in-Ok.session (new_seat table n k) c.in-Some-start.handle.promise) place serves in
-    let at = subst (λ k. IsServing c.args.gate.now c.args.limits.now.serve.waits c.args.limits.now.lease k (new_seat table n (n - 1 - length c.loop.handles.items)) c.in-Some-start.handle.promise) session placed in
-    let Serves : ℕ → PromisedHandle (WorkerEnd × Seat) (ServesSession g.row.C.Denot g.row.G.Denot) → Type 0 = λ number handle. ServesAt table n c.args.gate.now c.args.limits.now.serve.waits c.args.limits.now.lease number handle.promise in
+    let Serves : ℕ → SeatState → PromisedHandle (WorkerEnd × Seat) (ServesSession g.row.C.Denot g.row.G.Denot) → Type 0 =
+        λ number seat handle. IsServing c.args.gate.now c.args.limits.now.serve.waits c.args.limits.now.lease number seat handle.promise in
+    let old = c.loop.seats.items in
+    let new = c.pop-in-loop.new.self.items in
+    let session : c.in-Ok.session ≡ length new = search rules in
+    let count : length old + length c.loop.handles.items ≡ vec_len c.args.streams = search rules in
+    let next = started-next Serves c.args.sequencer.now (vec_len c.args.streams) old new c.in-Some-Some-Some.seat c.in-Ok.session c.loop.handles.items c.in-Some-start.handle
+        c.in-Some-Some-Some.ensures.items session count c.loop.invariant.new c.loop.invariant.each c.in-Some-start.ensures.promise in
     record {
-      len = search rules;
-      room = search rules;
-      left = search rules;
-      one_each = search rules;
-      new = popped.0;
-      each = rw c.push_reserved.ensures.items (AllDown-snoc Serves n c.loop.handles.items c.in-Some-start.handle c.loop.invariant.each at);
+      len = first_of (search rules, omega arith);
+      room = first_of (search rules, omega arith);
+      left = first_of (search rules, omega arith);
+      one_each = first_of (search rules, omega arith);
+      new = next.0;
+      each = rw c.push_reserved.ensures.items next.1;
     }
