@@ -4,5 +4,6 @@ pub mod Listing
 pub mod Fusings
 pub mod Pacing
 pub mod Running
+pub mod Sharing
 pub mod Turns
 pub mod Gating

@@ -1,8 +1,9 @@
 //! The running node: one daemon and many workers, each in a thread of its own.
 
-ghost use Rattle.std.specs.Prelude.{◌≡◌, ◌≢◌, ◌<◌, ◌≤◌, ◌↔◌, ◌⊎◌, ◌+◌, [], All, Ok, Err, IfOk, IfErr, IfSome, IsErrOf, OnOk, IsTrue, vec_len, vec_capacity};
+ghost use Rattle.std.specs.Prelude.{◌≡◌, ◌≢◌, ◌<◌, ◌≤◌, ◌↔◌, ◌⊎◌, ◌+◌, [], All, Ok, Err, IfOk, IfErr, IfSome, IsSome, IsErrOf, OnOk, IsTrue, vec_len, vec_capacity};
 ghost use Rattle.tt_node.specs.Fault.{IsRunFault, IsFirstFault};
 ghost use Rattle.tt_node.specs.Running.{RunsRounds, RunsNode};
+ghost use Rattle.tt_node.specs.Sharing.{AllFrom, AllDown, IsNewSeat, IsServing, ServesAt, ServesWith, SharesSequencer};
 ghost use Rattle.tt_publish.specs.Known.{max_watches};
 
 use crate::faults::NodeFault;
@@ -15,7 +16,7 @@ use std::marker::Brand;
 use std::snapshot::Snapshot;
 use std::sync::Wait;
 use std::thread;
-use std::thread::{JoinHandle, Promise, PromisedHandle, Scope, Threads};
+use std::thread::{Promise, PromisedHandle, Scope, Threads};
 use tt_audit::LiveNote;
 use tt_daemon::Daemon;
 use tt_publish::{Clock, MAX_WATCHES, Teller, Watch, open};
@@ -48,54 +49,45 @@ pub struct Limits {
 }
 
 /// What became of a worker.
-#[derive(Debug, Drop)]
+#[derive(Drop)]
 pub struct WorkerEnd {
     /// What its session did, or why it ended before its input did.
     pub served: Result<Served, ServeFault>,
     /// The notes of the readings that it gave, oldest first.
     pub notes: Vec<LiveNote>,
+    /// The seat that it had then, as contracts see it.
+    pub seat: Snapshot<Seat>,
 }
 
 /// What became of a node.
-#[derive(Debug, Drop)]
+#[derive(Drop)]
 pub struct NodeEnd {
     /// What its daemon did.
     pub rounds: Rounds,
     /// What became of its workers, in the order of their streams.
     pub workers: Vec<WorkerEnd>,
+    /// The seats of all workers, joined to one, as contracts see it.
+    pub stamps: Snapshot<Seat>,
 }
 
-/// What the workers of a node share.
-struct Shared<'a, R, G, J: WhichBook> {
+/// What the workers of a node share, beside their sequencer and their gate.
+struct Shared<'a, R, J: WhichBook> {
     rt: &'a R,
     alloc: Global,
     book: &'a SharedBook<J>,
-    /// What was seen of the book before any worker began.
-    view: &'a BookView<J>,
-    gate: &'a G,
 }
 
-impl<'a, R, G, J: WhichBook> Clone for Shared<'a, R, G, J> {
+impl<'a, R, J: WhichBook> Clone for Shared<'a, R, J> {
     fn clone(&self) -> Result<Self, std::alloc::AllocError> {
         Ok(Shared {
             rt: self.rt,
             alloc: self.alloc,
             book: self.book,
-            view: self.view,
-            gate: self.gate,
         })
     }
 }
 
-impl<'a, R, G, J: WhichBook> Copy for Shared<'a, R, G, J> {}
-
-/// A seat, with the sequencer that it is of.
-#[derive(Drop)]
-struct Place<'a> {
-    seat: Seat,
-    sequencer: &'a Sequencer,
-    ghost of_it: { seat.table ≡ sequencer.now },
-}
+impl<'a, R, J: WhichBook> Copy for Shared<'a, R, J> {}
 
 /// What a thread of a daemon does: so many rounds of this daemon, by this link and this clock.
 #[derive(Drop)]
@@ -111,6 +103,25 @@ impl<L: Link, C: Clock> Promise<Result<Rounds, NodeFault>> for DoesRounds<L, C> 
     ghost use Rattle.tt_node.specs.Running.{RunsRounds};
 
     ghost kept_by = { λ p result. RunsRounds C.gives C.failed L.does L.failed p.rounds p.turns p.daemon.value p.clock.value p.link.value result };
+}
+
+/// What a thread of a worker does: the worker of this session, with this gate, lease, clock and seat, serves it.
+#[derive(Drop)]
+struct ServesSession<C, G> {
+    session: u32,
+    waits: u32,
+    lease: Span,
+    gate: Snapshot<G>,
+    clock: Snapshot<C>,
+    seat: Snapshot<Seat>,
+}
+
+impl<C: Clock, G: Gate> Promise<(WorkerEnd, Seat)> for ServesSession<C, G> {
+    ghost use Rattle.std.specs.Prelude.{◌≡◌};
+    ghost use Rattle.tt_node.specs.Sharing.{ServesWith};
+
+    ghost kept_by = { λ p result. (result.0.seat.value ≡ result.1)
+        × ServesWith C.gives C.failed G.says G.hears p.waits p.session p.gate.value p.lease p.clock.value p.seat.value result.0 };
 }
 
 /// Does the first rounds of a daemon.
@@ -138,19 +149,25 @@ fn first_rounds<R: Wait, L: Link + Drop, C: Clock + Drop>(
     )
 }
 
-/// Serves a session as the worker that has these parts.
+/// Serves a session as the worker that has these parts, and gives its seat back.
 fn work<'a, R: Wait, C: Clock + Drop, I: ByteReader, O: ByteWriter, G: Gate + Copy, J: WhichBook>(
-    shared: Shared<'a, R, G, J>,
-    serving: Turns,
-    lease: Span,
+    shared: Shared<'a, R, J>,
+    sequencer: &'a Sequencer,
+    gate: &G,
+    limits: &Limits,
     session: u32,
-    place: Place<'a>,
+    seat: Seat,
+    view: BookView<J>,
     watch: Watch,
     clock: C,
     reader: &mut I,
     writer: &mut O,
-) -> WorkerEnd {
-    let Place { seat, sequencer } = place;
+) -> (WorkerEnd, Seat)
+    requires of_it { seat.table ≡ sequencer.now }
+    requires unread { view ≡ [] }
+    ensures seat { result.0.seat.value ≡ result.1 }
+    ensures serves { ServesWith C.gives C.failed G.says G.hears limits.now.serve.waits session gate.now limits.now.lease clock seat result.0 }
+{
     let mut worker = Worker::new(
         shared.rt,
         shared.alloc,
@@ -160,15 +177,18 @@ fn work<'a, R: Wait, C: Clock + Drop, I: ByteReader, O: ByteWriter, G: Gate + Co
         seat,
         sequencer,
         shared.book,
-        shared.view.again(),
-        *shared.gate,
-        lease,
+        view,
+        *gate,
+        limits.lease,
     );
-    let served = serve(reader, writer, &mut worker, serving);
-    WorkerEnd {
+    let served = serve(reader, writer, &mut worker, limits.serve);
+    let (notes, seat) = worker.into_parts();
+    let end = WorkerEnd {
         served,
-        notes: worker.into_notes(),
-    }
+        notes,
+        seat: Snapshot::of(&seat),
+    };
+    (end, seat)
 }
 
 /// Starts the thread of a worker, if one can be made.
@@ -183,31 +203,54 @@ fn start<
     J: WhichBook + Send + Sync,
 >(
     scope: &Scope<'s, E>,
-    shared: Shared<'s, R, G, J>,
-    serving: Turns,
-    lease: Span,
+    shared: Shared<'s, R, J>,
+    sequencer: &'s Sequencer,
+    gate: &'s G,
+    limits: &'s Limits,
     session: u32,
-    place: Place<'s>,
+    seat: Seat,
+    view: BookView<J>,
     watch: Watch,
     clock: C,
     stream: (I, O),
-) -> Option<JoinHandle<WorkerEnd>> {
+) -> Option<PromisedHandle<(WorkerEnd, Seat), ServesSession<C, G>>>
+    requires of_it { seat.table ≡ sequencer.now }
+    requires unread { view ≡ [] }
+    ensures promise { IfSome result (λ handle. IsServing gate.now limits.now.serve.waits limits.now.lease session seat handle.promise) }
+{
+    let promise = ServesSession {
+        session,
+        waits: limits.serve.waits,
+        lease: limits.lease,
+        gate: Snapshot::of(gate),
+        clock: Snapshot::of(&clock),
+        seat: Snapshot::of(&seat),
+    };
     let (reader, writer) = stream;
     scope
-        .spawn(move || {
-            let (mut reader, mut writer) = (reader, writer);
-            work(
-                shared,
-                serving,
-                lease,
-                session,
-                place,
-                watch,
-                clock,
-                &mut reader,
-                &mut writer,
-            )
-        })
+        .spawn_with(
+            promise,
+            move || -> (WorkerEnd, Seat)
+                requires { (seat.table ≡ sequencer.now) × (view ≡ []) }
+                ensures { (result.0.seat.value ≡ result.1)
+                    × ServesWith C.gives C.failed G.says G.hears limits.entry.now.serve.waits session gate.entry.now limits.entry.now.lease clock seat result.0 }
+            {
+                let (mut reader, mut writer) = (reader, writer);
+                work(
+                    shared,
+                    sequencer,
+                    gate,
+                    limits,
+                    session,
+                    seat,
+                    view,
+                    watch,
+                    clock,
+                    &mut reader,
+                    &mut writer,
+                )
+            },
+        )
         .ok()
 }
 
@@ -251,35 +294,6 @@ fn start_daemon<
         .ok()
 }
 
-/// A seat with its sequencer.
-fn place_of<'a>(seat: Seat, sequencer: &'a Sequencer) -> Place<'a>
-    requires { seat.table ≡ sequencer.now }
-{
-    Place { seat, sequencer }
-}
-
-/// All seats with their sequencer.
-fn places_of<'a>(
-    alloc: Global,
-    sequencer: &'a Sequencer,
-    seats: Vec<Seat>,
-) -> Result<Vec<Place<'a>>, NodeFault>
-    requires { All (λ seat. seat.table ≡ sequencer.now) seats.items }
-    ensures fault { IfErr result (λ fault. fault ≡ NodeFault.Memory) }
-{
-    let mut seats = seats;
-    let Ok(mut places) = Vec::with_capacity(alloc, seats.len()) else {
-        return Err(NodeFault::Memory);
-    };
-    for _ in 0..seats.len() {
-        let Some(seat) = seats.pop() else {
-            return Ok(places);
-        };
-        places.push_reserved(place_of(seat, sequencer));
-    }
-    Ok(places)
-}
-
 /// Starts the threads of all workers, from the last stream to the first: whether each was started.
 fn start_workers<
     's,
@@ -292,21 +306,27 @@ fn start_workers<
     J: WhichBook + Send + Sync,
 >(
     scope: &Scope<'s, E>,
-    shared: Shared<'s, R, G, J>,
-    serving: Turns,
-    lease: Span,
-    places: Vec<Place<'s>>,
+    shared: Shared<'s, R, J>,
+    sequencer: &'s Sequencer,
+    gate: &'s G,
+    limits: &'s Limits,
+    seats: Vec<Seat>,
+    view: &BookView<J>,
     watches: Vec<Watch>,
     clocks: Vec<C>,
     streams: Vec<(I, O)>,
-    handles: &mut Vec<JoinHandle<WorkerEnd>>,
+    handles: &mut Vec<PromisedHandle<(WorkerEnd, Seat), ServesSession<C, G>>>,
 ) -> bool
-    requires none { vec_len handles.old ≡ 0 }
+    requires none { handles.old.items ≡ [] }
     requires room { vec_len streams ≤ vec_capacity handles.old }
+    requires one_each { vec_len seats ≡ vec_len streams }
+    requires new { AllFrom (IsNewSeat sequencer.now (vec_len streams)) 0 seats.items }
+    requires unread { view.now ≡ [] }
     ensures all { IsTrue result → vec_len handles.new ≡ vec_len streams }
     ensures some { vec_len handles.new ≤ vec_len streams }
+    ensures each { AllDown (λ number handle. ServesAt sequencer.now (vec_len streams) gate.now limits.now.serve.waits limits.now.lease number handle.promise) (vec_len streams) handles.new.items }
 {
-    let (mut places, mut watches) = (places, watches);
+    let (mut seats, mut watches) = (seats, watches);
     let (mut clocks, mut streams) = (clocks, streams);
     for _ in 0..streams.len() {
         let Some(stream) = streams.pop() else {
@@ -315,12 +335,13 @@ fn start_workers<
         let Ok(session) = u32::try_from(streams.len()) else {
             return false;
         };
-        let (Some(place), Some(watch), Some(clock)) = (places.pop(), watches.pop(), clocks.pop())
+        let (Some(seat), Some(watch), Some(clock)) = (seats.pop(), watches.pop(), clocks.pop())
         else {
             return false;
         };
+        let seen = view.again();
         let Some(handle) = start(
-            scope, shared, serving, lease, session, place, watch, clock, stream,
+            scope, shared, sequencer, gate, limits, session, seat, seen, watch, clock, stream,
         ) else {
             return false;
         };
@@ -329,24 +350,48 @@ fn start_workers<
     true
 }
 
-/// Joins all workers, from the one that was started last to the first.
-fn join_workers<R: Threads>(
+/// Joins all workers, from the one that was started last to the first, and joins their seats.
+fn join_workers<R: Threads, C: Clock, G: Gate>(
     rt: &R,
-    handles: Vec<JoinHandle<WorkerEnd>>,
+    sequencer: &Sequencer,
+    _gate: &G,
+    _limits: &Limits,
+    handles: Vec<PromisedHandle<(WorkerEnd, Seat), ServesSession<C, G>>>,
     ends: Vec<WorkerEnd>,
-) -> Vec<WorkerEnd>
-    requires none { vec_len ends ≡ 0 }
+) -> Option<(Vec<WorkerEnd>, Seat)>
+    requires none { ends.items ≡ [] }
     requires room { vec_len handles ≤ vec_capacity ends }
-    ensures all { vec_len result ≡ vec_len handles }
+    requires each { AllDown (λ number handle. ServesAt sequencer.now (vec_len handles) _gate.now _limits.now.serve.waits _limits.now.lease number handle.promise) (vec_len handles) handles.items }
+    ensures all { IfSome result (λ r. vec_len r.0 ≡ vec_len handles) }
+    ensures some { IsSome result ↔ (0 < vec_len handles) }
+    ensures shares { IfSome result (λ r. SharesSequencer C.gives C.failed G.says G.hears _limits.now.serve.waits _gate.now _limits.now.lease r.0.items r.1) }
 {
     let (mut handles, mut ends) = (handles, ends);
+    let (end, mut all) = handles.pop()?.join(rt);
+    all.laws();
+    ends.push_reserved(end);
     for _ in 0..handles.len() {
         let Some(handle) = handles.pop() else {
-            return ends;
+            return None;
         };
-        ends.push_reserved(handle.join(rt));
+        let (end, seat) = handle.join(rt);
+        ends.push_reserved(end);
+        all = sequencer.join(all, seat);
     }
-    ends
+    Some((ends, all))
+}
+
+/// Joins the workers of a node that not all were started of.
+fn drop_workers<R: Threads, C: Clock, G: Gate>(
+    rt: &R,
+    handles: Vec<PromisedHandle<(WorkerEnd, Seat), ServesSession<C, G>>>,
+) {
+    let mut handles = handles;
+    for _ in 0..handles.len() {
+        if let Some(handle) = handles.pop() {
+            drop(handle.join(rt));
+        }
+    }
 }
 
 /// Starts the daemon's thread and those of the workers, and joins all that were started.
@@ -362,57 +407,69 @@ fn run_threads<
     J: WhichBook + Send + Sync,
 >(
     scope: &Scope<'s, E>,
-    shared: Shared<'s, R, G, J>,
-    rounds: u32,
-    turns: u32,
-    serving: Turns,
-    lease: Span,
+    shared: Shared<'s, R, J>,
+    sequencer: &'s Sequencer,
+    gate: &'s G,
+    limits: &'s Limits,
     daemon: Daemon,
     link: L,
     clocks: Clocks<C>,
     teller: &'s mut Teller,
-    places: Vec<Place<'s>>,
+    seats: Vec<Seat>,
+    view: &BookView<J>,
     watches: Vec<Watch>,
     streams: Vec<(I, O)>,
 ) -> Result<NodeEnd, NodeFault>
     requires nothing { teller.old.items ≡ [] }
-    ensures runs { RunsNode C.gives C.failed L.does L.failed rounds turns daemon clocks.daemon link result }
+    requires some { 0 < vec_len streams }
+    requires one_each { vec_len seats ≡ vec_len streams }
+    requires new { AllFrom (IsNewSeat sequencer.now (vec_len streams)) 0 seats.items }
+    requires unread { view.now ≡ [] }
+    ensures runs { RunsNode C.gives C.failed L.does L.failed limits.now.rounds limits.now.turns daemon clocks.daemon link result }
     ensures all { IfOk result (λ end. vec_len end.workers ≡ vec_len streams) }
+    ensures shares { IfOk result (λ end. SharesSequencer C.gives C.failed G.says G.hears limits.now.serve.waits gate.now limits.now.lease end.workers.items end.stamps.value) }
     ensures fault { IfErr result (λ fault. IsFirstFault fault ⊎ (fault ≡ NodeFault.Memory)) }
 {
     let Clocks {
         daemon: clock,
         workers,
     } = clocks;
-    let Ok(mut handles) = Vec::with_capacity(shared.alloc, streams.len()) else {
+    let (rt, alloc) = (shared.rt, shared.alloc);
+    let Ok(mut handles) = Vec::with_capacity(alloc, streams.len()) else {
         return Err(NodeFault::Memory);
     };
-    let Ok(ends) = Vec::with_capacity(shared.alloc, streams.len()) else {
+    let Ok(ends) = Vec::with_capacity(alloc, streams.len()) else {
         return Err(NodeFault::Memory);
     };
-    let Some(running) = start_daemon(scope, shared.rt, daemon, link, clock, teller, rounds, turns)
-    else {
+    let (rounds, turns) = (limits.rounds, limits.turns);
+    let Some(running) = start_daemon(scope, rt, daemon, link, clock, teller, rounds, turns) else {
         return Err(NodeFault::Memory);
     };
     let started = start_workers(
         scope,
         shared,
-        serving,
-        lease,
-        places,
+        sequencer,
+        gate,
+        limits,
+        seats,
+        view,
         watches,
         workers,
         streams,
         &mut handles,
     );
-    let did = running.join(shared.rt);
-    let workers = join_workers(shared.rt, handles, ends);
+    let did = running.join(rt);
     if !started {
+        drop_workers(rt, handles);
         return Err(NodeFault::Memory);
     }
+    let Some((workers, seat)) = join_workers(rt, sequencer, gate, limits, handles, ends) else {
+        return Err(NodeFault::Memory);
+    };
     Ok(NodeEnd {
         rounds: did?,
         workers,
+        stamps: Snapshot::of(&seat),
     })
 }
 
@@ -454,18 +511,14 @@ pub fn run_node<
     ensures runs { RunsNode C.gives C.failed L.does L.failed limits.rounds limits.turns daemon clocks.daemon link result }
     ensures done { IfOk result (λ end. end.rounds.done ≡ limits.rounds) }
     ensures all { IfOk result (λ end. vec_len end.workers ≡ vec_len streams) }
+    // The seats of all workers are of one sequencer, and what all of them have stamped is one legal history, of which each
+    // has its part: the stamps of its own session, in their order, and no others.
+    ensures shares { IfOk result (λ end. SharesSequencer C.gives C.failed G.says G.hears limits.serve.waits gate.now limits.lease end.workers.items end.stamps.value) }
 {
     check_limits(streams.len(), clocks.workers.len(), &limits)?;
+    let opened = OpenedBook::new();
     run_on_book::<R, L, C, I, O, G, Brand>(
-        rt,
-        alloc,
-        OpenedBook::new(),
-        daemon,
-        link,
-        clocks,
-        streams,
-        gate,
-        limits,
+        rt, alloc, opened, daemon, link, clocks, streams, gate, limits,
     )
 }
 
@@ -491,15 +544,16 @@ fn run_on_book<
     limits: Limits,
 ) -> Result<NodeEnd, NodeFault>
     requires book { opened ≡ J.source }
+    requires some { 0 < vec_len streams }
     ensures within { ¬ IsErrOf result NodeFault.BadLimits }
     ensures fault { IfErr result IsRunFault }
     ensures runs { RunsNode C.gives C.failed L.does L.failed limits.rounds limits.turns daemon clocks.daemon link result }
     ensures all { IfOk result (λ end. vec_len end.workers ≡ vec_len streams) }
+    ensures shares { IfOk result (λ end. SharesSequencer C.gives C.failed G.says G.hears limits.serve.waits gate.now limits.lease end.workers.items end.stamps.value) }
 {
     let Ok((sequencer, seats)) = Sequencer::open(alloc, streams.len()) else {
         return Err(NodeFault::Memory);
     };
-    let places = places_of(alloc, &sequencer, seats)?;
     let (book, view) = opened.named::<J>(alloc);
     let drift = daemon.config().drift();
     let (mut teller, watches) = match open(rt, alloc, drift, streams.len()) {
@@ -510,24 +564,17 @@ fn run_on_book<
         rt,
         alloc,
         book: &book,
-        view: &view,
-        gate,
     };
-    let lent = &mut teller;
-    let Limits {
-        rounds,
-        turns,
-        serve: serving,
-        lease,
-    } = limits;
+    let (lent, shown, terms, seen) = (&mut teller, &sequencer, &limits, &view);
     let ended = thread::scope(
         thread::scope_env(),
         rt,
         move |scope| -> Result<NodeEnd, NodeFault>
-            requires { lent.now.items ≡ [] }
+            requires { (lent.now.items ≡ []) × (0 < vec_len streams) × (vec_len seats ≡ vec_len streams)
+                × AllFrom (IsNewSeat shown.now (vec_len streams)) 0 seats.items × (seen.now ≡ []) }
         {
             run_threads(
-                scope, shared, rounds, turns, serving, lease, daemon, link, clocks, lent, places,
+                scope, shared, shown, gate, terms, daemon, link, clocks, lent, seats, seen,
                 watches, streams,
             )
         },

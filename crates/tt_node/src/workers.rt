@@ -128,12 +128,13 @@ impl<'a, R: Wait, C: Clock, G: Gate, J: WhichBook> Worker<'a, R, C, G, J> {
 }
 
 impl<'a, R, C: Drop, G: Drop, J: WhichBook> Worker<'a, R, C, G, J> {
-    /// Its notes, oldest first, once it has ended.
-    pub fn into_notes(self) -> Vec<LiveNote>
-        ensures notes { result.items ≡ self.entry.notes }
+    /// Its notes, oldest first, and its seat, once it has ended.
+    pub fn into_parts(self) -> (Vec<LiveNote>, Seat)
+        ensures notes { result.0.items ≡ self.entry.notes }
+        ensures seat { result.1 ≡ self.entry.seat }
     {
-        let Worker { notes, .. } = self;
-        notes
+        let Worker { notes, seat, .. } = self;
+        (notes, seat)
     }
 }
 
