@@ -11,6 +11,7 @@ use Rattle.tt_session.specs.declared.calls.Call.{Call}
 use Rattle.tt_session.specs.declared.replies.LineReply.{LineReply}
 use Rattle.tt_session.specs.declared.serving.Served.{Served}
 use Rattle.tt_stamp.specs.Stamping.{SeatState, IsLegalRun, Continues, entries_of, new_seat}
+use Rattle.tt_stamp.specs.declared.commits.Entry.{Entry}
 use Rattle.tt_stamp.specs.declared.stampings.Stamping.{Stamping}
 use Rattle.tt_node.specs.Working.{WorkerState, Allows}
 use Rattle.tt_node.specs.declared.nodes.ServesSession.{ServesSession}
@@ -51,10 +52,11 @@ pub record IsServed (waits : ℕ) (calls : List Call) (served : Served) : Type 0
 pub record ServesWith {C G : Type 0} (gives : C → Option ℕ → C → Type 0) (failed : C → ℕ) (says : G → ℕ → ℕ → Bool → G → Type 0) (hears : G → ℕ → ℕ → G → Type 0)
     (waits session : ℕ) (gate : G) (lease : Interval) (clock : C) (seat : SeatState) (end : WorkerEnd) : Type 0 where
   pub watch : WatchState
+  pub book : List Entry
   pub before : WorkerState C G
   pub after : WorkerState C G
   pub calls : List Call
-  pub new : before ≡ record { session = session; gate = gate; calls = 0; watch = watch; clock = clock; seat = seat; lease = lease; notes = []; book = [] }
+  pub new : before ≡ record { session = session; gate = gate; calls = 0; watch = watch; clock = clock; seat = seat; lease = lease; notes = []; book = book }
   pub talked : Conversation (Allows gives failed says hears) before calls after
   pub served : IfOk end.served (IsServed waits calls)
   pub notes : end.notes.items ≡ after.notes

@@ -21,7 +21,7 @@ use tt_audit::LiveNote;
 use tt_daemon::Daemon;
 use tt_publish::{Clock, MAX_WATCHES, Teller, Watch, open};
 use tt_session::{ServeFault, Served, Turns, serve};
-use tt_shared_book::{BookView, OpenedBook, SharedBook, WhichBook};
+use tt_shared_book::{OpenedBook, SharedBook, WhichBook};
 use tt_span::Span;
 use tt_stamp::{Seat, Sequencer};
 use tt_stream::{ByteReader, ByteWriter};
@@ -157,14 +157,12 @@ fn work<'a, R: Wait, C: Clock + Drop, I: ByteReader, O: ByteWriter, G: Gate + Co
     limits: &Limits,
     session: u32,
     seat: Seat,
-    view: BookView<J>,
     watch: Watch,
     clock: C,
     reader: &mut I,
     writer: &mut O,
 ) -> (WorkerEnd, Seat)
     requires of_it { seat.table ≡ sequencer.now }
-    requires unread { view ≡ [] }
     ensures seat { result.0.seat.value ≡ result.1 }
     ensures serves { ServesWith C.gives C.failed G.says G.hears limits.now.serve.waits session gate.now limits.now.lease clock seat result.0 }
 {
@@ -177,7 +175,7 @@ fn work<'a, R: Wait, C: Clock + Drop, I: ByteReader, O: ByteWriter, G: Gate + Co
         seat,
         sequencer,
         shared.book,
-        view,
+        shared.book.view(shared.rt),
         *gate,
         limits.lease,
     );
@@ -209,13 +207,11 @@ fn start<
     limits: &'s Limits,
     session: u32,
     seat: Seat,
-    view: BookView<J>,
     watch: Watch,
     clock: C,
     stream: (I, O),
 ) -> Option<PromisedHandle<(WorkerEnd, Seat), ServesSession<C, G>>>
     requires of_it { seat.table ≡ sequencer.now }
-    requires unread { view ≡ [] }
     ensures promise { IfSome result (λ handle. IsServing gate.now limits.now.serve.waits limits.now.lease session seat handle.promise) }
 {
     let promise = ServesSession {
@@ -231,7 +227,7 @@ fn start<
         .spawn_with(
             promise,
             move || -> (WorkerEnd, Seat)
-                requires { (seat.table ≡ sequencer.now) × (view ≡ []) }
+                requires { seat.table ≡ sequencer.now }
                 ensures { (result.0.seat.value ≡ result.1)
                     × ServesWith C.gives C.failed G.says G.hears limits.entry.now.serve.waits session gate.entry.now limits.entry.now.lease clock seat result.0 }
             {
@@ -243,7 +239,6 @@ fn start<
                     limits,
                     session,
                     seat,
-                    view,
                     watch,
                     clock,
                     &mut reader,
@@ -311,7 +306,6 @@ fn start_workers<
     gate: &'s G,
     limits: &'s Limits,
     seats: Vec<Seat>,
-    view: &BookView<J>,
     watches: Vec<Watch>,
     clocks: Vec<C>,
     streams: Vec<(I, O)>,
@@ -321,7 +315,6 @@ fn start_workers<
     requires room { vec_len streams ≤ vec_capacity handles.old }
     requires one_each { vec_len seats ≡ vec_len streams }
     requires new { AllFrom (IsNewSeat sequencer.now (vec_len streams)) 0 seats.items }
-    requires unread { view.now ≡ [] }
     ensures all { IsTrue result → vec_len handles.new ≡ vec_len streams }
     ensures some { vec_len handles.new ≤ vec_len streams }
     ensures each { AllDown (λ number handle. ServesAt sequencer.now (vec_len streams) gate.now limits.now.serve.waits limits.now.lease number handle.promise) (vec_len streams) handles.new.items }
@@ -339,9 +332,8 @@ fn start_workers<
         else {
             return false;
         };
-        let seen = view.again();
         let Some(handle) = start(
-            scope, shared, sequencer, gate, limits, session, seat, seen, watch, clock, stream,
+            scope, shared, sequencer, gate, limits, session, seat, watch, clock, stream,
         ) else {
             return false;
         };
@@ -416,7 +408,6 @@ fn run_threads<
     clocks: Clocks<C>,
     teller: &'s mut Teller,
     seats: Vec<Seat>,
-    view: &BookView<J>,
     watches: Vec<Watch>,
     streams: Vec<(I, O)>,
 ) -> Result<NodeEnd, NodeFault>
@@ -424,7 +415,6 @@ fn run_threads<
     requires some { 0 < vec_len streams }
     requires one_each { vec_len seats ≡ vec_len streams }
     requires new { AllFrom (IsNewSeat sequencer.now (vec_len streams)) 0 seats.items }
-    requires unread { view.now ≡ [] }
     ensures runs { RunsNode C.gives C.failed L.does L.failed limits.now.rounds limits.now.turns daemon clocks.daemon link result }
     ensures all { IfOk result (λ end. vec_len end.workers ≡ vec_len streams) }
     ensures shares { IfOk result (λ end. SharesSequencer C.gives C.failed G.says G.hears limits.now.serve.waits gate.now limits.now.lease end.workers.items end.stamps.value) }
@@ -452,7 +442,6 @@ fn run_threads<
         gate,
         limits,
         seats,
-        view,
         watches,
         workers,
         streams,
@@ -551,31 +540,60 @@ fn run_on_book<
     ensures all { IfOk result (λ end. vec_len end.workers ≡ vec_len streams) }
     ensures shares { IfOk result (λ end. SharesSequencer C.gives C.failed G.says G.hears limits.serve.waits gate.now limits.lease end.workers.items end.stamps.value) }
 {
+    let (book, _) = opened.named::<J>(alloc);
+    run_sharing(
+        rt, alloc, &book, daemon, link, clocks, streams, gate, limits,
+    )
+}
+
+/// Runs a node within its limits, on this book.
+fn run_sharing<
+    'n,
+    R: Threads + Wait + Sync,
+    L: Link + Send + Drop,
+    C: Clock + Send + Drop,
+    I: ByteReader + Send + Drop,
+    O: ByteWriter + Send + Drop,
+    G: Gate + Copy + Sync,
+    J: WhichBook + Send + Sync,
+>(
+    rt: &'n R,
+    alloc: Global,
+    book: &'n SharedBook<J>,
+    daemon: Daemon,
+    link: L,
+    clocks: Clocks<C>,
+    streams: Vec<(I, O)>,
+    gate: &'n G,
+    limits: Limits,
+) -> Result<NodeEnd, NodeFault>
+    requires some { 0 < vec_len streams }
+    ensures within { ¬ IsErrOf result NodeFault.BadLimits }
+    ensures fault { IfErr result IsRunFault }
+    ensures runs { RunsNode C.gives C.failed L.does L.failed limits.rounds limits.turns daemon clocks.daemon link result }
+    ensures all { IfOk result (λ end. vec_len end.workers ≡ vec_len streams) }
+    ensures shares { IfOk result (λ end. SharesSequencer C.gives C.failed G.says G.hears limits.serve.waits gate.now limits.lease end.workers.items end.stamps.value) }
+{
     let Ok((sequencer, seats)) = Sequencer::open(alloc, streams.len()) else {
         return Err(NodeFault::Memory);
     };
-    let (book, view) = opened.named::<J>(alloc);
     let drift = daemon.config().drift();
     let (mut teller, watches) = match open(rt, alloc, drift, streams.len()) {
         Ok(opened) => opened,
         Err(fault) => return Err(NodeFault::Publish(fault)),
     };
-    let shared = Shared {
-        rt,
-        alloc,
-        book: &book,
-    };
-    let (lent, shown, terms, seen) = (&mut teller, &sequencer, &limits, &view);
+    let shared = Shared { rt, alloc, book };
+    let (lent, shown, terms) = (&mut teller, &sequencer, &limits);
     let ended = thread::scope(
         thread::scope_env(),
         rt,
         move |scope| -> Result<NodeEnd, NodeFault>
             requires { (lent.now.items ≡ []) × (0 < vec_len streams) × (vec_len seats ≡ vec_len streams)
-                × AllFrom (IsNewSeat shown.now (vec_len streams)) 0 seats.items × (seen.now ≡ []) }
+                × AllFrom (IsNewSeat shown.now (vec_len streams)) 0 seats.items }
         {
             run_threads(
-                scope, shared, shown, gate, terms, daemon, link, clocks, lent, seats, seen,
-                watches, streams,
+                scope, shared, shown, gate, terms, daemon, link, clocks, lent, seats, watches,
+                streams,
             )
         },
     );

@@ -200,6 +200,15 @@ pub struct SharedBook<J: WhichBook> {
 }
 
 impl<J: WhichBook> SharedBook<J> {
+    /// A view, for another thread, which has seen all that has happened in the book so far.
+    pub fn view(&self, rt: &impl Wait) -> BookView<J>
+        ensures legal { IsLegalHistory result }
+    {
+        let view = self.kept.lock(rt).view();
+        view.legal();
+        view
+    }
+
     /// Queues a commit with its stamp, in nanoseconds: one [`Book::queue`], in one hold of the lock. Then the view has
     /// seen all that had happened in the book, and the commit's entry as the last.
     ///

@@ -1,4 +1,4 @@
-use Rattle.std.proofs.Common.{◌≡◌, [], sym, ap, ◌∙◌, subst}
+use Rattle.std.proofs.Common.{sym, ap, ◌∙◌, subst}
 use Rattle.tt_node.specs.Sharing.{IsLater}
 use Rattle.tt_node.specs.Working.{Allows}
 use Rattle.tt_node.proofs.Sharing.{talked-by, later-talked}
@@ -10,15 +10,14 @@ returns-clause-serves g c =
     let after = c.serve-served.new.service in
     let (calls, talked, served) = talked-by (Allows g.C.Clock.gives g.C.Clock.failed g.G.Gate.says g.G.Gate.hears) c.args.limits.now.serve.waits _ _ _ _ before after c.serve-served.result
     c.serve-served.ensures.served c.serve-served.ensures.read_failed c.serve-served.ensures.write_failed in
-    let made : before ≡ record { session = c.args.session; gate = c.args.gate.now; calls = 0; watch = c.args.watch; clock = c.args.clock; seat = c.args.seat; lease = c.args.limits.now.lease; notes = []; book = [] } =
-    subst (λ book. before ≡ record { session = c.args.session; gate = c.args.gate.now; calls = 0; watch = c.args.watch; clock = c.args.clock; seat = c.args.seat; lease = c.args.limits.now.lease; notes = []; book = book }) c.requires.unread c.new-worker.ensures.made in
     let seat = c.of.ensures ∙ c.into_parts-notes.ensures.seat in
     record {
       watch = c.args.watch;
+      book = c.view.result;
       before = before;
       after = after;
       calls = calls;
-      new = made;
+      new = c.new-worker.ensures.made;
       talked = talked;
       served = served;
       notes = c.into_parts-notes.ensures.notes;

@@ -2,15 +2,15 @@ use Rattle.std.proofs.Common.{◌≡◌, ◌<◌, map, vec_len, rules, subst, ar
 use Rattle.std.specs.List.{range_with_len}
 use Rattle.tt_stamp.specs.Stamping.{new_seat}
 use Rattle.tt_node.proofs.Sharing.{opened-seats}
-use Rattle.tt_node.proofs.nodes.run_on_book.Goals as goal
+use Rattle.tt_node.proofs.nodes.run_sharing.Goals as goal
 
 pub scoped-ended-requires : goal.scoped-ended-requires
 scoped-ended-requires g c =
     let some : 0 < vec_len c.args.streams = c.requires.some in
     let opened : c.in-Ok.seats.items ≡ map (new_seat c.in-Ok.sequencer (vec_len c.args.streams)) (range_with_len 0 (vec_len c.args.streams)) =
-    subst (λ k. c.in-Ok.seats.items ≡ map (new_seat c.in-Ok.sequencer k) (range_with_len 0 k)) c.len-1.ensures c.in-Ok.ensures.opened in
+    subst (λ k. c.in-Ok.seats.items ≡ map (new_seat c.in-Ok.sequencer k) (range_with_len 0 k)) c.len.ensures c.in-Ok.ensures.opened in
     let seats = opened-seats c.in-Ok.sequencer (vec_len c.args.streams) c.in-Ok.seats.items opened in
     let count : vec_len c.in-Ok.seats ≡ vec_len c.args.streams = first_of (omega (arith, seats.0), search (rules, seats.0)) in
     record {
-      at = λ a. ((c.in-Ok-open.ensures.nothing, some, count, seats.1, c.in-named.ensures.none), (search rules, search rules, search rules, search rules, search rules, search rules));
+      at = λ a. ((c.in-Ok-open.ensures.nothing, some, count, seats.1), (search rules, search rules, search rules, search rules, search rules, search rules));
     }
