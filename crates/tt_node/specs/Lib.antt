@@ -6,6 +6,7 @@ pub mod Fusing
 pub mod Course
 pub mod Making
 pub mod Running
+pub mod Tallies
 pub mod Turns
 pub mod Lists
 pub mod Gating
