@@ -2,7 +2,8 @@
 //!
 //! A script says how many sources, workers and rounds there are, what the masters do, and what the clients send.
 //! [`live`] runs it: polls go over UDP and sessions over TCP, all on this computer, and one clock serves the masters,
-//! the daemon and the workers. It answers how many readings the workers gave, and how many of them were wrong.
+//! the daemon and the workers. It answers how many readings the workers gave, how many of them were wrong, and what the
+//! daemon did.
 //!
 //! - `plans`: which scripts are run, and why one is refused. `faults`: what is answered where a run is refused.
 //! - `clocks`: the clock. `sockets`: the sockets of a run.
@@ -22,5 +23,5 @@ mod sockets;
 
 pub use clients::MAX_ASKS;
 pub use faults::LiveFault;
-pub use lives::{MAX_READS, MAX_WAITS, live};
+pub use lives::{LiveEnd, MAX_READS, MAX_WAITS, live};
 pub use replies::may_answer;

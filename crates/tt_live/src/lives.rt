@@ -23,7 +23,7 @@ use std::thread::{Promise, PromisedHandle, Scope, Threads};
 use std::time::{Clock as SystemClock, Instant};
 use tt_audit::LiveReport;
 use tt_daemon::{Config, Daemon};
-use tt_node::{Clocks, Limits, NodeEnd, NodeFault, OpenGate, RoundLink, UdpLink, run_node};
+use tt_node::{Clocks, Limits, NodeEnd, NodeFault, OpenGate, RoundLink, Rounds, UdpLink, run_node};
 use tt_script::{Live, LiveMaster, Script, Session};
 use tt_session::Turns;
 use tt_stream::Counted;
@@ -38,6 +38,15 @@ pub const MAX_WAITS: u32 = 10_000;
 const MACHINE: u8 = 0;
 
 const EPOCH: u64 = 1;
+
+/// What a run answers.
+#[derive(Clone, Copy, Debug, PartialEq, Eq)]
+pub struct LiveEnd {
+    /// How many readings there were, and how many of them were wrong.
+    pub report: LiveReport,
+    /// What the daemon did, and what it refused.
+    pub rounds: Rounds,
+}
 
 /// What the threads of a run share.
 struct Shared<'a, R> {
@@ -306,7 +315,7 @@ fn run_threads<'s, E, R: Threads + Wait + SystemClock + Sync>(
 fn run<
     'a,
     R: Threads + Wait + SystemClock + Sync + Net<Listener = TcpListener, Stream = TcpStream>,
->(rt: &'a R, alloc: Global, config: Config, live: &'a Live) -> Result<LiveReport, NodeFault>
+>(rt: &'a R, alloc: Global, config: Config, live: &'a Live) -> Result<LiveEnd, NodeFault>
     ensures fault { IfErr result EndsRun }
 {
     let links = connect_masters(rt, alloc, live.masters().len())?;
@@ -338,14 +347,17 @@ fn run<
         return Err(NodeFault::LinkFailed);
     }
     match report_of(alloc, &end.workers) {
-        Ok(report) => Ok(report),
+        Ok(report) => Ok(LiveEnd {
+            report,
+            rounds: end.rounds,
+        }),
         Err(_) => Err(NodeFault::Memory),
     }
 }
 
 /// Runs the machine of a script live, by the script's part for a run in threads, and judges its readings: it answers
 /// how many readings the calls of `now` gave, and how many of them hold no time from the clock's reading just before
-/// the call to that just after it.
+/// the call to that just after it; and what the daemon's rounds did.
 ///
 /// Each master is a thread that answers polls over UDP, the node polls and serves by [`run_node`], and each client is
 /// a thread that sends the lines of its session over TCP; all on 127.0.0.1, the machine in its first life. One clock
@@ -360,7 +372,7 @@ fn run<
 /// It is none but these.
 pub fn live<
     R: Threads + Wait + SystemClock + Sync + Net<Listener = TcpListener, Stream = TcpStream>,
->(rt: &R, alloc: Global, script: &Script) -> Result<LiveReport, LiveFault>
+>(rt: &R, alloc: Global, script: &Script) -> Result<LiveEnd, LiveFault>
     ensures refused { IfSome (refusal_of script.now.configs script.now.live) (λ fault. result ≡ Err fault) }
     ensures run { refusal_of script.now.configs script.now.live ≡ None → IfErr result (λ fault. (node : NodeFault) × (fault ≡ LiveFault.Node node)) }
     ensures fault { IfErr result IsLiveFault }
@@ -370,7 +382,7 @@ pub fn live<
         return Err(LiveFault::NoLive);
     };
     match run(rt, alloc, config, live) {
-        Ok(report) => Ok(report),
+        Ok(end) => Ok(end),
         Err(fault) => Err(LiveFault::Node(fault)),
     }
 }

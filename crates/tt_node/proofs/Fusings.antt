@@ -18,6 +18,8 @@ use Rattle.tt_publish.specs.declared.faults.PublishFault.{PublishFault}
 use Rattle.tt_publish.specs.declared.faults.PublishFault.TheVariants as publishes
 use Rattle.tt_node.specs.Fusing.{Fusion, Grows, fusion_in, fusions_in, fusion_found, fusion_at, is_before, goes_back}
 use Rattle.tt_node.specs.Course.{publish, publish_fused, fuse_at}
+use Rattle.tt_node.specs.Tallies.{fusion_refused}
+use Rattle.tt_node.specs.declared.tallies.Tally.{Tally}
 use Rattle.tt_node.specs.Making.{before_rest, stand_of, MakesByMemory}
 use Rattle.tt_node.proofs.Leading.{Leads-count}
 use Rattle.tt_node.specs.declared.faults.NodeFault.{NodeFault}
@@ -131,35 +133,35 @@ pub Grows-length : (old new : List Publication) (n : ℕ) → Grows old new 0 n 
 Grows-length old new n grew = omega (arith, ap length grew.grew, length-append old grew.added, grew.count)
 
 -- there was memory
-granted : (d : DaemonState) (items : List Publication) (refused : ℕ) (p : Publication) → goes_back (fusions_in items) p.clock ≡ false → nat_eq (length (fusions_in items)) 18446744073709551615 ≡ false
-    → MakesByMemory (publish (fusion_in p)) (stand_of d (fusions_in items) refused) (stand_of d (fusions_in (items ++ p ∷ [])) refused) (Ok tt)
+granted : (d : DaemonState) (items : List Publication) (tally : Tally) (p : Publication) → goes_back (fusions_in items) p.clock ≡ false → nat_eq (length (fusions_in items)) 18446744073709551615 ≡ false
+    → MakesByMemory (publish (fusion_in p)) (stand_of d (fusions_in items) tally) (stand_of d (fusions_in (items ++ p ∷ [])) tally) (Ok tt)
 unfolding publish
-granted d items refused p forward room = record {
+granted d items tally p forward room = record {
   grants = true ∷ [];
   course = record { leads = λ past rest. rw (forward, room, append-nil past, map-append fusion_in items (p ∷ [])) };
 }
 
 -- there was none
-not_granted : (d : DaemonState) (items : List Publication) (refused : ℕ) (p : Publication) → goes_back (fusions_in items) p.clock ≡ false → nat_eq (length (fusions_in items)) 18446744073709551615 ≡ false
-    → MakesByMemory (publish (fusion_in p)) (stand_of d (fusions_in items) refused) (stand_of d (fusions_in items) refused) (Err (Publish publishes.Memory))
+not_granted : (d : DaemonState) (items : List Publication) (tally : Tally) (p : Publication) → goes_back (fusions_in items) p.clock ≡ false → nat_eq (length (fusions_in items)) 18446744073709551615 ≡ false
+    → MakesByMemory (publish (fusion_in p)) (stand_of d (fusions_in items) tally) (stand_of d (fusions_in items) tally) (Err (Publish publishes.Memory))
 unfolding publish
-not_granted d items refused p forward room = record {
+not_granted d items tally p forward room = record {
   grants = false ∷ [];
   course = record { leads = λ past rest. rw (forward, room, append-nil past) };
 }
 
-gone_back : (d : DaemonState) (items : List Publication) (refused : ℕ) (p : Publication) → goes_back (fusions_in items) p.clock ≡ true
-    → MakesByMemory (publish (fusion_in p)) (stand_of d (fusions_in items) refused) (stand_of d (fusions_in items) refused) (Err (Publish publishes.ClockBack))
+gone_back : (d : DaemonState) (items : List Publication) (tally : Tally) (p : Publication) → goes_back (fusions_in items) p.clock ≡ true
+    → MakesByMemory (publish (fusion_in p)) (stand_of d (fusions_in items) tally) (stand_of d (fusions_in items) tally) (Err (Publish publishes.ClockBack))
 unfolding publish
-gone_back d items refused p back = record {
+gone_back d items tally p back = record {
   grants = [];
   course = record { leads = λ past rest. rw (back, append-nil past) };
 }
 
-all_used : (d : DaemonState) (items : List Publication) (refused : ℕ) (p : Publication) → goes_back (fusions_in items) p.clock ≡ false → nat_eq (length (fusions_in items)) 18446744073709551615 ≡ true
-    → MakesByMemory (publish (fusion_in p)) (stand_of d (fusions_in items) refused) (stand_of d (fusions_in items) refused) (Err (Publish publishes.UsedUp))
+all_used : (d : DaemonState) (items : List Publication) (tally : Tally) (p : Publication) → goes_back (fusions_in items) p.clock ≡ false → nat_eq (length (fusions_in items)) 18446744073709551615 ≡ true
+    → MakesByMemory (publish (fusion_in p)) (stand_of d (fusions_in items) tally) (stand_of d (fusions_in items) tally) (Err (Publish publishes.UsedUp))
 unfolding publish
-all_used d items refused p forward full = record {
+all_used d items tally p forward full = record {
   grants = [];
   course = record { leads = λ past rest. rw (forward, full, append-nil past) };
 }
@@ -173,51 +175,51 @@ not_full items room = rw (length-fusions items) (ne_eqb _ _ room)
 full : (items : List Publication) → length items ≡ 18446744073709551615 → nat_eq (length (fusions_in items)) 18446744073709551615 ≡ true
 full items used = rw (length-fusions items) (eq-eqb _ _ used)
 
-publish-answered : (d : DaemonState) (items after : List Publication) (refused : ℕ) (p : Publication) (r : Result (Unit {0}) PublishFault) → Published items after p r
-    → MakesByMemory (publish (fusion_in p)) (stand_of d (fusions_in items) refused) (stand_of d (fusions_in after) refused) (answered r)
-publish-answered d items after refused p (Ok _) h =
+publish-answered : (d : DaemonState) (items after : List Publication) (tally : Tally) (p : Publication) (r : Result (Unit {0}) PublishFault) → Published items after p r
+    → MakesByMemory (publish (fusion_in p)) (stand_of d (fusions_in items) tally) (stand_of d (fusions_in after) tally) (answered r)
+publish-answered d items after tally p (Ok _) h =
     let forward : ¬ GoesBack items p = λ back. cc (h.back.1 back) in
     let room : ¬ (length items ≡ 18446744073709551615) = λ used. cc (h.used_up.1 (forward, used)) in
-    rw h.published (granted d items refused p (goes_back-false items p forward) (not_full items room))
-publish-answered d items after refused p (Err publishes.ClockBack) h =
-    rw h.unchanged (gone_back d items refused p (goes_back-true items p (h.back.0 refl)))
-publish-answered d items after refused p (Err publishes.UsedUp) h =
+    rw h.published (granted d items tally p (goes_back-false items p forward) (not_full items room))
+publish-answered d items after tally p (Err publishes.ClockBack) h =
+    rw h.unchanged (gone_back d items tally p (goes_back-true items p (h.back.0 refl)))
+publish-answered d items after tally p (Err publishes.UsedUp) h =
     let (forward, used) = h.used_up.0 refl in
-    rw h.unchanged (all_used d items refused p (goes_back-false items p forward) (full items used))
-publish-answered d items after refused p (Err publishes.Places) h = absurd (h.no_places refl)
-publish-answered d items after refused p (Err publishes.Memory) h =
+    rw h.unchanged (all_used d items tally p (goes_back-false items p forward) (full items used))
+publish-answered d items after tally p (Err publishes.Places) h = absurd (h.no_places refl)
+publish-answered d items after tally p (Err publishes.Memory) h =
     let forward : ¬ GoesBack items p = λ back. cc (h.back.1 back) in
     let room : ¬ (length items ≡ 18446744073709551615) = λ used. cc (h.used_up.1 (forward, used)) in
-    rw h.unchanged (not_granted d items refused p (goes_back-false items p forward) (not_full items room))
+    rw h.unchanged (not_granted d items tally p (goes_back-false items p forward) (not_full items room))
 
 -- what was fused was published, or not
-pub fuse-published : (d d' : DaemonState) (items after : List Publication) (refused clock : ℕ) (p : Publication) (r : Result (Unit {0}) PublishFault)
+pub fuse-published : (d d' : DaemonState) (items after : List Publication) (tally : Tally) (clock : ℕ) (p : Publication) (r : Result (Unit {0}) PublishFault)
     → fusion_at d clock ≡ Ok (fusion_in p) → d' ≡ d → Published items after p r
-    → MakesByMemory (fuse_at clock) (stand_of d (fusions_in items) refused) (stand_of d' (fusions_in after) refused) (answered r)
+    → MakesByMemory (fuse_at clock) (stand_of d (fusions_in items) tally) (stand_of d' (fusions_in after) tally) (answered r)
 unfolding fuse_at publish_fused
-fuse-published d d' items after refused clock p r is same h =
-    let one = publish-answered d items after refused p r h in
+fuse-published d d' items after tally clock p r is same h =
+    let one = publish-answered d items after tally p r h in
     rw same (record {
       grants = one.grants;
       course = record {
         leads = λ past rest.
-            ap (λ fused. publish_fused fused (stand_of d (fusions_in items) refused past) (before_rest (record { readings = []; gifts = []; grants = one.grants }) rest)) is
+            ap (λ fused. publish_fused fused (stand_of d (fusions_in items) tally past) (before_rest (record { readings = []; gifts = []; grants = one.grants }) rest)) is
             ∙ one.course.leads past rest;
       };
     })
 
 -- nothing was fused
-pub fuse-refused : (d d' : DaemonState) (items : List Fusion) (refused clock : ℕ) (fault : DaemonFault)
+pub fuse-refused : (d d' : DaemonState) (items : List Fusion) (tally : Tally) (clock : ℕ) (fault : DaemonFault)
     → fusion_at d clock ≡ Err fault → d' ≡ d
-    → MakesByMemory (fuse_at clock) (stand_of d items refused) (stand_of d' items (refused + 1)) (Ok tt)
+    → MakesByMemory (fuse_at clock) (stand_of d items tally) (stand_of d' items (fusion_refused fault tally)) (Ok tt)
 unfolding fuse_at publish_fused
-fuse-refused d d' items refused clock fault is same =
+fuse-refused d d' items tally clock fault is same =
     rw same (record {
       grants = [];
       course = record {
         leads = λ past rest.
-            ap (λ fused. publish_fused fused (stand_of d items refused past) (before_rest (record { readings = []; gifts = []; grants = [] }) rest)) is
-            ∙ (Leads-count d items refused).leads past rest;
+            ap (λ fused. publish_fused fused (stand_of d items tally past) (before_rest (record { readings = []; gifts = []; grants = [] }) rest)) is
+            ∙ (Leads-count d items tally (fusion_refused fault)).leads past rest;
       };
     })
 

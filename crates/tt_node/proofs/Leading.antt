@@ -6,6 +6,8 @@ use Rattle.tt_daemon.specs.Daemon.{DaemonState}
 use Rattle.tt_node.specs.Link.{Packet, Call, Send, Receive, Gift, Went, Came, NothingCame, Broke, Exchange, gifts_in, ClockGives, LinkDoes}
 use Rattle.tt_node.specs.Fusing.{Fusion}
 use Rattle.tt_node.specs.Course.{Given, Stand, Part, ◌>>=◌, ◌>>◌, after_outcome, nothing_done, each_below, next_reading, next_gift, send_part, packet_part, send, receive, put_table, count_refusal, request_of, send_polled, poll_at, poll_all, put_taken, take_at, take_next, turn, fuse_at, round_of, rounds_of}
+use Rattle.tt_node.specs.Tallies.{no_tally, one_poll, one_taken, packet_refused}
+use Rattle.tt_node.specs.declared.tallies.Tally.{Tally}
 use Rattle.tt_node.specs.Making.{before_rest, stand_of, part_with, Leads, Makes, MakesByLink, MakesByMemory}
 use Rattle.tt_node.specs.declared.faults.NodeFault.{NodeFault}
 use Rattle.tt_node.specs.declared.faults.NodeFault.TheVariants.{LinkFailed, ClockFailed}
@@ -78,11 +80,11 @@ Leads-no_reading from = record { leads = λ past rest. rw (append-nil past) }
 -- ---- the calls of a link
 
 -- a link was called, and what it gave is looked at: this is what comes of it
-Leads-gift : {A : Type 0} (call : Call) (gift : Gift) (next : Gift → Part A) (daemon : DaemonState) (items : List Fusion) (refused : ℕ) (answer : Result A NodeFault)
-    → Leads (next gift) nothing [] (stand_of daemon items refused) (stand_of daemon items refused) answer
-    → Leads (next_gift call >>= next) (one_gift gift) (record { call = call; gift = gift } ∷ []) (stand_of daemon items refused) (stand_of daemon items refused) answer
+Leads-gift : {A : Type 0} (call : Call) (gift : Gift) (next : Gift → Part A) (daemon : DaemonState) (items : List Fusion) (tally : Tally) (answer : Result A NodeFault)
+    → Leads (next gift) nothing [] (stand_of daemon items tally) (stand_of daemon items tally) answer
+    → Leads (next_gift call >>= next) (one_gift gift) (record { call = call; gift = gift } ∷ []) (stand_of daemon items tally) (stand_of daemon items tally) answer
 unfolding ◌>>=◌ next_gift
-Leads-gift call gift next daemon items refused answer looks = record {
+Leads-gift call gift next daemon items tally answer looks = record {
   leads = λ past rest. looks.leads (past ++ record { call = call; gift = gift } ∷ []) rest ∙ rw append-nil;
 }
 
@@ -105,93 +107,93 @@ Leads-came_broke from = record { leads = λ past rest. rw (append-nil past) }
 
 -- ---- the daemon
 
-Leads-put_table : (daemon : DaemonState) (items : List Fusion) (refused : ℕ) (table : TableState)
-    → Leads (put_table table) nothing [] (stand_of daemon items refused) (stand_of (record daemon { table = table }) items refused) (Ok tt)
+Leads-put_table : (daemon : DaemonState) (items : List Fusion) (tally : Tally) (table : TableState) (counts : Tally → Tally)
+    → Leads (put_table table counts) nothing [] (stand_of daemon items tally) (stand_of (record daemon { table = table }) items (counts tally)) (Ok tt)
 unfolding put_table
-Leads-put_table daemon items refused table = record { leads = λ past rest. rw (append-nil past) }
+Leads-put_table daemon items tally table counts = record { leads = λ past rest. rw (append-nil past) }
 
-pub Leads-count : (daemon : DaemonState) (items : List Fusion) (refused : ℕ)
-    → Leads count_refusal nothing [] (stand_of daemon items refused) (stand_of daemon items (refused + 1)) (Ok tt)
+pub Leads-count : (daemon : DaemonState) (items : List Fusion) (tally : Tally) (counts : Tally → Tally)
+    → Leads (count_refusal counts) nothing [] (stand_of daemon items tally) (stand_of daemon items (counts tally)) (Ok tt)
 unfolding count_refusal
-Leads-count daemon items refused = record { leads = λ past rest. rw (append-nil past) }
+Leads-count daemon items tally counts = record { leads = λ past rest. rw (append-nil past) }
 
 -- a poll was refused
-pub Leads-unpolled : (daemon : DaemonState) (items : List Fusion) (refused source clock : ℕ) (fault : SourceFault)
+pub Leads-unpolled : (daemon : DaemonState) (items : List Fusion) (tally : Tally) (source clock : ℕ) (fault : SourceFault)
     → poll_of daemon.table source clock ≡ Err fault
-    → Leads (poll_at clock source) nothing [] (stand_of daemon items refused) (stand_of daemon items refused) (Ok tt)
+    → Leads (poll_at clock source) nothing [] (stand_of daemon items tally) (stand_of daemon items tally) (Ok tt)
 unfolding poll_at send_polled
-Leads-unpolled daemon items refused source clock fault is = record {
+Leads-unpolled daemon items tally source clock fault is = record {
   leads = λ past rest.
-      ap (λ polled. send_polled source polled (stand_of daemon items refused past) (before_rest nothing rest)) is
-      ∙ (Leads-done (stand_of daemon items refused)).leads past rest;
+      ap (λ polled. send_polled source polled (stand_of daemon items tally past) (before_rest nothing rest)) is
+      ∙ (Leads-done (stand_of daemon items tally)).leads past rest;
 }
 
 -- a source was polled, and the link called
-pub Leads-polled : (daemon : DaemonState) (items : List Fusion) (refused source clock : ℕ) (table : TableState) (gift : Gift) (answer : Result (Unit {0}) NodeFault)
+pub Leads-polled : (daemon : DaemonState) (items : List Fusion) (tally : Tally) (source clock : ℕ) (table : TableState) (gift : Gift) (answer : Result (Unit {0}) NodeFault)
     → poll_of daemon.table source clock ≡ Ok table
-    → Leads (send_part gift) nothing [] (stand_of (record daemon { table = table }) items refused) (stand_of (record daemon { table = table }) items refused) answer
+    → Leads (send_part gift) nothing [] (stand_of (record daemon { table = table }) items (one_poll tally)) (stand_of (record daemon { table = table }) items (one_poll tally)) answer
     → Leads (poll_at clock source) (one_gift gift) (record { call = Send (record { peer = source; bytes = request_of table source }); gift = gift } ∷ [])
-    (stand_of daemon items refused) (stand_of (record daemon { table = table }) items refused) answer
+    (stand_of daemon items tally) (stand_of (record daemon { table = table }) items (one_poll tally)) answer
 unfolding poll_at send_polled send
-Leads-polled daemon items refused source clock table gift answer is looks =
-    let sends = Leads-gift (Send (record { peer = source; bytes = request_of table source })) gift send_part (record daemon { table = table }) items refused answer looks in
-    let all = Leads-then (put_table table) (λ _. send source (request_of table source)) nothing (one_gift gift) [] _
-    (stand_of daemon items refused) (stand_of (record daemon { table = table }) items refused) (stand_of (record daemon { table = table }) items refused) tt answer
-    (Leads-put_table daemon items refused table) sends in
+Leads-polled daemon items tally source clock table gift answer is looks =
+    let sends = Leads-gift (Send (record { peer = source; bytes = request_of table source })) gift send_part (record daemon { table = table }) items (one_poll tally) answer looks in
+    let all = Leads-then (put_table table one_poll) (λ _. send source (request_of table source)) nothing (one_gift gift) [] _
+    (stand_of daemon items tally) (stand_of (record daemon { table = table }) items (one_poll tally)) (stand_of (record daemon { table = table }) items (one_poll tally)) tt answer
+    (Leads-put_table daemon items tally table one_poll) sends in
     record {
       leads = λ past rest.
-          ap (λ polled. send_polled source polled (stand_of daemon items refused past) (before_rest (one_gift gift) rest)) is
+          ap (λ polled. send_polled source polled (stand_of daemon items tally past) (before_rest (one_gift gift) rest)) is
           ∙ all.leads past rest;
     }
 
 -- a packet was taken
-pub Leads-taken : (daemon : DaemonState) (items : List Fusion) (refused clock : ℕ) (packet : Packet) (table : TableState)
+pub Leads-taken : (daemon : DaemonState) (items : List Fusion) (tally : Tally) (clock : ℕ) (packet : Packet) (table : TableState)
     → take_of daemon.table packet.peer clock packet.bytes ≡ Ok table
-    → Leads (take_at clock packet) nothing [] (stand_of daemon items refused) (stand_of (record daemon { table = table }) items refused) (Ok tt)
+    → Leads (take_at clock packet) nothing [] (stand_of daemon items tally) (stand_of (record daemon { table = table }) items (one_taken tally)) (Ok tt)
 unfolding take_at put_taken
-Leads-taken daemon items refused clock packet table is = record {
+Leads-taken daemon items tally clock packet table is = record {
   leads = λ past rest.
-      ap (λ taken. put_taken taken (stand_of daemon items refused past) (before_rest nothing rest)) is
-      ∙ (Leads-put_table daemon items refused table).leads past rest;
+      ap (λ taken. put_taken taken (stand_of daemon items tally past) (before_rest nothing rest)) is
+      ∙ (Leads-put_table daemon items tally table one_taken).leads past rest;
 }
 
 -- a packet was refused
-pub Leads-not_taken : (daemon : DaemonState) (items : List Fusion) (refused clock : ℕ) (packet : Packet) (fault : SourceFault)
+pub Leads-not_taken : (daemon : DaemonState) (items : List Fusion) (tally : Tally) (clock : ℕ) (packet : Packet) (fault : SourceFault)
     → take_of daemon.table packet.peer clock packet.bytes ≡ Err fault
-    → Leads (take_at clock packet) nothing [] (stand_of daemon items refused) (stand_of daemon items (refused + 1)) (Ok tt)
+    → Leads (take_at clock packet) nothing [] (stand_of daemon items tally) (stand_of daemon items (packet_refused fault tally)) (Ok tt)
 unfolding take_at put_taken
-Leads-not_taken daemon items refused clock packet fault is = record {
+Leads-not_taken daemon items tally clock packet fault is = record {
   leads = λ past rest.
-      ap (λ taken. put_taken taken (stand_of daemon items refused past) (before_rest nothing rest)) is
-      ∙ (Leads-count daemon items refused).leads past rest;
+      ap (λ taken. put_taken taken (stand_of daemon items tally past) (before_rest nothing rest)) is
+      ∙ (Leads-count daemon items tally (packet_refused fault)).leads past rest;
 }
 
 -- ---- a poll
 
 module _ {L : Type 0} (does : L → Call → Gift → L → Type 0) where
-  pub poll-refused : (link : L) (daemon : DaemonState) (items : List Fusion) (refused source clock : ℕ) (after : DaemonState) (fault : SourceFault)
+  pub poll-refused : (link : L) (daemon : DaemonState) (items : List Fusion) (tally : Tally) (source clock : ℕ) (after : DaemonState) (fault : SourceFault)
       → poll_of daemon.table source clock ≡ Err fault → after ≡ daemon
-      → MakesByLink does (poll_at clock source) link link (stand_of daemon items refused) (stand_of after items refused) (Ok tt)
-  poll-refused link daemon items refused source clock after fault is same = record {
+      → MakesByLink does (poll_at clock source) link link (stand_of daemon items tally) (stand_of after items tally) (Ok tt)
+  poll-refused link daemon items tally source clock after fault is same = record {
     exchanges = [];
     did = refl;
-    course = rw same (Leads-unpolled daemon items refused source clock fault is);
+    course = rw same (Leads-unpolled daemon items tally source clock fault is);
   }
 
-  pub poll-sent : (link link' : L) (daemon : DaemonState) (items : List Fusion) (refused source clock : ℕ) (after : DaemonState) (bytes : List ℕ) (gift : Gift) (answer : Result (Unit {0}) NodeFault)
+  pub poll-sent : (link link' : L) (daemon : DaemonState) (items : List Fusion) (tally : Tally) (source clock : ℕ) (after : DaemonState) (bytes : List ℕ) (gift : Gift) (answer : Result (Unit {0}) NodeFault)
       → poll_of daemon.table source clock ≡ Ok after.table → after.config ≡ daemon.config → bytes ≡ request_of after.table source
       → does link (Send (record { peer = source; bytes = bytes })) gift link'
       → ((from : List Exchange → Stand) → Leads (send_part gift) nothing [] from from answer)
-      → MakesByLink does (poll_at clock source) link link' (stand_of daemon items refused) (stand_of after items refused) answer
-  poll-sent link link' daemon items refused source clock after bytes gift answer is config spells did looks =
+      → MakesByLink does (poll_at clock source) link link' (stand_of daemon items tally) (stand_of after items (one_poll tally)) answer
+  poll-sent link link' daemon items tally source clock after bytes gift answer is config spells did looks =
       let same : record daemon { table = after.table } ≡ after = ap (λ c. record { config = c; table = after.table }) (sym config) in
       let sent : does link (Send (record { peer = source; bytes = request_of after.table source })) gift link' =
       subst (λ b. does link (Send (record { peer = source; bytes = b })) gift link') spells did in
       record {
         exchanges = record { call = Send (record { peer = source; bytes = request_of after.table source }); gift = gift } ∷ [];
         did = (link', sent, refl);
-        course = subst (λ d. Leads (poll_at clock source) (one_gift gift) (record { call = Send (record { peer = source; bytes = request_of after.table source }); gift = gift } ∷ []) (stand_of daemon items refused) (stand_of d items refused) answer) same
-            (Leads-polled daemon items refused source clock after.table gift answer is (looks _));
+        course = subst (λ d. Leads (poll_at clock source) (one_gift gift) (record { call = Send (record { peer = source; bytes = request_of after.table source }); gift = gift } ∷ []) (stand_of daemon items tally) (stand_of d items (one_poll tally)) answer) same
+            (Leads-polled daemon items tally source clock after.table gift answer is (looks _));
       }
 
 -- ---- a part for each number
@@ -323,73 +325,73 @@ module _ {C L : Type 0} (gives : C → Option ℕ → C → Type 0) (does : L �
 
   -- ---- a turn
 
-  received : (packet : Option Packet) (gift : Gift) (clock : C) (link link' : L) (daemon : DaemonState) (items : List Fusion) (refused : ℕ) (answer : Result (Option Packet) NodeFault)
+  received : (packet : Option Packet) (gift : Gift) (clock : C) (link link' : L) (daemon : DaemonState) (items : List Fusion) (tally : Tally) (answer : Result (Option Packet) NodeFault)
       → does link Receive gift link'
       → ((from : List Exchange → Stand) → Leads (packet_part gift) nothing [] from from answer)
-      → Makes gives does receive clock clock link link' (stand_of daemon items refused) (stand_of daemon items refused) answer
+      → Makes gives does receive clock clock link link' (stand_of daemon items tally) (stand_of daemon items tally) answer
   unfolding receive
-  received packet gift clock link link' daemon items refused answer did looks = record {
+  received packet gift clock link link' daemon items tally answer did looks = record {
     readings = [];
     exchanges = record { call = Receive; gift = gift } ∷ [];
     grants = [];
     gave = refl;
     did = (link', did, refl);
-    course = Leads-gift Receive gift packet_part daemon items refused answer (looks _);
+    course = Leads-gift Receive gift packet_part daemon items tally answer (looks _);
   }
 
   -- the link broke
-  pub turn-broke : (clock : C) (link link' : L) (daemon : DaemonState) (items : List Fusion) (refused : ℕ)
+  pub turn-broke : (clock : C) (link link' : L) (daemon : DaemonState) (items : List Fusion) (tally : Tally)
       → does link Receive Broke link'
-      → Makes gives does turn clock clock link link' (stand_of daemon items refused) (stand_of daemon items refused) (Err LinkFailed)
+      → Makes gives does turn clock clock link link' (stand_of daemon items tally) (stand_of daemon items tally) (Err LinkFailed)
   unfolding turn
-  turn-broke clock link link' daemon items refused did =
-      Makes-ends receive take_next clock clock link link' _ _ LinkFailed (received None Broke clock link link' daemon items refused (Err LinkFailed) did Leads-came_broke)
+  turn-broke clock link link' daemon items tally did =
+      Makes-ends receive take_next clock clock link link' _ _ LinkFailed (received None Broke clock link link' daemon items tally (Err LinkFailed) did Leads-came_broke)
 
   -- nothing came
-  pub turn-nothing : (clock : C) (link link' : L) (daemon : DaemonState) (items : List Fusion) (refused : ℕ)
+  pub turn-nothing : (clock : C) (link link' : L) (daemon : DaemonState) (items : List Fusion) (tally : Tally)
       → does link Receive NothingCame link'
-      → Makes gives does turn clock clock link link' (stand_of daemon items refused) (stand_of daemon items refused) (Ok tt)
+      → Makes gives does turn clock clock link link' (stand_of daemon items tally) (stand_of daemon items tally) (Ok tt)
   unfolding turn take_next
-  turn-nothing clock link link' daemon items refused did =
-      Makes-then receive take_next clock clock clock link link' link' _ _ _ None (Ok tt) (received None NothingCame clock link link' daemon items refused (Ok None) did Leads-nothing_came)
+  turn-nothing clock link link' daemon items tally did =
+      Makes-then receive take_next clock clock clock link link' link' _ _ _ None (Ok tt) (received None NothingCame clock link link' daemon items tally (Ok None) did Leads-nothing_came)
       (Makes-done (take_next None) clock link' _ (Leads-done _))
 
   -- a packet came, and the clock failed
-  pub turn-unread : (clock clock' : C) (link link' : L) (daemon : DaemonState) (items : List Fusion) (refused : ℕ) (packet : Packet)
+  pub turn-unread : (clock clock' : C) (link link' : L) (daemon : DaemonState) (items : List Fusion) (tally : Tally) (packet : Packet)
       → does link Receive (Came packet) link' → gives clock None clock'
-      → Makes gives does turn clock clock' link link' (stand_of daemon items refused) (stand_of daemon items refused) (Err ClockFailed)
+      → Makes gives does turn clock clock' link link' (stand_of daemon items tally) (stand_of daemon items tally) (Err ClockFailed)
   unfolding turn take_next
-  turn-unread clock clock' link link' daemon items refused packet did gave =
-      Makes-then receive take_next clock clock clock' link link' link' _ _ _ (Some packet) (Err ClockFailed) (received (Some packet) (Came packet) clock link link' daemon items refused (Ok (Some packet)) did (λ from. Leads-came from packet))
+  turn-unread clock clock' link link' daemon items tally packet did gave =
+      Makes-then receive take_next clock clock clock' link link' link' _ _ _ (Some packet) (Err ClockFailed) (received (Some packet) (Came packet) clock link link' daemon items tally (Ok (Some packet)) did (λ from. Leads-came from packet))
       (Makes-ends next_reading (λ now. take_at now packet) clock clock' link' link' _ _ ClockFailed (Makes-no_reading clock clock' link' _ gave))
 
   -- a packet came, and was taken or refused
-  pub turn-came : (clock clock' : C) (link link' : L) (daemon after : DaemonState) (items : List Fusion) (refused refuses : ℕ) (packet : Packet) (now : ℕ)
+  pub turn-came : (clock clock' : C) (link link' : L) (daemon after : DaemonState) (items : List Fusion) (tally later : Tally) (packet : Packet) (now : ℕ)
       → does link Receive (Came packet) link' → gives clock (Some now) clock'
-      → Leads (take_at now packet) nothing [] (stand_of daemon items refused) (stand_of after items refuses) (Ok tt)
-      → Makes gives does turn clock clock' link link' (stand_of daemon items refused) (stand_of after items refuses) (Ok tt)
+      → Leads (take_at now packet) nothing [] (stand_of daemon items tally) (stand_of after items later) (Ok tt)
+      → Makes gives does turn clock clock' link link' (stand_of daemon items tally) (stand_of after items later) (Ok tt)
   unfolding turn take_next
-  turn-came clock clock' link link' daemon after items refused refuses packet now did gave takes =
-      Makes-then receive take_next clock clock clock' link link' link' _ _ _ (Some packet) (Ok tt) (received (Some packet) (Came packet) clock link link' daemon items refused (Ok (Some packet)) did (λ from. Leads-came from packet))
+  turn-came clock clock' link link' daemon after items tally later packet now did gave takes =
+      Makes-then receive take_next clock clock clock' link link' link' _ _ _ (Some packet) (Ok tt) (received (Some packet) (Came packet) clock link link' daemon items tally (Ok (Some packet)) did (λ from. Leads-came from packet))
       (Makes-then next_reading (λ clock. take_at clock packet) clock clock' clock' link' link' link' _ _ _ now (Ok tt) (Makes-reading clock clock' link' _ now gave)
       (record { readings = []; exchanges = []; grants = []; gave = refl; did = refl; course = takes }))
 
-  pub turn-taken : (clock clock' : C) (link link' : L) (daemon after : DaemonState) (items : List Fusion) (refused : ℕ) (packet : Packet) (now : ℕ)
+  pub turn-taken : (clock clock' : C) (link link' : L) (daemon after : DaemonState) (items : List Fusion) (tally : Tally) (packet : Packet) (now : ℕ)
       → does link Receive (Came packet) link' → gives clock (Some now) clock'
       → take_of daemon.table packet.peer now packet.bytes ≡ Ok after.table → after.config ≡ daemon.config
-      → Makes gives does turn clock clock' link link' (stand_of daemon items refused) (stand_of after items refused) (Ok tt)
-  turn-taken clock clock' link link' daemon after items refused packet now did gave is config =
+      → Makes gives does turn clock clock' link link' (stand_of daemon items tally) (stand_of after items (one_taken tally)) (Ok tt)
+  turn-taken clock clock' link link' daemon after items tally packet now did gave is config =
       let same : record daemon { table = after.table } ≡ after = ap (λ c. record { config = c; table = after.table }) (sym config) in
-      turn-came clock clock' link link' daemon after items refused refused packet now did gave
-      (subst (λ d. Leads (take_at now packet) nothing [] (stand_of daemon items refused) (stand_of d items refused) (Ok tt)) same (Leads-taken daemon items refused now packet after.table is))
+      turn-came clock clock' link link' daemon after items tally (one_taken tally) packet now did gave
+      (subst (λ d. Leads (take_at now packet) nothing [] (stand_of daemon items tally) (stand_of d items (one_taken tally)) (Ok tt)) same (Leads-taken daemon items tally now packet after.table is))
 
-  pub turn-refused : (clock clock' : C) (link link' : L) (daemon after : DaemonState) (items : List Fusion) (refused : ℕ) (packet : Packet) (now : ℕ) (fault : SourceFault)
+  pub turn-refused : (clock clock' : C) (link link' : L) (daemon after : DaemonState) (items : List Fusion) (tally : Tally) (packet : Packet) (now : ℕ) (fault : SourceFault)
       → does link Receive (Came packet) link' → gives clock (Some now) clock'
       → take_of daemon.table packet.peer now packet.bytes ≡ Err fault → after ≡ daemon
-      → Makes gives does turn clock clock' link link' (stand_of daemon items refused) (stand_of after items (refused + 1)) (Ok tt)
-  turn-refused clock clock' link link' daemon after items refused packet now fault did gave is same =
-      turn-came clock clock' link link' daemon after items refused (refused + 1) packet now did gave
-      (rw same (Leads-not_taken daemon items refused now packet fault is))
+      → Makes gives does turn clock clock' link link' (stand_of daemon items tally) (stand_of after items (packet_refused fault tally)) (Ok tt)
+  turn-refused clock clock' link link' daemon after items tally packet now fault did gave is same =
+      turn-came clock clock' link link' daemon after items tally (packet_refused fault tally) packet now did gave
+      (rw same (Leads-not_taken daemon items tally now packet fault is))
 
 -- ---- all polls
 
@@ -412,28 +414,28 @@ module _ {L : Type 0} (does : L → Call → Gift → L → Type 0) where
   })
 
   -- the polls of all sources
-  pub polls-all : (n clock : ℕ) (link link' : L) (daemon : DaemonState) (items : List Fusion) (refused : ℕ) (to : List Exchange → Stand) (answer : Result (Unit {0}) NodeFault) → n ≡ daemon.config.sources
-      → MakesByLink does (each_below n (poll_at clock)) link link' (stand_of daemon items refused) to answer
-      → MakesByLink does (poll_all clock) link link' (stand_of daemon items refused) to answer
+  pub polls-all : (n clock : ℕ) (link link' : L) (daemon : DaemonState) (items : List Fusion) (tally : Tally) (to : List Exchange → Stand) (answer : Result (Unit {0}) NodeFault) → n ≡ daemon.config.sources
+      → MakesByLink does (each_below n (poll_at clock)) link link' (stand_of daemon items tally) to answer
+      → MakesByLink does (poll_all clock) link link' (stand_of daemon items tally) to answer
   unfolding poll_all
-  polls-all n clock link link' daemon items refused to answer is one = record {
+  polls-all n clock link link' daemon items tally to answer is one = record {
     exchanges = one.exchanges;
     did = one.did;
     course = record {
       leads = λ past rest.
-          subst (λ k. each_below k (poll_at clock) (stand_of daemon items refused past) (before_rest (record { readings = []; gifts = gifts_in one.exchanges; grants = [] }) rest) ≡ part_with answer (to (past ++ one.exchanges)) rest) is
+          subst (λ k. each_below k (poll_at clock) (stand_of daemon items tally past) (before_rest (record { readings = []; gifts = gifts_in one.exchanges; grants = [] }) rest) ≡ part_with answer (to (past ++ one.exchanges)) rest) is
           (one.course.leads past rest);
     };
   }
 
-  pub polls-ended : (m clock : ℕ) (link link' : L) (daemon : DaemonState) (items : List Fusion) (refused : ℕ) (to : List Exchange → Stand) (fault : NodeFault) → m ≤ daemon.config.sources
-      → MakesByLink does (each_below m (poll_at clock)) link link' (stand_of daemon items refused) to (Err fault)
-      → MakesByLink does (poll_all clock) link link' (stand_of daemon items refused) to (Err fault)
-  polls-ended m clock link link' daemon items refused to fault below one =
-      polls-all daemon.config.sources clock link link' daemon items refused to (Err fault) refl (record {
+  pub polls-ended : (m clock : ℕ) (link link' : L) (daemon : DaemonState) (items : List Fusion) (tally : Tally) (to : List Exchange → Stand) (fault : NodeFault) → m ≤ daemon.config.sources
+      → MakesByLink does (each_below m (poll_at clock)) link link' (stand_of daemon items tally) to (Err fault)
+      → MakesByLink does (poll_all clock) link link' (stand_of daemon items tally) to (Err fault)
+  polls-ended m clock link link' daemon items tally to fault below one =
+      polls-all daemon.config.sources clock link link' daemon items tally to (Err fault) refl (record {
         exchanges = one.exchanges;
         did = one.did;
-        course = each-ends_below m daemon.config.sources (poll_at clock) _ one.exchanges (stand_of daemon items refused) to fault below one.course;
+        course = each-ends_below m daemon.config.sources (poll_at clock) _ one.exchanges (stand_of daemon items tally) to fault below one.course;
       })
 
 -- ---- a round
@@ -490,10 +492,10 @@ module _ {C L : Type 0} (gives : C → Option ℕ → C → Type 0) (does : L �
       (Makes-memory gives does (fuse_at now) clock'' link' mid to answer fuses))
 
   -- all rounds
-  pub rounds-none : (turns : ℕ) (clock : C) (link : L) (daemon : DaemonState) (items : List Fusion) (refused : ℕ) → refused ≡ 0
-      → Makes gives does (each_below 0 (λ _. round_of turns)) clock clock link link (stand_of daemon items 0) (stand_of daemon items refused) (Ok tt)
-  rounds-none turns clock link daemon items refused is =
-      rw is (Makes-done gives does (each_below 0 (λ _. round_of turns)) clock link (stand_of daemon items 0) (each-none (λ _. round_of turns) (stand_of daemon items 0)))
+  pub rounds-none : (turns : ℕ) (clock : C) (link : L) (daemon : DaemonState) (items : List Fusion) (tally : Tally) → tally ≡ no_tally
+      → Makes gives does (each_below 0 (λ _. round_of turns)) clock clock link link (stand_of daemon items no_tally) (stand_of daemon items tally) (Ok tt)
+  rounds-none turns clock link daemon items tally is =
+      rw is (Makes-done gives does (each_below 0 (λ _. round_of turns)) clock link (stand_of daemon items no_tally) (each-none (λ _. round_of turns) (stand_of daemon items no_tally)))
 
   pub rounds-all : (n rounds turns : ℕ) (clock clock' : C) (link link' : L) (from to : List Exchange → Stand) (answer : Result (Unit {0}) NodeFault) → n ≡ rounds
       → Makes gives does (each_below n (λ _. round_of turns)) clock clock' link link' from to answer

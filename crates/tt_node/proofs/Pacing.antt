@@ -2,6 +2,8 @@
 use Rattle.std.proofs.Common.{◌≡◌, ◌↔◌, ℕ, zero, suc, ◌+◌, ◌<◌, ◌≤◌, ◌⊎◌, inl, inr, Bool, true, false, IsTrue, List, Option, Result, Ok, Err, IfOk, OnErr, refl, sym, ◌∙◌, subst, arith, add-one}
 use Rattle.tt_node.specs.Link.{Call, Gift, Exchange}
 use Rattle.tt_node.specs.Course.{Stand, each_below, round_of, rounds_of}
+use Rattle.tt_node.specs.Tallies.{refused_in}
+use Rattle.tt_node.specs.declared.tallies.Tally.{Tally}
 use Rattle.tt_node.specs.Making.{Makes, answer_of}
 use Rattle.tt_node.specs.Pacing.{LetsBegin, EndsAfter}
 use Rattle.tt_node.specs.declared.faults.NodeFault.{NodeFault}
@@ -38,10 +40,10 @@ counts-all rounds before after did is most (mid, lets, inr (full, same)) =
     let (unchanged, few) = counts-few did.done before mid lets in
     omega (arith, few, is, full, most)
 
--- what is told of the refusals, and how many rounds it lets
-pub told-refused : (refused n : ℕ) (result : Result Rounds NodeFault) → IfOk result (λ did. (did.refused ≡ refused) × (did.done ≡ n)) → IfOk result (λ did. did.refused ≡ refused)
-told-refused refused n (Ok did) told = told.0
-told-refused refused n (Err fault) told = tt
+-- what is told of the counts, and how many rounds it lets
+pub told-counts : (tally : Tally) (n : ℕ) (result : Result Rounds NodeFault) → IfOk result (λ did. (did.tally ≡ tally) × (did.refused ≡ refused_in tally) × (did.done ≡ n)) → IfOk result (λ did. (did.tally ≡ tally) × (did.refused ≡ refused_in tally))
+told-counts tally n (Ok did) told = (told.0, told.1)
+told-counts tally n (Err fault) told = tt
 
 pub counted-done : (rounds : ℕ) (pace pace' : CountedPace) (result : Result Rounds NodeFault) → pace.rounds ≡ rounds → rounds ≤ 4294967295
     → IfOk result (λ did. EndsAfter counts pace did pace') → IfOk result (λ did. did.done ≡ rounds)
@@ -50,13 +52,13 @@ counted-done rounds pace pace' (Err fault) is most ends = tt
 
 -- so many rounds that this pace let begin are the course of the rounds that it counts
 module _ {C L : Type 0} (gives : C → Option ℕ → C → Type 0) (does : L → Call → Gift → L → Type 0) where
-  pub counted-course : (rounds turns n refused : ℕ) (pace pace' : CountedPace) (clock clock' : C) (link link' : L) (from to : List Exchange → Stand) (result : Result Rounds NodeFault)
-      → pace.rounds ≡ rounds → rounds ≤ 4294967295 → IfOk result (λ did. (did.refused ≡ refused) × (did.done ≡ n)) → OnErr result (LetsBegin counts pace n pace')
+  pub counted-course : (rounds turns n : ℕ) (tally : Tally) (pace pace' : CountedPace) (clock clock' : C) (link link' : L) (from to : List Exchange → Stand) (result : Result Rounds NodeFault)
+      → pace.rounds ≡ rounds → rounds ≤ 4294967295 → IfOk result (λ did. (did.tally ≡ tally) × (did.refused ≡ refused_in tally) × (did.done ≡ n)) → OnErr result (LetsBegin counts pace n pace')
       → IfOk result (λ did. EndsAfter counts pace did pace')
       → Makes gives does (rounds_of n turns) clock clock' link link' from to (answer_of result)
       → Makes gives does (rounds_of rounds turns) clock clock' link link' from to (answer_of result)
   unfolding rounds_of
-  counted-course rounds turns n refused pace pace' clock clock' link link' from to (Ok did) is most done lets ends made =
-      subst (λ k. Makes gives does (each_below k (λ _. round_of turns)) clock clock' link link' from to (Ok tt)) (sym done.1 ∙ counts-all rounds pace pace' did is most ends) made
-  counted-course rounds turns n refused pace pace' clock clock' link link' from to (Err fault) is most done lets ends made =
+  counted-course rounds turns n tally pace pace' clock clock' link link' from to (Ok did) is most done lets ends made =
+      subst (λ k. Makes gives does (each_below k (λ _. round_of turns)) clock clock' link link' from to (Ok tt)) (sym done.2 ∙ counts-all rounds pace pace' did is most ends) made
+  counted-course rounds turns n tally pace pace' clock clock' link link' from to (Err fault) is most done lets ends made =
       Makes-ends_below gives does n rounds _ _ _ _ _ _ _ _ (omega (arith, (counts-few n pace pace' lets).1, is)) made

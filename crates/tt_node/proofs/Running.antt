@@ -8,6 +8,8 @@ use Rattle.tt_node.specs.Counting.{FailsBy}
 use Rattle.tt_node.specs.Fault.{IsRoundsFault, IsFirstFault}
 use Rattle.tt_node.specs.Fusing.{fusions_in, Grows}
 use Rattle.tt_node.specs.Course.{rounds_of}
+use Rattle.tt_node.specs.Tallies.{no_tally, refused_in}
+use Rattle.tt_node.specs.declared.tallies.Tally.{Tally}
 use Rattle.tt_node.specs.Making.{Makes, stand_of, answer_of}
 use Rattle.tt_node.specs.Running.{RunsRounds}
 use Rattle.tt_node.specs.declared.faults.NodeFault.{NodeFault}
@@ -27,33 +29,33 @@ first-faults : (old new : List Publication) (answer : Result Rounds NodeFault) �
 first-faults old new (Ok did) none few is = tt
 first-faults old new (Err fault) none few is = first-fault old new fault none few is
 
-first-told : (rounds refused published : ℕ) (added : List Publication) (answer : Result Rounds NodeFault) → published ≡ 0 + length added
-    → IfOk answer (λ did. did.done ≡ rounds) → IfOk answer (λ did. did.published ≡ published) → IfOk answer (λ did. did.refused ≡ refused)
-    → IfOk answer (λ did. (did.done ≡ rounds) × (did.published ≡ length added) × (did.refused ≡ refused))
-first-told rounds refused published added (Ok did) count done publishes refuses = (done, omega (arith, publishes, count), refuses)
-first-told rounds refused published added (Err fault) count done publishes refuses = tt
+first-told : (rounds published : ℕ) (tally : Tally) (added : List Publication) (answer : Result Rounds NodeFault) → published ≡ 0 + length added
+    → IfOk answer (λ did. did.done ≡ rounds) → IfOk answer (λ did. did.published ≡ published) → IfOk answer (λ did. (did.tally ≡ tally) × (did.refused ≡ refused_in tally))
+    → IfOk answer (λ did. (did.done ≡ rounds) × (did.published ≡ length added) × (did.tally ≡ tally) × (did.refused ≡ refused_in tally))
+first-told rounds published tally added (Ok did) count done publishes counts = (done, omega (arith, publishes, count), counts.0, counts.1)
+first-told rounds published tally added (Err fault) count done publishes counts = tt
 
 module _ {C L : Type 0} (gives : C → Option ℕ → C → Type 0) (clock_failed : C → ℕ) (does : L → Call → Gift → L → Type 0) (link_failed : L → ℕ) where
   pub first-rounds : (rounds turns : ℕ) (daemon daemon' : DaemonState) (clock clock' : C) (link link' : L) (old new : List Publication) (answer : Result Rounds NodeFault) → old ≡ []
-      → ((refused : ℕ) × Makes gives does (rounds_of rounds turns) clock clock' link link' (stand_of daemon (fusions_in old) 0) (stand_of daemon' (fusions_in new) refused) (answer_of answer) × IfOk answer (λ did. did.refused ≡ refused))
+      → ((tally : Tally) × Makes gives does (rounds_of rounds turns) clock clock' link link' (stand_of daemon (fusions_in old) no_tally) (stand_of daemon' (fusions_in new) tally) (answer_of answer) × IfOk answer (λ did. (did.tally ≡ tally) × (did.refused ≡ refused_in tally)))
       → ((published : ℕ) × Grows old new 0 published × IfOk answer (λ did. did.published ≡ published))
       → IfOk answer (λ did. did.done ≡ rounds)
       → length new ≤ length old + 4294967295
       → FailsBy answer node.LinkFailed (link_failed link) (link_failed link') → FailsBy answer node.ClockFailed (clock_failed clock) (clock_failed clock')
       → IfErr answer (IsRoundsFault new)
       → RunsRounds gives clock_failed does link_failed rounds turns daemon clock link answer
-  first-rounds rounds turns daemon daemon' clock clock' link link' old new answer none (refused, made, refuses) (published, grew, publishes) done few link_fails clock_fails fault =
+  first-rounds rounds turns daemon daemon' clock clock' link link' old new answer none (tally, made, counts) (published, grew, publishes) done few link_fails clock_fails fault =
       let is : new ≡ grew.added = grew.grew ∙ ap (λ items. items ++ grew.added) none in
       record {
         daemon_after = daemon';
         clock_after = clock';
         link_after = link';
         published = new;
-        refused = refused;
-        course = subst (λ items. Makes gives does (rounds_of rounds turns) clock clock' link link' (stand_of daemon (fusions_in items) 0) (stand_of daemon' (fusions_in new) refused) (answer_of answer)) none made;
+        tally = tally;
+        course = subst (λ items. Makes gives does (rounds_of rounds turns) clock clock' link link' (stand_of daemon (fusions_in items) no_tally) (stand_of daemon' (fusions_in new) tally) (answer_of answer)) none made;
         each = subst (λ items. All IsPublication items) (sym is) grew.each;
-        told = subst (λ items. IfOk answer (λ did. (did.done ≡ rounds) × (did.published ≡ length items) × (did.refused ≡ refused))) (sym is)
-            (first-told rounds refused published grew.added answer grew.count done publishes refuses);
+        told = subst (λ items. IfOk answer (λ did. (did.done ≡ rounds) × (did.published ≡ length items) × (did.tally ≡ tally) × (did.refused ≡ refused_in tally))) (sym is)
+            (first-told rounds published tally grew.added answer grew.count done publishes counts);
         link_fails = link_fails;
         clock_fails = clock_fails;
         fault = first-faults old new answer none few fault;

@@ -9,6 +9,8 @@ use Rattle.tt_daemon.specs.declared.faults.DaemonFault.{DaemonFault}
 use Rattle.tt_publish.specs.declared.faults.PublishFault.TheVariants as publishes
 use Rattle.tt_node.specs.Link.{Packet, Call, Send, Receive, Gift, Went, Came, NothingCame, Broke, Exchange}
 use Rattle.tt_node.specs.Fusing.{Fusion, fusion_at, goes_back}
+use Rattle.tt_node.specs.Tallies.{one_poll, one_taken, packet_refused, fusion_refused}
+use Rattle.tt_node.specs.declared.tallies.Tally.{Tally}
 use Rattle.tt_node.specs.declared.faults.NodeFault.{NodeFault}
 use Rattle.tt_node.specs.declared.faults.NodeFault.TheVariants.{LinkFailed, ClockFailed, Publish}
 
@@ -18,12 +20,12 @@ pub record Given : Type 0 where
   pub gifts : List Gift
   pub grants : List Bool
 
--- where a course stands: the daemon, the fusions that are published, the exchanges with the link so far, and how many packets and fusions were refused
+-- where a course stands: the daemon, the fusions that are published, the exchanges with the link so far, and what was counted
 pub record Stand : Type 0 where
   pub daemon : DaemonState
   pub published : List Fusion
   pub exchanges : List Exchange
-  pub refused : ℕ
+  pub tally : Tally
 
 -- what comes of a part of a course: it goes on with a value, or a fault ends it, or less was given than it asks for
 pub data Outcome (A : Type 0) : Type 0 where
@@ -109,13 +111,13 @@ receive = do
   gift ← next_gift Receive
   packet_part gift
 
--- the daemon's table is this one
-unfoldable pub put_table : TableState → Part (Unit {0})
-put_table table stand given = GoesOn tt (record stand { daemon = record stand.daemon { table = table } }) given
+-- the daemon's table is this one, and this is counted
+unfoldable pub put_table : TableState → (Tally → Tally) → Part (Unit {0})
+put_table table counts stand given = GoesOn tt (record stand { daemon = record stand.daemon { table = table }; tally = counts stand.tally }) given
 
--- a packet or a fusion was refused
-unfoldable pub count_refusal : Part (Unit {0})
-count_refusal stand given = GoesOn tt (record stand { refused = stand.refused + 1 }) given
+-- a packet or a fusion was refused, which is counted so
+unfoldable pub count_refusal : (Tally → Tally) → Part (Unit {0})
+count_refusal counts stand given = GoesOn tt (record stand { tally = counts stand.tally }) given
 
 -- the request that a table has just made to a source
 abbrev pub request_of : TableState → ℕ → List ℕ
@@ -124,7 +126,7 @@ request_of table source = spelling_of2 (message.Request (record { machine = tabl
 -- a request is sent, unless its poll was refused
 unfoldable pub send_polled : ℕ → Result TableState SourceFault → Part (Unit {0})
 send_polled source (Ok table) = do
-  put_table table
+  put_table table one_poll
   send source (request_of table source)
 send_polled source (Err _) = nothing_done
 
@@ -136,10 +138,10 @@ poll_at clock source stand = send_polled source (poll_of stand.daemon.table sour
 unfoldable pub poll_all : ℕ → Part (Unit {0})
 poll_all clock stand = each_below stand.daemon.config.sources (poll_at clock) stand
 
--- the table is that after a packet, or the packet was refused
+-- the table is that after a packet, which is counted as taken, or the packet was refused
 unfoldable pub put_taken : Result TableState SourceFault → Part (Unit {0})
-put_taken (Ok table) = put_table table
-put_taken (Err _) = count_refusal
+put_taken (Ok table) = put_table table one_taken
+put_taken (Err fault) = count_refusal (packet_refused fault)
 
 -- a packet is taken
 unfoldable pub take_at : ℕ → Packet → Part (Unit {0})
@@ -175,7 +177,7 @@ publish fusion stand given =
 -- a fusion is published, or it was refused
 unfoldable pub publish_fused : Result Fusion DaemonFault → Part (Unit {0})
 publish_fused (Ok fusion) = publish fusion
-publish_fused (Err _) = count_refusal
+publish_fused (Err fault) = count_refusal (fusion_refused fault)
 
 -- what is known is fused and published
 unfoldable pub fuse_at : ℕ → Part (Unit {0})

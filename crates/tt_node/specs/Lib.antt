@@ -7,6 +7,7 @@ pub mod Course
 pub mod Making
 pub mod Running
 pub mod Sharing
+pub mod Tallies
 pub mod Turns
 pub mod Lists
 pub mod Gating

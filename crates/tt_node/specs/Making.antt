@@ -6,6 +6,7 @@ use Rattle.tt_node.specs.Fusing.{Fusion}
 use Rattle.tt_node.specs.Course.{Given, Stand, Outcome, GoesOn, Ends, Part}
 use Rattle.tt_node.specs.declared.faults.NodeFault.{NodeFault}
 use Rattle.tt_node.specs.declared.rounds.Rounds.{Rounds}
+use Rattle.tt_node.specs.declared.tallies.Tally.{Tally}
 
 -- what was given, and then the rest
 abbrev pub before_rest : Given → Given → Given
@@ -16,8 +17,8 @@ before_rest given rest = record {
 }
 
 -- where a course stands that has had these exchanges
-abbrev pub stand_of : DaemonState → List Fusion → ℕ → List Exchange → Stand
-stand_of daemon published refused exchanges = record { daemon = daemon; published = published; exchanges = exchanges; refused = refused }
+abbrev pub stand_of : DaemonState → List Fusion → Tally → List Exchange → Stand
+stand_of daemon published tally exchanges = record { daemon = daemon; published = published; exchanges = exchanges; tally = tally }
 
 -- what comes of a part that has this answer
 abbrev pub part_with : {A : Type 0} → Result A NodeFault → Stand → Given → Outcome A

@@ -12,6 +12,8 @@ use Rattle.tt_node.specs.declared.faults.NodeFault.{NodeFault}
 use Rattle.tt_node.specs.declared.faults.NodeFault.TheVariants.{LinkFailed, ClockFailed}
 use Rattle.tt_node.specs.declared.nodes.NodeEnd.{NodeEnd}
 use Rattle.tt_node.specs.declared.rounds.Rounds.{Rounds}
+use Rattle.tt_node.specs.declared.tallies.Tally.{Tally}
+use Rattle.tt_node.specs.Tallies.{no_tally, refused_in}
 
 -- a daemon that had published nothing did so many rounds: the course of them, by what this clock and this link gave, and the answer tells what was done, or the fault that ended them
 pub record RunsRounds {C L : Type 0} (gives : C → Option ℕ → C → Type 0) (clock_failed : C → ℕ) (does : L → Call → Gift → L → Type 0) (link_failed : L → ℕ)
@@ -20,11 +22,11 @@ pub record RunsRounds {C L : Type 0} (gives : C → Option ℕ → C → Type 0)
   pub clock_after : C
   pub link_after : L
   pub published : List Publication
-  pub refused : ℕ
+  pub tally : Tally
   pub course : Makes gives does (rounds_of rounds turns) clock clock_after link link_after
-      (stand_of daemon [] 0) (stand_of daemon_after (fusions_in published) refused) (answer_of answer)
+      (stand_of daemon [] no_tally) (stand_of daemon_after (fusions_in published) tally) (answer_of answer)
   pub each : All IsPublication published
-  pub told : IfOk answer (λ did. (did.done ≡ rounds) × (did.published ≡ length published) × (did.refused ≡ refused))
+  pub told : IfOk answer (λ did. (did.done ≡ rounds) × (did.published ≡ length published) × (did.tally ≡ tally) × (did.refused ≡ refused_in tally))
   pub link_fails : FailsBy answer LinkFailed (link_failed link) (link_failed link_after)
   pub clock_fails : FailsBy answer ClockFailed (clock_failed clock) (clock_failed clock_after)
   pub fault : IfErr answer IsFirstFault

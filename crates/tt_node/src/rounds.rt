@@ -10,10 +10,13 @@ ghost use Rattle.tt_node.specs.Lists.{GivesInTurn, Line, MovesInTurn, IsCourse};
 ghost use Rattle.tt_node.specs.declared.faults.NodeFault.{NodeFault};
 ghost use Rattle.tt_node.specs.Making.{Makes, MakesByLink, MakesByMemory, stand_of, answer_of};
 ghost use Rattle.tt_node.specs.Pacing.{LetsBegin, EndsAfter};
+ghost use Rattle.tt_node.specs.Tallies.{no_tally, refused_in, counted_in};
+ghost use Rattle.tt_node.specs.declared.tallies.Tally.{Tally};
 
 use crate::faults::NodeFault;
 use crate::links::{Link, PACKET_LEN};
 use crate::paces::{CountedPace, Pace};
+use crate::tallies::Tally;
 use std::sync::Wait;
 use tt_daemon::Daemon;
 use tt_publish::{Clock, Teller};
@@ -27,25 +30,32 @@ pub struct Rounds {
     pub published: u64,
     /// The packets and the fusions that were refused.
     pub refused: u64,
+    /// What was counted, the refusals by their numbers.
+    pub tally: Tally,
 }
 
-/// Polls a source, and sends the request, unless the poll was refused.
+/// Polls a source, and sends the request, which is counted, unless the poll was refused.
 fn poll_one<L: Link>(
     daemon: &mut Daemon,
     link: &mut L,
     source: u8,
     clock: u64,
+    tally: &mut Tally,
 ) -> Result<(), NodeFault>
-    ensures course { (items : List Fusion) (refused : ℕ) → MakesByLink L.does (poll_at clock source) link.old link.new
-        (stand_of daemon.old items refused) (stand_of daemon.new items refused) result }
+    requires room { tally.old.polls + 1 < 2 ^ 64 }
+    ensures course { (items : List Fusion) → MakesByLink L.does (poll_at clock source) link.old link.new
+        (stand_of daemon.old items tally.old) (stand_of daemon.new items tally.new) result }
     ensures fails { FailsBy result NodeFault.LinkFailed (L.failed link.old) (L.failed link.new) }
     ensures no_clock { ¬ IsErrOf result NodeFault.ClockFailed }
     ensures rounds_fault { IfErr result IsDeviceFault }
     ensures config { daemon.new.config ≡ daemon.old.config }
+    ensures few { tally.new.polls ≤ tally.old.polls + 1 }
+    ensures counted { counted_in tally.new ≡ counted_in tally.old }
 {
     let Ok(request) = daemon.poll(source, clock) else {
         return Ok(());
     };
+    tally.polls += 1;
     let Ok(()) = link.send(source, &request) else {
         return Err(NodeFault::LinkFailed);
     };
@@ -53,15 +63,23 @@ fn poll_one<L: Link>(
 }
 
 /// Polls every source, in the order of their numbers.
-fn poll_all<L: Link>(daemon: &mut Daemon, link: &mut L, clock: u64) -> Result<(), NodeFault>
-    ensures course { (items : List Fusion) (refused : ℕ) → MakesByLink L.does (polls_all clock) link.old link.new
-        (stand_of daemon.old items refused) (stand_of daemon.new items refused) result }
+fn poll_all<L: Link>(
+    daemon: &mut Daemon,
+    link: &mut L,
+    clock: u64,
+    tally: &mut Tally,
+) -> Result<(), NodeFault>
+    requires room { tally.old.polls + 255 < 2 ^ 64 }
+    ensures course { (items : List Fusion) → MakesByLink L.does (polls_all clock) link.old link.new
+        (stand_of daemon.old items tally.old) (stand_of daemon.new items tally.new) result }
     ensures fails { FailsBy result NodeFault.LinkFailed (L.failed link.old) (L.failed link.new) }
     ensures no_clock { ¬ IsErrOf result NodeFault.ClockFailed }
     ensures rounds_fault { IfErr result IsDeviceFault }
+    ensures few { tally.new.polls ≤ tally.old.polls + 255 }
+    ensures counted { counted_in tally.new ≡ counted_in tally.old }
 {
     for source in 0..daemon.config().sources() {
-        poll_one(daemon, link, source as u8, clock)?;
+        poll_one(daemon, link, source as u8, clock, tally)?;
     }
     Ok(())
 }
@@ -96,22 +114,21 @@ pub(crate) fn receive<L: Link>(
     }
 }
 
-/// One turn: takes the packet that comes, if one does.
+/// One turn: takes the packet that comes, if one does. It is counted, taken or refused.
 fn turn<L: Link, C: Clock>(
     daemon: &mut Daemon,
     link: &mut L,
     clock: &mut C,
-    counts: &mut Rounds,
+    tally: &mut Tally,
 ) -> Result<(), NodeFault>
-    requires room { counts.old.refused + 1 < 2 ^ 64 }
+    requires room { counted_in tally.old + 1 < 2 ^ 64 }
     ensures course { (items : List Fusion) → Makes C.gives L.does turn_of clock.old clock.new link.old link.new
-        (stand_of daemon.old items counts.old.refused) (stand_of daemon.new items counts.new.refused) result }
+        (stand_of daemon.old items tally.old) (stand_of daemon.new items tally.new) result }
     ensures link_fails { FailsBy result NodeFault.LinkFailed (L.failed link.old) (L.failed link.new) }
     ensures clock_fails { FailsBy result NodeFault.ClockFailed (C.failed clock.old) (C.failed clock.new) }
     ensures rounds_fault { IfErr result IsDeviceFault }
-    ensures done { counts.new.done ≡ counts.old.done }
-    ensures published { counts.new.published ≡ counts.old.published }
-    ensures few { counts.new.refused ≤ counts.old.refused + 1 }
+    ensures polls { tally.new.polls ≡ tally.old.polls }
+    ensures few { counted_in tally.new ≤ counted_in tally.old + 1 }
 {
     let mut buffer = [0; PACKET_LEN];
     let Some((source, length)) = receive(link, &mut buffer)? else {
@@ -119,9 +136,12 @@ fn turn<L: Link, C: Clock>(
     };
     let now = read(clock)?;
     match daemon.take(source, now, &buffer[..length]) {
-        Ok(()) => Ok(()),
-        Err(_) => {
-            counts.refused += 1;
+        Ok(()) => {
+            tally.taken += 1;
+            Ok(())
+        }
+        Err(fault) => {
+            tally.refuse_packet(fault);
             Ok(())
         }
     }
@@ -133,20 +153,19 @@ fn all_turns<L: Link, C: Clock>(
     link: &mut L,
     clock: &mut C,
     turns: u32,
-    counts: &mut Rounds,
+    tally: &mut Tally,
 ) -> Result<(), NodeFault>
-    requires room { counts.old.refused + turns < 2 ^ 64 }
+    requires room { counted_in tally.old + turns < 2 ^ 64 }
     ensures course { (items : List Fusion) → Makes C.gives L.does (each_below turns (λ _. turn_of)) clock.old clock.new link.old link.new
-        (stand_of daemon.old items counts.old.refused) (stand_of daemon.new items counts.new.refused) result }
+        (stand_of daemon.old items tally.old) (stand_of daemon.new items tally.new) result }
     ensures link_fails { FailsBy result NodeFault.LinkFailed (L.failed link.old) (L.failed link.new) }
     ensures clock_fails { FailsBy result NodeFault.ClockFailed (C.failed clock.old) (C.failed clock.new) }
     ensures rounds_fault { IfErr result IsDeviceFault }
-    ensures done { counts.new.done ≡ counts.old.done }
-    ensures published { counts.new.published ≡ counts.old.published }
-    ensures few { counts.new.refused ≤ counts.old.refused + turns }
+    ensures polls { tally.new.polls ≡ tally.old.polls }
+    ensures few { counted_in tally.new ≤ counted_in tally.old + turns }
 {
     for _ in 0..turns {
-        turn(daemon, link, clock, counts)?;
+        turn(daemon, link, clock, tally)?;
     }
     Ok(())
 }
@@ -159,22 +178,26 @@ fn fuse<R: Wait>(
     clock: u64,
     counts: &mut Rounds,
 ) -> Result<(), NodeFault>
-    requires refused_room { counts.old.refused + 1 < 2 ^ 64 }
+    requires refused_room { refused_in counts.old.tally + 1 < 2 ^ 64 }
     requires published_room { counts.old.published + 1 < 2 ^ 64 }
-    ensures course { MakesByMemory (fuses_at clock) (stand_of daemon.old (fusions_in teller.old.items) counts.old.refused)
-        (stand_of daemon.new (fusions_in teller.new.items) counts.new.refused) result }
+    ensures course { MakesByMemory (fuses_at clock) (stand_of daemon.old (fusions_in teller.old.items) counts.old.tally)
+        (stand_of daemon.new (fusions_in teller.new.items) counts.new.tally) result }
     ensures grew { Grows teller.old.items teller.new.items counts.old.published counts.new.published }
     ensures no_device { (¬ IsErrOf result NodeFault.LinkFailed) × (¬ IsErrOf result NodeFault.ClockFailed) }
     ensures rounds_fault { IfErr result (IsRoundsFault teller.new.items) }
     ensures done { counts.new.done ≡ counts.old.done }
-    ensures few { counts.new.refused ≤ counts.old.refused + 1 }
+    ensures polls { counts.new.tally.polls ≡ counts.old.tally.polls }
+    ensures few { counted_in counts.new.tally ≤ counted_in counts.old.tally + 1 }
     ensures fewer { counts.new.published ≤ counts.old.published + 1 }
     ensures source { teller.new.source ≡ teller.old.source }
     ensures same { daemon.new ≡ daemon.old }
 {
-    let Ok(fused) = daemon.fuse(clock) else {
-        counts.refused += 1;
-        return Ok(());
+    let fused = match daemon.fuse(clock) {
+        Ok(fused) => fused,
+        Err(fault) => {
+            counts.tally.refuse_fusion(fault);
+            return Ok(());
+        }
     };
     match teller.publish(rt, fused) {
         Ok(()) => {
@@ -195,23 +218,25 @@ fn round<R: Wait, L: Link, C: Clock>(
     turns: u32,
     counts: &mut Rounds,
 ) -> Result<(), NodeFault>
-    requires refused_room { counts.old.refused + turns + 1 < 2 ^ 64 }
+    requires room { counted_in counts.old.tally + turns + 1 < 2 ^ 64 }
+    requires polls_room { counts.old.tally.polls + 255 < 2 ^ 64 }
     requires published_room { counts.old.published + 1 < 2 ^ 64 }
     ensures course { Makes C.gives L.does (round_of turns) clock.old clock.new link.old link.new
-        (stand_of daemon.old (fusions_in teller.old.items) counts.old.refused)
-        (stand_of daemon.new (fusions_in teller.new.items) counts.new.refused) result }
+        (stand_of daemon.old (fusions_in teller.old.items) counts.old.tally)
+        (stand_of daemon.new (fusions_in teller.new.items) counts.new.tally) result }
     ensures grew { Grows teller.old.items teller.new.items counts.old.published counts.new.published }
     ensures link_fails { FailsBy result NodeFault.LinkFailed (L.failed link.old) (L.failed link.new) }
     ensures clock_fails { FailsBy result NodeFault.ClockFailed (C.failed clock.old) (C.failed clock.new) }
     ensures rounds_fault { IfErr result (IsRoundsFault teller.new.items) }
     ensures done { counts.new.done ≡ counts.old.done }
-    ensures few { counts.new.refused ≤ counts.old.refused + turns + 1 }
+    ensures polls { counts.new.tally.polls ≤ counts.old.tally.polls + 255 }
+    ensures few { counted_in counts.new.tally ≤ counted_in counts.old.tally + turns + 1 }
     ensures fewer { counts.new.published ≤ counts.old.published + 1 }
     ensures source { teller.new.source ≡ teller.old.source }
 {
     let sent = read(clock)?;
-    poll_all(daemon, link, sent)?;
-    all_turns(daemon, link, clock, turns, counts)?;
+    poll_all(daemon, link, sent, &mut counts.tally)?;
+    all_turns(daemon, link, clock, turns, &mut counts.tally)?;
     let now = read(clock)?;
     fuse(rt, daemon, teller, now, counts)
 }
@@ -230,10 +255,12 @@ fn paced_rounds<R: Wait, L: Link, C: Clock, P: Pace>(
     requires done { counts.old.done ≡ 0 }
     requires published { counts.old.published ≡ 0 }
     requires refused { counts.old.refused ≡ 0 }
+    requires tally { counts.old.tally ≡ no_tally }
     ensures course { (rounds : ℕ) × Makes C.gives L.does (rounds_of rounds turns) clock.old clock.new link.old link.new
-        (stand_of daemon.old (fusions_in teller.old.items) 0)
-        (stand_of daemon.new (fusions_in teller.new.items) counts.new.refused) result
+        (stand_of daemon.old (fusions_in teller.old.items) no_tally)
+        (stand_of daemon.new (fusions_in teller.new.items) counts.new.tally) result
         × OnOk result (counts.new.done ≡ rounds) × OnErr result (LetsBegin P.says pace.old rounds pace.new) }
+    ensures whole { OnOk result (counts.new.refused ≡ refused_in counts.new.tally) }
     ensures paced { OnOk result (EndsAfter P.says pace.old counts.new pace.new) }
     ensures grew { Grows teller.old.items teller.new.items 0 counts.new.published }
     ensures link_fails { FailsBy result NodeFault.LinkFailed (L.failed link.old) (L.failed link.new) }
@@ -247,6 +274,7 @@ fn paced_rounds<R: Wait, L: Link, C: Clock, P: Pace>(
             return Ok(());
         }
         round(rt, daemon, link, clock, teller, turns, counts)?;
+        counts.refused = counts.tally.refused();
         counts.done += 1;
     }
     Ok(())
@@ -259,8 +287,9 @@ fn paced_rounds<R: Wait, L: Link, C: Clock, P: Pace>(
 /// takes each packet that came at the next reading of the clock; then fuses what is known at the next reading, and
 /// publishes the fusion.
 ///
-/// A poll that the daemon refuses sends nothing. A packet or a fusion that is refused is counted. A call that receives
-/// nothing is a turn too. Times are in nanoseconds.
+/// A poll that the daemon refuses sends nothing. A poll that is sent is counted, and so are a packet that is taken, and one
+/// or a fusion that is refused, by the number of the refusal. A call that receives nothing is a turn too. Times are in
+/// nanoseconds.
 ///
 /// Refuses with 1501 `LinkFailed` or 1502 `ClockFailed` where the link or the clock failed, which ends the rounds, and
 /// with what [`Teller::publish`] refuses: 802 where the clock went back behind the last publication, 805 where as many
@@ -279,10 +308,10 @@ pub fn daemon_while<R: Wait, L: Link, C: Clock, P: Pace>(
 ) -> Result<Rounds, NodeFault>
     // What was done is the course of some number of rounds, by what the clock, the link and the memory gave in this
     // call. The pace let each of them begin; where a fault ended them, it ended the last one.
-    ensures course { (rounds refused : ℕ) × Makes C.gives L.does (rounds_of rounds turns) clock.old clock.new link.old link.new
-        (stand_of daemon.old (fusions_in teller.old.items) 0)
-        (stand_of daemon.new (fusions_in teller.new.items) refused) (answer_of result)
-        × IfOk result (λ did. (did.refused ≡ refused) × (did.done ≡ rounds)) × OnErr result (LetsBegin P.says pace.old rounds pace.new) }
+    ensures course { (rounds : ℕ) × (tally : Tally) × Makes C.gives L.does (rounds_of rounds turns) clock.old clock.new link.old link.new
+        (stand_of daemon.old (fusions_in teller.old.items) no_tally)
+        (stand_of daemon.new (fusions_in teller.new.items) tally) (answer_of result)
+        × IfOk result (λ did. (did.tally ≡ tally) × (did.refused ≡ refused_in tally) × (did.done ≡ rounds)) × OnErr result (LetsBegin P.says pace.old rounds pace.new) }
     // Without a fault the pace ended the rounds.
     ensures paced { IfOk result (λ did. EndsAfter P.says pace.old did pace.new) }
     // What is published grew, by publications with their certificates.
@@ -298,6 +327,7 @@ pub fn daemon_while<R: Wait, L: Link, C: Clock, P: Pace>(
         done: 0,
         published: 0,
         refused: 0,
+        tally: Tally::new(),
     };
     match paced_rounds(rt, daemon, link, clock, teller, pace, turns, &mut counts) {
         Ok(()) => Ok(counts),
@@ -316,10 +346,10 @@ pub fn daemon_rounds<R: Wait, L: Link, C: Clock>(
     turns: u32,
 ) -> Result<Rounds, NodeFault>
     // What was done is the course of the rounds, by what the clock, the link and the memory gave in this call.
-    ensures course { (refused : ℕ) × Makes C.gives L.does (rounds_of rounds turns) clock.old clock.new link.old link.new
-        (stand_of daemon.old (fusions_in teller.old.items) 0)
-        (stand_of daemon.new (fusions_in teller.new.items) refused) (answer_of result)
-        × IfOk result (λ did. did.refused ≡ refused) }
+    ensures course { (tally : Tally) × Makes C.gives L.does (rounds_of rounds turns) clock.old clock.new link.old link.new
+        (stand_of daemon.old (fusions_in teller.old.items) no_tally)
+        (stand_of daemon.new (fusions_in teller.new.items) tally) (answer_of result)
+        × IfOk result (λ did. (did.tally ≡ tally) × (did.refused ≡ refused_in tally)) }
     // What is published grew, by publications with their certificates.
     ensures grew { (published : ℕ) × Grows teller.old.items teller.new.items 0 published × IfOk result (λ did. did.published ≡ published) }
     ensures done { IfOk result (λ did. did.done ≡ rounds) }

@@ -7,9 +7,30 @@ use hex::decode_to_slice;
 use std::test::Fail;
 use tt_daemon::{Config, Daemon};
 use tt_master::{Act, Master, MemoryReference};
-use tt_node::{NodeFault, PACKET_LEN, Rounds, daemon_rounds, master_rounds};
+use tt_node::{
+    NodeFault, PACKET_LEN, RefusedFusions, RefusedPackets, Rounds, Tally, daemon_rounds,
+    master_rounds,
+};
 use tt_publish::{MemoryClock, ReadFault, Reading, open};
 use tt_span::Drift;
+
+/// No packet was refused.
+const NO_PACKETS: RefusedPackets = RefusedPackets {
+    no_source: 0,
+    clock_back: 0,
+    nonces_used_up: 0,
+    bad_message: 0,
+    not_mine: 0,
+    not_outstanding: 0,
+    other_epoch: 0,
+};
+
+/// No fusion was refused.
+const NO_FUSIONS: RefusedFusions = RefusedFusions {
+    clock_back: 0,
+    no_point: 0,
+    unknown: 0,
+};
 
 /// A machine of one source, in its first life.
 fn one_source(ppm: u32) -> Result<(Daemon, Drift), Fail> {
@@ -40,6 +61,12 @@ fn each_packet_is_taken_at_a_reading_of_its_own(rt: HostRuntime) -> Result<(), F
         done: 1,
         published: 1,
         refused: 0,
+        tally: Tally {
+            polls: 1,
+            taken: 1,
+            packets: NO_PACKETS,
+            fusions: NO_FUSIONS,
+        },
     };
     assert!(rt; did == Ok(done));
     assert!(rt; read == Ok((1_000_000_999, 1_000_003_001)));
@@ -92,6 +119,19 @@ fn what_is_refused_is_counted(rt: HostRuntime) -> Result<(), Fail> {
         done: 2,
         published: 1,
         refused: 6,
+        tally: Tally {
+            polls: 2,
+            taken: 1,
+            packets: RefusedPackets {
+                bad_message: 4,
+                not_outstanding: 1,
+                ..NO_PACKETS
+            },
+            fusions: RefusedFusions {
+                unknown: 1,
+                ..NO_FUSIONS
+            },
+        },
     };
     assert!(rt; did == Ok(done));
     Ok(())

@@ -9,6 +9,7 @@ use Rattle.tt_daemon.specs.Config.{Configuration}
 use Rattle.tt_daemon.specs.Daemon.{new_daemon}
 use Rattle.tt_node.specs.Link.{Went, Came}
 use Rattle.tt_node.specs.Course.{Given, Stand, ◌>>=◌, each_below, next_reading, next_gift, send, receive, put_table, send_polled, poll_at, poll_all, put_taken, take_at, take_next, turn, count_refusal, publish, publish_fused, fuse_at, round_of, rounds_of}
+use Rattle.tt_node.specs.Tallies.{no_tally}
 use Rattle.tt_world.specs.Assumptions.{false_count}
 use Rattle.tt_world.specs.Life.{Life}
 use Rattle.tt_world.specs.declared.events.Event.{Event}
@@ -63,7 +64,7 @@ none_false = refl
 
 -- the course of one round of one turn, by a new daemon
 abbrev pub begin : Stand
-begin = record { daemon = new_daemon 0 one 1; published = []; exchanges = []; refused = 0 }
+begin = record { daemon = new_daemon 0 one 1; published = []; exchanges = []; tally = no_tally }
 
 abbrev pub given : Given
 given = record { readings = Some 100 ∷ Some 110 ∷ Some 111 ∷ []; gifts = Went ∷ Came (record { peer = 0; bytes = bytes }) ∷ []; grants = true ∷ [] }

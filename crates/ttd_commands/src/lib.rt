@@ -26,12 +26,13 @@
 //!
 //! - `program`: the program over any devices.
 //! - `input` reads, `output` writes; `ending` has the statuses and `faults` the refusals.
-//! - `places`: where an input is refused, for standard error; `certificate_places`: where a certificate is.
+//! - For standard error: `causes`, why `live` gave no reading; `places`, where an input is refused, `certificate_places`, where a certificate is.
 //! - `age`, `fuse`, `check`, `running`, `tracing`, `twinning`, `picturing`, `living` and `judging`: the commands. `spans_text`: the text that
 //!   `fuse` and `check` read; `scripts`: that of a script.
 #![tactic(auto)]
 
 mod age;
+mod causes;
 mod certificate_places;
 mod check;
 mod ending;

@@ -7,6 +7,7 @@ ghost use Rattle.ttd_commands.specs.Answer.{answer_in};
 ghost use Rattle.ttd_commands.specs.Command.{HasReply};
 ghost use Rattle.ttd_commands.specs.Living.{IsLiveReply, TellsLive, report_answer};
 
+use crate::causes::note_causes;
 use crate::ending::CommandOutput;
 use crate::faults::Fault;
 use crate::scripts::script_from;
@@ -25,32 +26,35 @@ use ttd_cli::{Asked, Command};
 ///
 /// Refuses, in this order, with 1603 `BadInput` what is not UTF-8; with 1301 to 1305 what is no script; with 1302 a
 /// script without a part for a run in threads; with 1303 one whose part does not fit its machine; and then as the run
-/// does.
+/// does. The notes gain why a run gave no reading, or its daemon published nothing.
 pub(crate) fn live_reply<
     H: Threads + Wait + Clock + Sync + Net<Listener = TcpListener, Stream = TcpStream>,
->(rt: &H, alloc: Global, input: &[u8]) -> Result<CommandOutput, Fault>
+>(rt: &H, alloc: Global, input: &[u8], notes: &mut String) -> Result<CommandOutput, Fault>
     ensures value { HasReply answer_in (IsLiveReply input.now) result }
     ensures no_device { result ≢ Err Fault.ReadFailed }
 {
     match script_from(alloc, input) {
-        Ok(script) => lived(rt, alloc, &script),
+        Ok(script) => lived(rt, alloc, &script, notes),
         Err(fault) => Err(fault),
     }
 }
 
-/// The report on the run of a script's machine in threads.
+/// The report on the run of a script's machine in threads. The notes gain why there is little to report.
 fn lived<H: Threads + Wait + Clock + Sync + Net<Listener = TcpListener, Stream = TcpStream>>(
     rt: &H,
     alloc: Global,
     script: &Script,
+    notes: &mut String,
 ) -> Result<CommandOutput, Fault>
     ensures value { HasReply answer_in (TellsLive script.now) result }
     ensures no_device { result ≢ Err Fault.ReadFailed }
 {
-    let report = match live(rt, alloc, script) {
-        Ok(report) => report,
+    let end = match live(rt, alloc, script) {
+        Ok(end) => end,
         Err(fault) => return Err(Fault::Live(fault)),
     };
+    note_causes(notes, &end);
+    let report = end.report;
     let Ok(text) = report_text(alloc, &report) else {
         return Err(Fault::Memory);
     };

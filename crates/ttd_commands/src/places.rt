@@ -23,32 +23,12 @@ pub(crate) fn note(
     reply: &Result<CommandOutput, Fault>,
 ) {
     let _ = match command {
-        Command::Run | Command::Trace | Command::Twin { .. } | Command::Picture => {
-            note_script(alloc, notes, input, reply)
-        }
-        Command::Live => note_live(alloc, notes, input, reply),
+        Command::Run | Command::Trace | Command::Twin { .. } | Command::Picture | Command::Live =>
+            note_script(alloc, notes, input, reply),
         Command::Fuse => note_spans(notes, input, reply),
         Command::Check => note_check(alloc, notes, input, reply),
         Command::Age { .. } | Command::Judge => Ok(()),
     };
-}
-
-/// Adds what is noted of a script, and that its run in threads gave no reading, where it gave none.
-fn note_live(
-    alloc: Global,
-    notes: &mut String,
-    input: &[u8],
-    reply: &Result<CommandOutput, Fault>,
-) -> Result<(), AllocError> {
-    note_script(alloc, notes, input, reply)?;
-    match reply {
-        Ok(CommandOutput::Fine(text)) if text.as_str().starts_with("readings 0\n") => {
-            notes.push_str(
-                "ttd: no worker gave a reading: no line asked for one, or each was refused\n",
-            )
-        }
-        _ => Ok(()),
-    }
 }
 
 /// Adds where a script is refused, and its keys that no rule names.

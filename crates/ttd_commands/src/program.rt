@@ -125,7 +125,7 @@ fn live_command_reply<
 {
     let bytes = read_input(alloc, input, MOST_INPUT)?;
     let text = bytes.as_slice();
-    let reply = live_reply(rt, alloc, text);
+    let reply = live_reply(rt, alloc, text, notes);
     note(alloc, notes, &Command::Live, text, &reply);
     reply
 }

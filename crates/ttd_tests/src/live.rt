@@ -8,7 +8,7 @@ use std::thread::Threads;
 use std::time::Clock;
 use tt_live::LiveFault;
 use tt_stream::{MemoryReader, MemoryWriter};
-use ttd_commands::{Fault, Status, explain, live_with, main_with};
+use ttd_commands::{Fault, Status, answer_live, explain, live_with, main_with};
 
 /// A machine of three sources, one of which may be false and is, and two workers.
 pub(crate) const TWO_SESSIONS: &str = r#"
@@ -54,6 +54,24 @@ uncertainty = 1000
 acts = ["ahead 100000000000"]
 "#;
 
+/// A machine whose one source never answers, and whose client asks for no reading.
+const SILENT: &str = r#"
+[[machine]]
+sources = 1
+faulty = 0
+workers = 1
+
+[live]
+base = 1000000000000
+rounds = 3
+turns = 2
+sessions = [["what"]]
+
+[[live.masters]]
+uncertainty = 1000
+acts = ["silent"]
+"#;
+
 /// Runs the command, and says whether this is how it ends and what it writes.
 fn writes<H: Threads + Wait + Clock + Sync + Net<Listener = TcpListener, Stream = TcpStream>>(
     rt: &H,
@@ -89,6 +107,20 @@ fn a_wrong_reading_is_a_status_of_its_own(rt: HostRuntime) {
             told
         )
     );
+}
+
+#[test]
+fn a_run_without_a_reading_says_what_was_refused(rt: HostRuntime) {
+    let alloc = rt.alloc();
+    let mut reader = MemoryReader::new(SILENT.as_bytes(), 4096, None);
+    let mut writer = MemoryWriter::new(alloc, 4096, None);
+    let mut notes = String::new(alloc);
+    let ended = answer_live(&rt, alloc, &["live"], &mut reader, &mut writer, &mut notes);
+    assert!(rt; ended.status == Status::Fine);
+    assert!(rt; writer.taken() == b"readings 0\nwrong 0\n".as_slice());
+    let told =
+        "ttd: no worker gave a reading: no line asked for one, or each was refused\nttd: rounds 3, polls sent 3, answers taken 0, fusions published 0\nttd: fusions refused by 701 (too few sources have made a statement): 3\n";
+    assert!(rt; notes.as_str() == told);
 }
 
 #[test]

@@ -46,7 +46,7 @@ fn large_script(alloc: Global) -> Result<String, AllocError> {
 fn many_sessions_read_the_time(rt: HostRuntime) -> Result<(), Fail> {
     let text = large_script(rt.alloc())?;
     let script = read(rt.alloc(), text.as_str())?;
-    let report = live(&rt, rt.alloc(), &script)?;
+    let report = live(&rt, rt.alloc(), &script)?.report;
     let readings = LiveReport {
         readings: 1_600,
         wrong: 0,

@@ -9,8 +9,7 @@ loop-init g c = record {
   course = λ items. Makes-done g.C.Clock.gives g.L.Link.does _ _ _ _ (each-none _ _);
   link = refl;
   clock = refl;
-  done = refl;
-  published = refl;
+  polls = refl;
   few = omega arith;
 }
 
@@ -26,8 +25,7 @@ loop-preserved g c = record {
   course = λ items. Makes-more g.C.Clock.gives g.L.Link.does _ _ _ _ _ _ _ _ _ _ _ _ (c.loop.invariant.course items) (c.in_ok-turn.ensures.course items);
   link = not_failed _ _ _ _ c.in_ok-turn.ensures.link_fails ∙ c.loop.invariant.link;
   clock = not_failed _ _ _ _ c.in_ok-turn.ensures.clock_fails ∙ c.loop.invariant.clock;
-  done = c.in_ok-turn.ensures.done ∙ c.loop.invariant.done;
-  published = c.in_ok-turn.ensures.published ∙ c.loop.invariant.published;
+  polls = c.in_ok-turn.ensures.polls ∙ c.loop.invariant.polls;
   few = omega (arith, c.in_ok-turn.ensures.few, c.loop.invariant.few);
 }
 

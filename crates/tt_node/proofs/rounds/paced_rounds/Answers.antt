@@ -1,6 +1,7 @@
-use Rattle.std.proofs.Common.{◌≡◌, ◌+◌, ◌∙◌, inl, inr, true, false, Ok, Err, rules, tests, arith, refl, sym, subst}
+use Rattle.std.proofs.Common.{◌≡◌, ◌+◌, ◌∙◌, inl, inr, true, false, Ok, Err, rules, tests, arith, refl, sym, ap, subst}
 use Rattle.tt_node.specs.Fusing.{Grows, fusions_in}
 use Rattle.tt_node.specs.Course.{round_of}
+use Rattle.tt_node.specs.Tallies.{refused_in, counted_in}
 use Rattle.tt_node.specs.Making.{Makes, stand_of}
 use Rattle.std.proofs.lemmas.Result.{err_from_is_err_and}
 use Rattle.std.proofs.lemmas.Grind.{common_steps}
@@ -12,14 +13,16 @@ use Rattle.tt_node.proofs.rounds.paced_rounds.Goals as goal
 
 pub loop-init : goal.loop-init
 loop-init g c = record {
-  course = rounds-none g.C.Clock.gives g.L.Link.does _ _ _ _ _ _ c.requires.refused;
+  course = rounds-none g.C.Clock.gives g.L.Link.does _ _ _ _ _ _ c.requires.tally;
   paced = refl;
   grew = subst (λ n. Grows c.args.teller.now.items c.args.teller.now.items 0 n) (sym c.requires.published) (Grows-none c.args.teller.now.items 0);
   link = refl;
   clock = refl;
   done = c.requires.done;
   source = refl;
-  few = omega (arith, c.requires.refused);
+  whole = c.requires.refused ∙ sym (ap refused_in c.requires.tally);
+  polls = omega (arith, ap (λ t. t.polls) c.requires.tally);
+  few = omega (arith, ap counted_in c.requires.tally);
   fewer = omega (arith, c.requires.published);
 }
 
@@ -30,7 +33,7 @@ returns-in_err-round-clause-course g c =
     rw e (
       c.loop.counter + 1,
       rounds-all g.C.Clock.gives g.L.Link.does (c.loop.counter + 1) (c.loop.counter + 1) _ _ _ _ _ _ _ _ refl
-          (Makes-more g.C.Clock.gives g.L.Link.does _ _ _ _ _ _ _ _ _ _ _ _ c.loop.invariant.course (subst (λ d. Makes g.C.Clock.gives g.L.Link.does (round_of c.args.turns) c.loop.clock c.round.new.clock c.loop.link c.round.new.link (stand_of d (fusions_in c.loop.teller.items) c.loop.counts.refused) (stand_of c.round.new.daemon (fusions_in c.round.new.teller.items) c.round.new.counts.refused) (Err c.in_err-round.field-0.0)) c.goes_on.ensures.same c.in_err-round.ensures.course)),
+          (Makes-more g.C.Clock.gives g.L.Link.does _ _ _ _ _ _ _ _ _ _ _ _ c.loop.invariant.course (subst (λ d. Makes g.C.Clock.gives g.L.Link.does (round_of c.args.turns) c.loop.clock c.round.new.clock c.loop.link c.round.new.link (stand_of d (fusions_in c.loop.teller.items) c.loop.counts.tally) (stand_of c.round.new.daemon (fusions_in c.round.new.teller.items) c.round.new.counts.tally) (Err c.in_err-round.field-0.0)) c.goes_on.ensures.same c.in_err-round.ensures.course)),
       tt,
       Lets-more g.P.Pace.says _ _ _ _ _ _ c.loop.invariant.paced c.loop.invariant.done c.goes_on.ensures.said (search (rules, tests)),
     )
@@ -40,13 +43,15 @@ returns-in_err-round-clause-grew g c = Grows-then _ _ _ _ _ _ c.loop.invariant.g
 
 pub loop-preserved : goal.loop-preserved
 loop-preserved g c = record {
-  course = Makes-more g.C.Clock.gives g.L.Link.does _ _ _ _ _ _ _ _ _ _ _ _ c.loop.invariant.course (subst (λ d. Makes g.C.Clock.gives g.L.Link.does (round_of c.args.turns) c.loop.clock c.round.new.clock c.loop.link c.round.new.link (stand_of d (fusions_in c.loop.teller.items) c.loop.counts.refused) (stand_of c.round.new.daemon (fusions_in c.round.new.teller.items) c.round.new.counts.refused) (Ok c.in_ok-round.field-0)) c.goes_on.ensures.same c.in_ok-round.ensures.course);
+  course = Makes-more g.C.Clock.gives g.L.Link.does _ _ _ _ _ _ _ _ _ _ _ _ c.loop.invariant.course (subst (λ d. Makes g.C.Clock.gives g.L.Link.does (round_of c.args.turns) c.loop.clock c.round.new.clock c.loop.link c.round.new.link (stand_of d (fusions_in c.loop.teller.items) c.loop.counts.tally) (stand_of c.round.new.daemon (fusions_in c.round.new.teller.items) c.round.new.counts.tally) (Ok c.in_ok-round.field-0)) c.goes_on.ensures.same c.in_ok-round.ensures.course);
   paced = Lets-more g.P.Pace.says _ _ _ _ _ _ c.loop.invariant.paced c.loop.invariant.done c.goes_on.ensures.said (search (rules, tests));
   grew = Grows-then _ _ _ _ _ _ c.loop.invariant.grew c.in_ok-round.ensures.grew;
   link = not_failed _ _ _ _ c.in_ok-round.ensures.link_fails ∙ c.loop.invariant.link;
   clock = not_failed _ _ _ _ c.in_ok-round.ensures.clock_fails ∙ c.loop.invariant.clock;
   done = omega (arith, c.in_ok-round.ensures.done, c.loop.invariant.done);
   source = c.in_ok-round.ensures.source ∙ c.loop.invariant.source;
+  whole = c.refused-counts.ensures;
+  polls = omega (arith, c.in_ok-round.ensures.polls, c.loop.invariant.polls);
   few = grind (arith, common_steps, c.in_ok-round.ensures.few, c.loop.invariant.few);
   fewer = omega (arith, c.in_ok-round.ensures.fewer, c.loop.invariant.fewer);
 }

@@ -2,6 +2,7 @@
 use Rattle.std.proofs.Common.{◌≡◌, ◌+◌, ◌*◌, ◌≤◌, Ok}
 use Rattle.tt_node.specs.Fusing.{fusions_in, Grows}
 use Rattle.tt_node.specs.Course.{each_below, round_of}
+use Rattle.tt_node.specs.Tallies.{no_tally, refused_in, counted_in}
 use Rattle.tt_node.specs.Making.{Makes, stand_of}
 use Rattle.tt_node.specs.Pacing.{LetsBegin}
 use Rattle.tt_node.proofs.rounds.paced_rounds.Given as goal
@@ -10,13 +11,15 @@ abbrev pub invariant-loop : goal.invariant-loop
 invariant-loop g l =
     record {
       course : Makes g.C.Clock.gives g.L.Link.does (each_below l.counter (λ _. round_of l.fn.turns)) l.initial.clock l.clock l.initial.link l.link
-          (stand_of l.initial.daemon (fusions_in l.initial.teller.items) 0) (stand_of l.daemon (fusions_in l.teller.items) l.counts.refused) (Ok tt);
+          (stand_of l.initial.daemon (fusions_in l.initial.teller.items) no_tally) (stand_of l.daemon (fusions_in l.teller.items) l.counts.tally) (Ok tt);
       paced : LetsBegin g.P.Pace.says l.initial.pace l.counter l.pace;
       grew : Grows l.initial.teller.items l.teller.items 0 l.counts.published;
       link : g.L.Link.failed l.link ≡ g.L.Link.failed l.initial.link;
       clock : g.C.Clock.failed l.clock ≡ g.C.Clock.failed l.initial.clock;
       done : l.counts.done ≡ l.counter;
       source : l.teller.source ≡ l.initial.teller.source;
-      few : l.counts.refused ≤ l.counter * (l.fn.turns + 1);
+      whole : l.counts.refused ≡ refused_in l.counts.tally;
+      polls : l.counts.tally.polls ≤ l.counter * 255;
+      few : counted_in l.counts.tally ≤ l.counter * (l.fn.turns + 1);
       fewer : l.counts.published ≤ l.counter;
     }

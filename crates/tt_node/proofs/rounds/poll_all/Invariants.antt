@@ -1,14 +1,17 @@
--- The sources so far were polled, and the link did not fail.
-use Rattle.std.proofs.Common.{◌≡◌, ℕ, List, Ok}
+-- The sources so far were polled, which was counted, and the link did not fail.
+use Rattle.std.proofs.Common.{◌≡◌, ◌+◌, ◌≤◌, List, Ok}
 use Rattle.tt_node.specs.Fusing.{Fusion}
 use Rattle.tt_node.specs.Course.{each_below, poll_at}
+use Rattle.tt_node.specs.Tallies.{counted_in}
 use Rattle.tt_node.specs.Making.{MakesByLink, stand_of}
 use Rattle.tt_node.proofs.rounds.poll_all.Given as goal
 
 abbrev pub invariant-loop-source : goal.invariant-loop-source
 invariant-loop-source g l =
     record {
-      course : (items : List Fusion) (refused : ℕ) → MakesByLink g.L.Link.does (each_below l.source (poll_at l.clock)) l.initial.link l.link
-          (stand_of l.initial.daemon items refused) (stand_of l.daemon items refused) (Ok tt);
+      course : (items : List Fusion) → MakesByLink g.L.Link.does (each_below l.source (poll_at l.clock)) l.initial.link l.link
+          (stand_of l.initial.daemon items l.initial.tally) (stand_of l.daemon items l.tally) (Ok tt);
+      few : l.tally.polls ≤ l.initial.tally.polls + l.source;
+      counted : counted_in l.tally ≡ counted_in l.initial.tally;
       sound : g.L.Link.failed l.link ≡ g.L.Link.failed l.initial.link;
     }

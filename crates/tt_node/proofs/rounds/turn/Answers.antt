@@ -26,7 +26,7 @@ returns-in-Ok-clause-course g c = λ items.
 
 pub returns-in-Err-clause-course : goal.returns-in-Err-clause-course
 returns-in-Err-clause-course g c = λ items.
-    turn-refused g.C.Clock.gives g.L.Link.does _ _ _ _ _ _ items _ _ _ _ (rw c.in-Some.is at c.in_ok-source.ensures.did) c.in_ok-now.ensures.gave c.in-Err.ensures.refused c.in-Err.ensures.unchanged
+    rw c.refuse_packet.ensures (turn-refused g.C.Clock.gives g.L.Link.does _ _ _ _ _ _ items _ _ _ _ (rw c.in-Some.is at c.in_ok-source.ensures.did) c.in_ok-now.ensures.gave c.in-Err.ensures.refused c.in-Err.ensures.unchanged)
 
 pub returns-in_err-source-clause-rounds_fault : goal.returns-in_err-source-clause-rounds_fault
 returns-in_err-source-clause-rounds_fault g c =
