@@ -6,8 +6,7 @@ use Rattle.atomic_table.specs.Seated.{TableId}
 use Rattle.tt_span.specs.Interval.{Interval}
 use Rattle.tt_publish.specs.declared.faults.ReadFault.{ReadFault}
 use Rattle.tt_session.specs.Conversation.{Conversation}
-use Rattle.tt_session.specs.Session.{Session, Serves, Breaks}
-use Rattle.tt_session.specs.declared.begun.Begun.{Begun}
+use Rattle.tt_session.specs.Session.{Serves, Breaks}
 use Rattle.tt_session.specs.declared.calls.Call.{Call}
 use Rattle.tt_session.specs.declared.calls.Call.TheVariants as call
 use Rattle.tt_session.specs.declared.faults.ServeFault.{ServeFault}
@@ -23,7 +22,7 @@ use Rattle.tt_stamp.specs.declared.stampings.Stamping.{Stamping}
 use Rattle.tt_stamp.proofs.Runs.{entries_of-within, AreAmong-append_left, AreAmong-append_right}
 use Rattle.tt_stamp.proofs.Seats.{Continues-trans}
 use Rattle.tt_node.specs.Sharing.{AllFrom, AllDown, IsNewSeat, IsLater, IsServed, ServesWith, HasPart, HasShare, IsServing, ServesAt, SharesSequencer}
-use Rattle.tt_node.specs.Working.{WorkerState, PassesGate, DoesWhere, Allows, after_asking, with_gate}
+use Rattle.tt_node.specs.Working.{WorkerState, PassesGate, DoesWhere, Allows, after_asking}
 use Rattle.tt_node.specs.declared.nodes.ServesSession.{ServesSession}
 use Rattle.tt_node.specs.declared.nodes.WorkerEnd.{WorkerEnd}
 
@@ -74,9 +73,11 @@ started-next Serves table count old new seat session handles handle is at counts
     let popped = seat-popped table count old new seat is all in
     let longer : length old ≡ length new + 1 = ap length is ∙ length-append new (seat ∷ []) in
     let place : session ≡ count - 1 - length handles = omega (arith, at, counts, longer) in
-    let of_it : seat ≡ new_seat table count session = popped.1 ∙ ap (λ n. new_seat table count n) (sym at) in
-    (popped.0, AllDown-snoc (λ number h. Serves number (new_seat table count number) h) count handles handle each
-        (subst (λ n. Serves n (new_seat table count n) handle) place (subst (λ s. Serves session s handle) of_it serves)))
+    let of_it : seat ≡ new_seat table count session = popped.1 ∙ ap (λ n. new_seat table count n) (sym at) in (
+      popped.0,
+      AllDown-snoc (λ number h. Serves number (new_seat table count number) h) count handles handle each
+          (subst (λ n. Serves n (new_seat table count n) handle) place (subst (λ s. Serves session s handle) of_it serves)),
+    )
 
 -- the seats of a new sequencer
 pub opened-seats : (table : TableId) (count : ℕ) (seats : List SeatState) → seats ≡ map (new_seat table count) (range_with_len 0 count) → (length seats ≡ count) × AllFrom (IsNewSeat table count) 0 seats
@@ -224,7 +225,7 @@ module _ {C G : Type 0} (gives : C → Option ℕ → C → Type 0) (failed : C 
       → AllDown (λ k h. ServesAt table seats gate waits lease k (promise h)) seats old
       → (let p = promise handle in ServesWith gives failed says hears p.waits p.session p.gate.value p.lease p.clock.value p.seat.value end)
       → AllDown (λ k h. ServesAt table seats gate waits lease k (promise h)) seats new
-          × (let p = promise handle in ServesWith gives failed says hears waits number gate lease p.clock.value (new_seat table seats number) end)
+      × (let p = promise handle in ServesWith gives failed says hears waits number gate lease p.clock.value (new_seat table seats number) end)
   taken-serves promise old new handle number end is count each serves =
       let (front, last) = AllDown-unsnoc (λ k h. ServesAt table seats gate waits lease k (promise h)) seats new handle (subst (λ hs. AllDown (λ k h. ServesAt table seats gate waits lease k (promise h)) seats hs) is each) in
       let place : seats - 1 - length new ≡ number = omega (arith, count) in

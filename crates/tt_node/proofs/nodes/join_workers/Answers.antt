@@ -1,4 +1,4 @@
-use Rattle.std.proofs.Common.{◌≡◌, ℕ, ◌+◌, ◌-◌, ◌∷◌, [], length, vec_len, rules, sym, ap, ◌∙◌, subst, arith}
+use Rattle.std.proofs.Common.{◌≡◌, ◌+◌, length, vec_len, rules, sym, ap, ◌∙◌, arith}
 use Rattle.std.specs.declared.thread.PromisedHandle.{PromisedHandle}
 use Rattle.tt_stamp.specs.declared.sequencers.Seat.{Seat}
 use Rattle.tt_node.specs.declared.nodes.ServesSession.{ServesSession}
@@ -13,7 +13,7 @@ loop-init g c =
     let handle = c.in_ok-pop.field-0 in
     let count : n ≡ length c.pop.new.self.items + 0 + 1 = first_of (search rules, omega arith) in
     let taken = taken-serves g.C.Clock.gives g.C.Clock.failed g.G.Gate.says g.G.Gate.hears c.args._limits.now.serve.waits c.args._gate.now c.args._limits.now.lease c.args.sequencer.now n
-        promise c.args.handles.items c.pop.new.self.items handle 0 c.join-end.result.0 c.in_ok-pop.ensures.items count c.requires.each c.join-end.ensures.1 in
+    promise c.args.handles.items c.pop.new.self.items handle 0 c.join-end.result.0 c.in_ok-pop.ensures.items count c.requires.each c.join-end.ensures.1 in
     record {
       len = first_of (search rules, omega arith);
       left = first_of (search rules, omega arith);
@@ -21,7 +21,7 @@ loop-init g c =
       each = taken.0;
       joined = rw c.push_reserved.ensures.items (rw c.requires.none
           (joined-first g.C.Clock.gives g.C.Clock.failed g.G.Gate.says g.G.Gate.hears c.args._limits.now.serve.waits c.args._gate.now c.args._limits.now.lease c.args.sequencer.now n
-              handle.promise.clock.value c.join-end.result.0 c.join-end.result.1 taken.1 c.join-end.ensures.0 c.laws.ensures.legal c.laws.ensures.mine));
+          handle.promise.clock.value c.join-end.result.0 c.join-end.result.1 taken.1 c.join-end.ensures.0 c.laws.ensures.legal c.laws.ensures.mine));
     }
 
 pub join-all-requires-clause-second : goal.join-all-requires-clause-second
@@ -30,7 +30,7 @@ join-all-requires-clause-second g c =
     let n = vec_len c.args.handles in
     let count : n ≡ length c.pop-in-loop.new.self.items + length c.loop.ends.items + 1 = first_of (search rules, omega arith) in
     let taken = taken-serves g.C.Clock.gives g.C.Clock.failed g.G.Gate.says g.G.Gate.hears c.args._limits.now.serve.waits c.args._gate.now c.args._limits.now.lease c.args.sequencer.now n
-        promise c.loop.handles.items c.pop-in-loop.new.self.items c.in-Some.handle (length c.loop.ends.items) c.join-end-in-loop.result.0 c.in-Some.ensures.items count c.loop.invariant.each c.join-end-in-loop.ensures.1 in
+    promise c.loop.handles.items c.pop-in-loop.new.self.items c.in-Some.handle (length c.loop.ends.items) c.join-end-in-loop.result.0 c.in-Some.ensures.items count c.loop.invariant.each c.join-end-in-loop.ensures.1 in
     sym (ap (λ s. s.table) c.join-end-in-loop.ensures.0) ∙ taken.1.later.table
 
 pub loop-preserved : goal.loop-preserved
@@ -40,7 +40,7 @@ loop-preserved g c =
     let handle = c.in-Some.handle in
     let count : n ≡ length c.pop-in-loop.new.self.items + length c.loop.ends.items + 1 = first_of (search rules, omega arith) in
     let taken = taken-serves g.C.Clock.gives g.C.Clock.failed g.G.Gate.says g.G.Gate.hears c.args._limits.now.serve.waits c.args._gate.now c.args._limits.now.lease c.args.sequencer.now n
-        promise c.loop.handles.items c.pop-in-loop.new.self.items handle (length c.loop.ends.items) c.join-end-in-loop.result.0 c.in-Some.ensures.items count c.loop.invariant.each c.join-end-in-loop.ensures.1 in
+    promise c.loop.handles.items c.pop-in-loop.new.self.items handle (length c.loop.ends.items) c.join-end-in-loop.result.0 c.in-Some.ensures.items count c.loop.invariant.each c.join-end-in-loop.ensures.1 in
     record {
       len = first_of (search rules, omega arith);
       left = first_of (search rules, omega arith);

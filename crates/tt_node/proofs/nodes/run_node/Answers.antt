@@ -8,7 +8,7 @@ pub scoped-ended-requires : goal.scoped-ended-requires
 scoped-ended-requires g c =
     let some : 0 < vec_len c.args.streams = first_of (omega arith, search rules) in
     let opened : c.in-Ok.seats.items ≡ map (new_seat c.in-Ok.sequencer (vec_len c.args.streams)) (range_with_len 0 (vec_len c.args.streams)) =
-        subst (λ k. c.in-Ok.seats.items ≡ map (new_seat c.in-Ok.sequencer k) (range_with_len 0 k)) c.len-3.ensures c.in-Ok.ensures.opened in
+    subst (λ k. c.in-Ok.seats.items ≡ map (new_seat c.in-Ok.sequencer k) (range_with_len 0 k)) c.len-3.ensures c.in-Ok.ensures.opened in
     let seats = opened-seats c.in-Ok.sequencer (vec_len c.args.streams) c.in-Ok.seats.items opened in
     let count : vec_len c.in-Ok.seats ≡ vec_len c.args.streams = first_of (omega (arith, seats.0), search (rules, seats.0)) in
     record {

@@ -15,13 +15,13 @@ start-requires-clause-of_it g c κs within =
 pub loop-preserved : goal.loop-preserved
 loop-preserved g c =
     let Serves : ℕ → SeatState → PromisedHandle (WorkerEnd × Seat) (ServesSession g.row.C.Denot g.row.G.Denot) → Type 0 =
-        λ number seat handle. IsServing c.args.gate.now c.args.limits.now.serve.waits c.args.limits.now.lease number seat handle.promise in
+    λ number seat handle. IsServing c.args.gate.now c.args.limits.now.serve.waits c.args.limits.now.lease number seat handle.promise in
     let old = c.loop.seats.items in
     let new = c.pop-in-loop.new.self.items in
     let session : c.in-Ok.session ≡ length new = search rules in
     let count : length old + length c.loop.handles.items ≡ vec_len c.args.streams = search rules in
     let next = started-next Serves c.args.sequencer.now (vec_len c.args.streams) old new c.in-Some-Some-Some.seat c.in-Ok.session c.loop.handles.items c.in-Some-start.handle
-        c.in-Some-Some-Some.ensures.items session count c.loop.invariant.new c.loop.invariant.each c.in-Some-start.ensures.promise in
+    c.in-Some-Some-Some.ensures.items session count c.loop.invariant.new c.loop.invariant.each c.in-Some-start.ensures.promise in
     record {
       len = first_of (search rules, omega arith);
       room = first_of (search rules, omega arith);

@@ -9,7 +9,7 @@ returns-clause-serves g c =
     let before = c.new-worker.result in
     let after = c.serve-served.new.service in
     let (calls, talked, served) = talked-by (Allows g.C.Clock.gives g.C.Clock.failed g.G.Gate.says g.G.Gate.hears) c.args.limits.now.serve.waits _ _ _ _ before after c.serve-served.result
-        c.serve-served.ensures.served c.serve-served.ensures.read_failed c.serve-served.ensures.write_failed in
+    c.serve-served.ensures.served c.serve-served.ensures.read_failed c.serve-served.ensures.write_failed in
     let seat = c.of.ensures ∙ c.into_parts-notes.ensures.seat in
     record {
       watch = c.args.watch;
