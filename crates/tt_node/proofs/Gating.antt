@@ -1,5 +1,5 @@
 -- How often a gate says no.
-use Rattle.std.proofs.Common.{◌≡◌, ℕ, ◌+◌, Bool, true, false, refl, subst, add-one}
+use Rattle.std.proofs.Common.{◌≡◌, ℕ, ◌+◌, Bool, false, refl, subst, add-one}
 use Rattle.tt_node.specs.Gating.{SaysNo}
 
 -- it was not asked

@@ -1,5 +1,5 @@
 -- How a pace lets rounds begin.
-use Rattle.std.proofs.Common.{◌≡◌, ◌↔◌, ℕ, zero, suc, ◌+◌, ◌<◌, ◌≤◌, ◌⊎◌, inl, inr, Bool, true, false, IsTrue, List, Option, Result, Ok, Err, IfOk, OnErr, refl, sym, ◌∙◌, subst, arith, add-one}
+use Rattle.std.proofs.Common.{◌≡◌, ◌↔◌, ℕ, zero, suc, ◌+◌, ◌<◌, ◌≤◌, inl, inr, Bool, true, false, IsTrue, List, Option, Result, Ok, Err, IfOk, OnErr, refl, sym, ◌∙◌, subst, arith, add-one}
 use Rattle.tt_node.specs.Link.{Call, Gift, Exchange}
 use Rattle.tt_node.specs.Course.{Stand, each_below, round_of, rounds_of}
 use Rattle.tt_node.specs.Tallies.{refused_in}

@@ -1,8 +1,8 @@
 -- The first rounds of a daemon.
-use Rattle.std.proofs.Common.{◌≡◌, ◌≤◌, ◌+◌, ℕ, List, [], ◌++◌, length, All, Option, Result, Ok, Err, IfOk, IfErr, refl, sym, ap, ◌∙◌, subst, arith}
+use Rattle.std.proofs.Common.{◌≡◌, ◌≤◌, ◌+◌, ℕ, List, [], ◌++◌, length, All, Option, Result, Ok, Err, IfOk, IfErr, sym, ap, ◌∙◌, subst, arith}
 use Rattle.tt_daemon.specs.Daemon.{DaemonState}
 use Rattle.tt_daemon.specs.Publication.{Publication, IsPublication}
-use Rattle.tt_publish.specs.declared.faults.PublishFault.TheVariants.{ClockBack, UsedUp, Places, Memory}
+use Rattle.tt_publish.specs.declared.faults.PublishFault.TheVariants.{ClockBack, UsedUp, Memory}
 use Rattle.tt_node.specs.Link.{Call, Gift}
 use Rattle.tt_node.specs.Counting.{FailsBy}
 use Rattle.tt_node.specs.Fault.{IsRoundsFault, IsFirstFault}

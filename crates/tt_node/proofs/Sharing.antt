@@ -6,8 +6,7 @@ use Rattle.atomic_table.specs.Seated.{TableId}
 use Rattle.tt_span.specs.Interval.{Interval}
 use Rattle.tt_publish.specs.declared.faults.ReadFault.{ReadFault}
 use Rattle.tt_session.specs.Conversation.{Conversation}
-use Rattle.tt_session.specs.Session.{Session, Serves, Breaks}
-use Rattle.tt_session.specs.declared.begun.Begun.{Begun}
+use Rattle.tt_session.specs.Session.{Serves, Breaks}
 use Rattle.tt_session.specs.declared.calls.Call.{Call}
 use Rattle.tt_session.specs.declared.calls.Call.TheVariants as call
 use Rattle.tt_session.specs.declared.faults.ServeFault.{ServeFault}
@@ -23,7 +22,7 @@ use Rattle.tt_stamp.specs.declared.stampings.Stamping.{Stamping}
 use Rattle.tt_stamp.proofs.Runs.{entries_of-within, AreAmong-append_left, AreAmong-append_right}
 use Rattle.tt_stamp.proofs.Seats.{Continues-trans}
 use Rattle.tt_node.specs.Sharing.{AllFrom, AllDown, IsNewSeat, IsLater, IsServed, ServesWith, HasPart, HasShare, IsServing, ServesAt, SharesSequencer}
-use Rattle.tt_node.specs.Working.{WorkerState, PassesGate, DoesWhere, Allows, after_asking, with_gate}
+use Rattle.tt_node.specs.Working.{WorkerState, PassesGate, DoesWhere, Allows, after_asking}
 use Rattle.tt_node.specs.declared.nodes.ServesSession.{ServesSession}
 use Rattle.tt_node.specs.declared.nodes.WorkerEnd.{WorkerEnd}
 

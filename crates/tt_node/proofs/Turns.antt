@@ -1,5 +1,5 @@
 -- What a master's turns do.
-use Rattle.std.proofs.Common.{◌≡◌, ℕ, ◌+◌, ◌<◌, ◌≤◌, List, Option, Some, None, Result, Ok, Err, IfOk, IfErr, Bool, true, false, refl, sym, ap, subst, arith, add-one}
+use Rattle.std.proofs.Common.{◌≡◌, ℕ, ◌+◌, ◌≤◌, List, Option, Some, None, Result, Ok, Err, IfOk, IfErr, Bool, true, false, refl, ap, arith, add-one}
 use Rattle.tt_span.specs.Interval.{Interval}
 use Rattle.tt_master.specs.Act.{IsTimed, span_played}
 use Rattle.tt_master.specs.Packet.{garbage}

@@ -1,5 +1,5 @@
 -- How the workers of a node share one sequencer: the stamps of all are one legal history.
-use Rattle.std.specs.Prelude.{◌≡◌, ℕ, ◌+◌, ◌-◌, List, [], ◌∷◌, ◌++◌, length, count_by, Bool, Option, None, Result, Ok, Err, IfOk}
+use Rattle.std.specs.Prelude.{◌≡◌, ℕ, ◌+◌, ◌-◌, List, [], ◌∷◌, length, count_by, Bool, Option, None, IfOk}
 use Rattle.atomic_table.specs.Seated.{TableId}
 use Rattle.tt_span.specs.Interval.{Interval}
 use Rattle.tt_publish.specs.Known.{WatchState}

@@ -11,7 +11,7 @@ use Rattle.tt_master.specs.declared.acts.Act.{Act}
 use Rattle.tt_master.specs.declared.acts.Act.TheVariants.{Silent, Garbage, Repeat}
 use Rattle.tt_master.specs.declared.faults.MasterFault.{MasterFault}
 use Rattle.tt_master.specs.declared.faults.MasterFault.TheVariants.{Reference}
-use Rattle.tt_node.specs.Link.{Packet, Call, Send, Receive, Gift, Went, Came, NothingCame, Broke}
+use Rattle.tt_node.specs.Link.{Call, Send, Receive, Gift, Went, Came, NothingCame, Broke}
 use Rattle.tt_node.specs.declared.faults.NodeFault.{NodeFault}
 use Rattle.tt_node.specs.declared.faults.NodeFault.TheVariants.{LinkFailed, ReferenceFailed}
 

@@ -1,4 +1,4 @@
-use Rattle.std.proofs.Common.{◌≡◌, ℕ, ◌+◌, ◌-◌, ◌∷◌, [], length, vec_len, rules, sym, ap, ◌∙◌, subst, arith}
+use Rattle.std.proofs.Common.{◌≡◌, ◌+◌, length, vec_len, rules, sym, ap, ◌∙◌, arith}
 use Rattle.std.specs.declared.thread.PromisedHandle.{PromisedHandle}
 use Rattle.tt_stamp.specs.declared.sequencers.Seat.{Seat}
 use Rattle.tt_node.specs.declared.nodes.ServesSession.{ServesSession}
