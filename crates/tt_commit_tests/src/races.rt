@@ -117,27 +117,30 @@ fn all_threads_draw_each_stamp_once(rt: HostRuntime) -> Result<(), Fail> {
 }
 
 #[test]
-fn a_seat_stamps_as_a_row_does(rt: HostRuntime) -> Result<(), Fail> {
+fn a_seat_gives_the_least_above_all(rt: HostRuntime) -> Result<(), Fail> {
     let (sequencer, mut seats) = Sequencer::open(rt.alloc(), 1)?;
     let mut seat = seats.pop().ok_or("a seat")?;
-    for (latest, floor, end, wanted) in [
-        (0, 0, MAX_TIME, Ok(0)),
-        (0, 0, MAX_TIME, Ok(1)),
-        (100, 0, MAX_TIME, Ok(100)),
-        (100, 0, MAX_TIME, Ok(101)),
-        (100, 500, MAX_TIME, Ok(500)),
-        (100, 0, 501, Ok(501)),
-        (100, 0, 501, Err(StampFault::LeaseOver)),
-        (100, 10_000_000_101, MAX_TIME, Err(StampFault::FloorTooFar)),
-        (100, 10_000_000_100, MAX_TIME, Ok(10_000_000_100)),
-        (MAX_TIME, 0, MAX_TIME, Ok(MAX_TIME)),
-        (MAX_TIME, 0, MAX_TIME, Err(StampFault::UsedUp)),
-        (MAX_TIME, MAX_TIME + 1, MAX_TIME, Err(StampFault::UsedUp)),
-    ] {
-        let (now, lease) = (reading(latest)?, Span::new(0, end)?);
-        let stamped = sequencer.stamp(&rt, &mut seat, &now, floor, &lease);
-        assert!(rt; stamped == wanted, "latest {latest}, floor {floor}");
-    }
+    let (zero, now, whole) = (reading(0)?, reading(100)?, Span::whole());
+    assert!(rt; sequencer.stamp(&rt, &mut seat, &zero, 0, &whole) == Ok(0));
+    assert!(rt; sequencer.stamp(&rt, &mut seat, &zero, 0, &whole) == Ok(1));
+    assert!(rt; sequencer.stamp(&rt, &mut seat, &now, 500, &whole) == Ok(500));
+    assert!(rt; sequencer.stamp(&rt, &mut seat, &now, 0, &whole) == Ok(501));
+    Ok(())
+}
+
+#[test]
+fn a_seat_refuses_as_a_row_does(rt: HostRuntime) -> Result<(), Fail> {
+    let (sequencer, mut seats) = Sequencer::open(rt.alloc(), 1)?;
+    let mut seat = seats.pop().ok_or("a seat")?;
+    let (now, end, whole) = (reading(100)?, reading(MAX_TIME)?, Span::whole());
+    assert!(rt;
+        sequencer.stamp(&rt, &mut seat, &now, 10_000_000_101, &whole)
+            == Err(StampFault::FloorTooFar)
+    );
+    assert!(rt; sequencer.stamp(&rt, &mut seat, &end, 0, &whole) == Ok(MAX_TIME));
+    assert!(rt;
+        sequencer.stamp(&rt, &mut seat, &end, MAX_TIME + 1, &whole) == Err(StampFault::UsedUp)
+    );
     assert!(rt; sequencer.last(&mut seat) == Some(MAX_TIME));
     Ok(())
 }

@@ -80,8 +80,8 @@ fn commits_wait_until_their_stamps_have_passed(rt: HostRuntime) -> Result<(), Fa
         let queued = book.queue(id(0, number), stamp);
         assert!(rt; queued.map_err(|fault| fault.number()) == wanted);
     }
-    for (earliest, released) in [(200, 1), (201, 1), (201, 0)] {
-        let reading = reading(earliest, earliest + 100)?;
+    for (earliest, latest, released) in [(200, 300, 1), (201, 301, 1), (201, 301, 0)] {
+        let reading = reading(earliest, latest)?;
         assert!(rt; book.releasable(&reading) == released);
         assert!(rt; book.release(&reading) == released);
         assert!(rt; book.is_released(id(0, 2)).is_some());
