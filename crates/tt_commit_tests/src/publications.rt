@@ -95,7 +95,7 @@ fn the_last_fusion_is_read(rt: HostRuntime) -> Result<(), Fail> {
     let too_old = fused(1999, 1003, 1020).ok_or("a fusion")?;
     let mut clock = MemoryClock::new(&[2000, 7000, 1999, 2000], None);
     let (mut teller, mut first, mut second) = opened(&rt, rt.alloc(), 200).ok_or("watches")?;
-    assert!(rt; ends(first.now(&mut clock)) == Err(801));
+    assert!(rt; ends(second.now(&mut clock)) == Err(801));
     assert!(rt; teller.publish(&rt, older) == Ok(()));
     assert!(rt; teller.publish(&rt, newer) == Ok(()));
     assert!(rt; teller.publish(&rt, too_old) == Err(PublishFault::ClockBack));
