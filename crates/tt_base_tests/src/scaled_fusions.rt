@@ -125,73 +125,26 @@ fn fuses_what_was_stated(rt: HostRuntime) -> Result<(), Fail> {
     let mut asked = Asked::new(200)?;
     asked.state(0, span(1000, 1000)?, 0, 0)?;
     asked.state(1, span(6000, 6000)?, 5000, 5000)?;
-    assert!(rt; asked.fused(5000, 2, 0)? == Ok((6000, 6000)));
-    assert!(rt; asked.fused(10001, 2, 0)? == Ok((10999, 11003)));
+    for (clock, ends) in [(5000, (6000, 6000)), (10001, (10999, 11003))] {
+        assert!(rt; asked.fused(clock, 2, 0)? == Ok(ends));
+    }
     asked.state(0, span(11000, 11000)?, 10001, 10001)?;
-    assert!(rt; asked.fused(10001, 2, 0)? == Ok((11000, 11000)));
-    assert!(rt; asked.fused(10001, 3, 1)? == Ok((10999, 11003)));
+    for (sources, faulty, wanted) in [
+        (2, 0, Ok((11000, 11000))),
+        (3, 1, Ok((10999, 11003))),
+        (3, 2, Err(503)),
+    ] {
+        assert!(rt; asked.fused(10001, sources, faulty)? == wanted);
+    }
+    Ok(())
+}
 
+#[test]
+fn ages_what_one_source_stated(rt: HostRuntime) -> Result<(), Fail> {
     let mut one = Asked::new(200)?;
     one.state(1, span(1_000_000_000, 1_000_001_000)?, 500, 900)?;
     let aged = (30_994_000_000, 31_006_001_401);
     assert!(rt; one.fused(30_000_000_900, 2, 0)? == Ok(aged));
-    assert!(rt; one.fused(900, 2, 0)? == Ok((1_000_000_000, 1_000_001_401)));
-    Ok(())
-}
-
-#[test]
-fn fuses_up_to_the_greatest_time(rt: HostRuntime) -> Result<(), Fail> {
-    let mut late = Asked::new(0)?;
-    late.state(0, span(MAX_TIME - 10, MAX_TIME)?, 0, 0)?;
-    assert!(rt; late.fused(0, 1, 0)? == Ok((MAX_TIME - 10, MAX_TIME)));
-    assert!(rt; late.fused(100, 1, 0)? == Ok((MAX_TIME, MAX_TIME)));
-    Ok(())
-}
-
-#[test]
-fn a_statement_of_now_is_not_aged(rt: HostRuntime) -> Result<(), Fail> {
-    for ppm in [0, 200, 100_000] {
-        let mut least = Asked::new(ppm)?;
-        least.state(0, span(0, 0)?, MAX_TIME, MAX_TIME)?;
-        assert!(rt; least.fused(MAX_TIME, 1, 0)? == Ok((0, 0)), "drift {ppm}");
-    }
-    Ok(())
-}
-
-#[test]
-fn ages_by_the_greatest_drift(rt: HostRuntime) -> Result<(), Fail> {
-    let mut fast = Asked::new(100_000)?;
-    fast.state(0, span(0, 0)?, 0, 0)?;
-    assert!(rt; fast.fused(10, 1, 0)? == Ok((9, 11)));
-    assert!(rt; fast.fused(11, 1, 0)? == Ok((9, 13)));
-    assert!(rt; fast.fused(MAX_TIME, 1, 0)? == Ok((3_600_000_000_000_000_000, MAX_TIME)));
-    Ok(())
-}
-
-#[test]
-fn fuses_where_nothing_was_stated(rt: HostRuntime) -> Result<(), Fail> {
-    let none = Asked::new(100_000)?;
-    assert!(rt; none.fused(MAX_TIME, 16, 7)? == Ok((0, MAX_TIME)));
-    Ok(())
-}
-
-#[test]
-fn refuses_in_order(rt: HostRuntime) -> Result<(), Fail> {
-    let none = Asked::new(200)?;
-    let mut apart = Asked::new(200)?;
-    for (i, lo) in [(0, 10), (1, 20), (2, 30)] {
-        apart.state(i, span(lo, lo)?, 0, 0)?;
-    }
-    for faulty in [0, 1, 1 << 63, usize::MAX] {
-        assert!(rt; none.fused(0, 0, faulty)? == Err(501));
-        assert!(rt; none.fused(0, 17, faulty)? == Err(502));
-    }
-    for faulty in [2, 1 << 63, usize::MAX] {
-        assert!(rt; apart.fused(0, 3, faulty)? == Err(503));
-    }
-    assert!(rt; apart.fused(0, 3, 0)? == Err(504));
-    assert!(rt; apart.fused(0, 3, 1)? == Err(504));
-    assert!(rt; apart.fused(0, 5, 2)? == Ok((10, 30)));
     Ok(())
 }
 

@@ -28,90 +28,39 @@ impl Write for Broken {
 }
 
 #[test]
-fn an_input_in_pieces_is_read_whole(rt: HostRuntime) -> Result<(), Fail> {
-    let alloc = rt.alloc();
-    let mut reader = MemoryReader::new(b"twelve bytes", 5, None);
+fn an_input_is_read_whole_or_refused(rt: HostRuntime) {
+    let bytes = b"twelve bytes".as_slice();
     // Three reads give 5, 5 and 2 bytes, and the fourth says end.
-    let whole = read_to_end(alloc, &mut reader, 12, 4)?;
-    assert!(rt; whole.as_slice() == b"twelve bytes".as_slice());
-    assert!(rt; reader.failures() == 0);
-    Ok(())
+    for (fails_at, most, reads, wanted) in [
+        (None, 12, 4, None),
+        (None, 11, 100, Some(ReadFault::TooLong)),
+        (None, 12, 3, Some(ReadFault::UsedUp)),
+        (Some(2), 12, 100, Some(ReadFault::Failed)),
+    ] {
+        let mut reader = MemoryReader::new(bytes, 5, fails_at);
+        match read_to_end(rt.alloc(), &mut reader, most, reads) {
+            Ok(whole) => assert!(rt; wanted == None && whole.as_slice() == bytes),
+            Err(fault) => assert!(rt; Some(fault) == wanted),
+        }
+        assert!(rt; (reader.failures() == 1) == (wanted == Some(ReadFault::Failed)));
+    }
 }
 
 #[test]
-fn a_long_input_is_read_whole(rt: HostRuntime) -> Result<(), Fail> {
-    let alloc = rt.alloc();
-    let bytes = vec![in alloc; 7; 10_000]?;
-    let mut reader = MemoryReader::new(bytes.as_slice(), 10_000, None);
-    let whole = read_to_end(alloc, &mut reader, 10_000, 10_001)?;
-    assert!(rt; whole.as_slice() == bytes.as_slice());
-    Ok(())
-}
-
-#[test]
-fn no_input_is_empty(rt: HostRuntime) -> Result<(), Fail> {
-    let mut reader = MemoryReader::new(b"", 5, None);
-    let whole = read_to_end(rt.alloc(), &mut reader, 0, 1)?;
-    assert!(rt; whole.len() == 0);
-    Ok(())
-}
-
-#[test]
-fn a_byte_too_many_is_too_long(rt: HostRuntime) {
-    let mut reader = MemoryReader::new(b"twelve bytes", 5, None);
-    let fault = read_to_end(rt.alloc(), &mut reader, 11, 100).err();
-    assert!(rt; fault == Some(ReadFault::TooLong));
-}
-
-#[test]
-fn reads_are_used_up_before_the_end(rt: HostRuntime) {
-    let mut reader = MemoryReader::new(b"twelve bytes", 5, None);
-    let fault = read_to_end(rt.alloc(), &mut reader, 12, 3).err();
-    assert!(rt; fault == Some(ReadFault::UsedUp));
-    assert!(rt; reader.failures() == 0);
-}
-
-#[test]
-fn a_reader_fails_in_mid_stream(rt: HostRuntime) {
-    let mut reader = MemoryReader::new(b"twelve bytes", 5, Some(2));
-    let fault = read_to_end(rt.alloc(), &mut reader, 12, 100).err();
-    assert!(rt; fault == Some(ReadFault::Failed));
-    assert!(rt; reader.failures() == 1);
-}
-
-#[test]
-fn an_answer_is_written_in_pieces(rt: HostRuntime) -> Result<(), Fail> {
-    let mut writer = MemoryWriter::new(rt.alloc(), 5, None);
-    write_all(&mut writer, b"twelve bytes")?;
-    writer.flush()?;
-    assert!(rt; writer.taken() == b"twelve bytes".as_slice());
-    assert!(rt; writer.failures() == 0);
-    Ok(())
-}
-
-#[test]
-fn a_writer_fails_in_mid_stream(rt: HostRuntime) {
-    let mut writer = MemoryWriter::new(rt.alloc(), 5, Some(3));
-    assert!(rt; write_all(&mut writer, b"twelve bytes") == Err(DeviceFault));
-    assert!(rt; writer.taken() == b"twelve byt".as_slice());
-    assert!(rt; writer.failures() == 1);
-}
-
-#[test]
-fn a_writer_that_takes_nothing_fails(rt: HostRuntime) {
-    let mut writer = MemoryWriter::new(rt.alloc(), 0, None);
-    assert!(rt; write_all(&mut writer, b"a") == Err(DeviceFault));
-    assert!(rt; writer.failures() == 1);
-    assert!(rt; write_all(&mut writer, b"") == Ok(()));
-    assert!(rt; writer.failures() == 1);
-}
-
-#[test]
-fn a_flush_fails(rt: HostRuntime) {
-    let mut writer = MemoryWriter::new(rt.alloc(), 5, Some(1));
-    assert!(rt; writer.flush() == Err(DeviceFault));
-    assert!(rt; writer.flush() == Ok(()));
-    assert!(rt; writer.failures() == 1);
+fn an_answer_is_written_or_refused(rt: HostRuntime) {
+    // A writer that takes nothing fails too, and the fourth call is the flush.
+    for (piece, fails_at, written, flushed, taken) in [
+        (5, None, Ok(()), Ok(()), "twelve bytes"),
+        (5, Some(3), Err(DeviceFault), Ok(()), "twelve byt"),
+        (5, Some(4), Ok(()), Err(DeviceFault), "twelve bytes"),
+        (0, None, Err(DeviceFault), Ok(()), ""),
+    ] {
+        let mut writer = MemoryWriter::new(rt.alloc(), piece, fails_at);
+        assert!(rt; write_all(&mut writer, b"twelve bytes") == written);
+        assert!(rt; writer.flush() == flushed);
+        assert!(rt; writer.taken() == taken.as_bytes());
+        assert!(rt; (writer.failures() == 0) == (written.is_ok() && flushed.is_ok()));
+    }
 }
 
 #[test]
@@ -144,10 +93,7 @@ fn errors_are_counted(rt: HostRuntime) {
     assert!(rt; write_all(&mut broken, b"a") == Err(DeviceFault));
     assert!(rt; ByteWriter::flush(&mut broken) == Err(DeviceFault));
     assert!(rt; ByteWriter::failures(&broken) == 3);
-}
-
-#[test]
-fn a_write_of_none_of_some_bytes_is_counted(rt: HostRuntime) {
+    // A write that takes no byte of some.
     let mut room = [0; 4];
     let mut full = Counted::new(room.as_mut_slice());
     assert!(rt; write_all(&mut full, b"12345") == Err(DeviceFault));

@@ -49,18 +49,11 @@ fn a_time_has_passed_below_the_reading_and_is_to_come_above_it(
     rt: HostRuntime,
 ) -> Result<(), Fail> {
     let reading = Reading::of(Span::new(200, 300)?);
-    assert!(rt; (reading.earliest(), reading.latest()) == (200, 300));
     assert!(rt; (reading.after(199), reading.after(200)) == (true, false));
     assert!(rt; (reading.before(300), reading.before(301)) == (false, true));
-    Ok(())
-}
-
-#[test]
-fn a_fusion_at_the_greatest_time_is_read(rt: HostRuntime) -> Result<(), Fail> {
     let last = fused(0, MAX_TIME - 10, MAX_TIME).ok_or("a fusion")?;
     let drift = Drift::new(0).ok_or("a drift")?;
     assert!(rt; ends(last.read_at(drift, 100)) == Ok((MAX_TIME, MAX_TIME)));
-    assert!(rt; ends(last.read_at(drift, MAX_TIME + 1)) == Err(802));
     Ok(())
 }
 
@@ -94,48 +87,24 @@ fn as_many_watches_as_may_are_opened(rt: HostRuntime) -> Result<(), Fail> {
     Ok(())
 }
 
-// A teller with two publications, a watch that has learned them, and one that has not.
-fn told_one<R: Wait>(rt: &R, alloc: Global) -> Option<(Teller, Watch, Watch)>
-    ensures { IfSome result (λ all. (all.1.source ≡ all.0.source) × (all.2.source ≡ all.0.source)) }
-{
-    let older = fused(1000, 5, 15)?;
-    let newer = fused(2000, 1003, 1020)?;
-    let (mut teller, mut first, second) = opened(rt, alloc, 200)?;
-    if teller.publish(rt, older).is_err() || teller.publish(rt, newer).is_err() {
-        teller.close(rt);
-        return None;
-    }
-    first.learn(&teller.tell());
-    Some((teller, first, second))
-}
-
 #[test]
 fn the_last_fusion_is_read(rt: HostRuntime) -> Result<(), Fail> {
+    let chain = [Span::new(0, 10)?, Span::new(5, 15)?, Span::new(12, 20)?];
+    let older = Fused::make(1000, &chain, 1)?;
+    let newer = fused(2000, 1003, 1020).ok_or("a fusion")?;
+    let too_old = fused(1999, 1003, 1020).ok_or("a fusion")?;
     let mut clock = MemoryClock::new(&[2000, 7000, 1999, 2000], None);
-    let (teller, mut first, mut second) = told_one(&rt, rt.alloc()).ok_or("watches")?;
-    assert!(rt; ends(first.now(&mut clock)) == Ok((1003, 1020)));
-    assert!(rt; ends(first.now(&mut clock)) == Ok((6002, 6021)));
-    assert!(rt; ends(first.now(&mut clock)) == Err(802));
+    let (mut teller, mut first, mut second) = opened(&rt, rt.alloc(), 200).ok_or("watches")?;
+    assert!(rt; ends(second.now(&mut clock)) == Err(801));
+    assert!(rt; teller.publish(&rt, older) == Ok(()));
+    assert!(rt; teller.publish(&rt, newer) == Ok(()));
+    assert!(rt; teller.publish(&rt, too_old) == Err(PublishFault::ClockBack));
+    first.learn(&teller.tell());
+    for read in [Ok((1003, 1020)), Ok((6002, 6021)), Err(802)] {
+        assert!(rt; ends(first.now(&mut clock)) == read);
+    }
     // The second one has learned nothing.
     assert!(rt; ends(second.now(&mut clock)) == Ok((1003, 1020)));
-    teller.close(&rt);
-    Ok(())
-}
-
-#[test]
-fn nothing_is_read_before_it_is_published(rt: HostRuntime) -> Result<(), Fail> {
-    let mut clock = MemoryClock::new(&[2000], None);
-    let (teller, mut first, _second) = opened(&rt, rt.alloc(), 200).ok_or("watches")?;
-    assert!(rt; ends(first.now(&mut clock)) == Err(801));
-    teller.close(&rt);
-    Ok(())
-}
-
-#[test]
-fn an_older_fusion_is_not_published(rt: HostRuntime) -> Result<(), Fail> {
-    let too_old = fused(1999, 1003, 1020).ok_or("a fusion")?;
-    let (mut teller, _first, _second) = told_one(&rt, rt.alloc()).ok_or("watches")?;
-    assert!(rt; teller.publish(&rt, too_old) == Err(PublishFault::ClockBack));
     teller.close(&rt);
     Ok(())
 }

@@ -146,19 +146,6 @@ fn a_seat_refuses_as_a_row_does(rt: HostRuntime) -> Result<(), Fail> {
 }
 
 #[test]
-fn a_seat_gives_stamps_within_the_lease(rt: HostRuntime) -> Result<(), Fail> {
-    let (sequencer, mut seats) = Sequencer::open(rt.alloc(), 2)?;
-    let mut second = seats.pop().ok_or("a seat")?;
-    let mut first = seats.pop().ok_or("a seat")?;
-    let (now, lease) = (reading(100)?, Span::new(150, 151)?);
-    assert!(rt; sequencer.stamp(&rt, &mut first, &now, 0, &lease) == Ok(150));
-    assert!(rt; sequencer.stamp(&rt, &mut second, &now, 0, &lease) == Ok(151));
-    assert!(rt; sequencer.stamp(&rt, &mut first, &now, 0, &lease) == Err(StampFault::LeaseOver));
-    assert!(rt; sequencer.last(&mut first) == Some(151));
-    Ok(())
-}
-
-#[test]
 fn seats_are_few(rt: HostRuntime) -> Result<(), Fail> {
     for seats in [0, 33] {
         assert!(rt; matches!(Sequencer::open(rt.alloc(), seats), Err(StampFault::Seats)));

@@ -10,54 +10,57 @@ fn reading(lo: u64, hi: u64) -> Result<Reading, Fail> {
     Ok(Reading::of(Span::new(lo, hi)?))
 }
 
-#[test]
-fn each_stamp_is_the_least_above_all(rt: HostRuntime) -> Result<(), Fail> {
-    let (now, whole) = (reading(0, 100)?, Span::whole());
-    let mut row = Row::new();
-    assert!(rt; row.stamp(&now, 0, &whole) == Ok(100));
-    assert!(rt; row.stamp(&now, 0, &whole) == Ok(101));
-    assert!(rt; row.stamp(&now, 500, &whole) == Ok(500));
-    assert!(rt; row.stamp(&now, 0, &whole) == Ok(501));
-    assert!(rt; row.stamp(&now, 10_000_000_101, &whole) == Err(StampFault::FloorTooFar));
-    assert!(rt; row.stamp(&now, 10_000_000_100, &whole) == Ok(10_000_000_100));
-    Ok(())
-}
+/// A floor too far, times that are used up, and a lease that is over.
+const FAR: Result<u64, StampFault> = Err(StampFault::FloorTooFar);
+
+const USED_UP: Result<u64, StampFault> = Err(StampFault::UsedUp);
+
+const OVER: Result<u64, StampFault> = Err(StampFault::LeaseOver);
+
+/// Stamps of one row, each with its latest, its floor and its lease; and those of a new row.
+const ROWS: [&[(u64, u64, (u64, u64), Result<u64, StampFault>)]; 5] = [
+    &[
+        (100, 0, (0, MAX_TIME), Ok(100)),
+        (100, 0, (0, MAX_TIME), Ok(101)),
+        (100, 500, (0, MAX_TIME), Ok(500)),
+        (100, 0, (0, MAX_TIME), Ok(501)),
+        (100, 10_000_000_101, (0, MAX_TIME), FAR),
+        (100, 10_000_000_100, (0, MAX_TIME), Ok(10_000_000_100)),
+    ],
+    &[
+        (MAX_TIME, 0, (0, MAX_TIME), Ok(MAX_TIME)),
+        (MAX_TIME, 0, (0, MAX_TIME), USED_UP),
+        (MAX_TIME, MAX_TIME + 1, (0, MAX_TIME), USED_UP),
+    ],
+    &[(0, 0, (0, MAX_TIME), Ok(0)), (0, 0, (0, MAX_TIME), Ok(1))],
+    &[
+        (100, 0, (150, 160), Ok(150)),
+        (100, 0, (150, 160), Ok(151)),
+        (100, 161, (150, 160), OVER),
+        (155, 0, (150, 160), Ok(155)),
+        (100, 160, (150, 160), Ok(160)),
+        (100, 0, (150, 160), OVER),
+        (100, 0, (170, 180), Ok(170)),
+        (100, 10_000_000_101, (5, 5), FAR),
+    ],
+    &[
+        (0, 0, (MAX_TIME, MAX_TIME), Ok(MAX_TIME)),
+        (0, 0, (MAX_TIME, MAX_TIME), USED_UP),
+    ],
+];
 
 #[test]
-fn the_last_stamp_is_the_greatest_time(rt: HostRuntime) -> Result<(), Fail> {
-    let (end, whole) = (reading(0, MAX_TIME)?, Span::whole());
-    let mut row = Row::new();
-    assert!(rt; row.stamp(&end, 0, &whole) == Ok(MAX_TIME));
-    assert!(rt; row.stamp(&end, 0, &whole) == Err(StampFault::UsedUp));
-    assert!(rt; row.stamp(&end, MAX_TIME + 1, &whole) == Err(StampFault::UsedUp));
-    let mut start = Row::new();
-    assert!(rt; start.stamp(&reading(0, 0)?, 0, &whole) == Ok(0));
-    assert!(rt; start.stamp(&reading(0, 0)?, 0, &whole) == Ok(1));
-    Ok(())
-}
-
-#[test]
-fn each_stamp_lies_in_its_lease(rt: HostRuntime) -> Result<(), Fail> {
-    let (now, later) = (reading(0, 100)?, reading(0, 155)?);
-    let lease = Span::new(150, 160)?;
-    let mut row = Row::new();
-    assert!(rt; row.stamp(&now, 0, &lease) == Ok(150));
-    assert!(rt; row.stamp(&now, 0, &lease) == Ok(151));
-    assert!(rt; row.stamp(&now, 161, &lease) == Err(StampFault::LeaseOver));
-    assert!(rt; row.stamp(&later, 0, &lease) == Ok(155));
-    assert!(rt; row.stamp(&now, 160, &lease) == Ok(160));
-    assert!(rt; row.stamp(&now, 0, &lease) == Err(StampFault::LeaseOver));
-    assert!(rt; row.stamp(&now, 0, &Span::new(170, 180)?) == Ok(170));
-    assert!(rt; row.stamp(&now, 10_000_000_101, &Span::new(5, 5)?) == Err(StampFault::FloorTooFar));
-    Ok(())
-}
-
-#[test]
-fn a_lease_may_be_the_greatest_time_alone(rt: HostRuntime) -> Result<(), Fail> {
-    let (zero, last) = (reading(0, 0)?, Span::new(MAX_TIME, MAX_TIME)?);
-    let mut row = Row::new();
-    assert!(rt; row.stamp(&zero, 0, &last) == Ok(MAX_TIME));
-    assert!(rt; row.stamp(&zero, 0, &last) == Err(StampFault::UsedUp));
+fn each_stamp_is_the_least_above_all_within_its_lease(rt: HostRuntime) -> Result<(), Fail> {
+    for stamps in ROWS {
+        let mut row = Row::new();
+        for &(latest, floor, (lo, hi), wanted) in stamps {
+            let (now, lease) = (reading(0, latest)?, Span::new(lo, hi)?);
+            assert!(rt;
+                row.stamp(&now, floor, &lease) == wanted,
+                "latest {latest}, floor {floor}"
+            );
+        }
+    }
     Ok(())
 }
 
@@ -65,28 +68,31 @@ fn id(session: u32, number: u64) -> Id {
     Id { session, number }
 }
 
-fn receipt(id: Id, stamp: u64, earliest: u64) -> Receipt {
-    Receipt {
-        id,
-        stamp,
-        earliest,
-    }
-}
-
 #[test]
 fn commits_wait_until_their_stamps_have_passed(rt: HostRuntime) -> Result<(), Fail> {
     let mut book = Book::new(rt.alloc());
-    assert!(rt; book.queue(id(0, 1), 200) == Ok(()));
-    assert!(rt; book.queue(id(0, 1), 300) == Err(BookFault::IdThere));
-    assert!(rt; book.queue(id(0, 2), 200) == Err(BookFault::StampThere));
-    assert!(rt; book.queue(id(0, 2), 150) == Ok(()));
-    assert!(rt; book.release(&reading(200, 300)?) == 1);
-    assert!(rt; book.is_released(id(0, 2)).is_some());
-    assert!(rt; book.is_released(id(0, 1)) == None);
-    assert!(rt; book.release(&reading(201, 301)?) == 1);
-    assert!(rt; book.release(&reading(201, 301)?) == 0);
-    let last = receipt(id(0, 1), 200, 201);
+    for (number, stamp, wanted) in [
+        (1, 200, Ok(())),
+        (1, 300, Err(1002)),
+        (2, 200, Err(1003)),
+        (2, 150, Ok(())),
+    ] {
+        let queued = book.queue(id(0, number), stamp);
+        assert!(rt; queued.map_err(|fault| fault.number()) == wanted);
+    }
+    for (earliest, latest, released) in [(200, 300, 1), (201, 301, 1), (201, 301, 0)] {
+        let reading = reading(earliest, latest)?;
+        assert!(rt; book.releasable(&reading) == released);
+        assert!(rt; book.release(&reading) == released);
+        assert!(rt; book.is_released(id(0, 2)).is_some());
+    }
+    let last = Receipt {
+        id: id(0, 1),
+        stamp: 200,
+        earliest: 201,
+    };
     assert!(rt; book.is_released(id(0, 1)) == Some(last));
+    assert!(rt; book.history().last() == Some(&Entry::Passed(last)));
     Ok(())
 }
 
@@ -96,30 +102,6 @@ fn two_waiting(alloc: Global) -> Result<Book, Fail> {
     book.queue(id(0, 1), 200)?;
     book.queue(id(0, 2), 150)?;
     Ok(book)
-}
-
-#[test]
-fn those_below_the_earliest_may_go(rt: HostRuntime) -> Result<(), Fail> {
-    let mut book = two_waiting(rt.alloc())?;
-    assert!(rt; book.releasable(&reading(150, 300)?) == 0);
-    assert!(rt; book.releasable(&reading(200, 300)?) == 1);
-    assert!(rt; book.releasable(&reading(201, 300)?) == 2);
-    book.release(&reading(200, 300)?);
-    assert!(rt; book.releasable(&reading(200, 300)?) == 0);
-    assert!(rt; book.waiting() == 1);
-    Ok(())
-}
-
-#[test]
-fn ids_and_stamps_are_taken_for_good(rt: HostRuntime) -> Result<(), Fail> {
-    let mut book = two_waiting(rt.alloc())?;
-    book.release(&reading(201, 301)?);
-    assert!(rt; book.queue(id(0, 1), 300) == Err(BookFault::IdThere));
-    assert!(rt; book.queue(id(0, 3), 200) == Err(BookFault::StampThere));
-    assert!(rt; book.history().len() == 4);
-    let last = receipt(id(0, 1), 200, 201);
-    assert!(rt; book.history()[3] == Entry::Passed(last));
-    Ok(())
 }
 
 #[test]
@@ -145,30 +127,5 @@ fn as_many_wait_as_may(rt: HostRuntime) -> Result<(), Fail> {
     assert!(rt; book.queue(id(0, 1), 65_537) == Err(BookFault::Full));
     assert!(rt; book.release(&reading(2, 2)?) == 1);
     assert!(rt; book.queue(id(0, 1), 65_537) == Ok(()));
-    Ok(())
-}
-
-#[test]
-fn each_refusal_has_its_number(rt: HostRuntime) -> Result<(), Fail> {
-    for (fault, number) in [
-        (StampFault::UsedUp, 901),
-        (StampFault::FloorTooFar, 902),
-        (StampFault::LeaseOver, 903),
-        (StampFault::Seats, 904),
-        (StampFault::Memory, 1),
-    ] {
-        assert!(rt; fault.number() == number);
-    }
-    for (fault, number) in [
-        (BookFault::Full, 1001),
-        (BookFault::IdThere, 1002),
-        (BookFault::StampThere, 1003),
-        (BookFault::Memory, 1),
-    ] {
-        assert!(rt; fault.number() == number);
-    }
-    for (fault, number) in [(ForgetFault::Waits, 1004), (ForgetFault::Memory, 1)] {
-        assert!(rt; fault.number() == number);
-    }
     Ok(())
 }

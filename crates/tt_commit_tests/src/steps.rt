@@ -35,21 +35,6 @@ fn a_commit_begins_with_a_reading_of_its_own(rt: HostRuntime) -> Result<(), Fail
 }
 
 #[test]
-fn a_commit_begins_within_the_lease(rt: HostRuntime) -> Result<(), Fail> {
-    let (fused, lease) = (fused()?, Span::new(0, 249)?);
-    let (sequencer, mut seats) = Sequencer::open(rt.alloc(), 1)?;
-    let mut seat = seats.pop().ok_or("a seat")?;
-    let mut clock = MemoryClock::new(&[50], None);
-    let (mut teller, mut watches) = open(&rt, rt.alloc(), drift()?, 1)?;
-    let watch = &mut watches[0];
-    assert!(rt; teller.publish(&rt, fused) == Ok(()));
-    let begun = begin_step(&rt, &sequencer, &mut seat, watch, &mut clock, 0, &lease);
-    assert!(rt; begun == Err(BeginFault::Stamp(StampFault::LeaseOver)));
-    teller.close(&rt);
-    Ok(())
-}
-
-#[test]
 fn a_release_takes_a_reading_of_its_own(rt: HostRuntime) -> Result<(), Fail> {
     let fused = fused()?;
     let mut book = Book::new(rt.alloc());
@@ -68,13 +53,5 @@ fn a_release_takes_a_reading_of_its_own(rt: HostRuntime) -> Result<(), Fail> {
     assert!(rt; release_step(&mut book, watch, &mut clock) == Ok(1));
     assert!(rt; book.waiting() == 1);
     teller.close(&rt);
-    Ok(())
-}
-
-#[test]
-fn a_refused_beginning_has_the_number_of_its_cause(rt: HostRuntime) -> Result<(), Fail> {
-    assert!(rt; BeginFault::Read(ReadFault::ClockBack).number() == 802);
-    assert!(rt; BeginFault::Stamp(StampFault::UsedUp).number() == 901);
-    assert!(rt; BeginFault::Stamp(StampFault::LeaseOver).number() == 903);
     Ok(())
 }

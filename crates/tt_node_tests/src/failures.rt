@@ -1,15 +1,12 @@
 //! Links, clocks and references that fail at each of their calls.
 
-ghost use Rattle.std.specs.Prelude.{◌≡◌, OnOk, OnErr};
-ghost use Rattle.tt_stream.specs.Counts.{HasFailed};
-
-use crate::devices::MasterLink;
+use crate::devices::{ListLink, MasterLink};
 use std::alloc::Global;
 use std::sync::Wait;
 use std::test::Fail;
 use tt_daemon::{Config, Daemon};
 use tt_master::{Act, Master, MemoryReference};
-use tt_node::{Link, LinkFault, NodeFault, PACKET_LEN, daemon_rounds, master_rounds};
+use tt_node::{NodeFault, daemon_rounds, master_rounds};
 use tt_publish::{MemoryClock, ReadFault, Reading, Watch, open};
 use tt_span::Drift;
 
@@ -65,98 +62,45 @@ fn rounds_end_where_a_device_fails_and_may_be_done_again(rt: HostRuntime) -> Res
     Ok(())
 }
 
-/// A link on which the same request of 24 bytes comes each time. Its call number `fails_at`, counted from 1, fails.
-#[derive(Drop)]
-struct AskingLink {
-    sent: u64,
-    fails_at: u64,
-    calls: u64,
-    failures: u64,
-}
-
-impl AskingLink {
-    /// Counts a call, which fails where it is the one that is to.
-    fn call(&mut self) -> Result<(), LinkFault>
-        ensures sound { OnOk result (self.new.failures ≡ self.old.failures) }
-        ensures cause { OnErr result (HasFailed self.old.failures self.new.failures) }
-    {
-        self.calls = self.calls.saturating_add(1);
-        if self.calls == self.fails_at {
-            self.failures = self.failures.saturating_add(1);
-            return Err(LinkFault::Failed);
-        }
-        Ok(())
-    }
-}
-
-impl Link for AskingLink {
-    ghost does = { λ _ _ _ _. Unit {0} };
-
-    ghost failed = { λ link. link.failures };
-
-    fn send(&mut self, _peer: u8, _bytes: &[u8]) -> Result<(), LinkFault> {
-        self.call()?;
-        self.sent = self.sent.saturating_add(1);
-        Ok(())
-    }
-
-    fn receive(&mut self, buffer: &mut [u8; PACKET_LEN]) -> Result<Option<(u8, usize)>, LinkFault> {
-        self.call()?;
-        *buffer = [0; PACKET_LEN];
-        buffer[..24].copy_from_slice(&REQUEST);
-        Ok(Some((3, 24)))
-    }
-
-    fn failures(&self) -> u64 {
-        self.failures
-    }
-}
-
 /// The request of machine 0 to source 0, with the nonce 1 in life 1.
 const REQUEST: [u8; 24] = [
     0x54, 0x54, 0x50, 0x32, 1, 0, 0, 0, 0, 0, 0, 0, 0, 0, 0, 1, 0, 0, 0, 0, 0, 0, 0, 1,
 ];
 
-/// A link with that request, whose call of this number fails.
-fn asking(fails_at: u64) -> AskingLink {
-    AskingLink {
-        sent: 0,
-        fails_at,
-        calls: 0,
-        failures: 0,
+/// What a master plays in three turns, on a link on which that request comes eight times and whose call of this number
+/// fails, as that of the reference does; how often it sent; and what it plays in three turns more.
+fn six_turns(
+    alloc: Global,
+    link_fails: Option<u64>,
+    reference_fails: Option<u64>,
+) -> (Result<u32, NodeFault>, usize, Result<u32, NodeFault>) {
+    let mut link = ListLink::new(alloc, link_fails);
+    for _ in 0..8 {
+        let _ = link.come(3, &REQUEST);
     }
+    let mut master = Master::new(0, 0, MemoryReference::new(&[1000; 8], reference_fails));
+    let played = master_rounds(&mut link, &mut master, &[Act::Honest], 3);
+    let sent = link.sent().len();
+    let again = master_rounds(&mut link, &mut master, &[Act::Honest], 3);
+    (played, sent, again)
 }
 
 #[test]
 fn a_master_ends_where_a_device_fails_and_goes_on_when_it_is_called_again(rt: HostRuntime) {
     // Each of three turns receives, reads the reference and sends.
-    for call in 1..8 {
-        let mut link = asking(call);
-        let mut master = Master::new(0, 0, MemoryReference::new(&[1000; 8], None));
-        let played = master_rounds(&mut link, &mut master, &[Act::Honest], 3);
-        let wanted = if call < 7 {
-            Err(NodeFault::LinkFailed)
-        } else {
-            Ok(3)
-        };
+    for call in 1..7 {
+        let wanted = (Err(NodeFault::LinkFailed), (call - 1) / 2, Ok(3));
         assert!(rt;
-            (played, link.sent) == (wanted, (call - 1) / 2),
+            six_turns(rt.alloc(), Some(call as u64), None) == wanted,
             "call {call}"
         );
-        let again = master_rounds(&mut link, &mut master, &[Act::Honest], 1);
-        assert!(rt; again.is_ok() == (call != 7));
     }
-    for call in 1..5 {
-        let mut link = asking(0);
-        let mut master = Master::new(0, 0, MemoryReference::new(&[1000; 8], Some(call)));
-        let played = master_rounds(&mut link, &mut master, &[Act::Honest], 3);
-        let wanted = if call < 4 {
-            Err(NodeFault::ReferenceFailed)
-        } else {
-            Ok(3)
-        };
-        assert!(rt; (played, link.sent) == (wanted, call - 1), "call {call}");
-        let again = master_rounds(&mut link, &mut master, &[Act::Honest], 3);
-        assert!(rt; again.is_ok() == (call < 4));
+    for call in 1..4 {
+        let wanted = (Err(NodeFault::ReferenceFailed), call - 1, Ok(3));
+        assert!(rt;
+            six_turns(rt.alloc(), None, Some(call as u64)) == wanted,
+            "call {call}"
+        );
     }
+    assert!(rt; six_turns(rt.alloc(), None, None) == (Ok(3), 3, Ok(3)));
 }

@@ -5,7 +5,8 @@
 //!
 //! Modules:
 //!
-//! - `scripts`: why a script is refused, and what its part for a run in threads says (`tt_script`).
+//! - `scripts`: the keys of an event in their order, and what the part for a run in threads says (`tt_script`); why a script is
+//!   refused is shown in `tests`.
 //! - `rounds`, `failures`, `nodes`, `datagrams`, with the devices of `devices`: rounds of a daemon and of a master, what they do where
 //!   a device fails, a node and its workers, packets over UDP (`tt_node`).
 #![tactic(auto)]

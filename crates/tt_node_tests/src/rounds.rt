@@ -165,20 +165,6 @@ fn a_clock_that_fails_ends_the_rounds(rt: HostRuntime) -> Result<(), Fail> {
     Ok(())
 }
 
-#[test]
-fn a_clock_that_goes_back_behind_a_publication_ends_the_rounds(
-    rt: HostRuntime,
-) -> Result<(), Fail> {
-    let (mut daemon, drift) = one_source(0)?;
-    let mut link = MasterLink::new(rt.alloc(), 0, &[1000; 2], None);
-    let mut clock = MemoryClock::new(&[5, 5, 9, 5, 5, 8], None);
-    let (mut teller, _watches) = open(&rt, rt.alloc(), drift, 1)?;
-    let did = daemon_rounds(&rt, &mut daemon, &mut link, &mut clock, &mut teller, 2, 1);
-    teller.close(&rt);
-    assert!(rt; did.map_err(|fault| fault.number()).err() == Some(802));
-    Ok(())
-}
-
 /// The request of machine 0 to source 1 with the nonce 1, of TTP1.
 const REQUEST: &str = "54545031010001000000000000000001";
 /// The same of TTP2, in life 1.
@@ -188,6 +174,12 @@ const ANSWER: &str = "54545031020001000000000000000001000000003b9aca00000000003b
 /// The same of TTP2.
 const ANSWER2: &str =
     "545450320200010000000000000000010000000000000001000000003b9aca00000000003b9acde8";
+
+/// Garbage of the length of each.
+const GARBAGE: &str = "ffffffffffffffffffffffffffffffffffffffffffffffffffffffffffffffff";
+
+const GARBAGE2: &str =
+    "ffffffffffffffffffffffffffffffffffffffffffffffffffffffffffffffffffffffffffffffff";
 
 /// The bytes of a hex text, in front.
 fn bytes_of(text: &str) -> ([u8; PACKET_LEN], usize)
@@ -205,55 +197,30 @@ fn bytes_of(text: &str) -> ([u8; PACKET_LEN], usize)
 }
 
 #[test]
-fn a_master_answers_each_in_its_own_form(rt: HostRuntime) -> Result<(), Fail> {
-    let (request, length) = bytes_of(REQUEST);
-    let (request2, length2) = bytes_of(REQUEST2);
-    let mut link = ListLink::new(rt.alloc(), None);
-    assert!(rt; link.come(3, &request[..length]), "no memory");
-    assert!(rt; link.come(5, b"not a message"), "no memory");
-    assert!(rt; link.come(4, &request2[..length2]), "no memory");
-    let mut master = Master::new(1, 500, MemoryReference::new(&[1_000_000_500; 4], None));
-    let played = master_rounds(&mut link, &mut master, &[Act::Honest], 5);
-    assert!(rt; played == Ok(2));
-    assert!(rt; link.sent().len() == 2);
-    let (answer, _) = bytes_of(ANSWER);
-    let (answer2, _) = bytes_of(ANSWER2);
-    assert!(rt; link.sent() == [(3, answer), (4, answer2)].as_slice());
-    Ok(())
-}
-
-#[test]
 fn a_master_repeats_its_last_act(rt: HostRuntime) -> Result<(), Fail> {
     let (request, length) = bytes_of(REQUEST);
+    let (request2, length2) = bytes_of(REQUEST2);
+    let (request, request2) = (&request[..length], &request2[..length2]);
     let mut link = ListLink::new(rt.alloc(), None);
-    for _ in 0..4 {
-        assert!(rt; link.come(0, &request[..length]), "no memory");
+    // What is no request takes no act. Each is answered in its own format.
+    for (peer, packet) in [
+        (3, request),
+        (5, b"not a message".as_slice()),
+        (4, request2),
+        (0, request),
+        (0, request2),
+        (0, request),
+    ] {
+        assert!(rt; link.come(peer, packet), "no memory");
     }
     let mut master = Master::new(1, 500, MemoryReference::new(&[1_000_000_500; 4], None));
-    let acts = [Act::Honest, Act::Silent, Act::Garbage];
-    let played = master_rounds(&mut link, &mut master, &acts, 4);
-    assert!(rt; played == Ok(4));
-    assert!(rt; link.sent().len() == 3);
+    let acts = [Act::Honest, Act::Honest, Act::Silent, Act::Garbage];
+    let played = master_rounds(&mut link, &mut master, &acts, 7);
+    assert!(rt; played == Ok(5));
     let (answer, _) = bytes_of(ANSWER);
-    let mut garbage = [0; PACKET_LEN];
-    for place in 0..32 {
-        garbage[place] = 0xFF;
-    }
-    assert!(rt; link.sent() == [(0, answer), (0, garbage), (0, garbage)].as_slice());
-    Ok(())
-}
-
-#[test]
-fn a_master_ends_where_its_reference_or_its_link_fails(rt: HostRuntime) -> Result<(), Fail> {
-    let (request, length) = bytes_of(REQUEST);
-    let mut link = ListLink::new(rt.alloc(), Some(3));
-    assert!(rt; link.come(0, &request[..length]), "no memory");
-    assert!(rt; link.come(0, &request[..length]), "no memory");
-    let mut master = Master::new(1, 500, MemoryReference::new(&[1_000_000_500; 4], Some(1)));
-    let failed = master_rounds(&mut link, &mut master, &[Act::Honest], 5);
-    assert!(rt; failed == Err(NodeFault::ReferenceFailed));
-    assert!(rt; NodeFault::ReferenceFailed.number() == 304);
-    let broken = master_rounds(&mut link, &mut master, &[Act::Honest], 5);
-    assert!(rt; broken == Err(NodeFault::LinkFailed));
+    let (answer2, _) = bytes_of(ANSWER2);
+    let (garbage, _) = bytes_of(GARBAGE);
+    let (garbage2, _) = bytes_of(GARBAGE2);
+    assert!(rt; link.sent() == [(3, answer), (4, answer2), (0, garbage2), (0, garbage)].as_slice());
     Ok(())
 }

@@ -5,7 +5,7 @@ use tt_scenes::{
     RESTART, answer, arrive, deliver, fuse, machine, queue, read, restart, send, span, stamp,
 };
 use tt_span::MAX_TIME;
-use tt_world::{Payload, Reply, World, WorldFault, run};
+use tt_world::{Reply, World, WorldFault, run};
 
 #[test]
 fn times_past_the_greatest_are_bad(rt: HostRuntime) -> Result<(), Fail> {
@@ -92,24 +92,5 @@ fn a_full_book_refuses_one_more(rt: HostRuntime) -> Result<(), Fail> {
     }
     // The task is left.
     assert!(rt; world.step(&queue(5, 0, 0)) == Ok(Reply::Refused(1001)));
-    Ok(())
-}
-
-#[test]
-fn numbers_its_faults(rt: HostRuntime) {
-    for (fault, number) in [
-        (WorldFault::Machines, 1207),
-        (WorldFault::LivesUsedUp, 1208),
-        (WorldFault::Memory, 1),
-    ] {
-        assert!(rt; fault.number() == number);
-    }
-}
-
-#[test]
-fn forged_packets_are_short(rt: HostRuntime) -> Result<(), Fail> {
-    let payload = Payload::new(&[7; 64]).ok_or("a payload")?;
-    assert!(rt; payload.as_slice() == [7; 64].as_slice());
-    assert!(rt; Payload::new(&[7; 65]).is_none());
     Ok(())
 }

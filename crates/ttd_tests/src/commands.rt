@@ -2,10 +2,11 @@
 
 use std::alloc::Global;
 use std::test::Fail;
+use tt_live::LiveFault;
 use tt_scenes::{ANY_MAY_LIE, COMMIT_WAIT, LAST_TIME, WORKED_RUNS};
 use tt_source::SourceFault;
 use tt_stream::{MemoryReader, MemoryWriter};
-use ttd_commands::{Fault, MOST_HISTORY, MOST_INPUT, Status, explain, give, main_with};
+use ttd_commands::{Fault, Status, explain, give, main_with};
 
 const AGE: [&str; 7] = [
     "age",
@@ -48,57 +49,61 @@ fn ages_an_answer(rt: HostRuntime) {
     }
 }
 
-// Three spans of which one may be wrong, and their certificate.
+// Three spans of which one may be wrong.
 const SPANS: &str = "faulty 1\nspan 0 10\nspan 5 15\nspan 12 20\n";
 
-const CERTIFICATE: &str =
-    "claim 5 15\nleft 0 1\nright 1 2\nbelow 0 4 1\nabove 16 20 1\nabove 21 4000000000000000000 0\n";
-
 #[test]
-fn fuses_three_spans(rt: HostRuntime) -> Result<(), Fail> {
-    let want = format!(in rt.alloc(); "{CERTIFICATE}suspects none\n")?;
-    assert!(rt; writes(rt.alloc(), &["fuse"], SPANS, Status::Fine, want.as_str()));
-    Ok(())
-}
-
-#[test]
-fn checks_a_certificate(rt: HostRuntime) -> Result<(), Fail> {
-    for (old, new, status, text) in [
-        ("claim", "claim", Status::Fine, "valid\n"),
-        ("left 0 1", "left 0 0", Status::Bad, "refused 601\n"),
-        ("right 1 2", "right 0 1", Status::Bad, "refused 602\n"),
-        ("below 0 4 1\n", "", Status::Bad, "refused 603\n"),
+fn fuses_and_checks_three_spans(rt: HostRuntime) -> Result<(), Fail> {
+    for (word, certificate, status, text) in [
         (
-            "above 16 20 1",
-            "above 16 20 0",
+            "fuse",
+            "",
+            Status::Fine,
+            "claim 5 15\nleft 0 1\nright 1 2\nbelow 0 4 1\nabove 16 20 1\nabove 21 4000000000000000000 0\nsuspects none\n",
+        ),
+        (
+            "check",
+            "claim 5 15\nleft 0 1\nright 1 2\nbelow 0 4 1\nabove 16 20 1\nabove 21 4000000000000000000 0\n",
+            Status::Fine,
+            "valid\n",
+        ),
+        (
+            "check",
+            "claim 5 15\nleft 0 0\nright 1 2\nbelow 0 4 1\nabove 16 20 1\nabove 21 4000000000000000000 0\n",
+            Status::Bad,
+            "refused 601\n",
+        ),
+        (
+            "check",
+            "claim 5 15\nleft 0 1\nright 0 1\nbelow 0 4 1\nabove 16 20 1\nabove 21 4000000000000000000 0\n",
+            Status::Bad,
+            "refused 602\n",
+        ),
+        (
+            "check",
+            "claim 5 15\nleft 0 1\nright 1 2\nabove 16 20 1\nabove 21 4000000000000000000 0\n",
+            Status::Bad,
+            "refused 603\n",
+        ),
+        (
+            "check",
+            "claim 6 15\nleft 0 1\nright 1 2\nbelow 0 5 2\nabove 16 20 1\nabove 21 4000000000000000000 0\n",
+            Status::Bad,
+            "refused 604\n",
+        ),
+        (
+            "check",
+            "claim 5 15\nleft 0 1\nright 1 2\nbelow 0 4 1\nabove 16 20 0\nabove 21 4000000000000000000 0\n",
             Status::Bad,
             "refused 605\n",
         ),
     ] {
-        let certificate = CERTIFICATE.replacen(rt.alloc(), old, new, 1)?;
         let input = format!(in rt.alloc(); "{SPANS}{certificate}")?;
         assert!(rt;
-            writes(rt.alloc(), &["check"], input.as_str(), status, text),
-            "{new}"
+            writes(rt.alloc(), &[word], input.as_str(), status, text),
+            "{text}"
         );
     }
-    Ok(())
-}
-
-#[test]
-fn refuses_a_claim_that_is_too_small(rt: HostRuntime) -> Result<(), Fail> {
-    let claimed = CERTIFICATE.replacen(rt.alloc(), "claim 5", "claim 6", 1)?;
-    let deeper = claimed.as_str().replacen(rt.alloc(), "0 4 1", "0 5 2", 1)?;
-    let input = format!(in rt.alloc(); "{SPANS}{deeper}")?;
-    assert!(rt;
-        writes(
-            rt.alloc(),
-            &["check"],
-            input.as_str(),
-            Status::Bad,
-            "refused 604\n"
-        )
-    );
     Ok(())
 }
 
@@ -153,21 +158,12 @@ fn gives_the_twins_of_a_reading(rt: HostRuntime) {
 }
 
 #[test]
-fn judges_its_words_before_the_input(rt: HostRuntime) {
+fn live_is_no_command_without_threads(rt: HostRuntime) {
     // A reader that would fail is not asked.
     let mut reader = MemoryReader::new(b"zz", 7, Some(1));
     let mut writer = MemoryWriter::new(rt.alloc(), 64, None);
-    assert!(rt; main_with(rt.alloc(), &[], &mut reader, &mut writer) == Status::Bad);
+    assert!(rt; main_with(rt.alloc(), &["live"], &mut reader, &mut writer) == Status::Bad);
     assert!(rt; writer.taken() == b"refused 1601\n".as_slice());
-    assert!(rt; (MOST_INPUT, MOST_HISTORY) == (1_048_576, 1_073_741_824));
-}
-
-#[test]
-fn gives_help(rt: HostRuntime) {
-    let mut reader = MemoryReader::new(b"", 7, Some(1));
-    let mut writer = MemoryWriter::new(rt.alloc(), 4096, None);
-    assert!(rt; main_with(rt.alloc(), &["--help"], &mut reader, &mut writer) == Status::Fine);
-    assert!(rt; writer.taken().len() > 20);
 }
 
 #[test]
@@ -209,12 +205,14 @@ fn out_of_memory_is_a_refusal(rt: HostRuntime) {
 
 #[test]
 fn says_refusals_in_a_sentence(rt: HostRuntime) {
-    let mut errors = Vec::new(rt.alloc());
-    explain(
-        rt.alloc(),
-        &mut errors,
-        &Fault::Source(SourceFault::ClockBack),
-    );
-    assert!(rt; errors.as_slice().starts_with(b"ttd: refused 402: "));
-    assert!(rt; errors.as_slice().ends_with(b"\n"));
+    for (fault, start) in [
+        (Fault::Source(SourceFault::ClockBack), "ttd: refused 402: "),
+        (Fault::Live(LiveFault::NoLive), "ttd: refused 1302: "),
+    ] {
+        let mut errors = Vec::new(rt.alloc());
+        explain(rt.alloc(), &mut errors, &fault);
+        assert!(rt;
+            errors.as_slice().starts_with(start.as_bytes()) && errors.as_slice().ends_with(b"\n")
+        );
+    }
 }

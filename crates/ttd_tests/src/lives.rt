@@ -57,48 +57,33 @@ fn many_sessions_read_the_time(rt: HostRuntime) -> Result<(), Fail> {
 
 #[test]
 fn a_line_is_given_its_own_reply(rt: HostRuntime) {
-    let given: [(&[u8], &[u8]); 10] = [
-        (b"now\n", b"now 5 7\n"),
-        (b"now\n", b"refused 801\n"),
-        (b"after 5\n", b"yes\n"),
-        (b"after 5\n", b"no\n"),
-        (b"before 5\n", b"yes\n"),
-        (b"before 5\n", b"no\n"),
-        (b"commit 2 9\n", b"committed 2 9\n"),
-        (b"commit 2 9\n", b"waiting 2 14\n"),
-        (b"commit 2 9\n", b"refused 1104\n"),
-        (b"what\n", b"refused 1101\n"),
-    ];
-    for (line, reply) in given {
-        assert!(rt; may_answer(line, reply));
-    }
-}
-
-#[test]
-fn no_line_is_given_the_reply_to_another(rt: HostRuntime) {
-    let never: [(&[u8], &[u8]); 16] = [
+    let rows: [(&[u8], &[u8], bool); 20] = [
+        (b"now\n", b"now 5 7\n", true),
+        (b"now\n", b"refused 801\n", true),
+        (b"after 5\n", b"yes\n", true),
+        (b"before 5\n", b"no\n", true),
+        (b"commit 2 9\n", b"committed 2 9\n", true),
+        (b"commit 2 9\n", b"waiting 2 14\n", true),
+        (b"what\n", b"refused 1101\n", true),
         // The reply to another kind of line.
-        (b"now\n", b"yes\n"),
-        (b"now\n", b"committed 2 9\n"),
-        (b"after 5\n", b"now 5 7\n"),
-        (b"before 5\n", b"waiting 2 9\n"),
-        (b"commit 2 9\n", b"now 5 7\n"),
-        (b"commit 2 9\n", b"yes\n"),
+        (b"now\n", b"yes\n", false),
+        (b"after 5\n", b"now 5 7\n", false),
+        (b"before 5\n", b"waiting 2 9\n", false),
+        (b"commit 2 9\n", b"now 5 7\n", false),
         // The reply to another commit.
-        (b"commit 2 9\n", b"committed 1 9\n"),
-        (b"commit 2 9\n", b"waiting 3 9\n"),
+        (b"commit 2 9\n", b"committed 1 9\n", false),
+        (b"commit 2 9\n", b"waiting 3 9\n", false),
         // An answer to what is no request.
-        (b"now \n", b"now 5 7\n"),
-        (b"commit 2\n", b"committed 2 9\n"),
+        (b"now \n", b"now 5 7\n", false),
         // No reply, half of one, and two.
-        (b"now\n", b"\n"),
-        (b"now\n", b"now 5\n"),
-        (b"now\n", b"now 5 7"),
-        (b"now\n", b"now 5 7\nnow 5 7\n"),
-        (b"now\n", b"refused\n"),
-        (b"after 5\n", b"yes\nno\n"),
+        (b"now\n", b"\n", false),
+        (b"now\n", b"now 5\n", false),
+        (b"now\n", b"now 5 7", false),
+        (b"now\n", b"now 5 7\nnow 5 7\n", false),
+        (b"now\n", b"refused\n", false),
+        (b"after 5\n", b"yes\nno\n", false),
     ];
-    for (line, reply) in never {
-        assert!(rt; !may_answer(line, reply));
+    for (line, reply, may) in rows {
+        assert!(rt; may_answer(line, reply) == may);
     }
 }
