@@ -2,3 +2,4 @@ mod Holding
 mod Serving
 mod WorkedRun
 mod WorkedOrder
+mod Working

@@ -1,7 +1,8 @@
 //! The laws of running machines, of the sessions that are served on them, and of the commits that are seen there.
 
-ghost use Rattle.std.specs.Prelude.{ℕ, ◌<◌, ◌≤◌, List, ◌∷◌, ◌++◌, Option, None, All};
+ghost use Rattle.std.specs.Prelude.{◌≡◌, ℕ, ◌<◌, ◌≤◌, List, ◌∷◌, ◌++◌, Option, Some, None, Ok, All, Contains};
 ghost use Rattle.std.specs.List.{AllByRecursion};
+ghost use Rattle.tt_span.specs.Interval.{Interval, Holds};
 ghost use Rattle.tt_judge.specs.Consistency.{IsConsistent};
 ghost use Rattle.tt_judge.specs.declared.history.Commit.{Commit};
 ghost use Rattle.tt_session.specs.Answers.{AnswersLines};
@@ -13,7 +14,9 @@ ghost use Rattle.tt_order.specs.Told.{IsTold};
 ghost use Rattle.tt_runs.specs.Tale.{HeldTrueTime};
 ghost use Rattle.tt_consistency.specs.Running.{Machine, IsRunning, clock_moments, published_by};
 ghost use Rattle.tt_consistency.specs.Served.{IsServedOn, IsSeenOnOneOf};
+ghost use Rattle.tt_consistency.specs.Worked.{Look, look_at, TimedWorker, Node, IsWorking, IsSeenAtWorkerOf};
 
+use tt_node::Gate;
 use tt_order::{order_laws, session_laws};
 use tt_publish::Clock;
 use tt_session::LineReply;
@@ -68,3 +71,41 @@ pub fn consistency_laws<C: Clock, V: Presence, D: Clock, W: Presence>()
 {
     order_laws::<C, V, D, W>();
 }
+
+/// Laws of the workers of running nodes, each of which shares a sequencer and a book with those of its node.
+pub fn node_laws<C: Clock, G: Gate, D: Clock, H: Gate>()
+    // Each reading that a call of a worker took holds the true time at which it was taken.
+    ensures readings_hold { (node : Node C.gives C.failed G.says G.hears) (worker : TimedWorker C.gives C.failed G.says G.hears)
+        (place : ℕ) (look : Look C) (reading : Interval) →
+        IsWorking C.gives C.failed G.says G.hears node → Contains node.workers worker →
+        look_at C.gives C.failed G.says G.hears worker place ≡ Some look → look.answer ≡ Ok reading →
+        Holds reading (times_at worker.times place).read }
+
+    // The stamp of a commit is no less than the true time at which its reading was taken.
+    ensures begun { (node : Node C.gives C.failed G.says G.hears) (worker : TimedWorker C.gives C.failed G.says G.hears)
+        (place number stamp : ℕ) →
+        IsWorking C.gives C.failed G.says G.hears node → Contains node.workers worker → BeginsAt worker.calls place number stamp →
+        (times_at worker.times place).read ≤ stamp }
+
+    // A commit that is answered to be released has a stamp below the true time of that answer, whichever worker released it.
+    ensures released { (node : Node C.gives C.failed G.says G.hears) (worker : TimedWorker C.gives C.failed G.says G.hears)
+        (number stamp begun released : ℕ) →
+        IsWorking C.gives C.failed G.says G.hears node → Contains node.workers worker → IsCommitted worker.calls number stamp begun released →
+        stamp < (times_at worker.times released).answered }
+
+    // Of two commits, at workers of whatever nodes, where the first was answered to be released by the time at which the
+    // second came, the first has the smaller stamp. The second need not be released.
+    ensures ordered { (node : Node C.gives C.failed G.says G.hears) (other_node : Node D.gives D.failed H.says H.hears)
+        (earlier : TimedWorker C.gives C.failed G.says G.hears) (later : TimedWorker D.gives D.failed H.says H.hears)
+        (number stamp begun released other_number other_stamp other_begun : ℕ) →
+        IsWorking C.gives C.failed G.says G.hears node → Contains node.workers earlier →
+        IsWorking D.gives D.failed H.says H.hears other_node → Contains other_node.workers later →
+        IsCommitted earlier.calls number stamp begun released → BeginsAt later.calls other_begun other_number other_stamp →
+        (times_at earlier.times released).answered ≤ (times_at later.times other_begun).came →
+        stamp < other_stamp }
+
+    // So every history of commits that were seen at workers of these nodes is externally consistent, as the judge judges it.
+    ensures consistent { (nodes : List (Node C.gives C.failed G.says G.hears)) (history : List Commit) →
+        All (IsWorking C.gives C.failed G.says G.hears) nodes →
+        All (IsSeenAtWorkerOf C.gives C.failed G.says G.hears nodes) history → IsConsistent history }
+{}

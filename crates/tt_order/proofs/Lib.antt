@@ -1,7 +1,7 @@
 mod Books
 mod Calls
-mod Walking
+pub mod Walking
 mod Stamping
-mod Judging
+pub mod Judging
 mod Worked
 mod Telling
