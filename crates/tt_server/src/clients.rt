@@ -51,7 +51,7 @@ impl Counts {
 /// The deadline of a session that begins when the clock shows `now`, with clients that may be silent for `idle`, in
 /// nanoseconds: a day later, and as many looks as there are slices in the time that a client may be silent.
 pub(crate) fn deadline_at(now: u64, idle: u64) -> Deadline
-    ensures { result ≡ deadline_at now idle }
+    ensures value { result ≡ deadline_at now idle }
 {
     Deadline {
         at: now.saturating_add(DAY),

@@ -32,7 +32,7 @@ impl ServerFault {
     /// The fault's number: 1807 `CannotListen`, 1808 `CannotPoll`, 1809 `CannotListenSocket`, 1810 `TooFewWorkers`,
     /// the number of the fault within for `Epoch` (1811 to 1815, 1) and `Publish`, 1816 `NoThread`, 1 `Memory`.
     pub fn number(&self) -> u16
-        ensures { result ≡ number_of self.now }
+        ensures value { result ≡ number_of self.now }
     {
         match self {
             ServerFault::CannotListen => 1807,

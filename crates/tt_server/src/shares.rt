@@ -23,7 +23,7 @@ pub(crate) fn period_of(pauses: &Pauses) -> u64
 /// Until when what was fused at this clock reading is fresh, in nanoseconds: for three periods.
 pub(crate) fn fresh_until(clock: u64, period: u64) -> u64
     requires { period ≤ max_time }
-    ensures { result ≡ fresh_until clock period }
+    ensures value { result ≡ fresh_until clock period }
 {
     clock.saturating_add(3 * period)
 }
@@ -36,7 +36,7 @@ pub(crate) fn shared_of(
     pauses: &Pauses,
     drift: Drift,
 ) -> SharedSpan
-    ensures { result ≡ shared_of fused.now epoch number pauses.now drift }
+    ensures value { result ≡ shared_of fused.now epoch number pauses.now drift }
 {
     SharedSpan {
         fused: FusedSpan {
@@ -52,7 +52,7 @@ pub(crate) fn shared_of(
 
 /// The same publication when its machine has ended in order at this clock reading: it is not fresh any more behind it.
 pub(crate) fn ended_at(shared: &SharedSpan, now: u64) -> SharedSpan
-    ensures { result ≡ record shared.now { valid_until = now } }
+    ensures value { result ≡ record shared.now { valid_until = now } }
 {
     SharedSpan {
         fused: shared.fused,

@@ -76,7 +76,7 @@ impl Work {
 
 /// How many of the packets of one round were refused. Its fusion was refused too where nothing was published.
 pub(crate) fn refused_answers(did: &Rounds) -> u64
-    ensures { result ≡ refused_answers did.now }
+    ensures value { result ≡ refused_answers did.now }
 {
     did.refused
         .saturating_sub(1_u64.saturating_sub(did.published))
@@ -171,7 +171,7 @@ pub(crate) fn status_of(
     work: &Work,
     now: u64,
 ) -> Status
-    ensures { result ≡ status_of epoch sources known tally.now shown sharing work.now now }
+    ensures value { result ≡ status_of epoch sources known tally.now shown sharing work.now now }
 {
     let shown = match shown {
         Some(shown) => shown,
