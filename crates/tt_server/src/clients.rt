@@ -4,12 +4,13 @@ ghost use Rattle.std.specs.Prelude.{◌≡◌, ◌+◌, nat_lt};
 ghost use Rattle.tt_stream.specs.Counts.{HasFailed};
 ghost use Rattle.tt_server.specs.Session.{deadline_at};
 
+use crate::clocks::MachineClock;
 use crate::doors::SLICE;
-use crate::tallies::Work;
-use std::cell::Cell;
 use std::io::ErrorKind;
 use std::net::TcpStream;
 use std::sync::atomic::{AtomicBool, AtomicU64, Ordering};
+use std::time::Clock as SystemClock;
+use tt_publish::Clock;
 use tt_session::{Deadline, Timed, TimedReader, TimedWriter};
 use tt_station::Presence;
 use tt_stream::DeviceFault;
@@ -17,7 +18,7 @@ use tt_stream::DeviceFault;
 /// How long a session may last, in nanoseconds: a day.
 const DAY: u64 = 86_400_000_000_000;
 
-/// What the sessions of a worker have done so far, each count modulo 2^64.
+/// What the sessions of a machine have done so far, each count modulo 2^64.
 #[derive(Drop)]
 pub(crate) struct Counts {
     /// The sessions that have ended.
@@ -35,15 +36,6 @@ impl Counts {
             sessions: AtomicU64::new(0),
             lines: AtomicU64::new(0),
             refused: AtomicU64::new(0),
-        }
-    }
-
-    /// What they are.
-    pub(crate) fn work(&self) -> Work {
-        Work {
-            sessions: self.sessions.load(Ordering::SeqCst),
-            lines: self.lines.load(Ordering::SeqCst),
-            refused_lines: self.refused.load(Ordering::SeqCst),
         }
     }
 }
@@ -69,11 +61,10 @@ fn is_over(since: u64, most: u64, now: u64) -> bool
 /// What a session reads from: the bytes of a connection, for as long as the machine does not end and each line comes
 /// within a time. That time begins with the first read behind the line before.
 #[derive(Drop)]
-pub(crate) struct LineReader<'a> {
+pub(crate) struct LineReader<'a, R> {
     device: Timed<&'a TcpStream>,
     ended: &'a AtomicBool,
-    /// What the clock of the session's deadline showed, which is read before each call of this reader.
-    shown: &'a Cell<u64>,
+    clock: MachineClock<'a, R>,
     /// How long a line may take, in nanoseconds.
     idle: u64,
     /// When the time of the line began that is awaited; None where it begins with the next read.
@@ -81,18 +72,18 @@ pub(crate) struct LineReader<'a> {
     failures: u64,
 }
 
-impl<'a> LineReader<'a> {
+impl<'a, R: SystemClock> LineReader<'a, R> {
     /// The reader of a connection.
     pub(crate) fn new(
         stream: &'a TcpStream,
         ended: &'a AtomicBool,
-        shown: &'a Cell<u64>,
+        clock: MachineClock<'a, R>,
         idle: u64,
     ) -> Self {
         LineReader {
             device: Timed::new(stream),
             ended,
-            shown,
+            clock,
             idle,
             since: None,
             failures: 0,
@@ -111,7 +102,9 @@ impl<'a> LineReader<'a> {
     fn is_done(&mut self) -> bool
         ensures same { self.new.failures ≡ self.old.failures }
     {
-        let now = self.shown.get();
+        let Ok(now) = self.clock.read() else {
+            return true;
+        };
         let since = match self.since {
             Some(since) => since,
             None => now,
@@ -121,7 +114,7 @@ impl<'a> LineReader<'a> {
     }
 }
 
-impl<'a> TimedReader for LineReader<'a> {
+impl<'a, R: SystemClock> TimedReader for LineReader<'a, R> {
     ghost use Rattle.std.specs.Prelude.{None};
 
     ghost left = { λ _. None };
@@ -134,9 +127,7 @@ impl<'a> TimedReader for LineReader<'a> {
         }
         match self.device.read(buffer) {
             Ok(Some(count)) => {
-                // A line feed mostly is the last byte that came.
-                let came = &buffer[..count];
-                if matches!(came.last(), Some(b'\n')) || came.contains(&b'\n') {
+                if buffer[..count].contains(&b'\n') {
                     self.since = None;
                 }
                 Ok(Some(count))

@@ -4,7 +4,6 @@ ghost use Rattle.std.specs.Prelude.{◌≡◌, ◌≤◌, IfSome};
 ghost use Rattle.std.specs.Duration.{as_nanos};
 ghost use Rattle.tt_span.specs.Time.{max_time};
 
-use std::cell::Cell;
 use std::time::{Clock as SystemClock, Duration};
 use tt_publish::{Clock, ClockFault};
 use tt_span::MAX_TIME;
@@ -68,45 +67,5 @@ impl<'a, R: SystemClock> Clock for MachineClock<'a, R> {
 
     fn failures(&self) -> u64 {
         self.failures
-    }
-}
-
-/// The clock of a machine, beside which stands what it showed last. So what is called after a reading of it need not
-/// read a clock again.
-#[derive(Drop)]
-pub(crate) struct ShownClock<'a, R> {
-    clock: MachineClock<'a, R>,
-    shown: &'a Cell<u64>,
-}
-
-impl<'a, R: SystemClock> ShownClock<'a, R> {
-    /// The clock of this machine, beside which its readings are put here.
-    pub(crate) fn new(rt: &'a R, shown: &'a Cell<u64>) -> Self {
-        ShownClock {
-            clock: MachineClock::new(rt),
-            shown,
-        }
-    }
-}
-
-impl<'a, R: SystemClock> Clock for ShownClock<'a, R> {
-    ghost use Rattle.std.specs.Prelude.{◌≡◌, IfSome};
-
-    ghost gives = { λ _ reading after. IfSome reading (λ time. after.clock.last ≡ time) };
-
-    ghost failed = { λ clock. clock.clock.failures };
-
-    fn read(&mut self) -> Result<u64, ClockFault> {
-        match self.clock.read() {
-            Ok(time) => {
-                self.shown.set(time);
-                Ok(time)
-            }
-            Err(fault) => Err(fault),
-        }
-    }
-
-    fn failures(&self) -> u64 {
-        self.clock.failures()
     }
 }

@@ -4,15 +4,13 @@ use crate::clients::Counts;
 use crate::doors::Door;
 use crate::logs::{Limits, write_event};
 use crate::tallies::Work;
-use crossbeam_utils::CachePadded;
 use std::alloc::Global;
-use std::array;
 use std::io::Eprint;
 use std::sync::atomic::{AtomicBool, Ordering};
 use std::sync::{Mutex, Wait};
 use std::thread::Parker;
 use std::time::Clock as SystemClock;
-use tt_daemon::{Config, MAX_WORKERS};
+use tt_daemon::Config;
 use tt_settings::Pauses;
 use tt_span::Span;
 use tt_status::Event;
@@ -34,9 +32,7 @@ pub(crate) struct Hall {
     pub(crate) door: Door,
     pub(crate) side_door: Option<Door>,
     pub(crate) ended: AtomicBool,
-    /// The counts of each worker, which writes them at each line: on cache lines of their own, so that no worker
-    /// waits for what another writes.
-    counts: [CachePadded<Counts>; MAX_WORKERS],
+    pub(crate) counts: Counts,
     /// What the daemon's pauses are made by: the end wakes it.
     pub(crate) pause: Parker,
     pub(crate) limits: Mutex<Limits>,
@@ -50,7 +46,7 @@ impl Hall {
             door,
             side_door,
             ended: AtomicBool::new(false),
-            counts: array::from_fn(|_| CachePadded::new(Counts::new())),
+            counts: Counts::new(),
             pause: Parker::new(),
             limits: Mutex::new(Limits::new()),
         }
@@ -61,18 +57,13 @@ impl Hall {
         self.ended.load(Ordering::SeqCst)
     }
 
-    /// The counts of the worker with this number.
-    pub(crate) fn counts_of(&self, worker: usize) -> &Counts {
-        &self.counts[worker % MAX_WORKERS]
-    }
-
-    /// What the sessions have done so far, each count modulo 2^64.
+    /// What the sessions have done so far.
     pub(crate) fn work(&self) -> Work {
-        let mut work = Work::new();
-        for counts in &self.counts {
-            work = work.plus(&counts.work());
+        Work {
+            sessions: self.counts.sessions.load(Ordering::SeqCst),
+            lines: self.counts.lines.load(Ordering::SeqCst),
+            refused_lines: self.counts.refused.load(Ordering::SeqCst),
         }
-        work
     }
 }
 

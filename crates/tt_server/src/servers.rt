@@ -59,8 +59,7 @@ fn start_workers<'s, E, R: Wait + SystemClock + Eprint + Sync>(
             Some(side_door) if number < side => side_door,
             _ => &hall.door,
         };
-        let counts = hall.counts_of(number);
-        if start_worker(scope, shared, door, counts, place, watch).is_none() {
+        if start_worker(scope, shared, door, place, watch).is_none() {
             return false;
         }
     }

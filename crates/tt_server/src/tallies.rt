@@ -1,6 +1,6 @@
 //! What the rounds of a machine come to: what they have done so far, what the log says of each, and the status.
 
-ghost use Rattle.std.specs.Prelude.{◌≡◌, ◌+◌, ◌%◌, ◌^◌};
+ghost use Rattle.std.specs.Prelude.{◌≡◌};
 ghost use Rattle.tt_server.specs.Tally.{tally_after, event_of, refused_answers, shown_of, status_of, one_if};
 
 use tt_daemon::{DaemonFault, Fused};
@@ -46,32 +46,6 @@ pub(crate) struct Work {
     pub(crate) sessions: u64,
     pub(crate) lines: u64,
     pub(crate) refused_lines: u64,
-}
-
-impl Work {
-    /// Nothing was done so far.
-    pub(crate) fn new() -> Work
-        ensures { result ≡ record { sessions = 0; lines = 0; refused_lines = 0 } }
-    {
-        Work {
-            sessions: 0,
-            lines: 0,
-            refused_lines: 0,
-        }
-    }
-
-    /// Both together, each count modulo 2^64.
-    pub(crate) fn plus(&self, more: &Work) -> Work
-        ensures sessions { result.sessions ≡ (self.now.sessions + more.now.sessions) % 2 ^ 64 }
-        ensures lines { result.lines ≡ (self.now.lines + more.now.lines) % 2 ^ 64 }
-        ensures refused { result.refused_lines ≡ (self.now.refused_lines + more.now.refused_lines) % 2 ^ 64 }
-    {
-        Work {
-            sessions: self.sessions.wrapping_add(more.sessions),
-            lines: self.lines.wrapping_add(more.lines),
-            refused_lines: self.refused_lines.wrapping_add(more.refused_lines),
-        }
-    }
 }
 
 /// How many of the packets of one round were refused. Its fusion was refused too where nothing was published.

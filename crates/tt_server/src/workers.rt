@@ -2,12 +2,11 @@
 
 ghost use Rattle.std.specs.Prelude.{◌≡◌, ◌≤◌, ◌+◌, ◌<◌, All};
 
-use crate::clients::{Client, Counts, LineReader, ReplyWriter, deadline_at};
-use crate::clocks::{MachineClock, ShownClock};
+use crate::clients::{Client, LineReader, ReplyWriter, deadline_at};
+use crate::clocks::MachineClock;
 use crate::doors::Door;
 use crate::halls::{Shared, say};
 use std::alloc::Global;
-use std::cell::Cell;
 use std::io::Eprint;
 use std::net::TcpStream;
 use std::sync::Wait;
@@ -66,7 +65,6 @@ pub(crate) fn places_of<'a>(
 /// Serves one session. The post is there for the next one, whatever ended this one.
 fn serve_one<'a, R: Wait + SystemClock>(
     shared: Shared<'a, R>,
-    counts: &Counts,
     post: Post<'a, R, MachineClock<'a, R>>,
     stream: &TcpStream,
 ) -> Post<'a, R, MachineClock<'a, R>> {
@@ -77,10 +75,9 @@ fn serve_one<'a, R: Wait + SystemClock>(
     };
     let idle = hall.life.pauses.idle;
     let deadline = deadline_at(now, idle);
-    let shown = Cell::new(now);
-    let device = LineReader::new(stream, &hall.ended, &shown, idle);
-    let mut reader = DeadlineReader::new(device, ShownClock::new(rt, &shown), deadline);
-    let device = ReplyWriter::new(stream, &hall.ended, counts);
+    let device = LineReader::new(stream, &hall.ended, MachineClock::new(rt), idle);
+    let mut reader = DeadlineReader::new(device, MachineClock::new(rt), deadline);
+    let device = ReplyWriter::new(stream, &hall.ended, &hall.counts);
     let mut writer = DeadlineWriter::new(device, clock, deadline);
     let client = Client::new(stream, &hall.ended);
     let turns = Turns {
@@ -88,7 +85,7 @@ fn serve_one<'a, R: Wait + SystemClock>(
         waits: WAITS,
     };
     let (post, _served) = post.serve(&client, &mut reader, &mut writer, turns);
-    counts.sessions.fetch_add(1, Ordering::SeqCst);
+    hall.counts.sessions.fetch_add(1, Ordering::SeqCst);
     post
 }
 
@@ -96,7 +93,6 @@ fn serve_one<'a, R: Wait + SystemClock>(
 fn work<'a, R: Wait + SystemClock + Eprint>(
     shared: Shared<'a, R>,
     door: &'a Door,
-    counts: &'a Counts,
     place: Place<'a>,
     watch: Watch,
 ) {
@@ -113,7 +109,7 @@ fn work<'a, R: Wait + SystemClock + Eprint>(
             return;
         }
         match door.accept() {
-            Ok(Some(stream)) => post = serve_one(shared, counts, post, &stream),
+            Ok(Some(stream)) => post = serve_one(shared, post, &stream),
             Ok(None) => {}
             Err(_) => {
                 say(shared, Event::NotAccepted);
@@ -129,11 +125,8 @@ pub(crate) fn start_worker<'s, E, R: Wait + SystemClock + Eprint + Sync>(
     scope: &Scope<'s, E>,
     shared: Shared<'s, R>,
     door: &'s Door,
-    counts: &'s Counts,
     place: Place<'s>,
     watch: Watch,
 ) -> Option<JoinHandle<()>> {
-    scope
-        .spawn(move || work(shared, door, counts, place, watch))
-        .ok()
+    scope.spawn(move || work(shared, door, place, watch)).ok()
 }
