@@ -12,6 +12,7 @@ use Rattle.tt_publish.specs.declared.readings.FusedSpan.{FusedSpan}
 use Rattle.tt_node.specs.Link.{Packet, Gift, Went, Came, NothingCame, Broke, Send, Receive, Exchange}
 use Rattle.tt_node.specs.Fusing.{Fusion, fusion_at, fusion_found}
 use Rattle.tt_node.specs.Course.{Given, Stand, Outcome, GoesOn, Ends, Lacks, Part, ◌>>=◌, after_outcome, each_below, poll_at, poll_all, take_at, take_next, fuse_at, send_polled, put_table, send, send_part, receive, packet_part, next_gift, gift_from, count_refusal, put_taken, publish_fused, publish, publish_granted, request_of, next_reading, reading_from, turn, round_of, rounds_of}
+use Rattle.tt_node.specs.Tallies.{one_poll}
 use Rattle.tt_node.specs.Making.{before_rest, part_with, Leads}
 use Rattle.tt_node.specs.declared.faults.NodeFault.{NodeFault}
 use Rattle.tt_node.specs.declared.faults.NodeFault.TheVariants as node
@@ -93,7 +94,7 @@ module _ (clock source : ℕ) where
       step_is : ◌≡◌ {A = Kept} (record (kept_in stand) { daemon = record stand.daemon { table = table } }) (after_step (kept_in stand) (Polls source clock))
       step_is = ap (with_table (kept_in stand)) (sym is)
 
-      by_gifts : (gifts : List Gift) → IsMadeBy (kept_in stand) (Polls source clock ∷ []) (after_outcome (gift_from gifts (Send (record { peer = source; bytes = request_of table source })) (record stand { daemon = record stand.daemon { table = table } }) given) send_part)
+      by_gifts : (gifts : List Gift) → IsMadeBy (kept_in stand) (Polls source clock ∷ []) (after_outcome (gift_from gifts (Send (record { peer = source; bytes = request_of table source })) (record stand { daemon = record stand.daemon { table = table }; tally = one_poll stand.tally }) given) send_part)
       by_gifts [] = tt
       by_gifts (Went ∷ gifts) = step_is
       by_gifts (Broke ∷ gifts) = step_is
