@@ -10,6 +10,7 @@ use Rattle.tt_daemon.specs.Daemon.{new_daemon}
 use Rattle.tt_node.specs.Link.{Exchange, Send, Receive, Went, Came}
 use Rattle.tt_node.specs.Course.{Given, Stand, Outcome, GoesOn, Ends, Lacks, ◌>>=◌, each_below, next_reading, next_gift, send, receive, put_table, send_polled, poll_at, poll_all, put_taken, take_at, take_next, turn, count_refusal, publish, publish_fused, fuse_at, round_of, rounds_of}
 use Rattle.tt_node.specs.Making.{Leads, stand_of}
+use Rattle.tt_node.specs.Tallies.{no_tally}
 use Rattle.tt_world.specs.Life.{Life}
 use Rattle.tt_runs.specs.Calls.{RoundsCall}
 use Rattle.tt_runs.specs.CourseSteps.{steps_below}
@@ -56,7 +57,7 @@ abbrev came_to : ℕ → Exchange
 came_to m = record { call = Receive; gift = Came (record { peer = 0; bytes = bytes_for m }) }
 
 abbrev begin : ℕ → List Exchange → Stand
-begin m exchanges = stand_of (new_daemon m one 1) [] 0 exchanges
+begin m exchanges = stand_of (new_daemon m one 1) [] no_tally exchanges
 
 abbrev stand_in : Stand → Outcome (Unit {0}) → Stand
 stand_in begun (GoesOn value stand given) = stand
