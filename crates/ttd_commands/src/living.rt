@@ -17,7 +17,7 @@ use std::sync::Wait;
 use std::thread::Threads;
 use std::time::Clock;
 use tt_audit::LiveReport;
-use tt_live::live;
+use tt_live::{LiveEnd, live};
 use tt_script::Script;
 use ttd_cli::{Asked, Command};
 
@@ -49,12 +49,10 @@ fn lived<H: Threads + Wait + Clock + Sync + Net<Listener = TcpListener, Stream =
     ensures value { HasReply answer_in (TellsLive script.now) result }
     ensures no_device { result ≢ Err Fault.ReadFailed }
 {
-    let end = match live(rt, alloc, script) {
-        Ok(end) => end,
+    let report = match live(rt, alloc, script) {
+        Ok(end) => noted(notes, end),
         Err(fault) => return Err(Fault::Live(fault)),
     };
-    note_causes(notes, &end);
-    let report = end.report;
     let Ok(text) = report_text(alloc, &report) else {
         return Err(Fault::Memory);
     };
@@ -63,6 +61,14 @@ fn lived<H: Threads + Wait + Clock + Sync + Net<Listener = TcpListener, Stream =
     } else {
         Ok(CommandOutput::Broken(text))
     }
+}
+
+/// The report of a run. The notes gain why there is little to report.
+fn noted(notes: &mut String, end: LiveEnd) -> LiveReport
+    ensures { result ≡ end.report }
+{
+    note_causes(notes, &end);
+    end.report
 }
 
 /// The text of a report.
