@@ -130,7 +130,7 @@ impl Ends {
     /// [`MAX_SOURCES`] spans, and no other sources have made statements.
     pub fn of(&self, spans: &[Span]) -> SortedEnds
         requires { (clock : ℕ) × AreSpansAt self.now clock spans.now }
-        ensures { AreEndsOf spans.now result }
+        ensures value { AreEndsOf spans.now result }
     {
         let lows = self.lows.sources();
         let highs = self.highs.sources();
