@@ -36,9 +36,10 @@ in_order-requires c =
     AreInOrder-spans s c.args.self.now c.args.spans.now c.self.inside.lows c.self.inside.highs c.self.view_is c.self.invariant c.requires c.sources-lows.result.now c.sources-highs.result.now c.sources-lows.ensures.value c.sources-highs.ensures.value
     c.lows_of.result.items c.highs_of.result.items c.lows_of.ensures c.highs_of.ensures c.sources-lows.ensures.valid c.sources-highs.ensures.valid
 
-pub returns-clause-value : goal.returns-clause-value
-returns-clause-value c =
-    let s : Stated = record { drift = c.self.inside.drift; statements = c.self.inside.answers } in
-    subst (λ (ends : EndLists). AreEndsOf c.args.spans.now ends) (sym c.in_order.ensures)
-    (AreEndsOf-spans s c.args.self.now c.args.spans.now c.self.inside.lows c.self.inside.highs c.self.view_is c.self.invariant c.requires c.sources-lows.result.now c.sources-highs.result.now c.sources-lows.ensures.value c.sources-highs.ensures.value
-    c.lows_of.result.items c.highs_of.result.items c.lows_of.ensures c.highs_of.ensures)
+pub returns : goal.returns
+returns c =
+    let s : Stated = record { drift = c.self.inside.drift; statements = c.self.inside.answers } in record {
+      value = subst (λ (ends : EndLists). AreEndsOf c.args.spans.now ends) (sym c.in_order.ensures)
+          (AreEndsOf-spans s c.args.self.now c.args.spans.now c.self.inside.lows c.self.inside.highs c.self.view_is c.self.invariant c.requires c.sources-lows.result.now c.sources-highs.result.now c.sources-lows.ensures.value c.sources-highs.ensures.value
+          c.lows_of.result.items c.highs_of.result.items c.lows_of.ensures c.highs_of.ensures);
+    }
