@@ -1,13 +1,14 @@
 /* Makes one call of the program that it is loaded into fail: the allocation, the read or the write whose number stands in
- * REFUSE, FAIL_READ or FAIL_WRITE, counted from 1. Where SHORT is set, each read and write moves one byte. At the end it
- * writes how many allocations there were to the file that COUNT names. It stands before the C library by LD_PRELOAD, and
- * hands every other call on to it. */
+ * REFUSE, FAIL_READ or FAIL_WRITE, counted from 1. From the packet on whose number stands in FAIL_SEND no packet is sent.
+ * Where SHORT is set, each read and write moves one byte. At the end it writes how many allocations there were to the file
+ * that COUNT names. It stands before the C library by LD_PRELOAD, and hands every other call on to it. */
 #define _GNU_SOURCE
 #include <errno.h>
 #include <fcntl.h>
 #include <stdatomic.h>
 #include <stddef.h>
 #include <stdlib.h>
+#include <sys/socket.h>
 #include <sys/syscall.h>
 #include <unistd.h>
 
@@ -16,8 +17,8 @@ extern void *__libc_calloc(size_t, size_t);
 extern void *__libc_realloc(void *, size_t);
 extern void *__libc_memalign(size_t, size_t);
 
-static atomic_ulong calls, reads, writes;
-static unsigned long refused, read_failed, write_failed;
+static atomic_ulong calls, reads, writes, sends;
+static unsigned long refused, read_failed, write_failed, send_failed;
 static int is_short, begun;
 
 static unsigned long number_in(const char *name) {
@@ -30,6 +31,7 @@ __attribute__((constructor)) static void begin(void) {
     refused = number_in("REFUSE");
     read_failed = number_in("FAIL_READ");
     write_failed = number_in("FAIL_WRITE");
+    send_failed = number_in("FAIL_SEND");
     is_short = number_in("SHORT") != 0;
     begun = 1;
 }
@@ -97,4 +99,9 @@ ssize_t read(int file, void *place, size_t size) {
 ssize_t write(int file, const void *bytes, size_t size) {
     if (begun && ++writes == write_failed) { errno = EIO; return -1; }
     return syscall(SYS_write, file, bytes, is_short && size > 1 ? 1 : size);
+}
+
+ssize_t sendto(int file, const void *bytes, size_t size, int flags, const struct sockaddr *address, socklen_t length) {
+    if (begun && send_failed && ++sends >= send_failed) { errno = EIO; return -1; }
+    return syscall(SYS_sendto, file, bytes, size, flags, address, length);
 }

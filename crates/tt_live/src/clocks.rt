@@ -5,6 +5,7 @@ ghost use Rattle.std.specs.Duration.{as_nanos};
 ghost use Rattle.tt_span.specs.Time.{max_time};
 ghost use Rattle.tt_stream.specs.Counts.{HasFailed};
 
+use std::sync::atomic::{AtomicBool, Ordering};
 use std::time::{Clock as SystemClock, Duration, Instant};
 use tt_master::{RefFault, Reference};
 use tt_publish::{Clock, ClockFault};
@@ -97,6 +98,42 @@ impl<'a, R: SystemClock> Reference for LiveClock<'a, R> {
             Some(time) => Ok(time),
             None => Err(RefFault::Failed),
         }
+    }
+
+    fn failures(&self) -> u64 {
+        self.failures
+    }
+}
+
+/// The clock that the reader of a session looks at before each read. It shows 0, and fails once the node's daemon has
+/// ended with a fault. So such a session ends soon after the daemon, also where its client sends nothing.
+#[derive(Drop)]
+pub(crate) struct SessionClock<'a> {
+    daemon_failed: &'a AtomicBool,
+    failures: u64,
+}
+
+impl<'a> SessionClock<'a> {
+    /// A clock with no failure so far.
+    pub(crate) fn new(daemon_failed: &'a AtomicBool) -> Self {
+        SessionClock {
+            daemon_failed,
+            failures: 0,
+        }
+    }
+}
+
+impl<'a> Clock for SessionClock<'a> {
+    ghost gives = { λ _ _ _. Unit {0} };
+
+    ghost failed = { λ clock. clock.failures };
+
+    fn read(&mut self) -> Result<u64, ClockFault> {
+        if self.daemon_failed.load(Ordering::SeqCst) {
+            self.failures = self.failures.saturating_add(1);
+            return Err(ClockFault::Failed);
+        }
+        Ok(0)
     }
 
     fn failures(&self) -> u64 {

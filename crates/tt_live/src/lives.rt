@@ -13,7 +13,7 @@ use crate::faults::LiveFault;
 use crate::masters::{play, source_at};
 use crate::plans::machine_of;
 use crate::reports::report_of;
-use crate::sockets::{Links, Sessions, connect_clients, connect_masters};
+use crate::sockets::{Links, Sessions, WorkerStream, connect_clients, connect_masters};
 use std::alloc::Global;
 use std::net::{Net, TcpListener, TcpStream};
 use std::sync::Wait;
@@ -54,6 +54,7 @@ struct Shared<'a, R> {
     alloc: Global,
     origin: Origin,
     ended: &'a AtomicBool,
+    daemon_failed: &'a AtomicBool,
     gate: &'a OpenGate,
 }
 
@@ -64,6 +65,7 @@ impl<'a, R> Clone for Shared<'a, R> {
             alloc: self.alloc,
             origin: self.origin,
             ended: self.ended,
+            daemon_failed: self.daemon_failed,
             gate: self.gate,
         })
     }
@@ -244,7 +246,7 @@ fn run_streams<'s, R: Threads + Wait + SystemClock + Sync>(
     live: &'s Live,
     link: RoundLink<'s, R>,
     clocks: Clocks<LiveClock<'s, R>>,
-    streams: Vec<(Counted<TcpStream>, Counted<TcpStream>)>,
+    streams: Vec<WorkerStream<'s>>,
     started: bool,
 ) -> Result<NodeEnd, NodeFault>
     requires some { 0 < vec_len streams }
@@ -276,6 +278,7 @@ fn run_streams<'s, R: Threads + Wait + SystemClock + Sync>(
         streams,
         shared.gate,
         limits,
+        shared.daemon_failed,
     )
 }
 
@@ -286,7 +289,7 @@ fn run_threads<'s, E, R: Threads + Wait + SystemClock + Sync>(
     config: Config,
     live: &'s Live,
     links: Links<'s, R>,
-    sessions: Sessions,
+    sessions: Sessions<'s>,
 ) -> Result<NodeEnd, NodeFault>
     requires some { 0 < vec_len sessions.workers }
     requires few { vec_len sessions.workers ≤ max_watches }
@@ -318,8 +321,9 @@ fn run<
 >(rt: &'a R, alloc: Global, config: Config, live: &'a Live) -> Result<LiveEnd, NodeFault>
     ensures fault { IfErr result EndsRun }
 {
+    let (ended, daemon_failed) = (AtomicBool::new(false), AtomicBool::new(false));
     let links = connect_masters(rt, alloc, live.masters().len())?;
-    let sessions = connect_clients(rt, alloc, config.workers())?;
+    let sessions = connect_clients(rt, alloc, config.workers(), &daemon_failed)?;
     let Ok(start) = Instant::now(rt) else {
         return Err(NodeFault::ClockFailed);
     };
@@ -327,12 +331,13 @@ fn run<
         base: live.base(),
         start,
     };
-    let (ended, gate) = (AtomicBool::new(false), OpenGate);
+    let gate = OpenGate;
     let shared = Shared {
         rt,
         alloc,
         origin,
         ended: &ended,
+        daemon_failed: &daemon_failed,
         gate: &gate,
     };
     let end = thread::scope(
@@ -361,8 +366,9 @@ fn run<
 ///
 /// Each master is a thread that answers polls over UDP, the node polls and serves by [`run_node`], and each client is
 /// a thread that sends the lines of its session over TCP; all on 127.0.0.1, the machine in its first life. One clock
-/// serves all of them: it shows the base of the script, and what has elapsed since. The masters end after the node;
-/// every thread that was started is joined before the answer.
+/// serves all of them: it shows the base of the script, and what has elapsed since. The masters end after the node, and
+/// the sessions within 0.1 seconds of the daemon's fault and of their last reply; every thread that was started is
+/// joined before the answer.
 ///
 /// Refuses, in this order: 1302 `NoLive` where the script has no such part; 1303 `Unfit` where it has not exactly one
 /// machine, whose masters are not one for each source, or whose sessions are not one for each worker. Then with the

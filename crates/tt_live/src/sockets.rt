@@ -3,11 +3,14 @@
 ghost use Rattle.std.specs.Prelude.{◌≡◌, IfOk, IfErr, vec_len};
 ghost use Rattle.tt_live.specs.Fault.{IsSocketFault};
 
+use crate::clocks::SessionClock;
 use std::alloc::Global;
 use std::io::{self, ErrorKind};
 use std::net::{Net, SocketAddr, TcpListener, TcpStream, UdpSocket};
+use std::sync::atomic::AtomicBool;
 use std::time::{Clock as SystemClock, Duration};
 use tt_node::{NodeFault, RoundLink, UdpLink};
+use tt_session::{Deadline, DeadlineReader, Timed};
 use tt_stream::Counted;
 
 /// Where sockets are bound: on this computer, at a port that is free.
@@ -18,6 +21,15 @@ const ROUND_WAIT: u64 = 20;
 
 /// How long a master waits for a packet, in milliseconds.
 const MASTER_WAIT: u64 = 10;
+
+/// How long a read of a session waits for bytes, in milliseconds, before it looks whether the daemon has failed.
+const SESSION_WAIT: u64 = 100;
+
+/// The deadline of a session: none. It ends with its input, or where its clock fails.
+const NO_DEADLINE: Deadline = Deadline {
+    at: u64::MAX,
+    tries: u32::MAX,
+};
 
 /// How many connections are accepted at most, until the one of a client is among them.
 const MAX_ACCEPTS: u32 = 1_000;
@@ -88,7 +100,7 @@ pub(crate) struct Connection {
     pub(crate) worker: TcpStream,
 }
 
-/// A connection to the listener and from it.
+/// A connection to the listener and from it, whose worker waits a while for bytes.
 fn connect<R: Net<Listener = TcpListener, Stream = TcpStream>>(
     net: &R,
     listener: &TcpListener,
@@ -100,25 +112,33 @@ fn connect<R: Net<Listener = TcpListener, Stream = TcpStream>>(
         let (worker, peer) = listener.accept()?;
         if peer == own {
             worker.set_nodelay(true)?;
+            worker.set_read_timeout(Some(Duration::from_millis(SESSION_WAIT)))?;
             return Ok(Connection { client, worker });
         }
     }
     Err(io::Error::from(ErrorKind::ConnectionRefused))
 }
 
+/// The reader of a session, which ends once the daemon has failed.
+pub(crate) type SessionReader<'a> = DeadlineReader<Timed<TcpStream>, SessionClock<'a>>;
+
+/// The reader and the writer of a worker.
+pub(crate) type WorkerStream<'a> = (SessionReader<'a>, Counted<TcpStream>);
+
 /// The connections of a run: the ends of its clients, and the readers and writers of its workers, in one order.
 #[derive(Drop)]
-pub(crate) struct Sessions {
+pub(crate) struct Sessions<'a> {
     pub(crate) clients: Vec<TcpStream>,
-    pub(crate) workers: Vec<(Counted<TcpStream>, Counted<TcpStream>)>,
+    pub(crate) workers: Vec<WorkerStream<'a>>,
 }
 
-/// The connections of so many clients.
-pub(crate) fn connect_clients<R: Net<Listener = TcpListener, Stream = TcpStream>>(
+/// The connections of so many clients, whose sessions end once the daemon has failed.
+pub(crate) fn connect_clients<'a, R: Net<Listener = TcpListener, Stream = TcpStream>>(
     net: &R,
     alloc: Global,
     count: usize,
-) -> Result<Sessions, NodeFault>
+    daemon_failed: &'a AtomicBool,
+) -> Result<Sessions<'a>, NodeFault>
     ensures all { IfOk result (λ sessions. vec_len sessions.workers ≡ count) }
     ensures fault { IfErr result IsSocketFault }
 {
@@ -128,8 +148,10 @@ pub(crate) fn connect_clients<R: Net<Listener = TcpListener, Stream = TcpStream>
         let Connection { client, worker } = connect(net, &listener).map_err(fault_of)?;
         let writer = worker.try_clone().map_err(fault_of)?;
         clients.push(client).map_err(|_| NodeFault::Memory)?;
+        let clock = SessionClock::new(daemon_failed);
+        let reader = DeadlineReader::new(Timed::new(worker), clock, NO_DEADLINE);
         workers
-            .push((Counted::new(worker), Counted::new(writer)))
+            .push((reader, Counted::new(writer)))
             .map_err(|_| NodeFault::Memory)?;
     }
     Ok(Sessions { clients, workers })

@@ -4,7 +4,7 @@ use crate::devices::{CountedLink, MasterLink, Page, PageWriter, SecondRoundGate}
 use crate::outcomes::{MEMORY, Outcome};
 use arrayvec::ArrayVec;
 use std::alloc::Global;
-use std::sync::atomic::AtomicU64;
+use std::sync::atomic::{AtomicBool, AtomicU64};
 use std::sync::{Mutex, Wait};
 use std::thread::Threads;
 use tt_daemon::Daemon;
@@ -86,5 +86,8 @@ fn run_one<R: Threads + Wait + std::time::Clock + Sync>(
         lease: Span::whole(),
     };
     let daemon = Daemon::new(0, &config, 1);
-    Some(run_node(rt, alloc, daemon, link, clocks, streams, &gate, limits))
+    let failed = AtomicBool::new(false);
+    Some(run_node(
+        rt, alloc, daemon, link, clocks, streams, &gate, limits, &failed,
+    ))
 }

@@ -15,6 +15,7 @@ use std::alloc::Global;
 use std::marker::Brand;
 use std::snapshot::Snapshot;
 use std::sync::Wait;
+use std::sync::atomic::{AtomicBool, Ordering};
 use std::thread;
 use std::thread::{Promise, PromisedHandle, Scope, Threads};
 use tt_audit::LiveNote;
@@ -410,6 +411,7 @@ fn run_threads<
     seats: Vec<Seat>,
     watches: Vec<Watch>,
     streams: Vec<(I, O)>,
+    daemon_failed: &'s AtomicBool,
 ) -> Result<NodeEnd, NodeFault>
     requires nothing { teller.old.items ≡ [] }
     requires some { 0 < vec_len streams }
@@ -448,6 +450,9 @@ fn run_threads<
         &mut handles,
     );
     let did = running.join(rt);
+    if did.is_err() {
+        daemon_failed.store(true, Ordering::SeqCst);
+    }
     if !started {
         drop_workers(rt, handles);
         return Err(NodeFault::Memory);
@@ -467,7 +472,8 @@ fn run_threads<
 /// sequencer and one book, which begin here. Each session's service is a [`Worker`] with the clock of its number.
 ///
 /// It joins every thread that it started before it answers, also where one could not be started. What is published is
-/// kept until then.
+/// kept until then. Where the daemon's rounds end with a fault it sets `daemon_failed`: the workers go on by the last
+/// publication until their sessions end, and a reader that looks at the flag can end its session.
 ///
 /// Refuses, in this order: 1503 `BadLimits` where there is no stream, there are more than [`MAX_WATCHES`] streams, there
 /// is not one clock for each stream, or a limit is 0 (rounds, turns, reads or waits); 1 where an allocation failed; 804
@@ -491,6 +497,7 @@ pub fn run_node<
     streams: Vec<(I, O)>,
     gate: &'n G,
     limits: Limits,
+    daemon_failed: &'n AtomicBool,
 ) -> Result<NodeEnd, NodeFault>
     ensures bad_limits { IsErrOf result NodeFault.BadLimits ↔ ((vec_len streams ≡ 0) ⊎ (max_watches < vec_len streams) ⊎ (vec_len clocks.workers ≢ vec_len streams)
         ⊎ (limits.rounds ≡ 0) ⊎ (limits.turns ≡ 0) ⊎ (limits.serve.reads ≡ 0) ⊎ (limits.serve.waits ≡ 0)) }
@@ -507,7 +514,16 @@ pub fn run_node<
     check_limits(streams.len(), clocks.workers.len(), &limits)?;
     let opened = OpenedBook::new();
     run_on_book::<R, L, C, I, O, G, Brand>(
-        rt, alloc, opened, daemon, link, clocks, streams, gate, limits,
+        rt,
+        alloc,
+        opened,
+        daemon,
+        link,
+        clocks,
+        streams,
+        gate,
+        limits,
+        daemon_failed,
     )
 }
 
@@ -531,6 +547,7 @@ fn run_on_book<
     streams: Vec<(I, O)>,
     gate: &'n G,
     limits: Limits,
+    daemon_failed: &'n AtomicBool,
 ) -> Result<NodeEnd, NodeFault>
     requires book { opened ≡ J.source }
     requires some { 0 < vec_len streams }
@@ -542,7 +559,16 @@ fn run_on_book<
 {
     let (book, _) = opened.named::<J>(alloc);
     run_sharing(
-        rt, alloc, &book, daemon, link, clocks, streams, gate, limits,
+        rt,
+        alloc,
+        &book,
+        daemon,
+        link,
+        clocks,
+        streams,
+        gate,
+        limits,
+        daemon_failed,
     )
 }
 
@@ -566,6 +592,7 @@ fn run_sharing<
     streams: Vec<(I, O)>,
     gate: &'n G,
     limits: Limits,
+    daemon_failed: &'n AtomicBool,
 ) -> Result<NodeEnd, NodeFault>
     requires some { 0 < vec_len streams }
     ensures within { ¬ IsErrOf result NodeFault.BadLimits }
@@ -592,8 +619,19 @@ fn run_sharing<
                 × AllFrom (IsNewSeat shown.now (vec_len streams)) 0 seats.items }
         {
             run_threads(
-                scope, shared, shown, gate, terms, daemon, link, clocks, lent, seats, watches,
+                scope,
+                shared,
+                shown,
+                gate,
+                terms,
+                daemon,
+                link,
+                clocks,
+                lent,
+                seats,
+                watches,
                 streams,
+                daemon_failed,
             )
         },
     );

@@ -5,6 +5,7 @@ use crate::devices::{
 };
 use arrayvec::ArrayVec;
 use std::alloc::Global;
+use std::sync::atomic::AtomicBool;
 use std::sync::{Mutex, Wait};
 use std::test::Fail;
 use std::thread::Threads;
@@ -69,6 +70,7 @@ fn run<R: Threads + Wait + std::time::Clock + Sync>(
         },
         lease: Span::whole(),
     };
+    let failed = AtomicBool::new(false);
     Some(run_node(
         rt,
         alloc,
@@ -78,6 +80,7 @@ fn run<R: Threads + Wait + std::time::Clock + Sync>(
         streams,
         &gate,
         limits,
+        &failed,
     ))
 }
 
