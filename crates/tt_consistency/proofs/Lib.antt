@@ -2,4 +2,5 @@ mod Holding
 mod Serving
 mod WorkedRun
 mod WorkedOrder
+mod WorkedNode
 mod Working

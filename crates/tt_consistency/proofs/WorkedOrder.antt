@@ -44,10 +44,10 @@ says client left = left ≡ false
 abbrev fused : Publication
 fused = record { clock = 111; span = record { lo = 1000; hi = 1020 }; spans = record { lo = 1000; hi = 1020 } ∷ []; faulty = 0; certificate = record { left = []; right = []; below = []; above = [] } }
 
-abbrev watch : WatchState
+abbrev pub watch : WatchState
 watch = record { source = record { book = record { number = 0; log_name = 0; cells_name = 0 }; chain = 0 }; drift = 100; items = fused ∷ [] }
 
-abbrev seat : SeatState
+abbrev pub seat : SeatState
 seat = new_seat (record { words = 0; slots = 0; views_name = 0; atom = 0; block = 0; offset = 0; slot_names = [] }) 1 0
 
 abbrev post : Clocks → PostState Clocks
@@ -60,7 +60,7 @@ abbrev interval : ℕ → ℕ → Interval
 interval low high = record { lo = low; hi = high }
 
 -- ---- a reading when the clock shows so much
-abbrev read_at : ℕ → Interval
+abbrev pub read_at : ℕ → Interval
 read_at clock = interval (888 + clock) (910 + clock)
 
 reads_at : (clock : ℕ) → 112 ≤ clock → clock ≤ 1000 → read_at clock ≡ reading_at 100 (fused_span_of fused) clock
@@ -70,7 +70,7 @@ reads_at clock late early =
     let high : 910 + clock ≡ aged_high 100 1020 (clock - 111) = omega arith in
     ap (λ (x : ℕ). interval x (910 + clock)) low ∙ ap (λ (x : ℕ). interval (aged_low 100 1000 (clock - 111)) x) high
 
-looks_at : (clock : ℕ) (later : Clocks) → 112 ≤ clock → clock ≤ 1000 → Looks GivesInTurn failed watch (Some clock ∷ later) (Ok (read_at clock)) watch later
+pub looks_at : (clock : ℕ) (later : Clocks) → 112 ≤ clock → clock ≤ 1000 → Looks GivesInTurn failed watch (Some clock ∷ later) (Ok (read_at clock)) watch later
 looks_at clock later late early = record {
   same = (refl, refl);
   seen = ([], refl);
@@ -139,7 +139,7 @@ passes-1 : Allows GivesInTurn failed says (begun_with (Some 200 ∷ []) 1080) (P
 passes-1 = record { lease = refl; ahead = refl; client = refl; looked = Ok (read_at 200); looks = looks_at 200 [] (omega arith) (omega arith); rest = (refl, refl, (refl, omega arith)) }
 
 -- the true time is 900 more than the clock shows
-abbrev call_at : ℕ → CallTimes
+abbrev pub call_at : ℕ → CallTimes
 call_at clock = record { came = 899 + clock; read = 900 + clock; answered = 901 + clock }
 
 -- at a session on machine 0 a commit begins when the clock shows 120, and is released when it shows 150
@@ -176,7 +176,7 @@ shown clock other later is = cc
 keeps : (m clock : ℕ) → 112 ≤ clock → KeepsDrift 100 (record { clock = clock; time = 900 + clock } ∷ clock_moments (machine m))
 keeps m clock late = ((omega arith, (omega arith, (omega arith, (omega arith, tt)))), ((omega arith, (omega arith, (omega arith, tt))), ((omega arith, (omega arith, tt)), ((omega arith, tt), (tt, tt)))))
 
-is_read : (m clock : ℕ) (later : Clocks) → 112 ≤ clock → clock ≤ 1000 → IsReadAt GivesInTurn (clock_moments (machine m)) watch (Some clock ∷ later) later (900 + clock)
+pub is_read : (m clock : ℕ) (later : Clocks) → 112 ≤ clock → clock ≤ 1000 → IsReadAt GivesInTurn (clock_moments (machine m)) watch (Some clock ∷ later) later (900 + clock)
 is_read m clock later late early = record {
   in_time = omega arith;
   drift = λ other is. subst (λ (c : ℕ). KeepsDrift 100 (record { clock = c; time = 900 + clock } ∷ clock_moments (machine m))) (shown clock other later is) (keeps m clock late);
@@ -202,7 +202,7 @@ served-1 = record {
 }
 
 -- ---- so all premises of the law hold: both machines run, and each commit was seen at a session on one of them
-both : {A : Type 0} (P : A → Type 0) (one other : A) → P one → P other → All P (one ∷ other ∷ [])
+pub both : {A : Type 0} (P : A → Type 0) (one other : A) → P one → P other → All P (one ∷ other ∷ [])
 both P one other is is_too = All-cons P one (other ∷ []) is (All-cons P other [] is_too (All-nil P))
 
 abbrev machines : List Machine
@@ -211,10 +211,10 @@ machines = machine 0 ∷ machine 1 ∷ []
 all_run : All IsRunning machines
 all_run = both IsRunning (machine 0) (machine 1) is_running-0 is_running-1
 
-abbrev first : Commit
+abbrev pub first : Commit
 first = record { began = 1015; ended = 1055; stamp = 1030 }
 
-abbrev second : Commit
+abbrev pub second : Commit
 second = record { began = 1060; ended = 1105; stamp = 1080 }
 
 first_seen : IsSeen earlier.calls earlier.times first
