@@ -1,5 +1,5 @@
 -- What the workers of a node say of their commits, in true time.
-use Rattle.std.proofs.Common.{◌≡◌, ℕ, zero, suc, ◌<◌, ◌≤◌, List, [], ◌∷◌, ◌++◌, Bool, true, false, Option, Some, None, Result, Ok, Err, ◌⊎◌, inl, inr, ⊎_elim, refl, sym, ap, ◌∙◌, subst, arith, All, Contains, append_assoc}
+use Rattle.std.proofs.Common.{◌≡◌, ℕ, zero, suc, ◌<◌, ◌≤◌, List, [], ◌∷◌, ◌++◌, Bool, true, false, Option, Some, None, Result, Ok, Err, ◌⊎◌, ⊎_elim, refl, sym, ap, ◌∙◌, subst, arith, All, Contains, append_assoc}
 use Rattle.std.specs.Prelude.{IfOk, IfSome, if◌then◌else◌, is_some}
 use Rattle.std.proofs.lemmas.Option.{same_Some, none-some}
 use Rattle.std.proofs.lemmas.List.Elements.{All-contains, Contains-append_right}
@@ -8,8 +8,8 @@ use Rattle.tt_judge.specs.declared.history.Commit.{Commit}
 use Rattle.tt_judge.specs.Consistency.{IsConsistent}
 use Rattle.tt_publish.specs.declared.faults.ReadFault.{ReadFault}
 use Rattle.tt_stamp.specs.Ids.{same_id}
-use Rattle.tt_stamp.specs.History.{IsLegalHistory, IsIdThere, Waits, receipt_of, release_of, waiting_of, with_receipts}
-use Rattle.tt_stamp.specs.Steps.{Stamps, Begins, begun_by}
+use Rattle.tt_stamp.specs.History.{IsLegalHistory, Waits, receipt_of, release_of, waiting_of, with_receipts}
+use Rattle.tt_stamp.specs.Steps.{Stamps, begun_by}
 use Rattle.tt_stamp.specs.declared.commits.Id.{Id}
 use Rattle.tt_stamp.specs.declared.commits.Entry.{Entry}
 use Rattle.tt_stamp.specs.declared.commits.Entry.TheVariants.{Queued, Passed}

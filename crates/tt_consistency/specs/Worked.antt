@@ -1,7 +1,7 @@
 -- The workers of a node that runs on a machine, and the book that they share, in true time.
-use Rattle.std.specs.Prelude.{◌≡◌, ℕ, zero, suc, ◌≤◌, List, [], ◌∷◌, map, Bool, true, false, Option, Some, None, Result, Ok, Err, IfOk, IfSome, All, Contains}
+use Rattle.std.specs.Prelude.{◌≡◌, ℕ, zero, suc, ◌≤◌, List, [], ◌∷◌, map, Bool, true, false, Option, Some, None, Result, Ok, Err, IfSome, All, Contains}
 use mathlib.Core.List.{IsPrefix}
-use Rattle.tt_span.specs.Interval.{Interval, Holds}
+use Rattle.tt_span.specs.Interval.{Interval}
 use Rattle.tt_judge.specs.declared.history.Commit.{Commit}
 use Rattle.tt_publish.specs.Known.{WatchState}
 use Rattle.tt_publish.specs.Reading.{fused_span_of}
