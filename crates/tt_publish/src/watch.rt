@@ -1,6 +1,6 @@
 //! The watch, which reads the publications.
 
-ghost use Rattle.std.specs.Prelude.{◌≡◌, Some};
+ghost use Rattle.std.specs.Prelude.{◌≡◌, ◌↔◌, Some, IsTrue};
 ghost use mathlib.Core.List.{IsPrefix};
 ghost use Rattle.left_right.specs.Sides.{view};
 ghost use Rattle.tt_publish.specs.Known.{IsLonger};
@@ -63,6 +63,16 @@ impl Watch {
         ensures longer { IsLonger self.old.items told.now.items self.new.items }
     {
         self.latest.learn(told.latest());
+    }
+
+    /// Whether the publications that the watch has seen are the first ones of those that a teller told. Then the watch
+    /// read none that the teller did not tell. Requires: the watch and the teller came from one call of
+    /// [`open`](crate::open).
+    pub fn is_within(&self, told: &Told) -> bool
+        requires { told.now.source ≡ self.now.source }
+        ensures within { IsTrue result ↔ IsPrefix self.now.items told.now.items }
+    {
+        self.latest.is_within(told.latest())
     }
 
     /// The reading of the last publication at what the clock shows, aged by the drift that [`open`](crate::open) was
