@@ -12,5 +12,5 @@ scoped-ended-requires g c =
     let seats = opened-seats c.in-Ok.sequencer (vec_len c.args.streams) c.in-Ok.seats.items opened in
     let count : vec_len c.in-Ok.seats ≡ vec_len c.args.streams = first_of (omega (arith, seats.0), search (rules, seats.0)) in
     record {
-      at = λ a. ((c.in-Ok-open.ensures.nothing, some, count, seats.1), (search rules, search rules, search rules, search rules, search rules, search rules, search rules, search rules));
+      at = λ a. ((c.in-Ok-open.ensures.nothing, some, count, seats.1, c.in-Ok-open.ensures.watches), (search rules, search rules, search rules, search rules, search rules, search rules, search rules, search rules));
     }
