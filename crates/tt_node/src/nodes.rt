@@ -325,7 +325,7 @@ fn start_workers<
     gate: &'s G,
     limits: &'s Limits,
     _opened: &Told,
-    _drift: Drift,
+    _drift: &Drift,
     seats: Vec<Seat>,
     watches: Vec<Watch>,
     clocks: Vec<C>,
@@ -336,10 +336,10 @@ fn start_workers<
     requires room { vec_len streams ≤ vec_capacity handles.old }
     requires one_each { vec_len seats ≡ vec_len streams }
     requires new { AllFrom (IsNewSeat sequencer.now (vec_len streams)) 0 seats.items }
-    requires watches { All (λ watch. watch ≡ new_watch _opened.now.source _drift) watches.items }
+    requires watches { All (λ watch. watch ≡ new_watch _opened.now.source _drift.now) watches.items }
     ensures all { IsTrue result → vec_len handles.new ≡ vec_len streams }
     ensures some { vec_len handles.new ≤ vec_len streams }
-    ensures each { AllDown (λ number handle. ServesAt sequencer.now (vec_len streams) gate.now limits.now.serve.waits limits.now.lease (new_watch _opened.now.source _drift) number handle.promise) (vec_len streams) handles.new.items }
+    ensures each { AllDown (λ number handle. ServesAt sequencer.now (vec_len streams) gate.now limits.now.serve.waits limits.now.lease (new_watch _opened.now.source _drift.now) number handle.promise) (vec_len streams) handles.new.items }
 {
     let (mut seats, mut watches) = (seats, watches);
     let (mut clocks, mut streams) = (clocks, streams);
@@ -371,17 +371,17 @@ fn join_workers<R: Threads, C: Clock, G: Gate>(
     _gate: &G,
     _limits: &Limits,
     _published: &Told,
-    _drift: Drift,
+    _drift: &Drift,
     handles: Vec<PromisedHandle<(WorkerEnd, Seat), ServesSession<C, G>>>,
     ends: Vec<WorkerEnd>,
 ) -> Option<(Vec<WorkerEnd>, Seat)>
     requires none { ends.items ≡ [] }
     requires room { vec_len handles ≤ vec_capacity ends }
-    requires each { AllDown (λ number handle. ServesAt sequencer.now (vec_len handles) _gate.now _limits.now.serve.waits _limits.now.lease (new_watch _published.now.source _drift) number handle.promise) (vec_len handles) handles.items }
+    requires each { AllDown (λ number handle. ServesAt sequencer.now (vec_len handles) _gate.now _limits.now.serve.waits _limits.now.lease (new_watch _published.now.source _drift.now) number handle.promise) (vec_len handles) handles.items }
     ensures all { IfSome result (λ r. vec_len r.0 ≡ vec_len handles) }
     ensures some { IsSome result ↔ (0 < vec_len handles) }
-    ensures shares { IfSome result (λ r. SharesSequencer C.gives C.failed G.says G.hears _limits.now.serve.waits _gate.now _limits.now.lease (new_watch _published.now.source _drift) r.0.items r.1) }
-    ensures read { IfSome result (λ r. All (ReadsBy _published.now.source _drift) r.0.items) }
+    ensures shares { IfSome result (λ r. SharesSequencer C.gives C.failed G.says G.hears _limits.now.serve.waits _gate.now _limits.now.lease (new_watch _published.now.source _drift.now) r.0.items r.1) }
+    ensures read { IfSome result (λ r. All (ReadsBy _published.now.source _drift.now) r.0.items) }
 {
     let (mut handles, mut ends) = (handles, ends);
     let (end, mut all) = handles.pop()?.join(rt);
@@ -399,9 +399,9 @@ fn join_workers<R: Threads, C: Clock, G: Gate>(
 }
 
 /// Whether the workers read nothing but these publications.
-fn read_published(workers: &[WorkerEnd], published: &Told, _drift: Drift) -> bool
-    requires { All (ReadsBy published.now.source _drift) workers.now }
-    ensures { IsTrue result ↔ All (ReadsPublished _drift published.now) workers.now }
+fn read_published(workers: &[WorkerEnd], published: &Told, _drift: &Drift) -> bool
+    requires { All (ReadsBy published.now.source _drift.now) workers.now }
+    ensures { IsTrue result ↔ All (ReadsPublished _drift.now published.now) workers.now }
 {
     for worker in workers {
         if !worker.watch.is_within(published) {
@@ -445,7 +445,7 @@ fn run_threads<
     link: L,
     clocks: Clocks<C>,
     teller: &'s mut Teller,
-    drift: Drift,
+    drift: &'s Drift,
     seats: Vec<Seat>,
     watches: Vec<Watch>,
     streams: Vec<(I, O)>,
@@ -455,11 +455,11 @@ fn run_threads<
     requires some { 0 < vec_len streams }
     requires one_each { vec_len seats ≡ vec_len streams }
     requires new { AllFrom (IsNewSeat sequencer.now (vec_len streams)) 0 seats.items }
-    requires watches { All (λ watch. watch ≡ new_watch teller.old.source drift) watches.items }
+    requires watches { All (λ watch. watch ≡ new_watch teller.old.source drift.now) watches.items }
     ensures runs { RunsNode C.gives C.failed L.does L.failed limits.now.rounds limits.now.turns daemon clocks.daemon link result }
     ensures all { IfOk result (λ end. vec_len end.workers ≡ vec_len streams) }
-    ensures shares { IfOk result (λ end. SharesSequencer C.gives C.failed G.says G.hears limits.now.serve.waits gate.now limits.now.lease (new_watch end.published.source drift) end.workers.items end.stamps.value) }
-    ensures reads { IfOk result (λ end. All (ReadsPublished drift end.published) end.workers.items) }
+    ensures shares { IfOk result (λ end. SharesSequencer C.gives C.failed G.says G.hears limits.now.serve.waits gate.now limits.now.lease (new_watch end.published.source drift.now) end.workers.items end.stamps.value) }
+    ensures reads { IfOk result (λ end. All (ReadsPublished drift.now end.published) end.workers.items) }
     ensures fault { IfErr result (λ fault. IsFirstFault fault ⊎ (fault ≡ NodeFault.Memory)) }
 {
     let Clocks {
@@ -669,14 +669,14 @@ fn run_sharing<
         Err(fault) => return Err(NodeFault::Publish(fault)),
     };
     let shared = Shared { rt, alloc, book };
-    let (lent, shown, terms) = (&mut teller, &sequencer, &limits);
+    let (lent, shown, terms, bound) = (&mut teller, &sequencer, &limits, &drift);
     let ended = thread::scope(
         thread::scope_env(),
         rt,
         move |scope| -> Result<NodeEnd, NodeFault>
             requires { (lent.now.items ≡ []) × (0 < vec_len streams) × (vec_len seats ≡ vec_len streams)
                 × AllFrom (IsNewSeat shown.now (vec_len streams)) 0 seats.items
-                × All (λ watch. watch ≡ new_watch lent.now.source drift) watches.items }
+                × All (λ watch. watch ≡ new_watch lent.now.source bound.now) watches.items }
         {
             run_threads(
                 scope,
@@ -688,7 +688,7 @@ fn run_sharing<
                 link,
                 clocks,
                 lent,
-                drift,
+                bound,
                 seats,
                 watches,
                 streams,

@@ -7,7 +7,7 @@ use Rattle.tt_node.proofs.nodes.join_workers.Given as goal
 abbrev pub invariant-loop : goal.invariant-loop
 invariant-loop g l =
     let n = vec_len l.fn.handles in
-    let watch = new_watch l._published.source l.fn._drift in
+    let watch = new_watch l._published.source l._drift in
     record {
       len : vec_len l.ends ≡ l.counter + 1;
       left : vec_len l.handles + l.counter + 1 ≡ n;

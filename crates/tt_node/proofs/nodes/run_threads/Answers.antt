@@ -10,7 +10,7 @@ use Rattle.tt_node.proofs.nodes.run_threads.Goals as goal
 pub join_workers-requires-clause-each : goal.join_workers-requires-clause-each
 join_workers-requires-clause-each g c =
     let Serves : Source → ℕ → ℕ → PromisedHandle (WorkerEnd × Seat) (ServesSession g.row.C.Denot g.row.G.Denot) → Type 0 =
-    λ source count number handle. ServesAt c.args.sequencer.now count c.args.gate.now c.args.limits.now.serve.waits c.args.limits.now.lease (new_watch source c.args.drift) number handle.promise in
+    λ source count number handle. ServesAt c.args.sequencer.now count c.args.gate.now c.args.limits.now.serve.waits c.args.limits.now.lease (new_watch source c.args.drift.now) number handle.promise in
     let handles = c.start_workers-started.new.handles in
     let all : vec_len handles ≡ vec_len c.args.streams = first_of (search rules, omega arith) in
     let source : c.tell-opened.result.source ≡ c.join-did.result.1.source = search rules in
@@ -18,4 +18,4 @@ join_workers-requires-clause-each g c =
     (subst (λ count. AllDown (Serves c.tell-opened.result.source count) count handles.items) (sym all) c.start_workers-started.ensures.each)
 
 pub returns-in_err-did-clause-runs : goal.returns-in_err-did-clause-runs
-returns-in_err-did-clause-runs g c = λ is. (c.join-did.result.1.items, search rules)
+returns-in_err-did-clause-runs g c = rw c.from_residual.ensures (λ is. (c.join-did.result.1.items, search rules))

@@ -17,8 +17,8 @@ start-requires-clause-of_it g c κs within =
 pub loop-preserved : goal.loop-preserved
 loop-preserved g c =
     let Serves : ℕ → SeatState → PromisedHandle (WorkerEnd × Seat) (ServesSession g.row.C.Denot g.row.G.Denot) → Type 0 =
-    λ number seat handle. IsServing c.args.gate.now c.args.limits.now.serve.waits c.args.limits.now.lease (new_watch c.args._opened.now.source c.args._drift) number seat handle.promise in
-    let IsNew : WatchState → Type 0 = λ w. w ≡ new_watch c.args._opened.now.source c.args._drift in
+    λ number seat handle. IsServing c.args.gate.now c.args.limits.now.serve.waits c.args.limits.now.lease (new_watch c.args._opened.now.source c.args._drift.now) number seat handle.promise in
+    let IsNew : WatchState → Type 0 = λ w. w ≡ new_watch c.args._opened.now.source c.args._drift.now in
     let watches = All-pop IsNew c.loop.watches.items c.pop-in-loop-2.new.self.items c.pop-in-loop-2.result c.pop-in-loop-2.ensures.items c.loop.invariant.watches in
     let watch : IsNew c.in-Some-Some-Some.watch = subst (λ r. IfSome r IsNew) c.in-Some-Some-Some.is-1 watches.1 in
     let serves : Serves c.in-Ok.session c.in-Some-Some-Some.seat c.in-Some-start.handle =

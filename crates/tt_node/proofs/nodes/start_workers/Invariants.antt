@@ -6,7 +6,7 @@ use Rattle.tt_node.proofs.nodes.start_workers.Given as goal
 
 abbrev pub invariant-loop : goal.invariant-loop
 invariant-loop g l =
-    let watch = new_watch l._opened.source l.fn._drift in
+    let watch = new_watch l._opened.source l._drift in
     record {
       len : vec_len l.handles ≡ l.counter;
       room : vec_len l.initial.streams ≤ vec_capacity l.handles;
