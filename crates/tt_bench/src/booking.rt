@@ -9,7 +9,7 @@ use tt_publish::Reading;
 use tt_span::{MAX_TIME, Span};
 use tt_stamp::{Book, Id};
 
-/// The commit of this number: they come from thirty-two sessions in turn.
+/// The id of the commit with this number. The commits come from 32 sessions in turn.
 fn id(number: u32) -> Id {
     Id {
         session: number % 32,
@@ -25,7 +25,7 @@ pub enum BookCall {
     IsReleased,
 }
 
-/// What is measured of a book.
+/// What is measured for a book.
 #[derive(Clone, Copy)]
 struct Booked {
     queue: Measured,
@@ -33,7 +33,7 @@ struct Booked {
     is_released: Measured,
 }
 
-/// Queues the commits from one number up to another, with their numbers as stamps.
+/// Queues the commits with the numbers from `from` to below `to`. Their stamps are their numbers.
 fn queue_all(book: &mut Book, from: u32, to: u32) -> u64 {
     let mut sum = 0u64;
     for number in from..to {
@@ -44,7 +44,7 @@ fn queue_all(book: &mut Book, from: u32, to: u32) -> u64 {
     sum
 }
 
-/// Looks up so many of the commits below a number.
+/// Looks up `calls` commits with numbers below `below`.
 fn look_up(book: &Book, below: u32, calls: u32) -> u64 {
     let mut sum = 0u64;
     let mut numbers = Numbers::new();
@@ -57,7 +57,7 @@ fn look_up(book: &Book, below: u32, calls: u32) -> u64 {
     sum
 }
 
-/// A book in which so many commits were released.
+/// A book in which `commits` commits were released.
 fn filled(alloc: Global, commits: u32, late: &Reading) -> Book {
     let mut book = Book::new(alloc);
     for part in 0..commits / 50_000 + 1 {
@@ -68,8 +68,8 @@ fn filled(alloc: Global, commits: u32, late: &Reading) -> Book {
     book
 }
 
-/// What calls take in a book in which so many commits were released: twenty times a fiftieth of them are queued,
-/// released, and looked up.
+/// The times of calls in a book in which `commits` commits were released. Twenty times it queues, releases and looks up
+/// a fiftieth of this number.
 fn booked_once<R: Clock>(rt: &R, alloc: Global, commits: u32) -> Result<Booked> {
     let late = Reading::of(Span::new(MAX_TIME, MAX_TIME)?);
     let mut book = filled(alloc, commits, &late);
@@ -102,7 +102,7 @@ fn booked_once<R: Clock>(rt: &R, alloc: Global, commits: u32) -> Result<Booked> 
     Ok(booked)
 }
 
-/// The least of so many books.
+/// The least times of `books` such books.
 fn measure_books<R: Clock>(rt: &R, alloc: Global, commits: u32, books: u32) -> Result<Booked> {
     let mut least = booked_once(rt, alloc, commits)?;
     for _ in 1..books {
@@ -116,7 +116,7 @@ fn measure_books<R: Clock>(rt: &R, alloc: Global, commits: u32, books: u32) -> R
     Ok(least)
 }
 
-/// What a call takes in a book in which so many commits were released: the least of so many books.
+/// The time of a call in a book in which `commits` commits were released: the least of `books` such books.
 pub fn measure_book<R: Clock>(
     rt: &R,
     alloc: Global,

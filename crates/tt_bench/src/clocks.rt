@@ -5,7 +5,7 @@ ghost use Rattle.std.specs.Prelude.{◌≡◌};
 use std::time::{Clock as SystemClock, Instant};
 use tt_publish::{Clock, ClockFault};
 
-/// A clock that shows one nanosecond more each time, and costs next to nothing.
+/// A clock that shows one nanosecond more at each reading. A reading takes almost no time.
 #[derive(Drop)]
 pub struct Steps {
     pub time: u64,

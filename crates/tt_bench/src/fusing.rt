@@ -1,4 +1,4 @@
-//! Fusions, their certificates, and the check of these.
+//! Fusions, their certificates, and the check of certificates.
 
 ghost use Rattle.std.specs.Prelude.{ℕ, ◌≤◌};
 ghost use Rattle.tt_fuse.specs.Stated.{AreGotBy, AreAmongFirst};
@@ -16,7 +16,8 @@ use tt_span::{Drift, MAX_TIME, Span};
 /// How many sets of spans are fused in turn.
 const SETS: usize = 64;
 
-/// What a source says that may lie: a span near the time of a million nanoseconds, or one that is too late.
+/// What a source says: a span near the time of a million nanoseconds or, if the source is faulty, a span that is too
+/// late.
 fn said(numbers: &mut Numbers, lies: bool) -> Result<Span> {
     let lo = 990_000 + numbers.below(10_000);
     let late = if lies { 20_000 } else { 0 };
@@ -24,7 +25,7 @@ fn said(numbers: &mut Numbers, lies: bool) -> Result<Span> {
     Ok(Span::new(lo + late, hi + late)?)
 }
 
-/// What so many sources say, of which the first `faulty` lie.
+/// What `sources` sources say. The first `faulty` sources are faulty.
 pub fn spans_of(
     alloc: Global,
     numbers: &mut Numbers,
@@ -140,7 +141,7 @@ impl Work for Checking {
     }
 }
 
-/// What the sources of a machine stated, and how many of them there are.
+/// The statements of the sources of a machine, and how many sources there are.
 #[derive(Drop)]
 pub struct EndsFusing {
     ends: Ends,
@@ -157,7 +158,7 @@ impl Model for EndsFusing {
 }
 
 impl EndsFusing {
-    /// Nothing is stated.
+    /// No source has stated anything.
     fn empty(faulty: usize) -> Result<EndsFusing> {
         Ok(EndsFusing {
             ends: Ends::new(Drift::new(200).context("a drift")?),
@@ -166,7 +167,7 @@ impl EndsFusing {
         })
     }
 
-    /// One more source states this, when the clock shows 0.
+    /// The next source states this span, when the clock shows 0.
     fn state(&mut self, span: &Span) {
         if self.sources < 16 {
             self.ends.insert(self.sources, span, 0, 0);

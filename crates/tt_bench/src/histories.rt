@@ -1,5 +1,5 @@
-//! Runs of one machine with four sources and one worker, in cycles: it polls each source, takes the answers, fuses,
-//! and the worker stamps a commit, queues it, and releases it.
+//! Runs of one machine with four sources and one worker, in cycles. In a cycle the machine polls each source, takes the
+//! answers and fuses, and the worker stamps a commit, queues it, and releases it.
 
 use anyhow::{Context, Result};
 use std::alloc::Global;
@@ -8,7 +8,7 @@ use tt_daemon::Config;
 use tt_scenes::{answer, arrive, deliver, fuse, machine, queue, read, release, send, stamp};
 use tt_world::{Action, Event};
 
-/// How many sources the machine asks.
+/// How many sources the machine polls.
 const SOURCES: u8 = 4;
 
 /// The machine.
@@ -35,7 +35,7 @@ impl History {
         }
     }
 
-    /// A source is asked, and its answer comes.
+    /// Polls a source, and takes its answer.
     fn ask(&mut self, source: u8) -> Result<()> {
         let (at, packet) = (self.at, self.packets);
         self.packets = packet.saturating_add(2);
@@ -72,7 +72,7 @@ impl History {
         Ok(())
     }
 
-    /// Makes so many events, or somewhat more.
+    /// Makes at least `count` events, in whole cycles.
     pub fn make(&mut self, count: u32) -> Result<()> {
         for _ in 0..count / 19 + 1 {
             self.cycle()?;
@@ -81,7 +81,7 @@ impl History {
     }
 }
 
-/// Writes a table of a script: the time, the machine, the word, and these keys.
+/// Writes a table of a script: the time, the machine, the word of the event, and these keys.
 fn write_table(text: &mut String, at: u64, word: &str, keys: &[(&str, u64)]) -> Result<()> {
     write!(text, "{{ at = {at}, machine = 0, do = \"{word}\"")?;
     for (key, number) in keys {
@@ -90,7 +90,7 @@ fn write_table(text: &mut String, at: u64, word: &str, keys: &[(&str, u64)]) -> 
     Ok(text.push_str(" },\n")?)
 }
 
-/// A line of a script for this event.
+/// Writes the line of this event for a script.
 fn write_event(text: &mut String, event: &Event) -> Result<()> {
     let at = event.at;
     match &event.action {

@@ -11,7 +11,7 @@ use tt_poll::{ANSWER2_LEN, Answer2, encode_answer2};
 use tt_publish::Teller;
 use tt_span::{Drift, MAX_TIME, Span};
 
-/// The machine asks so many sources, of which so many may lie.
+/// The number of sources of the machine, and how many of them may be faulty.
 const SOURCES: u8 = 16;
 
 const FAULTY: usize = 5;
@@ -39,7 +39,7 @@ impl Polling {
         Ok(polling)
     }
 
-    /// Polls a source, and answers the bytes of its answer.
+    /// Polls a source, and gives the bytes of its answer.
     fn ask(&mut self, source: u8) -> Option<[u8; ANSWER2_LEN]> {
         self.daemon.poll(source, self.clock).ok()?;
         let span = *self.spans.get(usize::from(source))?;
@@ -107,7 +107,7 @@ pub fn make_fusion(alloc: Global) -> Result<Fused> {
     Ok(Fused::make(0, &spans, FAULTY)?)
 }
 
-/// Copies of fusions, each into the place of the next, so that no copy can be left out.
+/// Copies of fusions. Each copy takes the place of the next fusion, so that the compiler can't optimise a copy away.
 #[derive(Drop)]
 pub struct Copying {
     fusions: Vec<Fused>,

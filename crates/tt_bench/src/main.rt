@@ -1,13 +1,13 @@
-//! The program `tt_bench`: it measures what calls of the time service take.
+//! The program `tt_bench`: it measures how long calls of the time service take.
 //!
-//! Without words it lists the rows that it can measure. With names of rows, or with `all`, it measures these, and prints a
-//! line for each: its name, the nanoseconds that a call took in the fastest of many batches, and a number made of the
-//! results of all calls, which only keeps them from being optimised away. `bench/run` sets the same work in plain Rust
-//! beside it, and docs/SPEED.md says what came of it.
+//! Without arguments it lists the rows that it can measure. With names of rows, or with `all`, it measures these, and
+//! prints a line for each: its name, the nanoseconds that a call took in the fastest of many batches, and a number that
+//! is made of the results of all calls. This number only keeps the compiler from optimising the calls away. `bench/run`
+//! measures the same work in plain Rust beside it, and docs/SPEED.md has the results.
 //!
-//! - `measuring` times batches. `rows` has the names, and what is measured under each.
+//! - `measuring` times batches. `rows` has the names of the rows, and what each row measures.
 //! - `spans`, `fusing`, `machine`, `reading`, `sharing`, `stamping`, `booking`, `running` and `serving`: the work.
-//! - `numbers`, `histories` and `clocks`: what it is done with.
+//! - `numbers`, `histories` and `clocks`: the data and the clocks of the work.
 #![tactic(auto)]
 
 mod booking;

@@ -5,20 +5,21 @@ use std::time::{Clock, Duration, Instant};
 
 /// Work that is measured in batches.
 pub trait Work {
-    /// Makes so many calls, and answers a number in which each of their results counts, so that none is optimised away.
+    /// Makes `calls` calls. Answers a number that depends on each of their results, so that the compiler can't optimise
+    /// a call away.
     fn batch(&mut self, calls: u32) -> u64;
 }
 
-/// What a call took, and the numbers that the batches answered, summed up.
+/// The time of a call, and the sum of the numbers that the batches answered.
 #[derive(Clone, Copy)]
 pub struct Measured {
-    /// In tenths of a nanosecond.
+    /// The time in tenths of a nanosecond.
     pub tenths: u64,
     pub sum: u64,
 }
 
 impl Measured {
-    /// What a call took if so many took this time.
+    /// The time of a call, if `calls` calls took this time.
     pub fn of(time: Duration, calls: u32, sum: u64) -> Measured {
         let nanos = u64::try_from(time.as_nanos()).unwrap_or(u64::MAX);
         Measured {
@@ -27,7 +28,7 @@ impl Measured {
         }
     }
 
-    /// The shorter time, and both sums.
+    /// The shorter of both times, and the sum of both sums.
     pub fn and(self, other: Measured) -> Measured {
         Measured {
             tenths: self.tenths.min(other.tenths),
@@ -35,7 +36,7 @@ impl Measured {
         }
     }
 
-    /// No time is longer.
+    /// The longest time, and the sum 0.
     pub fn longest() -> Measured {
         Measured {
             tenths: u64::MAX,
@@ -44,14 +45,14 @@ impl Measured {
     }
 }
 
-/// What one batch took.
+/// The time of a call in one batch.
 pub fn once<R: Clock, W: Work>(rt: &R, work: &mut W, calls: u32) -> io::Result<Measured> {
     let start = Instant::now(rt)?;
     let sum = work.batch(calls);
     Ok(Measured::of(start.elapsed(rt)?, calls, sum))
 }
 
-/// The least that a call took in so many batches.
+/// The least time of a call in `batches` batches.
 pub fn least_of<R: Clock, W: Work>(
     rt: &R,
     work: &mut W,

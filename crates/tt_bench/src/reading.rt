@@ -1,4 +1,4 @@
-//! Readings, alone and in threads, with and without a writer that publishes meanwhile.
+//! Readings, alone and in threads, with and without a writer that publishes at the same time.
 
 use crate::clocks::{Running, Steps};
 use crate::machine::{Publishing, make_fusion};
@@ -14,7 +14,7 @@ use tt_daemon::Fused;
 use tt_publish::{Clock, Teller, Watch, open};
 use tt_span::Drift;
 
-/// So many readings of one watch by this clock.
+/// Makes `calls` readings of one watch, by this clock.
 fn read_on<C: Clock>(watch: &mut Watch, clock: &mut C, calls: u32) -> u64 {
     let mut sum = 0u64;
     for _ in 0..calls {
@@ -58,7 +58,7 @@ impl<'a, R: Wait> Work for Renewing<'a, R> {
     }
 }
 
-/// Publications alone.
+/// Measures publications alone.
 pub fn publish<R: Wait + SystemClock>(rt: &R, alloc: Global) -> Result<Measured> {
     let fused = make_fusion(alloc)?;
     let drift = Drift::new(200).context("a drift")?;
@@ -74,7 +74,7 @@ pub fn publish<R: Wait + SystemClock>(rt: &R, alloc: Global) -> Result<Measured>
     Ok(measured?)
 }
 
-/// A teller that has published a fusion of sixteen sources, and so many watches of it.
+/// A teller that has published a fusion of sixteen sources, and `readers` watches of it.
 fn published<R: Wait>(rt: &R, alloc: Global, readers: usize) -> Result<(Teller, Vec<Watch>)> {
     let fused = make_fusion(alloc)?;
     let drift = Drift::new(200).context("a drift")?;
@@ -86,7 +86,7 @@ fn published<R: Wait>(rt: &R, alloc: Global, readers: usize) -> Result<(Teller, 
     Ok((teller, watches))
 }
 
-/// A publication and a reading that finds it new.
+/// Measures a publication and a reading that finds it new.
 pub fn publish_and_read<R: Wait + SystemClock>(rt: &R, alloc: Global) -> Result<Measured> {
     let fused = make_fusion(alloc)?;
     let (teller, mut watches) = published(rt, alloc, 1)?;
@@ -114,7 +114,7 @@ pub fn publish_and_read<R: Wait + SystemClock>(rt: &R, alloc: Global) -> Result<
     Ok(measured?)
 }
 
-/// Readings of what is known, by a clock that costs nothing.
+/// Measures readings of a publication that is already known, by a clock that takes almost no time.
 pub fn read_same<R: Wait + SystemClock>(rt: &R, alloc: Global) -> Result<Measured> {
     let (teller, mut watches) = published(rt, alloc, 1)?;
     let measured = match watches.pop() {
@@ -128,7 +128,7 @@ pub fn read_same<R: Wait + SystemClock>(rt: &R, alloc: Global) -> Result<Measure
     Ok(measured?)
 }
 
-/// Readings of what is known, by the system's clock.
+/// Measures readings of a publication that is already known, by the system's clock.
 pub fn read_same_by_system<R: Wait + SystemClock>(rt: &R, alloc: Global) -> Result<Measured> {
     let start = Instant::now(rt)?;
     let (teller, mut watches) = published(rt, alloc, 1)?;
@@ -161,7 +161,7 @@ impl<C: Clock> Work for Ticking<C> {
     }
 }
 
-/// Readings of the system's clock alone.
+/// Measures readings of the system's clock alone.
 pub fn read_clock<R: SystemClock>(rt: &R) -> Result<Measured> {
     let clock = Running::new(rt, Instant::now(rt)?);
     Ok(least_of(rt, &mut Ticking { clock }, 200, 10_000)?)
@@ -170,13 +170,13 @@ pub fn read_clock<R: SystemClock>(rt: &R) -> Result<Measured> {
 /// How many readings each thread makes.
 const CALLS: u32 = 2_000_000;
 
-/// What a reading took in this thread.
+/// The time of a reading in this thread.
 fn read_in_thread<R: SystemClock>(rt: &R, mut watch: Watch) -> io::Result<Measured> {
     let clock = Steps { time: 0 };
     once(rt, &mut Reading { watch, clock }, CALLS)
 }
 
-/// What a reading took in each of two threads, at the slower of them.
+/// The time of a reading in the slower of two threads.
 fn read_in_two<R: Threads + Wait + SystemClock + Sync>(
     rt: &R,
     first: Watch,
@@ -197,7 +197,7 @@ fn slower(first: Measured, second: Measured) -> Measured {
     }
 }
 
-/// What a reading took in each of two threads, or four.
+/// The time of a reading in the slowest of one, two or four threads.
 fn read_in_threads<R: Threads + Wait + SystemClock + Sync>(
     rt: &R,
     mut watches: Vec<Watch>,
@@ -217,7 +217,7 @@ fn read_in_threads<R: Threads + Wait + SystemClock + Sync>(
     Ok(slower(front?, back?))
 }
 
-/// Readings in so many threads while nothing is published: one, two, or four.
+/// Measures readings in one, two or four threads while nothing is published.
 pub fn read_together<R: Threads + Wait + SystemClock + Sync>(
     rt: &R,
     alloc: Global,
@@ -247,7 +247,7 @@ fn publish_until<R: Wait>(rt: &R, teller: &mut Teller, fused: &Fused, ended: &At
     published
 }
 
-/// Publishes until it is told to end, and says what a publication took.
+/// Publishes until it is told to end. Answers the time of a publication.
 fn publish_timed<R: Wait + SystemClock>(
     rt: &R,
     teller: &mut Teller,
@@ -260,7 +260,7 @@ fn publish_timed<R: Wait + SystemClock>(
     Ok(Measured::of(start.elapsed(rt)?, calls, published))
 }
 
-/// Reads, and then says that it has ended.
+/// Reads, and then tells the writer to end.
 fn read_and_end<R: Threads + Wait + SystemClock + Sync>(
     rt: &R,
     watches: Vec<Watch>,
@@ -271,14 +271,14 @@ fn read_and_end<R: Threads + Wait + SystemClock + Sync>(
     measured
 }
 
-/// What a reading took, and what a publication took meanwhile.
+/// The time of a reading, and the time of a publication meanwhile.
 #[derive(Clone, Copy)]
 struct Together {
     reading: Measured,
     publishing: Measured,
 }
 
-/// Readings in so many threads, one or two, while another thread publishes as fast as it can.
+/// Measures readings in one or two threads, while another thread publishes as fast as it can.
 fn read_and_publish<R: Threads + Wait + SystemClock + Sync>(
     rt: &R,
     alloc: Global,
@@ -306,7 +306,7 @@ fn read_and_publish<R: Threads + Wait + SystemClock + Sync>(
     Ok(least)
 }
 
-/// What a reading takes in each of so many threads, one or two, while another thread publishes.
+/// The time of a reading in each of one or two threads, while another thread publishes.
 pub fn read_while_published<R: Threads + Wait + SystemClock + Sync>(
     rt: &R,
     alloc: Global,
@@ -315,7 +315,7 @@ pub fn read_while_published<R: Threads + Wait + SystemClock + Sync>(
     Ok(read_and_publish(rt, alloc, readers)?.reading)
 }
 
-/// What a publication takes while so many threads read, one or two.
+/// The time of a publication, while one or two threads read.
 pub fn publish_while_read<R: Threads + Wait + SystemClock + Sync>(
     rt: &R,
     alloc: Global,

@@ -20,7 +20,7 @@ use std::sync::Wait;
 use std::thread::Threads;
 use std::time::Clock;
 
-/// The rows, each with what a call of it is.
+/// The rows. Each has its name, and what one call is.
 const ROWS: [(&str, &str); 43] = [
     ("age", "Drift::age"),
     ("decode", "decode of an answer"),
@@ -146,7 +146,7 @@ fn print_row<R: Threads + Wait + Clock + Print + Sync + Files<File = File>>(
     Ok(println!(rt; "{name} {whole}.{tenth} {sum}")?)
 }
 
-/// What the row of this name takes.
+/// The time of the row with this name.
 fn measured<R: Threads + Wait + Clock + Sync + Files<File = File>>(
     rt: &R,
     alloc: Global,
@@ -170,13 +170,13 @@ fn measured<R: Threads + Wait + Clock + Sync + Files<File = File>>(
     }
 }
 
-/// The least of many batches of this work, once it is made.
+/// The least time of many batches of this work, after it is made.
 fn short<R: Clock, W: Work + Drop>(rt: &R, made: Result<W>) -> Result<Measured> {
     let mut work = made?;
     Ok(least_of(rt, &mut work, 500, 1_000)?)
 }
 
-/// What the row of this name takes, of those whose work threads share.
+/// The time of the row with this name, if it measures work that threads share.
 fn measured_between_threads<R: Threads + Wait + Clock + Sync + Files<File = File>>(
     rt: &R,
     alloc: Global,
@@ -203,7 +203,7 @@ fn measured_between_threads<R: Threads + Wait + Clock + Sync + Files<File = File
     }
 }
 
-/// What the row of this name takes, of those whose work has a past.
+/// The time of the row with this name, if its work depends on what came before it.
 fn measured_over_time<R: Clock>(rt: &R, alloc: Global, name: &str) -> Result<Measured> {
     match name {
         "queue_1000" => measure_book(rt, alloc, BookCall::Queue, 1_000, 50),

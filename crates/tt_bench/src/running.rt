@@ -1,4 +1,4 @@
-//! The model's steps late in a run, and whole scripts.
+//! Steps of the model late in a run, and whole scripts.
 
 use crate::histories::{History, config, script_of};
 use crate::measuring::Measured;
@@ -21,7 +21,8 @@ fn step_all(world: &mut World, events: &[Event]) -> u64 {
     sum
 }
 
-/// What a step takes after so many events: the least of the cycles that follow, of nineteen events each.
+/// The time of a step after `events` events: the least of the batches that follow, with ten cycles of nineteen events
+/// each.
 pub fn steps_after<R: Clock>(rt: &R, alloc: Global, events: u32) -> Result<Measured> {
     let configs = [config()?];
     let mut history = History::new(alloc);
@@ -50,14 +51,14 @@ pub enum Part {
     Judge,
 }
 
-/// The report on a script, and how long its text is.
+/// Judges a script, and answers the length of the text of the report.
 fn judge(alloc: Global, script: &Script) -> Result<u64> {
     let trace = run(alloc, script.configs(), script.to_events())?;
     let report = audit(alloc, script.configs(), script.to_events(), &trace)?;
     Ok(report_text(alloc, &report)?.len() as u64)
 }
 
-/// What a whole script of as many events as there may be takes.
+/// The time of a whole script, with as many events as a script may have.
 pub fn script<R: Clock>(rt: &R, alloc: Global, part: Part) -> Result<Measured> {
     let mut history = History::new(alloc);
     history.make(MAX_EVENTS as u32)?;

@@ -13,7 +13,7 @@ use tt_span::Drift;
 use tt_stamp::{Book, Row};
 use tt_stream::{MemoryReader, MemoryWriter};
 
-/// Sessions of a thousand lines `now` with one desk, from memory to memory.
+/// Sessions of a thousand lines `now` with one desk. They read from memory and write to memory.
 #[derive(Drop)]
 struct Serving {
     alloc: Global,
@@ -43,7 +43,7 @@ impl Work for Serving {
     }
 }
 
-/// A watch that has seen a publication, and whose teller is closed.
+/// A watch that has seen a publication. Its teller is closed.
 fn watch<R: Wait>(rt: &R, alloc: Global) -> Result<Watch> {
     let fusion = make_fusion(alloc)?;
     let drift = Drift::new(200).context("a drift")?;
@@ -57,7 +57,7 @@ fn watch<R: Wait>(rt: &R, alloc: Global) -> Result<Watch> {
     watches.pop().context("a watch")
 }
 
-/// What a line `now` takes.
+/// The time of a line `now`.
 pub fn line<R: Wait + Clock>(rt: &R, alloc: Global) -> Result<Measured> {
     let mut lines = String::new(alloc);
     for _ in 0..LINES {

@@ -48,8 +48,8 @@ fn publication() -> Result<SharedSpan> {
     })
 }
 
-/// What a publication into a file in memory takes: the least of a hundred batches of a thousand. The file is removed
-/// afterwards, and its folder stays.
+/// The time of a publication into a file in memory: the least of a hundred batches of a thousand. The file is removed
+/// afterwards, but its folder stays.
 pub fn share<R: Clock + Files<File = File>>(rt: &R, alloc: Global) -> Result<Measured> {
     let mut work = Sharing {
         teller: open_file(rt, alloc, FOLDER, "shared")?,

@@ -10,7 +10,7 @@ use tt_poll::{
 };
 use tt_span::{Drift, Span};
 
-/// Spans of up to a second that are aged by up to 65 microseconds.
+/// A span of 10 microseconds, which each call of a batch ages by one microsecond more than the call before.
 #[derive(Drop)]
 pub struct Ageing {
     drift: Drift,
@@ -40,7 +40,7 @@ impl Work for Ageing {
 /// How many messages are decoded in turn.
 const MESSAGES: usize = 64;
 
-/// What an answer tells, in one number.
+/// What an answer says, as one number.
 fn told(bytes: &[u8]) -> u64 {
     let Ok(message) = decode(bytes) else {
         return 0;
@@ -51,7 +51,7 @@ fn told(bytes: &[u8]) -> u64 {
     }
 }
 
-/// The span and the nonce of a message.
+/// The span and the nonce of the next message.
 fn next_span(numbers: &mut Numbers) -> Result<(Span, u64)> {
     let lo = 1_000_000_000 + numbers.below(1_000_000);
     let span = Span::new(lo, lo + numbers.below(1_000_000))?;
@@ -88,7 +88,7 @@ impl Work for Decoding {
     }
 }
 
-/// What an answer to one life tells, in one number.
+/// What an answer to one life of a machine says, as one number.
 fn told2(bytes: &[u8]) -> u64 {
     let Ok(message) = decode2(bytes) else {
         return 0;
@@ -99,7 +99,7 @@ fn told2(bytes: &[u8]) -> u64 {
     }
 }
 
-/// The 40 bytes of each of some answers to one life.
+/// The 40 bytes of each of some answers to one life of a machine.
 #[derive(Drop)]
 pub struct Decoding2 {
     messages: Vec<[u8; ANSWER2_LEN]>,

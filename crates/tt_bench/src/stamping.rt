@@ -44,10 +44,10 @@ impl Work for RowStamping {
     }
 }
 
-/// How many stamps each thread draws.
+/// How many stamps each thread takes.
 const CALLS: u32 = 1_000_000;
 
-/// Draws stamps of a seat.
+/// Takes stamps with a seat.
 fn draw<R: Wait>(rt: &R, sequencer: &Sequencer, seat: &mut Seat, now: &Reading) -> u64
     requires { seat.old.table ≡ sequencer.now }
 {
@@ -61,7 +61,7 @@ fn draw<R: Wait>(rt: &R, sequencer: &Sequencer, seat: &mut Seat, now: &Reading) 
     sum
 }
 
-/// What a stamp took in this thread.
+/// The time of a stamp in this thread.
 fn draw_timed<R: Wait + Clock>(
     rt: &R,
     sequencer: &Sequencer,
@@ -82,7 +82,7 @@ fn slower(first: Measured, second: Measured) -> Measured {
     }
 }
 
-/// What a stamp took in two threads, at the slower of them.
+/// The time of a stamp in the slower of two threads.
 fn draw_in_two<R: Threads + Wait + Clock + Sync>(
     rt: &R,
     sequencer: &Sequencer,
@@ -105,7 +105,7 @@ fn draw_in_two<R: Threads + Wait + Clock + Sync>(
     Ok(slower(front?, back?))
 }
 
-/// What a stamp took in four threads, at the slowest of them.
+/// The time of a stamp in the slowest of four threads.
 fn draw_in_four<R: Threads + Wait + Clock + Sync>(
     rt: &R,
     sequencer: &Sequencer,
@@ -132,7 +132,7 @@ fn draw_in_four<R: Threads + Wait + Clock + Sync>(
     Ok(slower(front?, back?))
 }
 
-/// The next seat of those that are left.
+/// The next of the seats that are left.
 fn next_seat(sequencer: &Sequencer, seats: &mut Vec<Seat>) -> Option<Seat>
     requires { All (λ seat. seat.table ≡ sequencer.now) seats.old.items }
     ensures seat { IfSome result (λ seat. seat.table ≡ sequencer.now) }
@@ -142,7 +142,7 @@ fn next_seat(sequencer: &Sequencer, seats: &mut Vec<Seat>) -> Option<Seat>
     seats.pop()
 }
 
-/// What a stamp took in one, two or four threads.
+/// The time of a stamp in one, two or four threads.
 fn draw_in<R: Threads + Wait + Clock + Sync>(
     rt: &R,
     alloc: Global,
@@ -161,7 +161,7 @@ fn draw_in<R: Threads + Wait + Clock + Sync>(
     Ok(draw_in_four(rt, &sequencer, first, second, third, fourth, &now)?)
 }
 
-/// The least that a stamp took in one, two or four threads.
+/// The least time of a stamp in one, two or four threads.
 pub fn stamp_in<R: Threads + Wait + Clock + Sync>(
     rt: &R,
     alloc: Global,

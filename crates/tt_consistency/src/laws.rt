@@ -24,8 +24,8 @@ use tt_station::Presence;
 
 /// Laws of one running machine.
 pub fn machine_laws()
-    // All that its calls published, one after the other, held the true time, each at a moment of the machine's life at
-    // which the clock showed the reading of the publication.
+    // The calls of its daemon come one after the other. Each of their publications held the true time at a moment of
+    // the machine's life at which the clock showed the reading of the publication.
     ensures publications_hold { (machine : Machine) →
         IsRunning machine → AllByRecursion (HeldTrueTime (clock_moments machine)) (published_by machine) }
 {}
@@ -41,7 +41,7 @@ pub fn service_laws<C: Clock, V: Presence>()
         IsRunning machine → IsServedOn C.gives C.failed V.says machine session → IsSeen session.calls session.times commit →
         IsWithin commit }
 
-    // So it is with each commit that the session replies to be committed.
+    // So it is for each commit for which the session replies `committed`.
     ensures replies_lie_within { (machine : Machine) (session : TimedSession C.gives C.failed V.says) (waits : ℕ) (lines : List (List ℕ))
         (before : List LineReply) (number stamp : ℕ) (after : List LineReply) (last : Option Begun) →
         IsRunning machine → IsServedOn C.gives C.failed V.says machine session →
@@ -54,8 +54,8 @@ pub fn service_laws<C: Clock, V: Presence>()
 
 /// Laws of commits, on any number of running machines.
 pub fn consistency_laws<C: Clock, V: Presence, D: Clock, W: Presence>()
-    // Of two commits, at sessions on whatever machines, where the first was answered to be released by the time at which
-    // the second came, the first has the smaller stamp.
+    // Take two commits, at sessions on any machines. Suppose that a call answered that the first is released, and that
+    // the second came no earlier than this answer. Then the first has the smaller stamp.
     ensures ordered { (machine other_machine : Machine) (earlier : TimedSession C.gives C.failed V.says)
         (later : TimedSession D.gives D.failed W.says)
         (number stamp begun released other_number other_stamp other_begun : ℕ) →
@@ -65,14 +65,14 @@ pub fn consistency_laws<C: Clock, V: Presence, D: Clock, W: Presence>()
         (times_at earlier.times released).answered ≤ (times_at later.times other_begun).came →
         stamp < other_stamp }
 
-    // So every history of commits that were seen on these machines is externally consistent, as the judge judges it.
+    // So every history of commits that were seen on these machines is externally consistent, as `tt_judge` judges it.
     ensures consistent { (machines : List Machine) (history : List Commit) →
         All IsRunning machines → All (IsSeenOnOneOf C.gives C.failed V.says machines) history → IsConsistent history }
 {
     order_laws::<C, V, D, W>();
 }
 
-/// Laws of the workers of running nodes, each of which shares a sequencer and a book with those of its node.
+/// Laws of the workers of running nodes. The workers of one node share a sequencer and a book.
 pub fn node_laws<C: Clock, G: Gate, D: Clock, H: Gate>()
     // Each reading that a call of a worker took holds the true time at which it was taken.
     ensures readings_hold { (node : Node C.gives C.failed G.says G.hears) (worker : TimedWorker C.gives C.failed G.says G.hears)
@@ -81,20 +81,21 @@ pub fn node_laws<C: Clock, G: Gate, D: Clock, H: Gate>()
         look_at C.gives C.failed G.says G.hears worker place ≡ Some look → look.answer ≡ Ok reading →
         Holds reading (times_at worker.times place).read }
 
-    // The stamp of a commit is no less than the true time at which its reading was taken.
+    // The stamp of a commit is at least the true time at which its reading was taken.
     ensures begun { (node : Node C.gives C.failed G.says G.hears) (worker : TimedWorker C.gives C.failed G.says G.hears)
         (place number stamp : ℕ) →
         IsWorking C.gives C.failed G.says G.hears node → Contains node.workers worker → BeginsAt worker.calls place number stamp →
         (times_at worker.times place).read ≤ stamp }
 
-    // A commit that is answered to be released has a stamp below the true time of that answer, whichever worker released it.
+    // If a call answers that a commit is released, the stamp of the commit is below the true time of this answer,
+    // whichever worker released the commit.
     ensures released { (node : Node C.gives C.failed G.says G.hears) (worker : TimedWorker C.gives C.failed G.says G.hears)
         (number stamp begun released : ℕ) →
         IsWorking C.gives C.failed G.says G.hears node → Contains node.workers worker → IsCommitted worker.calls number stamp begun released →
         stamp < (times_at worker.times released).answered }
 
-    // Of two commits, at workers of whatever nodes, where the first was answered to be released by the time at which the
-    // second came, the first has the smaller stamp. The second need not be released.
+    // Take two commits, at workers of any nodes. Suppose that a call answered that the first is released, and that the
+    // second came no earlier than this answer. Then the first has the smaller stamp. The second need not be released.
     ensures ordered { (node : Node C.gives C.failed G.says G.hears) (other_node : Node D.gives D.failed H.says H.hears)
         (earlier : TimedWorker C.gives C.failed G.says G.hears) (later : TimedWorker D.gives D.failed H.says H.hears)
         (number stamp begun released other_number other_stamp other_begun : ℕ) →
@@ -104,7 +105,8 @@ pub fn node_laws<C: Clock, G: Gate, D: Clock, H: Gate>()
         (times_at earlier.times released).answered ≤ (times_at later.times other_begun).came →
         stamp < other_stamp }
 
-    // So every history of commits that were seen at workers of these nodes is externally consistent, as the judge judges it.
+    // So every history of commits that were seen at workers of these nodes is externally consistent, as `tt_judge`
+    // judges it.
     ensures consistent { (nodes : List (Node C.gives C.failed G.says G.hears)) (history : List Commit) →
         All (IsWorking C.gives C.failed G.says G.hears) nodes →
         All (IsSeenAtWorkerOf C.gives C.failed G.says G.hears nodes) history → IsConsistent history }

@@ -1,10 +1,12 @@
 //! External consistency of the running service.
 //!
-//! Any number of machines run, each since its life began with a new daemon that polls sources, fuses and publishes, and
-//! with stations that serve sessions of clients. Where at most f sources of each machine are faulty at each of its fusions and every clock keeps
-//! its drift bound, the commits that clients saw, at whatever sessions of whatever machines, are externally consistent.
-//! Here `tt_runs`, of publications and their readings, and `tt_order`, of commits, are put together. The same is so at the
-//! workers of nodes, as `tt_node` runs them, which share a book.
+//! Any number of machines run. The life of each machine began with a new daemon. The daemon polls sources, fuses and
+//! publishes, and stations serve sessions of clients. If at most f sources of each machine are faulty at each of its
+//! fusions, and every clock keeps its drift bound, then the commits that clients saw are externally consistent, at any
+//! sessions of any machines. The same holds for the workers of nodes, which share a book and which `tt_node` runs.
+//!
+//! This crate combines the laws of `tt_runs`, on publications and their readings, with the laws of `tt_order`, on
+//! commits.
 //!
 //! - `laws`: `machine_laws`, `service_laws`, `consistency_laws` and `node_laws`.
 #![tactic(auto)]

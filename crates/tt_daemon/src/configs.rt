@@ -1,4 +1,4 @@
-//! What a machine is set up with.
+//! The configuration of a machine.
 
 ghost use Rattle.std.specs.Prelude.{◌≡◌, ◌+◌, ◌*◌, ◌<◌, ◌≤◌, ◌↔◌, ◌⊎◌, IsOk, IfOk, IsErrOf};
 ghost use Rattle.tt_span.specs.Sources.{max_sources};
@@ -10,10 +10,10 @@ use thiserror::Error;
 use tt_fuse::{CountFault, check_counts};
 use tt_span::{Drift, MAX_DRIFT};
 
-/// How many workers a machine has at most.
+/// The most workers of a machine.
 pub const MAX_WORKERS: usize = 32;
 
-/// Why no machine can be set up so.
+/// Why a configuration is refused.
 #[derive(Clone, Copy, Debug, PartialEq, Eq, Error)]
 pub enum ConfigFault {
     #[error("a machine asks one source at least")]
@@ -52,7 +52,7 @@ impl From<CountFault> for ConfigFault {
     }
 }
 
-/// What a machine is set up with: how many sources it asks, how many of them may lie, the drift of its clock,
+/// The configuration of a machine: how many sources it asks, how many of them may be faulty, the drift of its clock,
 /// and how many workers it has.
 #[derive(Clone, Copy, Debug, PartialEq, Eq)]
 pub struct Config {
@@ -75,10 +75,10 @@ impl Model for Config {
 }
 
 impl Config {
-    /// The set-up with so many sources, of which `faulty` may lie, this drift, and so many workers. Refuses, in
-    /// this order: 501 `NoSource` where there is no source, 502 `TooManySources` above [`MAX_SOURCES`](crate::MAX_SOURCES),
-    /// 503 `TooFewSources` where there are fewer than `2 * faulty + 1`, 702 `Workers` where there is no worker or
-    /// more than [`MAX_WORKERS`].
+    /// The configuration of a machine with `sources` sources, `workers` workers, and a clock with this drift. At most
+    /// `faulty` of the sources may be faulty. Refuses, in this order: 501 `NoSource` if there is no source, 502
+    /// `TooManySources` if there are more than [`MAX_SOURCES`](crate::MAX_SOURCES), 503 `TooFewSources` if there are
+    /// fewer than `2 * faulty + 1`, 702 `Workers` if there is no worker or more than [`MAX_WORKERS`].
     pub fn new(
         sources: usize,
         faulty: usize,
@@ -114,7 +114,7 @@ impl Config {
         self.sources
     }
 
-    /// How many of its sources may lie, from 0 to 7.
+    /// How many of its sources may be faulty, from 0 to 7.
     pub fn faulty(&self) -> usize
         ensures value { result ≡ self.now.faulty }
         ensures valid { IsConfiguration self.now }

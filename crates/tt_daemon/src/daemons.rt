@@ -1,4 +1,4 @@
-//! What one machine's daemon does.
+//! The daemon of one machine.
 
 ghost use Rattle.std.specs.Prelude.{◌≡◌, ℕ, ◌-◌, ◌<◌, ◌≤◌, ◌↔◌, length, take, All, IsTrue, not, is_some, Some, None, Ok, Err, IsOk, IfOk, IfErr, OnOk, OnErr, IsErrOf, MatchResult};
 ghost use Rattle.tt_span.specs.Interval.{Interval, IsInterval};
@@ -23,19 +23,19 @@ use tt_poll::REQUEST2_LEN;
 use tt_source::{SourceFault, Statement, Table};
 use tt_span::{MAX_SOURCES, Span};
 
-/// One machine's daemon: what the machine is set up with, and what it knows of its sources, which are numbered
-/// from 0. It polls them, takes their answers, and fuses what it knows (Spanner's time daemon: OSDI 2012,
-/// section 3).
+/// The daemon of one machine: the configuration of the machine, and what is known of its sources. The sources are
+/// numbered from 0. The daemon polls them, takes their answers, and fuses what it knows (Spanner's time daemon: OSDI
+/// 2012, section 3).
 ///
-/// Clock readings are in nanoseconds. Each call that takes one refuses by 402 a reading below that of the last
-/// `poll` or `take` that was not refused, or above [`MAX_TIME`](tt_span::MAX_TIME). A refused call changes nothing,
-/// and no call takes memory.
+/// Clock readings are in nanoseconds. Each call that takes one refuses with 402 `ClockBack` a reading below the reading
+/// of the last `poll` or `take` that was not refused, or above [`MAX_TIME`](tt_span::MAX_TIME). A refused call changes
+/// nothing. No call takes memory.
 #[derive(Drop)]
 pub struct Daemon {
     config: Config,
     table: Table,
-    /// The ends of what the table's sources stated last, by keys in order: an accepted answer changes one of either
-    /// kind, so that a fusion need not sort.
+    /// The ends of what the sources of the table stated last, by keys in order. An accepted answer changes one key of
+    /// each kind, so a fusion need not sort.
     ends: Ends,
 }
 
@@ -50,8 +50,8 @@ impl Model for Daemon {
 }
 
 impl Daemon {
-    /// The daemon of machine `machine`, at most 7, that is set up so, in the machine's life `epoch`, which is not 0.
-    /// Nothing is known yet of its sources.
+    /// The daemon of machine `machine`, from 0 to 7, with this configuration. The machine is in the life `epoch`, which
+    /// is not 0. Nothing is known of its sources yet.
     pub fn new(machine: u8, config: &Config, epoch: u64) -> Daemon
         requires machine_in { machine ≤ max_machine }
         requires some_epoch { 0 < epoch }
@@ -67,7 +67,7 @@ impl Daemon {
         }
     }
 
-    /// What the machine is set up with: what `new` was given, whatever calls came between.
+    /// The configuration that `new` was given. No call changes it.
     pub fn config(&self) -> &Config
         ensures value { result.now ≡ self.now.config }
         ensures valid { IsDaemon self.now }
@@ -91,17 +91,17 @@ impl Daemon {
         self.table.known()
     }
 
-    /// Whether source `i` has made a statement: not so where there is no such source.
+    /// Whether source `i` has made a statement. False if there is no such source.
     pub fn is_known(&self, i: u8) -> bool
         ensures known_source { result ≡ is_known_of self.now.table i }
     {
         self.table.is_known(i)
     }
 
-    /// Polls source `i` when the clock shows `clock`: the bytes of a request with the nonce after the last one and
-    /// the daemon's epoch, for which the source now waits in place of an earlier one. Its statement stays. Refuses, in
-    /// this order: 401 `NoSource` where `i` is no source, 402 `ClockBack`, 403 `NoncesUsedUp` where the last nonce was
-    /// `u64::MAX`.
+    /// Polls source `i` when the clock shows `clock`. Answers the bytes of a request with the nonce after the last one
+    /// and the daemon's epoch. This poll of the source now waits for its answer, and an earlier one no longer. The
+    /// statement of the source stays. Refuses, in this order: 401 `NoSource` if there is no source `i`, 402
+    /// `ClockBack`, 403 `NoncesUsedUp` if the last nonce was `u64::MAX`.
     pub fn poll(&mut self, i: u8, clock: u64) -> Result<[u8; REQUEST2_LEN], SourceFault>
         ensures polled { OnOk result (poll_of self.old.table i clock ≡ Ok self.new.table) }
         ensures request { IfOk result (λ bytes. bytes ≡ spelling_of2 (message.Request (record { machine = self.new.table.machine; source = i; nonce = self.new.table.last; epoch = self.new.table.epoch }))) }
@@ -115,20 +115,20 @@ impl Daemon {
         polled
     }
 
-    /// Takes a packet that came from source `i` when the clock showed `clock`: where it is the answer to the poll
-    /// that waits, it becomes the source's statement, and nothing waits any more. Refuses, in this order: 401
-    /// `NoSource` where `i` is no source, 402 `ClockBack`, 404 `BadMessage` where the bytes spell no message of TTP2,
-    /// 405 `NotMine` where they are a request, or an answer for another machine or of another source, 407
-    /// `OtherEpoch` where they are an answer to another life of this machine, 406 `NotOutstanding` where no poll of the
+    /// Takes a packet that came from source `i` when the clock showed `clock`. If it is the answer to the poll that
+    /// waits, it becomes the source's statement, and no poll of the source waits any more. Refuses, in this order: 401
+    /// `NoSource` if there is no source `i`, 402 `ClockBack`, 404 `BadMessage` if the bytes are not a valid message of
+    /// TTP2, 405 `NotMine` if they are a request, or an answer for another machine or of another source, 407
+    /// `OtherEpoch` if they are an answer to another life of this machine, 406 `NotOutstanding` if no poll of the
     /// source with this nonce waits.
     pub fn take(&mut self, i: u8, clock: u64, bytes: &[u8]) -> Result<(), SourceFault>
         ensures taken { OnOk result (take_of self.old.table i clock bytes.now ≡ Ok self.new.table) }
         ensures refused { IfErr result (λ e. take_of self.old.table i clock bytes.now ≡ Err e) }
         ensures unchanged { OnErr result (self.new ≡ self.old) }
-        // An answer is taken exactly where it is the answer to the poll that waits.
+        // A packet is taken exactly if it is the answer to the poll that waits.
         ensures takes_the_awaited { IsOk result ↔ (CanBeCalled self.old.table i clock ×
             ((sending : Sending) × (span : Interval) × IsAwaitedAnswer self.old.table i bytes.now sending span)) }
-        // Its span is then the source's statement, from the sending to now, and nothing waits any more.
+        // Its span is then the source's statement, from the sending to now, and no poll of the source waits any more.
         ensures stores_the_awaited { OnOk result ((sending : Sending) (span : Interval) → IsAwaitedAnswer self.old.table i bytes.now sending span →
             source_at self.new.table i ≡ record { waiting = None; statement = Some (record { span = span; sent = sending.clock; got = clock }) }) }
         ensures keeps_config { self.new.config ≡ self.old.config }
@@ -143,12 +143,14 @@ impl Daemon {
         Ok(())
     }
 
-    /// Fuses what is known when the clock shows `clock`: the statements of the sources, aged, where a source that
-    /// has made none stands as the whole of time. Refuses, in this order: 402 `ClockBack`, 701 `Unknown` where fewer
-    /// sources have made a statement than all but the f that may be faulty, 504 `NoPoint` where no time is possible,
-    /// which shows that more than f sources are faulty.
+    /// Fuses what is known when the clock shows `clock`. The span of a source is the span of its statement, aged, or
+    /// the whole of time if it has made none.
     ///
-    /// Fusing changes nothing of the daemon, nor the clock reading that later ones are compared with.
+    /// The machine has n sources, and f of them may be faulty. Refuses, in this order: 402 `ClockBack`, 701 `Unknown`
+    /// if fewer than `n - f` sources have made a statement, 504 `NoPoint` if no time is possible, which shows that more
+    /// than f sources are faulty.
+    ///
+    /// Fusing does not change the daemon. Later clock readings are not compared with `clock`.
     pub fn fuse(&mut self, clock: u64) -> Result<Fused, DaemonFault>
         ensures fused { IfOk result (λ p. (p.clock ≡ clock) × (p.spans ≡ spans_of self.old clock) × (p.faulty ≡ self.old.config.faulty)) }
         // So its span is the fusion of these spans, and its certificate is the canonical one.
@@ -160,7 +162,7 @@ impl Daemon {
             ↔ (IsForward self.old clock × KnowsEnough self.old × HasNoPossibleTime (spans_of self.old clock) self.old.config.faulty) }
         ensures answered { IsOk result
             ↔ (IsForward self.old clock × KnowsEnough self.old × ((x : ℕ) × IsPossibleTime (spans_of self.old clock) self.old.config.faulty x)) }
-        // The same, where nothing else is refused, by trying each end of each span.
+        // If nothing else is refused, trying each end of each span finds the same.
         ensures found_slowly { IsForward self.old clock → KnowsEnough self.old →
             MatchResult result
             (λ p. slow_fusion (spans_of self.old clock) self.old.config.faulty ≡ Some p.span)
@@ -177,7 +179,7 @@ impl Daemon {
         self.fused_at(clock)
     }
 
-    /// Whether the clock reading `clock` is refused: it is below that of the last `poll` or `take` that was not
+    /// Whether the clock reading `clock` is refused: it is below the reading of the last `poll` or `take` that was not
     /// refused, or above the greatest time.
     fn is_back(&self, clock: u64) -> bool
         ensures back { IsTrue result ↔ IsBack self.now clock }
@@ -210,7 +212,7 @@ impl Daemon {
         )
     }
 
-    /// The spans of all sources at a clock reading, in front.
+    /// The spans of all sources at a clock reading, at the front of the array.
     fn spans_at(&self, clock: u64) -> [Span; MAX_SOURCES]
         requires { IsForward self.now clock }
         ensures value { take (length self.now.table.sources) result ≡ spans_of self.now clock }
@@ -224,7 +226,7 @@ impl Daemon {
     }
 }
 
-/// Takes up into the ends what source `i` stated last, in place of an earlier statement where it `was_known`.
+/// Puts the last statement of source `i` into the ends. It replaces an earlier one if the source `was_known`.
 fn take_up(ends: &mut Ends, i: u8, statement: &Statement, was_known: bool)
     requires there { i < max_sources }
     requires known { was_known ≡ is_some (statement_of ends.old i) }

@@ -1,11 +1,11 @@
-//! Why a daemon fuses nothing.
+//! Why a daemon refuses to fuse.
 
 ghost use Rattle.std.specs.Prelude.{◌≡◌};
 ghost use Rattle.tt_daemon.specs.Fault.{number_of};
 
 use thiserror::Error;
 
-/// Why a daemon fuses nothing. A refused fusion changes nothing.
+/// Why a daemon refuses to fuse. A refused fusion changes nothing.
 #[derive(Clone, Copy, Debug, PartialEq, Eq, Error)]
 pub enum DaemonFault {
     #[error("the clock went back, or is past the greatest time")]

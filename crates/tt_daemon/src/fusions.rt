@@ -1,4 +1,4 @@
-//! Fusions with all that they were made of.
+//! Fusions, each with everything that it was made of.
 
 ghost use Rattle.std.specs.Prelude.{◌≡◌, ℕ, ◌+◌, ◌*◌, ◌<◌, ◌≤◌, ◌↔◌, length, take, All, IsOk, IfOk, IsErrOf, MatchResult};
 ghost use Rattle.tt_span.specs.Interval.{IsInterval};
@@ -12,17 +12,16 @@ use tt_cert::{Certificate, certify_by};
 use tt_fuse::{FuseFault, SortedEnds, check_counts};
 use tt_span::{MAX_SOURCES, Span};
 
-/// A fusion with all that it was made of, as a machine publishes it: the clock reading at which it was made, the
-/// spans of the sources, how many of these may be wrong, their fusion, and the canonical certificate of it, by
-/// which anybody can check the fusion.
+/// A fusion with everything that it was made of, as a machine publishes it: the clock reading at which it was made, the
+/// spans of the sources, how many of the sources may be wrong, the fusion of the spans, and the canonical certificate
+/// of this fusion. Anybody can check the fusion by the certificate.
 ///
-/// It is a value of its own: what comes after it at its machine does not change it. It takes no memory beside
-/// itself.
+/// It is a value of its own: nothing that its machine does later changes it. It takes no memory beyond its own bytes.
 #[derive(Debug, Drop)]
 pub struct Fused {
     clock: u64,
     span: Span,
-    /// The spans of the sources, in front.
+    /// The spans of the sources, at the front of the array.
     spans: [Span; MAX_SOURCES],
     sources: usize,
     faulty: usize,
@@ -43,10 +42,10 @@ impl Model for Fused {
 }
 
 impl Fused {
-    /// The fusion of the spans, of which at most `faulty` may be wrong, made when the clock showed `clock`, any
-    /// reading at all. Refuses as [`fuse`](tt_fuse::fuse) does, in this order: 501 `NoSource` where there is no span, 502 `TooMany`
-    /// where there are more than [`MAX_SOURCES`], 503 `TooFew` where there are fewer than `2 * faulty + 1`, 504
-    /// `NoPoint` where no time is possible.
+    /// The fusion of the spans when at most `faulty` of the sources are wrong, made when the clock showed `clock`,
+    /// which may be any reading. Refuses as [`fuse`](tt_fuse::fuse) does, in this order: 501 `NoSource` if there is no
+    /// span, 502 `TooMany` if there are more than [`MAX_SOURCES`], 503 `TooFew` if there are fewer than
+    /// `2 * faulty + 1`, 504 `NoPoint` if no time is possible.
     pub fn make(clock: u64, spans: &[Span], faulty: usize) -> Result<Fused, FuseFault>
         ensures no_source { IsErrOf result FuseFault.NoSource ↔ (length spans.now ≡ 0) }
         ensures too_many { IsErrOf result FuseFault.TooMany ↔ (max_sources < length spans.now) }
@@ -65,7 +64,7 @@ impl Fused {
         Fused::of(clock, spans, &ends, faulty, FuseFault::NoPoint)
     }
 
-    /// The same by the ends of the spans in their order. Refuses with `no_point` where no time is possible.
+    /// As [`Fused::make`], from the ends of the spans in order. Refuses with `no_point` if no time is possible.
     pub(crate) fn of<E: Drop>(
         clock: u64,
         spans: &[Span],
@@ -133,7 +132,7 @@ impl Fused {
         &self.certificate
     }
 
-    /// An equal one.
+    /// An equal fusion.
     pub fn copied(&self) -> Fused
         ensures value { result ≡ self.now }
         ensures valid { IsPublication self.now }
@@ -149,7 +148,7 @@ impl Fused {
     }
 }
 
-/// At most [`MAX_SOURCES`] spans, at the front of an array of their own.
+/// An array with these spans at its front. There are at most [`MAX_SOURCES`] spans.
 fn in_front(spans: &[Span]) -> [Span; MAX_SOURCES]
     requires { length spans.now ≤ max_sources }
     ensures value { take (length spans.now) result ≡ spans.now }

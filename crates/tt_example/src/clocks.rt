@@ -2,27 +2,27 @@
 
 use tt_publish::{Clock, ClockFault};
 
-/// A clock that stands still but for `sleep`, so that each run prints the same. A database reads the operating
-/// system's here: docs/EMBEDDING.md says which clock serves.
+/// A clock that moves only in `sleep`, so that each run prints the same. A database reads a clock of the operating
+/// system here. docs/EMBEDDING.md says which one to choose.
 #[derive(Clone, Copy)]
 pub struct SteppedClock {
     shows: u64,
 }
 
 impl SteppedClock {
-    /// A clock that shows so many nanoseconds.
+    /// A clock that shows `shows` nanoseconds.
     pub fn at(shows: u64) -> SteppedClock {
         SteppedClock { shows }
     }
 
-    /// Lets so many nanoseconds pass.
+    /// Moves the clock forward by this many nanoseconds.
     pub fn sleep(&mut self, nanoseconds: u64) {
         self.shows = self.shows.saturating_add(nanoseconds);
     }
 }
 
 impl Clock for SteppedClock {
-    // Contracts know nothing of what a clock of the world shows, and this one never fails.
+    // Contracts know nothing about what this clock shows, as with a real clock. It never fails.
     ghost gives = { λ before given after. Unit {0} };
 
     ghost failed = { λ clock. 0 };

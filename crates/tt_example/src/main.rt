@@ -1,5 +1,5 @@
-//! A first program over the time service: one machine of a database that polls three time sources, of which one is
-//! wrong, and then makes one commit and reads one snapshot, in two threads. docs/EMBEDDING.md says of each call what
+//! A first program on the time service. One machine of a database polls three time sources, and one of them is wrong.
+//! Then the machine makes one commit and reads one snapshot, in two threads. docs/EMBEDDING.md says for each call what
 //! it refuses and what to choose.
 #![tactic(auto)]
 
@@ -22,7 +22,7 @@ use tt_span::{Drift, Span};
 use tt_stamp::{Book, Id, Receipt, Seat, Sequencer, begin_step, release_step};
 
 fn main(rt: HostRuntime) -> Result<()> {
-    // The settings: a clock that is off by at most 200 parts per million, three sources of which one may be wrong, and
+    // The settings: a clock that is off by at most 200 parts per million, three sources, at most one of them wrong, and
     // two worker threads.
     let drift = Drift::new(200).context("more than 100,000 parts per million")?;
     let config = Config::new(3, 1, drift, 2)?;
@@ -31,7 +31,7 @@ fn main(rt: HostRuntime) -> Result<()> {
     let daemon = Daemon::new(0, &config, 1);
     let (mut teller, watches) = open(&rt, rt.alloc(), drift, 2)?;
     let ran = run(&rt, rt.alloc(), daemon, &mut teller, watches);
-    // A teller has to be closed, also where something failed.
+    // A teller has to be closed, also if something failed.
     teller.close(&rt);
     ran
 }
@@ -43,12 +43,12 @@ fn run<R: Threads + Wait + Sync + Print>(
     teller: &mut Teller,
     mut watches: Vec<Watch>,
 ) -> Result<()> {
-    // All threads that commit share the sequencer, each with a seat of its own, and the book: with several of them it
-    // stands behind a lock.
+    // All threads that commit share the sequencer and the book. Each has a seat of its own for the sequencer. If there
+    // are several such threads, the book is behind a lock.
     let (sequencer, mut seats) = Sequencer::open(alloc, 1)?;
     let book = Book::new(alloc);
 
-    // The daemon's round. A database makes one every some seconds, in a thread of its own, while the workers go on.
+    // The daemon's round. A database makes a round every few seconds, in a thread of its own, while the workers go on.
     let fused = round(&mut daemon)?;
     let (span, clock) = (fused.span(), fused.clock());
     println!(rt; "fused {} to {} at clock {clock}", span.lo(), span.hi())?;
@@ -78,7 +78,7 @@ fn run<R: Threads + Wait + Sync + Print>(
     Ok(())
 }
 
-/// One round: polls each source, takes what it answers, and fuses the answers.
+/// One round: polls each source, takes its answer, and fuses the answers.
 fn round(daemon: &mut Daemon) -> Result<Fused> {
     let mut clock = SteppedClock::at(0);
     // The answers of sources 0 and 1 hold the true time. Source 2 is a millisecond ahead.
@@ -88,7 +88,7 @@ fn round(daemon: &mut Daemon) -> Result<Fused> {
     Ok(daemon.fuse(clock.read()?)?)
 }
 
-/// Polls one source, which does this act at this time, and takes its answer. In a database the source is another
+/// Polls one source, and takes its answer. The source does this act at this time. In a database the source is another
 /// machine, and the packets go over a socket.
 fn ask(daemon: &mut Daemon, clock: &mut SteppedClock, source: u8, time: u64, act: Act) -> Result<()>
     requires { source ≤ 15 }
@@ -117,8 +117,8 @@ fn commit<R: Wait + Print>(
     ensures receipt { IfOk result (λ receipt. receipt.id ≡ id) }
 {
     let mut clock = SteppedClock::at(5_000);
-    // The commit has arrived, and its locks are held: stamp it. No participant asks for a floor, and the leader's lease
-    // is the whole of time.
+    // The commit has arrived, and its locks are held. So stamp it. No participant asks for a floor, and the leader's
+    // lease is the whole of time.
     let stamp = begin_step(
         rt,
         sequencer,
@@ -131,11 +131,11 @@ fn commit<R: Wait + Print>(
     book.queue(id, stamp)?;
     // Here the stamp goes to the log, and replication begins.
     println!(rt; "stamped {stamp}")?;
-    // Commit wait: nobody may see the commit before its stamp has surely passed. A database goes on until it has.
+    // Commit wait: nobody may see the commit before its stamp has surely passed. A database repeats this until it has.
     for _ in 0..10 {
         release_step(&mut book, &mut watch, &mut clock)?;
         if let Some(receipt) = book.is_released(id) {
-            // Now answer the client, apply the commit, and let go of its locks.
+            // Now answer the client, apply the commit, and release its locks.
             return Ok(receipt);
         }
         let earliest = watch.now(&mut clock)?.earliest();
@@ -146,7 +146,7 @@ fn commit<R: Wait + Print>(
     bail!("the commit is still pending");
 }
 
-/// One snapshot read: it reads at the latest that the time may be, and so sees each commit that was released before the
+/// One snapshot read. It reads at the latest that the time may be, and so sees each commit that was released before the
 /// request.
 fn snapshot(mut watch: Watch) -> Result<Reading> {
     let mut clock = SteppedClock::at(9_000);

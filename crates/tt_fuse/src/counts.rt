@@ -1,4 +1,4 @@
-//! How many sources can be fused, when some of them may be wrong.
+//! How many sources can be fused when some of them may be wrong.
 
 ghost use Rattle.std.specs.Prelude.{◌≡◌, ◌+◌, ◌*◌, ◌<◌, ◌≤◌, ◌↔◌, IsOk, IsErrOf};
 ghost use Rattle.tt_span.specs.Sources.{max_sources};
@@ -7,8 +7,8 @@ ghost use Rattle.tt_fuse.specs.Fusion.{CanBeFused};
 use thiserror::Error;
 use tt_span::MAX_SOURCES;
 
-/// Why so many sources, of which so many may be wrong, can't be fused: the first three reasons of a
-/// [`FuseFault`](crate::FuseFault), which also has their numbers.
+/// Why sources cannot be fused, by their number and by how many of them may be wrong. These are the first three reasons
+/// of a [`FuseFault`](crate::FuseFault), which also has their numbers.
 #[derive(Clone, Copy, Debug, PartialEq, Eq, Error)]
 pub enum CountFault {
     #[error("there is no source")]
@@ -19,11 +19,11 @@ pub enum CountFault {
     TooFew,
 }
 
-/// Whether `sources` sources can be fused when at most `faulty` of them are wrong. Whoever refuses a number of
-/// sources asks this, so that the refusals are the same everywhere.
+/// Whether `sources` sources can be fused when at most `faulty` of them are wrong. Every call that refuses a number of
+/// sources asks this, so the refusals are the same everywhere.
 ///
-/// Refuses, in this order: 501 `NoSource` where there is no source, 502 `TooMany` where there are more than
-/// [`MAX_SOURCES`], 503 `TooFew` where there are fewer than `2 * faulty + 1`.
+/// Refuses, in this order: 501 `NoSource` if there is no source, 502 `TooMany` if there are more than [`MAX_SOURCES`],
+/// 503 `TooFew` if there are fewer than `2 * faulty + 1`.
 pub fn check_counts(sources: usize, faulty: usize) -> Result<(), CountFault>
     ensures taken { IsOk result ↔ CanBeFused sources faulty }
     ensures no_source { IsErrOf result CountFault.NoSource ↔ (sources ≡ 0) }
@@ -37,7 +37,7 @@ pub fn check_counts(sources: usize, faulty: usize) -> Result<(), CountFault>
     if sources > MAX_SOURCES {
         return Err(CountFault::TooMany);
     }
-    // That is, fewer than `2 * faulty + 1`, which may be too large a number to write.
+    // This says that there are fewer than `2 * faulty + 1`, a number that may be too large for a `usize`.
     if faulty > (sources - 1) / 2 {
         return Err(CountFault::TooFew);
     }

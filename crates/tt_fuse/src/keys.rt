@@ -1,4 +1,4 @@
-//! Scaled keys: the ends of a statement's span, so that ageing does not change their order.
+//! Scaled keys: numbers for the ends of a statement's span. Ageing does not change the order of the keys.
 
 ghost use Rattle.std.specs.Prelude.{◌≡◌, ◌+◌, ◌-◌, ◌*◌, ◌/◌, ◌≤◌, ◌↔◌, IsTrue};
 ghost use Rattle.tt_span.specs.Time.{max_time};
@@ -7,10 +7,10 @@ ghost use Rattle.tt_fuse.specs.Scaled.{key_bound, key_number, IsKey, low_key_of,
 
 use tt_span::{Drift, MAX_TIME};
 
-/// A million: a drift is counted in parts of it, and keys are counted in millionths of a nanosecond.
+/// A million: a drift is counted in parts of it, and keys count millionths of a nanosecond.
 const MILLION: u64 = 1_000_000;
 
-/// What the least clock has gone on by, in millionths of a nanosecond.
+/// The clock reading less the most that the clock may be wrong by since it showed 0, in millionths of a nanosecond.
 fn least_run(drift: Drift, clock: u64) -> u128
     requires { clock ≤ max_time }
     ensures value { result ≡ clock * (1000000 - drift) }
@@ -20,7 +20,7 @@ fn least_run(drift: Drift, clock: u64) -> u128
     u128::from(clock) * u128::from(MILLION - u64::from(drift.ppm()))
 }
 
-/// What the greatest clock has gone on by, in millionths of a nanosecond.
+/// The clock reading plus the most that the clock may be wrong by since it showed 0, in millionths of a nanosecond.
 fn greatest_run(drift: Drift, clock: u64) -> u128
     requires { clock ≤ max_time }
     ensures value { result ≡ clock * (1000000 + drift) }
@@ -41,7 +41,7 @@ pub(crate) fn low_key(drift: Drift, lo: u64, got: u64) -> i128
     (u128::from(lo) * u128::from(MILLION)) as i128 - least_run(drift, got) as i128
 }
 
-/// The key of an upper end that was asked for when the clock showed `sent`.
+/// The key of an upper end whose poll was sent when the clock showed `sent`.
 #[tactic(auto, unfolding(crate::specs::Scaled::high_key_of))]
 pub(crate) fn high_key(drift: Drift, hi: u64, sent: u64) -> i128
     requires hi_in { hi ≤ max_time }
@@ -52,8 +52,8 @@ pub(crate) fn high_key(drift: Drift, hi: u64, sent: u64) -> i128
     (u128::from(hi) * u128::from(MILLION)) as i128 - greatest_run(drift, sent) as i128
 }
 
-/// The whole nanoseconds of so many millionths: divided by 64 and then by 15,625 in two halves, since a division of
-/// 128 bits is slow.
+/// The whole nanoseconds in `scaled` millionths of a nanosecond. A division of 128 bits is slow, so this divides by 64,
+/// and then by 15,625 in two halves.
 fn nanoseconds(scaled: u128) -> u64
     requires { scaled ≤ 9000000000000000000000000 }
     ensures { result ≡ scaled / 1000000 }
@@ -109,9 +109,9 @@ pub(crate) fn high_end(drift: Drift, key: i128, clock: u64) -> u64
     nanoseconds(scaled + 999_999).min(MAX_TIME)
 }
 
-/// Whether the lower end of one key is not above the upper end of another when the clock shows `clock`.
+/// Whether the lower end of the key `low` is at most the upper end of the key `high` when the clock shows `clock`.
 ///
-/// Rounding moves them together by less than two nanoseconds, so that hardly ever a division is needed to tell.
+/// In total, rounding moves the two ends by less than two nanoseconds. So comparing them seldom needs a division.
 #[tactic(auto, unfolding(crate::specs::Scaled::low_end_of, crate::specs::Scaled::high_end_of))]
 pub(crate) fn are_in_order(drift: Drift, low: i128, high: i128, clock: u64) -> bool
     requires in_time { clock ≤ max_time }

@@ -1,4 +1,4 @@
-//! Fusion over scaled keys, which never have to be sorted again.
+//! Fusion over scaled keys, which are never sorted again.
 
 ghost use Rattle.std.specs.Prelude.{◌≡◌, ℕ, ◌+◌, ◌-◌, ◌*◌, ◌<◌, ◌≤◌, ◌↔◌, ◌++◌, length, map, replicate, All, IsSome, IsOk, IfOk, IsErrOf, MatchOption, None};
 ghost use Rattle.tt_span.specs.Time.{max_time};
@@ -38,13 +38,14 @@ impl Model for Answered {
     ghost inverse = { λ s. record { span = s.span; sent = s.sent; got = s.got } };
 }
 
-/// The ends of what the sources of a machine stated, by keys whose order does not change as the statements age.
+/// The ends of what the sources of a machine stated last, by keys whose order does not change as the statements age.
 ///
-/// A lower end that was received at a clock reading ages by the time since, less what the clock may be wrong by, and an
-/// upper end by the time since its poll was sent, and what the clock may be wrong by. So two lower ends stay in the
-/// order of their keys, which are what they would have been when the clock showed 0, and so do two upper ends. The keys
-/// are kept in ascending order, each beside its source: an accepted answer changes one of either kind, a fusion compares
-/// a few and ages two, and the ends of spans that are aged already are put in order without a sort.
+/// A lower end ages by the time since its answer came, less what the clock may be wrong by. An upper end ages by the
+/// time since its poll was sent, plus what the clock may be wrong by. The key of an end is what the end would have been
+/// when the clock showed 0. So two lower ends stay in the order of their keys, and so do two upper ends.
+///
+/// The keys are kept in ascending order, each with its source. An accepted answer changes one key of each kind. A
+/// fusion compares a few keys and ages two. The ends of spans that are already aged are put in order without a sort.
 #[derive(Debug, Drop)]
 pub struct Ends {
     drift: Drift,
@@ -65,7 +66,7 @@ impl Model for Ends {
 }
 
 impl Ends {
-    /// The ends of no statements, at a machine whose clock keeps this drift.
+    /// The ends before any statement, for a machine whose clock has this drift.
     pub fn new(drift: Drift) -> Ends
         ensures value { result ≡ nothing_stated drift }
         ensures valid { IsStated result }
@@ -79,10 +80,10 @@ impl Ends {
         }
     }
 
-    /// Takes up the statement of a source without one: the span of its answer, and the clock readings, in
+    /// Adds the statement of source `i`, which has none yet: the span of its answer, and the clock readings, in
     /// nanoseconds, at which its poll was sent and the answer came. The other sources' statements stay.
     ///
-    /// Requires: `i` is below [`MAX_SOURCES`], source `i` has no statement, and `sent` is at most `got`, which is at
+    /// Requires: `i` is below [`MAX_SOURCES`], source `i` has no statement, `sent` is at most `got`, and `got` is at
     /// most [`MAX_TIME`].
     pub fn insert(&mut self, i: u8, span: &Span, sent: u64, got: u64)
         requires there { i < max_sources }
@@ -101,10 +102,10 @@ impl Ends {
         });
     }
 
-    /// Takes up the statement of a source that has one, in place of that: the span of its answer, and the clock
-    /// readings, in nanoseconds, at which its poll was sent and the answer came. The other sources' statements stay.
+    /// Replaces the statement of source `i` by this one: the span of its answer, and the clock readings, in
+    /// nanoseconds, at which its poll was sent and the answer came. The other sources' statements stay.
     ///
-    /// Requires: `i` is below [`MAX_SOURCES`], source `i` has a statement, and `sent` is at most `got`, which is at
+    /// Requires: `i` is below [`MAX_SOURCES`], source `i` has a statement, `sent` is at most `got`, and `got` is at
     /// most [`MAX_TIME`].
     pub fn replace(&mut self, i: u8, span: &Span, sent: u64, got: u64)
         requires there { i < max_sources }
@@ -123,11 +124,11 @@ impl Ends {
         });
     }
 
-    /// The ends of these spans, in order: of the first sources' spans at some clock reading, which are each statement's
-    /// span, aged, and the whole of time for a source that has made none. Nothing is aged again, and nothing is sorted.
+    /// The ends of these spans, in order. Nothing is aged again, and nothing is sorted.
     ///
-    /// Requires: the clock reading is at most [`MAX_TIME`] and no statement came after it, there are at most
-    /// [`MAX_SOURCES`] spans, and no other sources have made statements.
+    /// Requires: these are the spans of the first sources at some clock reading. The span of a source is the span of
+    /// its statement, aged, or the whole of time if it has made none. The reading is at most [`MAX_TIME`], and no
+    /// statement came after it. There are at most [`MAX_SOURCES`] spans, and no other source has made a statement.
     pub fn of(&self, spans: &[Span]) -> SortedEnds
         requires { (clock : ℕ) × AreSpansAt self.now clock spans.now }
         ensures value { AreEndsOf spans.now result }
@@ -141,15 +142,15 @@ impl Ends {
         )
     }
 
-    /// The fusion of the first `sources` sources' spans when the clock shows `clock`, as [`fuse`](crate::fuse) gives it:
-    /// of each statement's span, aged, and of the whole of time for a source that has made none.
+    /// The fusion of the spans of the first `sources` sources when the clock shows `clock`, as [`fuse`](crate::fuse)
+    /// gives it. The span of a source is the span of its statement, aged, or the whole of time if it has made none.
     ///
-    /// Refuses as `fuse`, in this order: 501 `NoSource` where there is no source, 502 `TooMany` where there are more
-    /// than [`MAX_SOURCES`], 503 `TooFew` where there are fewer than `2 * faulty + 1`, 504 `NoPoint` where no time is
+    /// Refuses as `fuse` does, in this order: 501 `NoSource` if there is no source, 502 `TooMany` if there are more
+    /// than [`MAX_SOURCES`], 503 `TooFew` if there are fewer than `2 * faulty + 1`, 504 `NoPoint` if no time is
     /// possible, which shows that more than `faulty` sources are wrong.
     ///
-    /// Requires: `clock` is at most [`MAX_TIME`] and no statement came after it, and only the first `sources` sources
-    /// have made statements.
+    /// Requires: `clock` is at most [`MAX_TIME`], no statement came after it, and only the first `sources` sources have
+    /// made statements.
     pub fn fuse(&self, clock: u64, sources: usize, faulty: usize) -> Result<Span, FuseFault>
         requires in_time { clock ≤ max_time }
         requires got { AreGotBy self.now clock }
@@ -168,10 +169,11 @@ impl Ends {
         self.fused(clock, faulty).ok_or(FuseFault::NoPoint)
     }
 
-    /// The fusion when the clock shows `clock` and at most `faulty` of the sources are wrong, or None where no time is
-    /// possible. A source that has made no statement speaks against no time, so it does not matter how many there are.
+    /// The fusion when the clock shows `clock` and at most `faulty` of the sources are wrong. None if no time is
+    /// possible. The span of a source that has made no statement holds every time, so it does not matter how many such
+    /// sources there are.
     ///
-    /// It looks for the ends as [`SortedEnds::fused`] does, but among keys, and ages no more than the two that it finds.
+    /// It finds the ends as [`SortedEnds::fused`] does, but by keys. It ages only the two that it finds.
     fn fused(&self, clock: u64, faulty: usize) -> Option<Span>
         requires in_time { clock ≤ max_time }
         requires got { AreGotBy self.now clock }
@@ -190,8 +192,8 @@ impl Ends {
     }
 }
 
-/// Of the pairs of a start and the end beside it that are in order when the clock shows `clock`, the first start and
-/// the last end then, by their keys. There may be more ends than starts.
+/// The first start and the last end, by their keys, of the pairs that are in order when the clock shows `clock`. None
+/// if no pair is in order. A pair is a start and the end at the same place. There may be more ends than starts.
 fn first_and_last_at(drift: Drift, starts: &[i128], ends: &[i128], clock: u64) -> Option<(u64, u64)>
     requires in_time { clock ≤ max_time }
     requires enough { length starts.now ≤ length ends.now }
@@ -212,7 +214,8 @@ fn first_and_last_at(drift: Drift, starts: &[i128], ends: &[i128], clock: u64) -
     ))
 }
 
-/// The place of the first pair that is in order when the clock shows `clock`, or how many starts there are.
+/// The place of the first pair that is in order when the clock shows `clock`, or the number of starts if no pair is in
+/// order.
 fn first_in_order(drift: Drift, starts: &[i128], ends: &[i128], clock: u64) -> usize
     requires in_time { clock ≤ max_time }
     requires enough { length starts.now ≤ length ends.now }
@@ -231,7 +234,7 @@ fn first_in_order(drift: Drift, starts: &[i128], ends: &[i128], clock: u64) -> u
     first
 }
 
-/// The place of the last pair that is in order when the clock shows `clock`, where the one at `first` is.
+/// The place of the last pair that is in order when the clock shows `clock`. The pair at `first` is in order then.
 fn last_in_order(drift: Drift, starts: &[i128], ends: &[i128], clock: u64, first: usize) -> usize
     requires in_time { clock ≤ max_time }
     requires enough { length starts.now ≤ length ends.now }
@@ -252,7 +255,8 @@ fn last_in_order(drift: Drift, starts: &[i128], ends: &[i128], clock: u64, first
     last
 }
 
-/// The lower ends of the spans of these sources, behind those of the sources of which nothing is known, which are 0.
+/// The lower ends for `unknown` sources without a statement, all 0, and then the lower ends of the spans of these
+/// sources.
 fn lows_of(sources: &[u8], spans: &[Span], unknown: usize) -> ArrayVec<u64, 16>
     requires there { All (λ source. source < length spans.now) sources.now }
     requires room { unknown + length sources.now ≤ max_sources }
@@ -266,8 +270,8 @@ fn lows_of(sources: &[u8], spans: &[Span], unknown: usize) -> ArrayVec<u64, 16>
     ends
 }
 
-/// The upper ends of the spans of these sources, and then those of the sources of which nothing is known, which are the
-/// greatest time.
+/// The upper ends of the spans of these sources, and then the upper ends for `unknown` sources without a statement, all
+/// the greatest time.
 fn highs_of(sources: &[u8], spans: &[Span], unknown: usize) -> ArrayVec<u64, 16>
     requires there { All (λ source. source < length spans.now) sources.now }
     requires room { unknown + length sources.now ≤ max_sources }

@@ -1,4 +1,4 @@
-//! Which sources the fusion speaks against.
+//! The suspects of a fusion: the sources whose span does not meet it.
 
 ghost use Rattle.std.specs.Prelude.{◌≡◌, ◌≤◌, ℕ, List, length, slice_index_or};
 ghost use Rattle.tt_span.specs.Interval.{Interval, Holds};
@@ -9,9 +9,8 @@ ghost use Rattle.tt_fuse.specs.Suspect.{IsSuspect, AreSuspects};
 use arrayvec::ArrayVec;
 use tt_span::Span;
 
-/// The numbers of the sources whose span does not meet `fused`, ascending. A source's number is its place in
-/// `spans`, from 0. Spans that touch at one point meet. Requires: there are at most
-/// [`MAX_SOURCES`](crate::MAX_SOURCES) of them.
+/// The numbers of the sources whose span does not meet `fused`, ascending. A source's number is its place in `spans`,
+/// from 0. Spans that touch at one point meet. Requires: there are at most [`MAX_SOURCES`](crate::MAX_SOURCES) spans.
 pub fn suspects(spans: &[Span], fused: &Span) -> ArrayVec<u8, 16>
     requires { length spans.now ≤ max_sources }
     ensures exact { AreSuspects spans.now fused.now result.items }
@@ -25,8 +24,8 @@ pub fn suspects(spans: &[Span], fused: &Span) -> ArrayVec<u8, 16>
     found
 }
 
-/// The span of a suspect of the fusion holds no possible time. So what it said is false wherever at most as many
-/// sources are wrong as the fusion was told.
+/// A law of suspects. The span of a suspect of a fusion holds no possible time. So what the suspect said is false if at
+/// most as many sources are wrong as the fusion allows.
 pub fn suspect_laws()
     ensures no_possible_time { (spans : List Interval) (f : ℕ) (fused : Interval) → IsFusion spans f fused → (k : ℕ) → IsSuspect spans fused k →
         (span : Interval) → slice_index_or spans k span ≡ span → (x : ℕ) → IsPossibleTime spans f x → Holds span x → ⊥ }

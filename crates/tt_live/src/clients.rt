@@ -59,8 +59,8 @@ fn read_reply<I: ByteReader>(reader: &mut I) -> Result<Reply, DeviceFault> {
     Err(DeviceFault)
 }
 
-/// Sends a line and reads its reply, again while the reply says that nothing is published, at most [`MAX_ASKS`] times.
-/// A reply that no session gives to this line is a failure.
+/// Sends a line and reads its reply. As long as the reply says that nothing is published, it sends the line again, at
+/// most [`MAX_ASKS`] times in all. If no session gives this reply to this line, that is a failure.
 fn ask<R: SystemClock, S: ByteReader + ByteWriter>(
     rt: &R,
     stream: &mut S,
@@ -81,11 +81,12 @@ fn ask<R: SystemClock, S: ByteReader + ByteWriter>(
     Ok(())
 }
 
-/// Sends the lines of a session one after the other, each after the reply to the one before it, and each again while
-/// its reply is `refused 801`, at most [`MAX_ASKS`] times. A text with line feeds is the lines between them.
+/// Sends the lines of a session one after the other, each after the reply to the line before it. As long as the reply
+/// to a line is `refused 801`, the line is sent again, at most [`MAX_ASKS`] times in all. A text with line feeds has
+/// several lines, which the line feeds separate.
 ///
-/// Refuses with 1 `Memory`, and with 1501 `LinkFailed` where the connection failed, or ended before a reply, or where
-/// a line was given a reply that no session gives to it, as that to another line.
+/// Refuses with 1 `Memory`, and with 1501 `LinkFailed` if the connection failed, if it ended before a reply, or if the
+/// reply to a line is one that no session gives to it, for instance the reply to another line.
 pub(crate) fn talk<R: SystemClock, S: ByteReader + ByteWriter>(
     rt: &R,
     alloc: Global,

@@ -1,4 +1,4 @@
-//! The clock of a run.
+//! The clocks of a run.
 
 ghost use Rattle.std.specs.Prelude.{◌≡◌, ◌+◌, ◌<◌, ◌≤◌, None, IfSome, OnSome};
 ghost use Rattle.std.specs.Duration.{as_nanos};
@@ -11,7 +11,7 @@ use tt_master::{RefFault, Reference};
 use tt_publish::{Clock, ClockFault};
 use tt_span::MAX_TIME;
 
-/// Where the clocks of a run begin: at the time `base`, in nanoseconds, when the system's monotonic clock shows
+/// The beginning of the clocks of a run: they show `base`, in nanoseconds, when the system's monotonic clock shows
 /// `start`.
 #[derive(Clone, Copy)]
 pub(crate) struct Origin {
@@ -19,7 +19,7 @@ pub(crate) struct Origin {
     pub(crate) start: Instant,
 }
 
-/// The time when so much has elapsed since `base`, in nanoseconds; None above [`MAX_TIME`].
+/// The time, in nanoseconds, when `elapsed` has passed since `base`. None where it is above [`MAX_TIME`].
 fn time_after(base: u64, elapsed: Duration) -> Option<u64>
     ensures shown { IfSome result (λ time. (time ≡ base + as_nanos elapsed) × (time ≤ max_time)) }
     ensures past { result ≡ None → max_time < base + as_nanos elapsed }
@@ -33,11 +33,11 @@ fn time_after(base: u64, elapsed: Duration) -> Option<u64>
     if time <= MAX_TIME { Some(time) } else { None }
 }
 
-/// A clock that shows the base of a run, and the time that has elapsed since it began by the system's monotonic clock.
-/// All clocks of one run show one time: it serves the masters as their reference, and the daemon and the workers as
-/// their clock.
+/// A clock that shows the base of a run plus the time that has elapsed since the run began, by the system's monotonic
+/// clock. All clocks of one run show the same time. The masters use it as their reference, and the daemon and the
+/// workers as their clock.
 ///
-/// It fails where the system's clock can't be read, and above [`MAX_TIME`]. Nothing is claimed of what it shows.
+/// It fails if the system's clock can't be read, and above [`MAX_TIME`]. Nothing is claimed about what it shows.
 #[derive(Drop)]
 pub(crate) struct LiveClock<'a, R> {
     rt: &'a R,
@@ -46,7 +46,7 @@ pub(crate) struct LiveClock<'a, R> {
 }
 
 impl<'a, R: SystemClock> LiveClock<'a, R> {
-    /// A clock of the run that began so.
+    /// A clock of the run with this origin.
     pub(crate) fn new(rt: &'a R, origin: Origin) -> Self {
         LiveClock {
             rt,
@@ -55,7 +55,7 @@ impl<'a, R: SystemClock> LiveClock<'a, R> {
         }
     }
 
-    /// The time, unless the clock fails, which is counted.
+    /// The time, in nanoseconds. None where the clock fails, and then the failure is counted.
     fn time(&mut self) -> Option<u64>
         ensures in_time { IfSome result (λ time. time ≤ max_time) }
         ensures sound { OnSome result (self.new.failures ≡ self.old.failures) }
@@ -106,7 +106,7 @@ impl<'a, R: SystemClock> Reference for LiveClock<'a, R> {
 }
 
 /// The clock that the reader of a session looks at before each read. It shows 0, and fails once the node's daemon has
-/// ended with a fault. So such a session ends soon after the daemon, also where its client sends nothing.
+/// ended with a fault. So the session then ends soon after the daemon, even if its client sends nothing.
 #[derive(Drop)]
 pub(crate) struct SessionClock<'a> {
     daemon_failed: &'a AtomicBool,

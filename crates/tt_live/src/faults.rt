@@ -1,4 +1,4 @@
-//! What is answered where a run is refused.
+//! Why a run is refused.
 
 ghost use Rattle.std.specs.Prelude.{◌≡◌};
 ghost use Rattle.tt_live.specs.declared.faults.LiveFault.TheVariants.{Node};
@@ -13,16 +13,16 @@ pub enum LiveFault {
     /// The script has no part for a run in threads.
     #[error("the script has no live part")]
     NoLive,
-    /// The script has not exactly one machine, not one master for each source, or not one session for each worker.
+    /// The script does not have exactly one machine, one master for each source, and one session for each worker.
     #[error("the live part does not fit the machine")]
     Unfit,
-    /// A device failed, memory ran out, or the node ended.
+    /// A device failed, memory ran out, or the node ended with a fault.
     #[error("the node ended: {0}")]
     Node(NodeFault),
 }
 
 impl LiveFault {
-    /// The fault's number: 1302 `NoLive`, 1303 `Unfit`, the number of the fault within for `Node`.
+    /// The fault's number: 1302 `NoLive`, 1303 `Unfit`, the number of the inner fault for `Node`.
     pub fn number(&self) -> u16
         ensures { result ≡ number_of self.now }
     {

@@ -1,13 +1,21 @@
 //! One machine, live: its masters, its daemon, its workers and their clients, each in a thread of its own.
 //!
 //! A script says how many sources, workers and rounds there are, what the masters do, and what the clients send.
-//! [`live`] runs it: polls go over UDP and sessions over TCP, all on this computer, and one clock serves the masters,
-//! the daemon and the workers. It answers how many readings the workers gave, how many of them were wrong, and what the
-//! daemon did.
+//! [`live`] runs the script. Polls go over UDP and sessions over TCP, all on this computer. One clock serves the
+//! masters, the daemon and the workers. `live` answers how many readings the workers gave, how many of them were wrong,
+//! and what the daemon did.
 //!
-//! - `plans`: which scripts are run, and why one is refused. `faults`: what is answered where a run is refused.
-//! - `clocks`: the clock. `sockets`: the sockets of a run.
-//! - `masters`: the thread of a master. `clients`: the thread of a client. `replies`: what a session may answer to a line.
+//! ```text
+//! let script = tt_script::read(rt.alloc(), text)?;
+//! let end = live(&rt, rt.alloc(), &script)?;
+//! // end.report.readings: how many readings the workers gave; end.report.wrong: how many of them were wrong
+//! // end.rounds.published: how many fusions the daemon published
+//! ```
+//!
+//! - `plans`: which scripts are run, and why one is refused. `faults`: why a run is refused.
+//! - `clocks`: the clocks of a run. `sockets`: its sockets.
+//! - `masters`: the thread of a master. `clients`: the thread of a client. `replies`: which replies a session may give
+//!   to a line.
 //! - `lives`: [`live`], which starts and joins the threads. `reports`: the count of the readings.
 #![tactic(auto)]
 

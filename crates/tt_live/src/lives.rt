@@ -1,4 +1,4 @@
-//! A run: its threads are started and joined.
+//! A run: it starts threads, and joins them.
 
 ghost use Rattle.std.specs.Prelude.{◌≡◌, ◌<◌, ◌≤◌, Some, None, Err, IfOk, IfSome, IfErr, vec_len};
 ghost use Rattle.tt_poll.specs.Message.{max_source};
@@ -34,9 +34,10 @@ pub const MAX_READS: u32 = 1_000_000;
 /// The most release steps for one line.
 pub const MAX_WAITS: u32 = 10_000;
 
-/// The number of the machine, and its life.
+/// The number of the machine.
 const MACHINE: u8 = 0;
 
+/// The number of the machine's life.
 const EPOCH: u64 = 1;
 
 /// What a run answers.
@@ -76,7 +77,7 @@ impl<'a, R> Copy for Shared<'a, R> {}
 /// How a thread of a master or a client ended.
 type End = Result<(), NodeFault>;
 
-/// That a thread of a master or a client ends with the faults of such a thread alone.
+/// The promise that a thread of a master or a client ends without a fault, or with a fault that such a thread has.
 #[derive(Drop)]
 struct EndsSo;
 
@@ -141,7 +142,7 @@ fn start_client<'s, E, R: Wait + SystemClock + Sync>(
         .ok()
 }
 
-/// Starts the threads of all masters, from the last source to the first: whether each was started.
+/// Starts the threads of all masters, from the last source to the first. Answers whether each thread was started.
 fn start_masters<'s, E, R: Wait + SystemClock + Sync>(
     scope: &Scope<'s, E>,
     shared: Shared<'s, R>,
@@ -171,7 +172,8 @@ fn start_masters<'s, E, R: Wait + SystemClock + Sync>(
     true
 }
 
-/// Starts the threads of all clients, from that of the last worker to that of the first: whether each was started.
+/// Starts the threads of all clients, from the client of the last worker to the client of the first. Answers whether
+/// each thread was started.
 fn start_clients<'s, E, R: Wait + SystemClock + Sync>(
     scope: &Scope<'s, E>,
     shared: Shared<'s, R>,
@@ -198,8 +200,8 @@ fn start_clients<'s, E, R: Wait + SystemClock + Sync>(
     true
 }
 
-/// Joins the threads, from the one that was started last to the first, and answers the first fault that one ended
-/// with.
+/// Joins the threads, from the one that was started last to the one that was started first. Answers the first fault
+/// with which one of them ended, in this order.
 fn join_all<R: Threads>(rt: &R, handles: Vec<Started>) -> End
     ensures fault { IfErr result IsEndFault }
 {
@@ -216,7 +218,7 @@ fn join_all<R: Threads>(rt: &R, handles: Vec<Started>) -> End
     first
 }
 
-/// The clocks of a node with so many workers.
+/// The clocks of a node with `workers` workers.
 fn clocks_of<'s, R: SystemClock>(
     shared: Shared<'s, R>,
     workers: usize,
@@ -255,7 +257,7 @@ fn run_streams<'s, R: Threads + Wait + SystemClock + Sync>(
     ensures fault { IfErr result EndsRun }
 {
     if !started {
-        // The clients that were started wait for replies, until the other ends of their connections are gone.
+        // The clients that were started wait for replies until the other ends of their connections are closed.
         drop(streams);
         return Err(NodeFault::Memory);
     }
@@ -282,7 +284,7 @@ fn run_streams<'s, R: Threads + Wait + SystemClock + Sync>(
     )
 }
 
-/// Starts the threads of the masters and the clients, runs the node, and joins all that were started.
+/// Starts the threads of the masters and the clients, runs the node, and joins all threads that were started.
 fn run_threads<'s, E, R: Threads + Wait + SystemClock + Sync>(
     scope: &Scope<'s, E>,
     shared: Shared<'s, R>,
@@ -360,22 +362,21 @@ fn run<
     }
 }
 
-/// Runs the machine of a script live, by the script's part for a run in threads, and judges its readings: it answers
-/// how many readings the calls of `now` gave, and how many of them hold no time from the clock's reading just before
-/// the call to that just after it; and what the daemon's rounds did.
+/// Runs the machine of a script live, by the script's part for a run in threads, and judges its readings. Answers how
+/// many readings the calls of `now` gave, how many of them were wrong, and what the daemon's rounds did. A reading is
+/// wrong if it holds no time from the clock's reading just before the call to the clock's reading just after it.
 ///
-/// Each master is a thread that answers polls over UDP, the node polls and serves by [`run_node`], and each client is
-/// a thread that sends the lines of its session over TCP; all on 127.0.0.1, the machine in its first life. One clock
-/// serves all of them: it shows the base of the script, and what has elapsed since. The masters end after the node, and
-/// the sessions within 0.1 seconds of the daemon's fault and of their last reply; every thread that was started is
-/// joined before the answer.
+/// Each master is a thread that answers polls over UDP. The node polls and serves by [`run_node`]. Each client is a
+/// thread that sends the lines of its session over TCP. All of this is on 127.0.0.1, and the machine is in its first
+/// life. One clock serves all of them: it shows the base of the script plus the time that has elapsed since. The
+/// masters end after the node. If the daemon ends with a fault, a session ends within 0.1 seconds of this fault and of
+/// its last reply. Every thread that was started is joined before the answer.
 ///
-/// Refuses, in this order: 1302 `NoLive` where the script has no such part; 1303 `Unfit` where it has not exactly one
-/// machine, whose masters are not one for each source, or whose sessions are not one for each worker. Then with the
-/// fault of the node: 1 `Memory` where an allocation failed or a thread was not started, 1501 `LinkFailed` where a
-/// socket failed or a session broke off, 1502 `ClockFailed` and 304 `ReferenceFailed` where the clock failed, 802 where
-/// a fusion was not published, 804 where no place for a reader was given, which no clause excludes and no run has shown.
-/// It is none but these.
+/// Refuses, in this order: 1302 `NoLive` where the script has no such part; 1303 `Unfit` where it does not have exactly
+/// one machine, one master for each source, and one session for each worker; then the fault of the node. This is one of
+/// these: 1 `Memory` where an allocation failed or a thread was not started, 1501 `LinkFailed` where a socket failed or
+/// a session broke off, 1502 `ClockFailed` and 304 `ReferenceFailed` where the clock failed, 802 where a fusion was not
+/// published, 804 where no reader slot is free. No clause excludes 804, and no run has shown it.
 pub fn live<
     R: Threads + Wait + SystemClock + Sync + Net<Listener = TcpListener, Stream = TcpStream>,
 >(rt: &R, alloc: Global, script: &Script) -> Result<LiveEnd, LiveFault>

@@ -12,7 +12,7 @@ use tt_node::{NodeFault, UdpLink, master_rounds};
 use tt_poll::MAX_SOURCE;
 use tt_script::LiveMaster;
 
-/// The source that the master at this place is; None where no source has such a number.
+/// The source number of the master at this place. None where no source has such a number.
 pub(crate) fn source_at(place: usize) -> Option<u8>
     ensures { IfSome result (λ source. (source ≡ place) × (source ≤ max_source)) }
 {
@@ -25,11 +25,11 @@ pub(crate) fn source_at(place: usize) -> Option<u8>
     Some(source)
 }
 
-/// Answers polls until the run has ended: it does one act for each request that comes, in the order of the script, and
-/// the last one for all further requests. It looks whether the run has ended after each packet, and after each wait
-/// for one.
+/// Answers polls until the run has ended. It does one act for each request that comes, in the order of the script, and
+/// the last act for all further requests. After each packet, and after each wait for a packet, it checks whether the
+/// run has ended.
 ///
-/// Refuses with 1501 `LinkFailed` where the link failed, and with 304 `ReferenceFailed` where the clock did.
+/// Refuses with 1501 `LinkFailed` if the link failed, and with 304 `ReferenceFailed` if the clock failed.
 pub(crate) fn play<R: SystemClock>(
     rt: &R,
     ended: &AtomicBool,

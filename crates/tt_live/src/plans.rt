@@ -9,9 +9,8 @@ use tt_script::Script;
 
 /// The machine of a script that can be run live.
 ///
-/// Refuses, in this order, with 1302 `NoLive` a script that has no part for a run in threads, and with 1303 `Unfit`
-/// one that has not exactly one machine, whose masters are not one for each source, or whose sessions are not one for
-/// each worker.
+/// Refuses, in this order: 1302 `NoLive` where the script has no part for a run in threads, 1303 `Unfit` where it does
+/// not have exactly one machine, one master for each source, and one session for each worker.
 pub(crate) fn machine_of(script: &Script) -> Result<Config, LiveFault>
     ensures refused { IfErr result (λ fault. refusal_of script.now.configs script.now.live ≡ Some fault) }
     ensures taken { IfOk result (λ _. refusal_of script.now.configs script.now.live ≡ None) }

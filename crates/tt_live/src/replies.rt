@@ -10,9 +10,9 @@ ghost use Rattle.tt_live.specs.Replies.{MayAnswer, IsRefusal, GivesAsked, IsRead
 use tt_span::Span;
 use tt_text::numbers_behind;
 
-/// Whether a session may give this reply to this line, whatever it was asked before: it may refuse any line, by a number
-/// below 2^16; it answers `now` with a reading, whose ends are in order and in time, `after` and `before` with `yes` or
-/// `no`, and `commit` with the number of that commit. Both with their line feed.
+/// Whether a session may give this reply to this line, whatever it was asked before. It may refuse any line, with a
+/// number below 2^16. It answers `now` with a reading, whose ends are in order and at most the greatest time; `after`
+/// and `before` with `yes` or `no`; and `commit` with the number of that commit. Line and reply have their line feeds.
 pub fn may_answer(line: &[u8], reply: &[u8]) -> bool
     ensures { IsTrue result ↔ MayAnswer line.now reply.now }
 {
@@ -29,7 +29,7 @@ fn gives_asked(line: &[u8], reply: &[u8]) -> bool
     answers_question(line, reply) || answers_commit(line, reply)
 }
 
-/// The number of a line, where it is this word and one number.
+/// The number of a line, if the line is this word and one number.
 fn only_number(word: &[u8], line: &[u8]) -> Option<u64>
     ensures { MatchOption result ((n : ℕ) → IsNumber n → line.now ≢ line_of word.now (n ∷ []))
         (λ number. IsLineOf word.now line.now (number ∷ [])) }
@@ -43,7 +43,7 @@ fn only_number(word: &[u8], line: &[u8]) -> Option<u64>
     }
 }
 
-/// The numbers of a line, where it is this word and two numbers.
+/// The numbers of a line, if the line is this word and two numbers.
 fn two_numbers(word: &[u8], line: &[u8]) -> Option<(u64, u64)>
     ensures { MatchOption result ((m n : ℕ) → IsNumber m → IsNumber n → line.now ≢ line_of word.now (m ∷ n ∷ []))
         (λ both. IsLineOf word.now line.now (both.0 ∷ both.1 ∷ [])) }
@@ -84,7 +84,7 @@ fn is_reading(reply: &[u8]) -> bool
     }
 }
 
-/// Whether the line is `now` and the reply a reading.
+/// Whether the line is `now` and the reply is a reading.
 fn answers_now(line: &[u8], reply: &[u8]) -> bool
     ensures { IsTrue result ↔ (line.now ≡ spelling_of asks.Now) × IsReading reply.now }
 {
@@ -105,14 +105,14 @@ fn asks_question(line: &[u8]) -> bool
     only_number(b"after", line).is_some() || only_number(b"before", line).is_some()
 }
 
-/// Whether the line is `after T` or `before T`, and the reply `yes` or `no`.
+/// Whether the line is `after T` or `before T`, and the reply is `yes` or `no`.
 fn answers_question(line: &[u8], reply: &[u8]) -> bool
     ensures { IsTrue result ↔ IsQuestion line.now × IsYesOrNo reply.now }
 {
     asks_question(line) && is_yes_or_no(reply)
 }
 
-/// Whether the reply is this word, this number, and one more.
+/// Whether the reply is this word, this number, and one more number.
 fn names(word: &[u8], number: u64, reply: &[u8]) -> bool
     ensures { IsTrue result ↔ (stamp : ℕ) × IsNumber stamp × (reply.now ≡ line_of word.now (number ∷ stamp ∷ [])) }
 {
@@ -129,7 +129,7 @@ fn tells_of(number: u64, reply: &[u8]) -> bool
     names(b"committed", number, reply) || names(b"waiting", number, reply)
 }
 
-/// Whether the line is `commit ID FLOOR`, and the reply `committed ID S` or `waiting ID S` with that number.
+/// Whether the line is `commit ID FLOOR`, and the reply is `committed ID S` or `waiting ID S` with the same number.
 fn answers_commit(line: &[u8], reply: &[u8]) -> bool
     ensures { IsTrue result ↔ TellsOfAsked line.now reply.now }
 {

@@ -8,7 +8,7 @@ use std::alloc::{AllocError, Global};
 use tt_audit::{LiveNote, LiveReport, audit_live};
 use tt_node::WorkerEnd;
 
-/// The notes of all workers, those of the first worker first.
+/// The notes of all workers, in the order of the workers.
 fn notes_in(alloc: Global, workers: &[WorkerEnd]) -> Result<Vec<LiveNote>, AllocError>
     ensures { IfOk result (λ notes. notes.items ≡ notes_of workers.now) }
 {
@@ -19,8 +19,8 @@ fn notes_in(alloc: Global, workers: &[WorkerEnd]) -> Result<Vec<LiveNote>, Alloc
     Ok(notes)
 }
 
-/// How many readings the workers gave, and how many of them hold no time from the clock's reading just before to that
-/// just after.
+/// How many readings the workers gave, and how many of them hold no time from the clock's reading just before to the
+/// clock's reading just after.
 pub(crate) fn report_of(alloc: Global, workers: &[WorkerEnd]) -> Result<LiveReport, AllocError>
     ensures readings { IfOk result (λ report. report.readings ≡ length (notes_of workers.now)) }
     ensures wrong { IfOk result (λ report. report.wrong ≡ count_by (λ note. not (holds_some_time note)) (notes_of workers.now)) }

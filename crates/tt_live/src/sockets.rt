@@ -13,28 +13,28 @@ use tt_node::{NodeFault, RoundLink, UdpLink};
 use tt_session::{Deadline, DeadlineReader, Timed};
 use tt_stream::Counted;
 
-/// Where sockets are bound: on this computer, at a port that is free.
+/// The address to which sockets are bound: on this computer, at a free port.
 const HERE: &str = "127.0.0.1:0";
 
-/// How long the daemon waits for the packets of a round, all together, in milliseconds.
+/// How long the daemon waits for all packets of a round together, in milliseconds.
 const ROUND_WAIT: u64 = 20;
 
 /// How long a master waits for a packet, in milliseconds.
 const MASTER_WAIT: u64 = 10;
 
-/// How long a read of a session waits for bytes, in milliseconds, before it looks whether the daemon has failed.
+/// How long a read of a session waits for bytes, in milliseconds, before it checks whether the daemon has failed.
 const SESSION_WAIT: u64 = 100;
 
-/// The deadline of a session: none. It ends with its input, or where its clock fails.
+/// A session has no deadline. It ends with its input, or when its clock fails.
 const NO_DEADLINE: Deadline = Deadline {
     at: u64::MAX,
     tries: u32::MAX,
 };
 
-/// How many connections are accepted at most, until the one of a client is among them.
+/// The most connections that are accepted until the connection of a client is among them.
 const MAX_ACCEPTS: u32 = 1_000;
 
-/// The fault of a socket that failed.
+/// The fault of a socket that failed with this error.
 fn fault_of(error: io::Error) -> NodeFault
     ensures { IsSocketFault result }
 {
@@ -52,22 +52,21 @@ fn socket<R: Net>(net: &R) -> io::Result<(UdpSocket, SocketAddr)> {
     Ok((socket, address))
 }
 
-/// A socket for packets of a master, which waits a while for one, and its address.
+/// A socket for packets of a master, and its address. The socket waits a short time for a packet.
 fn master_socket<R: Net>(net: &R) -> io::Result<(UdpSocket, SocketAddr)> {
     let (socket, address) = socket(net)?;
     socket.set_read_timeout(Some(Duration::from_millis(MASTER_WAIT)))?;
     Ok((socket, address))
 }
 
-/// The links of a run: that of the daemon, whose peers are the masters, and that of each master, whose peer is the
-/// daemon.
+/// The links of a run. The peers of the daemon's link are the masters. The peer of each master's link is the daemon.
 #[derive(Drop)]
 pub(crate) struct Links<'a, R> {
     pub(crate) daemon: RoundLink<'a, R>,
     pub(crate) masters: Vec<UdpLink>,
 }
 
-/// The links between a daemon and so many masters.
+/// The links between a daemon and `masters` masters.
 pub(crate) fn connect_masters<'a, R: Net + SystemClock>(
     rt: &'a R,
     alloc: Global,
@@ -100,7 +99,7 @@ pub(crate) struct Connection {
     pub(crate) worker: TcpStream,
 }
 
-/// A connection to the listener and from it, whose worker waits a while for bytes.
+/// A connection to the listener and from it. The end of the worker waits a short time for bytes.
 fn connect<R: Net<Listener = TcpListener, Stream = TcpStream>>(
     net: &R,
     listener: &TcpListener,
@@ -119,20 +118,20 @@ fn connect<R: Net<Listener = TcpListener, Stream = TcpStream>>(
     Err(io::Error::from(ErrorKind::ConnectionRefused))
 }
 
-/// The reader of a session, which ends once the daemon has failed.
+/// The reader of a session. The session ends once the daemon has failed.
 pub(crate) type SessionReader<'a> = DeadlineReader<Timed<TcpStream>, SessionClock<'a>>;
 
 /// The reader and the writer of a worker.
 pub(crate) type WorkerStream<'a> = (SessionReader<'a>, Counted<TcpStream>);
 
-/// The connections of a run: the ends of its clients, and the readers and writers of its workers, in one order.
+/// The connections of a run: the ends of its clients, and the readers and writers of its workers, in the same order.
 #[derive(Drop)]
 pub(crate) struct Sessions<'a> {
     pub(crate) clients: Vec<TcpStream>,
     pub(crate) workers: Vec<WorkerStream<'a>>,
 }
 
-/// The connections of so many clients, whose sessions end once the daemon has failed.
+/// The connections of `count` clients. Their sessions end once the daemon has failed.
 pub(crate) fn connect_clients<'a, R: Net<Listener = TcpListener, Stream = TcpStream>>(
     net: &R,
     alloc: Global,

@@ -29,7 +29,7 @@ pub(crate) enum Call {
     RunNode,
 }
 
-/// All of them, in the order in which they are made.
+/// All calls, in the order in which they are made.
 pub(crate) const CALLS: [Call; 18] = [
     Call::WriteText,
     Call::ReadScript,
@@ -52,7 +52,7 @@ pub(crate) const CALLS: [Call; 18] = [
 ];
 
 impl Call {
-    /// Its name.
+    /// The name of the call.
     pub(crate) fn name(self) -> &'static str {
         match self {
             Call::WriteText => "tt_cert::write_text",
@@ -76,7 +76,7 @@ impl Call {
         }
     }
 
-    /// Makes it, and once more where it was refused for memory.
+    /// Makes the call, and makes it again if it was refused for memory.
     pub(crate) fn make<R: Threads + Wait + std::time::Clock + Sync>(
         self,
         rt: &R,

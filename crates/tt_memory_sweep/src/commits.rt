@@ -13,13 +13,13 @@ use tt_shared_book::{BookView, OpenedBook, SharedBook, WhichBook};
 use tt_span::{Drift, Span};
 use tt_stamp::{Book, BookFault, Id, Row, Sequencer};
 
-/// How many commits and readings there are, so that what is kept of them grows more than once.
+/// How many commits and readings there are: enough to let the memory for them grow more than once.
 const MANY: u64 = 40;
 
 /// What the clocks show.
 const CLOCK: [u64; 400] = [0; 400];
 
-/// A watch that has seen the publication [100, 200], made at clock 0, and whose teller is closed.
+/// A watch that has seen the publication [100, 200], made at clock 0. Its teller is closed.
 fn watch_of<R: Wait>(rt: &R, alloc: Global) -> Option<Watch> {
     let (fused, drift) = (tt_scenes::fused(100, 200)?, Drift::new(0)?);
     let Ok((mut teller, mut watches)) = open(rt, alloc, drift, 1) else {
@@ -36,7 +36,7 @@ fn watch_of<R: Wait>(rt: &R, alloc: Global) -> Option<Watch> {
     watches.pop()
 }
 
-/// Opens a sequencer with two seats, of which the first stamps by the reading [100, 200].
+/// Opens a sequencer with two seats, and stamps with one of them by the reading [100, 200].
 pub(crate) fn sequencer<R: Wait>(rt: &R, alloc: Global) -> Outcome {
     match Outcome::at_once(open_sequencer(rt, alloc)) {
         Some(outcome) => outcome,
@@ -58,7 +58,7 @@ fn open_sequencer<R: Wait>(rt: &R, alloc: Global) -> Result<bool, u16> {
     Ok(count == 2 && stamp == Ok(200))
 }
 
-/// Queues many commits. One that is refused for memory leaves the book as it was, and is queued when it comes again.
+/// Queues many commits. A commit that is refused for memory leaves the book as it was, and is queued at the second try.
 pub(crate) fn book(alloc: Global) -> Outcome {
     let mut book = Book::new(alloc);
     let mut was_refused = false;
@@ -83,8 +83,8 @@ pub(crate) fn book(alloc: Global) -> Outcome {
     Outcome::of(is_as_worked, was_refused)
 }
 
-/// Begins many commits at a desk. One that is refused for memory leaves the book as it was and loses its stamp; when it
-/// comes again it has the next one.
+/// Begins many commits at a desk. A commit that is refused for memory leaves the book as it was, and its stamp is lost.
+/// At the second try it gets the next stamp.
 pub(crate) fn desk<R: Wait>(rt: &R, alloc: Global) -> Outcome {
     let Some(watch) = watch_of(rt, alloc) else {
         return Outcome::Unprepared;
@@ -109,8 +109,8 @@ pub(crate) fn desk<R: Wait>(rt: &R, alloc: Global) -> Outcome {
     Outcome::of(desk.book().waiting() == 39, was_refused)
 }
 
-/// Reads the time often as a worker. A reading that is refused for memory leaves no note, and is given when it is asked
-/// for again.
+/// Reads the time many times as a worker. A reading that is refused for memory leaves no note, and is given at the
+/// second try.
 pub(crate) fn worker_now<R: Wait>(rt: &R, alloc: Global) -> Outcome {
     now_on::<R, Brand>(rt, alloc, OpenedBook::new())
 }
@@ -151,8 +151,8 @@ fn now_on<R: Wait, J: WhichBook>(rt: &R, alloc: Global, opened: OpenedBook) -> O
     Outcome::of(worker.notes().len() == 40, was_refused)
 }
 
-/// Begins many commits as a worker, as at a desk. One that was refused for memory is not in the book: it would be
-/// refused again.
+/// Begins many commits as a worker, as at a desk. A commit that was refused for memory is not in the book: otherwise it
+/// would be refused again.
 pub(crate) fn worker_begin<R: Wait>(rt: &R, alloc: Global) -> Outcome {
     begin_on::<R, Brand>(rt, alloc, OpenedBook::new())
 }
@@ -211,7 +211,7 @@ fn all_pass<R: Wait, J: WhichBook>(rt: &R, book: &SharedBook<J>, view: &mut Book
     true
 }
 
-/// Queues many commits in a shared book, as in a book of one's own.
+/// Queues many commits in a shared book, as in a book of one thread.
 pub(crate) fn shared_book<R: Wait>(rt: &R, alloc: Global) -> Outcome {
     queue_on::<R, Brand>(rt, alloc, OpenedBook::new())
 }

@@ -1,4 +1,4 @@
-//! Links, gates and writers in memory, which take no memory of their own.
+//! Links, gates and writers in memory. They allocate nothing.
 
 ghost use Rattle.std.specs.Prelude.{true, None};
 
@@ -12,10 +12,10 @@ use tt_node::{Gate, Link, LinkFault, PACKET_LEN};
 use tt_poll::ANSWER2_LEN;
 use tt_stream::{ByteWriter, DeviceFault};
 
-/// How long a gate pauses where it says no, in microseconds.
+/// How long a gate pauses when it does not let a call pass, in microseconds.
 const PAUSE: u64 = 200;
 
-/// A packet's bytes in front of zeros.
+/// The bytes of a packet, followed by zeros.
 fn in_front(packet: &[u8]) -> [u8; PACKET_LEN] {
     let mut bytes = [0; PACKET_LEN];
     for (place, byte) in packet.iter().enumerate() {
@@ -26,7 +26,7 @@ fn in_front(packet: &[u8]) -> [u8; PACKET_LEN] {
     bytes
 }
 
-/// A link with one honest master on its other side, that is source 0. It never fails.
+/// A link to one honest master, which is source 0. It never fails.
 #[derive(Drop)]
 pub(crate) struct MasterLink<'a> {
     master: Master<MemoryReference<'a>>,
@@ -34,7 +34,7 @@ pub(crate) struct MasterLink<'a> {
 }
 
 impl<'a> MasterLink<'a> {
-    /// The link to a master of no uncertainty, whose reference gives these times.
+    /// The link to a master with no uncertainty. Its reference gives these times.
     pub(crate) fn new(times: &'a [u64]) -> Self {
         MasterLink {
             master: Master::new(0, 0, MemoryReference::new(times, None)),
@@ -97,7 +97,7 @@ impl<'a> Link for CountedLink<'a> {
     }
 }
 
-/// A gate that lets calls pass once two requests were sent: then what the first one asked is published.
+/// A gate that lets calls pass after two requests were sent. The answer to the first request is published then.
 pub(crate) struct SecondRoundGate<'a, R> {
     pub(crate) rt: &'a R,
     pub(crate) sent: &'a AtomicU64,
@@ -133,7 +133,7 @@ impl<'a, R: std::time::Clock> Gate for SecondRoundGate<'a, R> {
 /// What a session writes.
 pub(crate) type Page = Mutex<ArrayVec<u8, 256>>;
 
-/// A writer on a page that others can read.
+/// A writer to a page that others can read.
 #[derive(Drop)]
 pub(crate) struct PageWriter<'a, R> {
     pub(crate) rt: &'a R,

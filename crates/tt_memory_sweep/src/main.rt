@@ -1,17 +1,18 @@
-//! The program `tt_memory_sweep`: it makes each call that takes memory, in a setting of its own, and says what came of it.
+//! The program `tt_memory_sweep`: it makes each call that takes memory, each with its own preparation, and writes what
+//! the call gave.
 //!
-//! Before each call it writes `CALL begins`. Then it writes `CALL done` where the answer is the one that was worked out
-//! by hand. Where the call is refused by number 1, the program looks that everything is as it was before the call, makes
-//! it again, and writes `CALL refused 1` and, where the answer is then the worked one, `CALL as without`. Where an
-//! allocation fails while the setting is made, it writes `CALL prepared again`, and begins that call anew. Anything else
-//! is `CALL wrong`, and ends the program with status 1.
+//! Before each call it writes `CALL begins`. If the answer is the one that was worked out by hand, it writes
+//! `CALL done`. If the call is refused with number 1, the program checks that everything is as before the call, and
+//! makes the call again. It writes `CALL refused 1` and, if the answer is now the one worked out by hand,
+//! `CALL as without`. If an allocation fails during the preparation, it writes `CALL prepared again`, and begins this
+//! call again. For anything else it writes `CALL wrong`, and the program ends with status 1.
 //!
-//! `tools/sweep` runs it with each allocation failing in turn, until a run meets no failure.
+//! `tools/sweep` runs it with each allocation failing in turn, until no allocation of a run fails.
 //!
-//! - `calls`: the calls, in their order. `outcomes`: what may come of one.
-//! - `texts`, `worlds`, `publications`, `commits` and `nodes` make them. `replies`: replies of a run, to be
-//!   compared.
-//! - `devices`: links, gates and writers that take no memory.
+//! - `calls`: the calls, in their order. `outcomes`: the possible outcomes of a call.
+//! - `texts`, `worlds`, `publications`, `commits` and `nodes` make the calls. `replies`: the replies of a run, for
+//!   comparison.
+//! - `devices`: links, gates and writers that allocate nothing.
 #![tactic(auto)]
 
 mod calls;
@@ -42,7 +43,7 @@ fn main(rt: HostRuntime) -> ExitCode {
     ExitCode::from(0)
 }
 
-/// Makes the call and says what came of it: whether that is right.
+/// Makes the call, and writes what it gave. Answers whether that is right.
 fn show<R: Threads + Wait + std::time::Clock + Sync, W: ByteWriter>(
     rt: &R,
     alloc: Global,
@@ -69,7 +70,7 @@ fn show<R: Threads + Wait + std::time::Clock + Sync, W: ByteWriter>(
     Ok(true)
 }
 
-/// Writes a line on the call.
+/// Writes a line about the call.
 fn say<W: ByteWriter>(output: &mut W, call: Call, text: &str) -> Result<(), DeviceFault> {
     write_all(output, call.name().as_bytes())?;
     write_all(output, b" ")?;

@@ -17,19 +17,20 @@ use tt_stream::MemoryReader;
 /// What a client sends.
 const LINES: &[u8] = b"now\ncommit 1 0\n";
 
-/// What it is answered.
+/// The replies to these lines.
 const REPLIES: &[u8] = b"now 1000 1000\nwaiting 1 1000\n";
 
-/// What it is answered where the note of its reading has no room.
+/// The replies if there is no memory for the note of its reading.
 const NOW_REFUSED: &[u8] = b"refused 1\nwaiting 1 1000\n";
 
-/// What it is answered where its commit has no room.
+/// The replies if there is no memory for its commit.
 const COMMIT_REFUSED: &[u8] = b"now 1000 1000\nrefused 1\n";
 
 /// What the node's clocks show.
 const CLOCK: [u64; 64] = [0; 64];
 
-/// Runs a node of one source and one session. It is refused by number 1, or its client is for one line.
+/// Runs a node with one source and one session. If it is out of memory, the run is refused with number 1, or one line
+/// of its client is.
 pub(crate) fn node<R: Threads + Wait + std::time::Clock + Sync>(rt: &R, alloc: Global) -> Outcome {
     let mut was_refused = false;
     for _ in 0..2 {
@@ -54,7 +55,7 @@ pub(crate) fn node<R: Threads + Wait + std::time::Clock + Sync>(rt: &R, alloc: G
     Outcome::Wrong
 }
 
-/// The node, unless what it needs cannot be made.
+/// The outcome of the node. None if what it needs can't be made.
 fn run_one<R: Threads + Wait + std::time::Clock + Sync>(
     rt: &R,
     alloc: Global,

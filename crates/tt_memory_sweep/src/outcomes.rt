@@ -1,23 +1,25 @@
-//! What comes of a call where an allocation may fail.
+//! The outcome of a call during which an allocation may fail.
 
-/// The number of out of memory in every fault type.
+/// The number of `Memory` in every fault type.
 pub(crate) const MEMORY: u16 = 1;
 
-/// What came of a call.
+/// The outcome of a call.
 #[derive(Clone, Copy, Debug, PartialEq, Eq)]
 pub(crate) enum Outcome {
-    /// It gave the worked answer, and no allocation of it failed.
+    /// It gave the answer that was worked out by hand, and no allocation of it failed.
     Done,
-    /// It was refused by number 1 and left everything as it was, and the same call again gave the worked answer.
+    /// It was refused with number 1 and left everything as it was. The same call again gave the answer worked out by
+    /// hand.
     Refused,
-    /// An allocation failed while what the call needs was made.
+    /// An allocation failed while the preparation for the call was made.
     Unprepared,
-    /// It gave another answer, was refused by another number, or left something changed.
+    /// It gave another answer, was refused with another number, or left something changed.
     Wrong,
 }
 
 impl Outcome {
-    /// The outcome of a call, by whether its last answer is the worked one, and whether it was refused before that.
+    /// The outcome of a call. `is_as_worked` says that its last answer is the one worked out by hand, and `was_refused`
+    /// that it was refused before that.
     pub(crate) fn of(is_as_worked: bool, was_refused: bool) -> Outcome {
         if !is_as_worked {
             return Outcome::Wrong;
@@ -29,7 +31,7 @@ impl Outcome {
         }
     }
 
-    /// The outcome of a call that changes nothing that was there before, by its first answer, if that is not number 1.
+    /// The outcome by the first answer of a call that changes nothing. None if the answer is number 1.
     pub(crate) fn at_once(answer: Result<bool, u16>) -> Option<Outcome> {
         match answer {
             Ok(is_as_worked) => Some(Outcome::of(is_as_worked, false)),
@@ -38,7 +40,7 @@ impl Outcome {
         }
     }
 
-    /// The same by its answer when it is called again.
+    /// The outcome of such a call by its answer when it is made again.
     pub(crate) fn again(answer: Result<bool, u16>) -> Outcome {
         Outcome::of(answer == Ok(true), true)
     }

@@ -9,7 +9,7 @@ use tt_node::daemon_rounds;
 use tt_publish::{MemoryClock, PublishFault, ReadFault, Reading, Teller, Watch, open};
 use tt_span::Drift;
 
-/// How often a fusion is published.
+/// Fusions are published for the times from 1 to below this number.
 const MANY: u64 = 8;
 
 /// The ends of a reading, or the number of its refusal.
@@ -50,7 +50,7 @@ fn open_two<R: Wait>(rt: &R, alloc: Global) -> Result<bool, u16> {
     Ok(count == 2 && read == Err(801))
 }
 
-/// Publishes often. A fusion that is refused for memory is not published, and is when it comes again.
+/// Publishes often. A fusion that is refused for memory is not published, and is published at the second try.
 pub(crate) fn published<R: Wait>(rt: &R, alloc: Global) -> Outcome {
     let Some(drift) = Drift::new(0) else {
         return Outcome::Wrong;
@@ -91,8 +91,8 @@ fn publish_one<R: Wait>(rt: &R, teller: &mut Teller, fused: &Fused) -> Result<()
     teller.publish(rt, fused.copied())
 }
 
-/// Does a round of a daemon, whose one source says 1000. Rounds that are refused for memory have published nothing, and
-/// publish when they are done again.
+/// Does one round of a daemon whose one source says 1000. A round that is refused for memory has published nothing, and
+/// publishes when it is done again.
 pub(crate) fn rounds<R: Wait>(rt: &R, alloc: Global) -> Outcome {
     let (Some(drift), Some(config)) = (Drift::new(0), tt_scenes::machine(1, 0, 0, 1)) else {
         return Outcome::Wrong;

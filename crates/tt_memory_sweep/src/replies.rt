@@ -5,13 +5,13 @@ use tt_world::Reply;
 /// What a reply says, as far as the runs here need it.
 #[derive(Clone, Copy, Debug, PartialEq, Eq)]
 pub(crate) enum Said {
-    /// The packet of this number was sent by the machine.
+    /// The machine sent the packet with this number.
     Sent(u64),
-    /// The packet of this number was sent to the machine.
+    /// The packet with this number was sent to the machine.
     Put(u64),
     /// The answer was taken.
     Taken,
-    /// The publication of this number has these ends.
+    /// The publication with this number has these ends.
     Published(u64, u64, u64),
     /// The reading has these ends.
     Read(u64, u64),
@@ -21,7 +21,7 @@ pub(crate) enum Said {
     Stamped(u64),
     /// The commit is queued.
     Queued,
-    /// So many commits were released.
+    /// This many commits were released.
     Released(usize),
     /// Anything else.
     Other,

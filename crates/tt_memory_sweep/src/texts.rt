@@ -11,11 +11,11 @@ use tt_script::read;
 use tt_span::Span;
 use tt_world::{Action, Event, run};
 
-/// The certificate of [0, 10], [5, 15] and [12, 20], of which one may be wrong.
+/// The certificate of [0, 10], [5, 15] and [12, 20], if one of them may be wrong.
 const CERTIFICATE: &str =
     "claim 5 15\nleft 0 1\nright 1 2\nbelow 0 4 1\nabove 16 20 1\nabove 21 4000000000000000000 0\n";
 
-/// One machine asks its one source, fuses the answer and reads the time.
+/// One machine polls its one source and fuses the answer. The script also has a part for a run in threads.
 const SCRIPT: &str = "event = [
   { do = \"send\", at = 150, machine = 0, source = 0, clock = 0 },
   { do = \"answer\", at = 150, packet = 0, lo = 100, hi = 200 },
@@ -90,7 +90,7 @@ fn read_script(alloc: Global) -> Result<bool, u16> {
     Ok(counts == (1, 5) && is_last && script.live().is_some())
 }
 
-/// Reports on one liar of three.
+/// Reports on a run with one faulty source of three.
 pub(crate) fn audited(alloc: Global) -> Outcome {
     let Some(config) = machine(3, 1, 0, 1) else {
         return Outcome::Wrong;
@@ -124,7 +124,7 @@ fn is_as_worked(report: &Report) -> bool {
         && report.broken.is_none()
 }
 
-/// Writes the report on one liar of three.
+/// Writes the report on a run with one faulty source of three.
 pub(crate) fn report(alloc: Global) -> Outcome {
     let Some(config) = machine(3, 1, 0, 1) else {
         return Outcome::Wrong;

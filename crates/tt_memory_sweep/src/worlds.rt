@@ -1,4 +1,4 @@
-//! Runs, event by event and whole, and the twin of a reading.
+//! Runs, event by event and in one call, and the twin of a reading.
 
 use crate::outcomes::Outcome;
 use crate::replies::{COMMIT_REPLIES, said_of};
@@ -22,7 +22,7 @@ pub(crate) fn world(alloc: Global) -> Outcome {
     }
 }
 
-/// Whether a world was made that sends its first packet as packet 0, unless that is refused.
+/// Makes a world. Answers whether source 0 has made no statement to machine 0, or the number of the refusal.
 fn make_world(alloc: Global) -> Result<bool, u16> {
     let Some(configs) = machines() else {
         return Ok(false);
@@ -33,8 +33,8 @@ fn make_world(alloc: Global) -> Result<bool, u16> {
     }
 }
 
-/// Does the run of two commits event by event. An event that is refused for memory comes again: the replies to it and
-/// to all after it are the worked ones, as the world was left as it was.
+/// Does the run of two commits event by event. An event that is refused for memory comes again. It left the world as it
+/// was, so the replies to it and to all later events are the ones worked out by hand.
 pub(crate) fn steps(alloc: Global) -> Outcome {
     let Some(configs) = machines() else {
         return Outcome::Wrong;
@@ -59,7 +59,7 @@ pub(crate) fn steps(alloc: Global) -> Outcome {
     Outcome::of(true, was_refused)
 }
 
-/// Does the run of two commits whole.
+/// Does the run of two commits in one call.
 pub(crate) fn whole_run(alloc: Global) -> Outcome {
     match Outcome::at_once(run_commits(alloc)) {
         Some(outcome) => outcome,
@@ -77,7 +77,7 @@ fn run_commits(alloc: Global) -> Result<bool, u16> {
     }
 }
 
-/// Whether these are the replies to the run of two commits.
+/// Whether these are the replies to the run of two commits, as worked out by hand.
 fn are_as_worked(replies: &[Reply]) -> bool {
     let mut are = replies.len() == COMMIT_REPLIES.len();
     for (reply, wanted) in replies.iter().zip(&COMMIT_REPLIES) {
@@ -86,7 +86,7 @@ fn are_as_worked(replies: &[Reply]) -> bool {
     are
 }
 
-/// Makes the twin of the reading of one liar of three, [45, 55], at its low end.
+/// Makes the twin of the reading [45, 55], at its low end, in the run with one faulty source of three.
 pub(crate) fn low_twin(alloc: Global) -> Outcome {
     match Outcome::at_once(make_twin(alloc)) {
         Some(outcome) => outcome,

@@ -11,10 +11,10 @@ use std::net::{SocketAddr, UdpSocket};
 use std::thread;
 use std::time::{Clock as SystemClock, Duration};
 
-/// How many packets of strangers a call of `receive` passes over, at most, each time that it looks for a packet.
+/// The most packets from unknown addresses that a call of `receive` skips each time it looks for a packet.
 pub const MAX_STRANGERS: u32 = 64;
 
-/// How many packets a [`RoundLink`] drops, at most, when a round begins.
+/// The most packets that a [`RoundLink`] drops when a round begins.
 pub const MAX_DROPPED: u32 = 1024;
 
 /// How long a [`RoundLink`] sleeps before it looks for a packet again, in microseconds.
@@ -23,15 +23,15 @@ const PAUSE: u64 = 50;
 /// What one look for a packet gave.
 #[derive(Clone, Copy)]
 enum Look {
-    /// A packet of this peer, of this length.
+    /// A packet from this peer, of this length.
     Came(u8, usize),
-    /// No packet of a peer.
+    /// No packet from a peer.
     Nothing,
     /// The socket failed.
     Failed,
 }
 
-/// A socket, and the addresses of its peers: peer `i` is the one at place `i`.
+/// A socket, and the addresses of its peers. Peer `i` has the address at place `i`.
 #[derive(Drop)]
 struct Peers {
     socket: UdpSocket,
@@ -39,7 +39,7 @@ struct Peers {
 }
 
 impl Peers {
-    /// The peer at this address.
+    /// The peer with this address, if one has it.
     fn peer_at(&self, address: SocketAddr) -> Option<u8> {
         for (place, peer) in self.addresses.iter().enumerate() {
             if *peer == address {
@@ -49,7 +49,7 @@ impl Peers {
         None
     }
 
-    /// Whether the bytes were sent to the peer, or lost for want of room.
+    /// Sends the bytes to the peer. Answers yes if they were sent, or if they were lost because the socket had no room.
     fn send(&self, peer: u8, bytes: &[u8]) -> bool {
         let Some(address) = self.addresses.get(usize::from(peer)) else {
             return false;
@@ -60,7 +60,7 @@ impl Peers {
         }
     }
 
-    /// Looks for the next packet of a peer, and passes over those of strangers.
+    /// Looks for the next packet from a peer, and skips packets from unknown addresses.
     fn look(&self, buffer: &mut [u8; PACKET_LEN]) -> Look
         ensures whole { length buffer.new ≡ 64 }
         ensures fits { FitsPacket result }
@@ -82,7 +82,7 @@ impl Peers {
         Look::Nothing
     }
 
-    /// Drops what waits in the socket, where a call for a packet does not wait.
+    /// Drops the packets that wait in a non-blocking socket.
     fn empty(&self) {
         let mut bytes = [0; PACKET_LEN];
         for _ in 0..MAX_DROPPED {
@@ -93,7 +93,7 @@ impl Peers {
     }
 }
 
-/// What a look gave that ended with this kind of error: nothing came where its wait ended, or a signal ended it.
+/// What a look gave if it ended with this kind of error. If its wait ended, or a signal ended it, nothing came.
 fn look_of(kind: ErrorKind) -> Look
     ensures fits { FitsPacket result }
 {
@@ -103,14 +103,14 @@ fn look_of(kind: ErrorKind) -> Look
     }
 }
 
-/// A link over a UDP socket whose peers are known by their addresses: peer `i` is the one at place `i`. It is for a
-/// master, and for whoever waits for packets that were not asked for; [`RoundLink`] is for a daemon.
+/// A link over a UDP socket. It knows its peers by their addresses: peer `i` has the address at place `i`. It is for a
+/// master, and for a program that waits for packets that it did not ask for. [`RoundLink`] is for a daemon.
 ///
-/// A wait for a packet is as long as the socket's read timeout, so set one. Where the wait ends, or a signal ends it,
-/// nothing came. A packet from any other address is passed over, and the link waits for the next, up to
-/// [`MAX_STRANGERS`] times in one call.
+/// A wait for a packet is as long as the socket's read timeout, so set one. If the wait ends, or a signal ends it,
+/// nothing came. The link skips a packet from any other address and waits for the next one, up to [`MAX_STRANGERS`]
+/// times in one call.
 ///
-/// Nothing is claimed of what the socket delivers. A fault is answered only with a failure counted.
+/// Nothing is claimed about what the socket delivers. If a call answers a fault, it has counted a failure.
 #[derive(Drop)]
 pub struct UdpLink {
     peers: Peers,
@@ -118,7 +118,7 @@ pub struct UdpLink {
 }
 
 impl UdpLink {
-    /// The link by this socket to these peers, of which the first 256 can be named.
+    /// The link over this socket to these peers. Only the first 256 of them have a number.
     pub fn new(socket: UdpSocket, peers: Vec<SocketAddr>) -> UdpLink {
         UdpLink {
             peers: Peers {
@@ -164,33 +164,37 @@ impl Link for UdpLink {
     }
 }
 
-/// A link over UDP for the rounds of a daemon, whose peers are known by their addresses, as those of [`UdpLink`].
+/// A link over UDP for the rounds of a daemon. It knows its peers by their addresses, as [`UdpLink`] does.
 ///
-/// A round begins with the first packet that is sent after one was asked for. Then what still waits in the socket is
-/// dropped, at most [`MAX_DROPPED`] packets, so that answers which came too late take no turn of a later round.
+/// A round begins with the first packet that is sent after a `receive`. Then the link drops the packets that still wait
+/// in the socket, at most [`MAX_DROPPED`]. So an answer that came too late takes no turn of a later round.
 ///
-/// `receive` waits only while a packet is awaited, which is from each peer that one was sent to in the round and none
-/// has come from since; and the waits of a round are, all together, as long as was asked for. It sleeps for 50
-/// microseconds at a time. Packets from other addresses are passed over, up to [`MAX_STRANGERS`] after each sleep.
+/// `receive` waits only while a packet is awaited. A packet is awaited from a peer if one was sent to it in this round,
+/// and none has come from it since. All waits of a round share one time, the `wait` of [`RoundLink::new`]. The link
+/// sleeps for 50 microseconds at a time. It skips packets from other addresses, up to [`MAX_STRANGERS`] after each
+/// sleep.
 ///
-/// Nothing is claimed of what the socket delivers, or what is dropped. A fault is answered only with a failure counted.
+/// Nothing is claimed about what the socket delivers, or about what is dropped. If a call answers a fault, it has
+/// counted a failure.
 #[derive(Drop)]
 pub struct RoundLink<'a, R> {
     rt: &'a R,
     peers: Peers,
     failures: u64,
-    /// How many sleeps a round may have, and how many are left to this one.
+    /// The most sleeps of a round.
     sleeps: u32,
+    /// The sleeps that are left to this round.
     left: u32,
-    /// Whether the last call sent a packet.
+    /// Whether the last call was to send a packet.
     sending: bool,
-    /// Whether a packet is awaited from each peer.
+    /// For each peer, whether a packet is awaited from it.
     awaited: [bool; 256],
 }
 
 impl<'a, R: SystemClock> RoundLink<'a, R> {
-    /// The link by this socket to these peers, of which the first 256 can be named. A round waits for its packets so
-    /// long, all together. The socket is one that does not wait from now on; refuses as that does.
+    /// The link over this socket to these peers. Only the first 256 of them have a number. All waits of a round
+    /// together are as long as `wait`. The call makes the socket non-blocking, and refuses with the error of this step
+    /// if it fails.
     pub fn new(
         rt: &'a R,
         socket: UdpSocket,
@@ -230,12 +234,13 @@ impl<'a, R: SystemClock> RoundLink<'a, R> {
         self.awaited = [false; 256];
     }
 
-    /// Whether a packet is awaited from a peer.
+    /// Whether a packet is awaited from any peer.
     fn awaits(&self) -> bool {
         self.awaited.iter().any(|awaited| *awaited)
     }
 
-    /// Looks for a packet until one comes, none is awaited, or no sleep is left, and tells how many sleeps are.
+    /// Looks for a packet until one comes, none is awaited, or no sleep is left. Answers the last look, and how many
+    /// sleeps are left.
     fn wait_for(&self, buffer: &mut [u8; PACKET_LEN]) -> (Look, u32)
         ensures whole { length buffer.new ≡ 64 }
         ensures fits { FitsPacket result.0 }

@@ -1,4 +1,4 @@
-//! What is answered where a call refuses.
+//! Why a call refuses.
 
 ghost use Rattle.std.specs.Prelude.{◌≡◌};
 ghost use Rattle.tt_node.specs.Fault.{link_number_of, number_of};
@@ -34,16 +34,16 @@ pub enum NodeFault {
     /// The clock could not be read.
     #[error("the clock could not be read")]
     ClockFailed,
-    /// There is no stream, there are too many, the clocks are not one for each stream, or a limit is 0.
+    /// There is no stream, there are too many, there is not one clock for each stream, or a limit is 0.
     #[error("the streams and clocks do not fit the limits")]
     BadLimits,
-    /// The gate never let a call pass.
+    /// The gate never let the call pass.
     #[error("the gate is closed")]
     GateClosed,
     /// The reference of a master could not be read.
     #[error("the reference could not be read")]
     ReferenceFailed,
-    /// A fusion was not published, or nothing was opened.
+    /// A fusion was not published, or the list of publications was not opened.
     #[error("no publication: {0}")]
     Publish(PublishFault),
     /// No sequencer was opened.
@@ -56,7 +56,7 @@ pub enum NodeFault {
 
 impl NodeFault {
     /// The fault's number: 1501 `LinkFailed`, 1502 `ClockFailed`, 1503 `BadLimits`, 1504 `GateClosed`, 304
-    /// `ReferenceFailed`, the number of the fault within for `Publish` and `Stamp`, 1 `Memory`.
+    /// `ReferenceFailed`, the number of the inner fault for `Publish` and `Stamp`, 1 `Memory`.
     pub fn number(&self) -> u16
         ensures { result ≡ number_of self.now }
     {

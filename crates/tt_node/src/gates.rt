@@ -1,24 +1,27 @@
-//! What may hold the calls of a worker.
+//! Gates, which may hold the calls of a worker.
 
 ghost use Rattle.std.specs.Prelude.{◌≡◌, ℕ, Bool, true};
 
-/// Asked before each call of a worker's service whether it may begin, and told when it was answered: so that tests can
-/// put the calls of several threads in an order. Calls are counted from 0 for each worker, and each worker has a gate of
-/// its own; gates of one node may share what they go by.
+/// A gate may hold the calls of a worker's service. It is asked before each call whether the call may begin, and it is
+/// told when the call was answered. So tests can put the calls of several threads in an order.
+///
+/// Calls are counted from 0 for each worker. Each worker has a gate of its own. The gates of one node may share the
+/// data by which they decide.
 pub trait Gate {
-    /// What the gate may say of this call of this worker, and the gate after it. One that other threads open claims
-    /// nothing.
+    /// What the gate may answer about this call of this worker, and the gate after that. A gate that other threads open
+    /// may answer anything.
     ghost says: { Self → ℕ → ℕ → Bool → Self → Type 0 };
 
-    /// The gate before and after it was told that this call of this worker was answered.
+    /// The gate before and after it is told that this call of this worker was answered.
     ghost hears: { Self → ℕ → ℕ → Self → Type 0 };
 
-    /// Whether this call of this worker may begin. It is asked at most [`MAX_TURNS`](crate::MAX_TURNS) times for one
-    /// call, and makes its own pause where it says no.
+    /// Whether this call of this worker may begin. The gate is asked at most [`MAX_TURNS`](crate::MAX_TURNS) times for
+    /// one call. If it says no, it makes its own pause.
     fn may_pass(&mut self, worker: u32, call: u64) -> bool
         ensures said { says self.old worker call result self.new };
 
-    /// This call of this worker was answered. It is told once for each call, also for one that it did not let pass.
+    /// Tells the gate that this call of this worker was answered. The gate is told once for each call, also for a call
+    /// that it did not let pass.
     fn answered(&mut self, worker: u32, call: u64)
         ensures heard { hears self.old worker call self.new };
 }

@@ -1,17 +1,29 @@
 //! The running node: a daemon's rounds, a master's turns, and the threads that serve clients.
 //!
-//! A daemon polls its sources through a [`Link`], fuses what they answer, and publishes the fusions
-//! ([`daemon_rounds`]); a master answers polls ([`master_rounds`]); a [`Worker`] is the service of one client's
-//! session. [`run_node`] runs a daemon and many workers, each in a thread of its own, on one list of publications, one
-//! sequencer and one book.
+//! A daemon polls its sources through a [`Link`], fuses their answers, and publishes the fusions: see
+//! [`daemon_rounds`]. A master answers polls: see [`master_rounds`]. A [`Worker`] is the service of one client's
+//! session. [`run_node`] runs a daemon and many workers, each in a thread of its own. They share one list of
+//! publications, one sequencer and one book.
 //!
-//! - `links`: the trait `Link`, by which packets are sent and received. `datagrams`: links over UDP, for a daemon and for
-//!   a master.
-//! - `paces`: the trait `Pace`, which says how long a daemon goes on, and one that counts. `rounds`: `daemon_while`,
-//!   `daemon_rounds`, and what one call of them did. `tallies`: what it counted. `masters`: `master_rounds`.
-//! - `gates`: the trait `Gate`, which may hold the calls of a worker, and one that holds none. `workers`: `Worker`.
+//! ```text
+//! // a daemon polls its sources over UDP: one round of 8 turns
+//! let mut link = RoundLink::new(&rt, socket, sources, Duration::from_millis(20))?;
+//! let did = daemon_rounds(&rt, &mut daemon, &mut link, &mut clock, &mut teller, 1, 8);
+//! // a master, in another process, answers one of these polls honestly
+//! let mut to_machines = UdpLink::new(socket, machines);
+//! let played = master_rounds(&mut to_machines, &mut master, &[Act::Honest], 1)?;
+//! // a daemon and one worker for each stream, each in a thread of its own
+//! let end = run_node(&rt, rt.alloc(), daemon, link, clocks, streams, &gate, limits, &daemon_failed)?;
+//! ```
+//!
+//! - `links`: the trait `Link`, which sends and receives packets. `datagrams`: links over UDP, for a daemon and for a
+//!   master.
+//! - `paces`: the trait `Pace`, which says how long a daemon goes on, and a pace that counts the rounds.
+//! - `rounds`: `daemon_while` and `daemon_rounds`, and what one such call did. `tallies`: what it counted.
+//! - `masters`: `master_rounds`.
+//! - `gates`: the trait `Gate`, which may hold the calls of a worker, and a gate that holds none. `workers`: `Worker`.
 //! - `nodes`: `run_node`, with its clocks, its limits and its end.
-//! - `faults`: what is answered where a call refuses.
+//! - `faults`: why a call refuses.
 #![tactic(auto)]
 
 mod datagrams;

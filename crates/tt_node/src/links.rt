@@ -9,24 +9,25 @@ use crate::faults::LinkFault;
 /// The most bytes of a packet that are received.
 pub const PACKET_LEN: usize = 64;
 
-/// What packets are sent and received by: for a daemon, its peers are its sources; for a master, those that poll it.
+/// A device that sends and receives packets. The peers of a daemon are its sources. The peers of a master are the
+/// programs that poll it.
 pub trait Link {
-    /// What a call of the link as it was gave, and the link after it. A link that keeps its packets says here which; a
-    /// device of the world claims nothing.
+    /// What a call of the link may give, and the link after the call. A link that keeps its packets says here which it
+    /// gives. A real device may give anything.
     ghost does: { Self → Call → Gift → Self → Type 0 };
 
-    /// Its failures so far; the count stays at 2^64 - 1 once it is there.
+    /// Its failures so far. The count stays at 2^64 - 1 once it is reached.
     ghost failed: { Self → ℕ };
 
-    /// Sends the bytes to a peer. A fault is answered only where the link failed.
+    /// Sends the bytes to a peer. A fault is answered only if the link failed.
     fn send(&mut self, peer: u8, bytes: &[u8]) -> Result<(), LinkFault>
         ensures did { does self.old (Send (record { peer = peer; bytes = bytes.now })) (sent_as result) self.new }
         ensures sound { OnOk result (failed self.new ≡ failed self.old) }
         ensures cause { OnErr result (HasFailed (failed self.old) (failed self.new)) };
 
-    /// Puts the next packet at the front of the buffer, and answers the peer that it came from and its length; `None`:
-    /// nothing came. Of a longer packet than the buffer the first bytes come alone. A fault is answered only where the
-    /// link failed.
+    /// Puts the next packet at the front of the buffer. Answers the peer that it came from, and its length. `None` says
+    /// that nothing came. If a packet is longer than the buffer, only its first bytes come. A fault is answered only if
+    /// the link failed.
     fn receive(&mut self, buffer: &mut [u8; PACKET_LEN]) -> Result<Option<(u8, usize)>, LinkFault>
         ensures did { does self.old Receive (came_as result buffer.new) self.new }
         ensures whole { length buffer.new ≡ 64 }

@@ -13,14 +13,14 @@ use tt_master::{Act, Master, MasterFault, Reference};
 use tt_poll::Format;
 
 /// Receives `turns` times, and does one act for each request that comes: the first act for the first request, and so
-/// on, and the last one for all further requests. What an act sends goes to the peer that the request came from. It
-/// answers for how many requests an act was done.
+/// on. The last act is done for all further requests too. What an act sends goes to the peer that the request came
+/// from. Answers for how many requests an act was done.
 ///
-/// A packet that begins with `TTP2` is played by [`Master::play2`], and any other by [`Master::play`]. One that is
-/// refused by 301, 302 or 303 is passed over: no act is done for it. Requires: there is an act.
+/// [`Master::play2`] does the act for a packet that begins with `TTP2`, and [`Master::play`] for any other packet. If
+/// the master rejects a packet with 301, 302 or 303, no act is done for it. Requires: there is an act.
 ///
-/// Refuses with 1501 `LinkFailed` where the link failed, and with 304 `ReferenceFailed` where the master's reference
-/// did. Then the turns end, and the call may be made again.
+/// Refuses with 1501 `LinkFailed` if the link failed, and with 304 `ReferenceFailed` if the master's reference failed.
+/// Then the turns end, and the call may be made again.
 pub fn master_rounds<L: Link, R: Reference>(
     link: &mut L,
     master: &mut Master<R>,
@@ -28,11 +28,11 @@ pub fn master_rounds<L: Link, R: Reference>(
     turns: u32,
 ) -> Result<u32, NodeFault>
     requires some_act { 0 < length acts.now }
-    // What was done is the course of the turns: which act was played for which packet, and what was sent.
+    // The call did the course of the turns: which act was played for which packet, and what was sent.
     ensures course { DoesTurns R.gives L.does acts.now turns link.old master.old result link.new master.new }
     ensures few { IfOk result (λ played. played ≤ turns) }
     ensures fault { IfErr result IsTurnsFault }
-    // A device's fault is answered exactly where it failed.
+    // A fault of a device is answered exactly if this device failed.
     ensures link_fails { FailsBy result NodeFault.LinkFailed (L.failed link.old) (L.failed link.new) }
     ensures reference_fails { FailsBy result NodeFault.ReferenceFailed (R.failed master.old.reference) (R.failed master.new.reference) }
 {
@@ -43,7 +43,7 @@ pub fn master_rounds<L: Link, R: Reference>(
     Ok(played)
 }
 
-/// The act for the next request, where so many were done.
+/// The act for the next request, after `played` acts were done.
 fn act_for(acts: &[Act], played: u32) -> Act
     requires some_act { 0 < length acts.now }
     ensures { result ≡ act_at acts.now played }
@@ -51,7 +51,7 @@ fn act_for(acts: &[Act], played: u32) -> Act
     acts[(played as usize).min(acts.len() - 1)]
 }
 
-/// How many acts are done after a turn.
+/// How many acts are done after one more turn.
 fn count_act(played: u32, did: bool) -> u32
     requires room { played < 4294967295 }
     ensures { result ≡ counted played did }
@@ -59,7 +59,7 @@ fn count_act(played: u32, did: bool) -> u32
     if did { played + 1 } else { played }
 }
 
-/// One turn: whether a request came, for which the act was done.
+/// Makes one turn. Answers whether a request came and the act was done for it.
 fn master_turn<L: Link, R: Reference>(
     link: &mut L,
     master: &mut Master<R>,
@@ -102,7 +102,7 @@ fn answer<L: Link, R: Reference>(
     }
 }
 
-/// The same of TTP2.
+/// The same for TTP2.
 fn answer2<L: Link, R: Reference>(
     link: &mut L,
     master: &mut Master<R>,

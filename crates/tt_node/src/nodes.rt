@@ -30,18 +30,18 @@ use tt_stream::{ByteReader, ByteWriter};
 /// The clocks of a node.
 #[derive(Drop)]
 pub struct Clocks<C> {
-    /// The daemon's.
+    /// The clock of the daemon.
     pub daemon: C,
-    /// The workers', one for each stream.
+    /// The clocks of the workers, one for each stream.
     pub workers: Vec<C>,
 }
 
-/// How long a node goes on, and the lease that it stamps in. No limit may be 0.
+/// How long a node goes on, and the lease in which it stamps. No limit may be 0.
 #[derive(Clone, Copy, Debug)]
 pub struct Limits {
-    /// The daemon's rounds.
+    /// How many rounds the daemon makes.
     pub rounds: u32,
-    /// The turns of each round.
+    /// How many turns each round has.
     pub turns: u32,
     /// How long each session may go on.
     pub serve: Turns,
@@ -49,29 +49,29 @@ pub struct Limits {
     pub lease: Span,
 }
 
-/// What became of a worker.
+/// How a worker ended.
 #[derive(Drop)]
 pub struct WorkerEnd {
-    /// What its session did, or why it ended before its input did.
+    /// What its session did, or why the session ended before its input did.
     pub served: Result<Served, ServeFault>,
     /// The notes of the readings that it gave, oldest first.
     pub notes: Vec<LiveNote>,
-    /// The seat that it had then, as contracts see it.
+    /// The seat that it had at its end. The value is for contracts.
     pub seat: Snapshot<Seat>,
 }
 
-/// What became of a node.
+/// How a node ended.
 #[derive(Drop)]
 pub struct NodeEnd {
     /// What its daemon did.
     pub rounds: Rounds,
-    /// What became of its workers, in the order of their streams.
+    /// How its workers ended, in the order of their streams.
     pub workers: Vec<WorkerEnd>,
-    /// The seats of all workers, joined to one, as contracts see it.
+    /// The seats of all workers, joined into one. The value is for contracts.
     pub stamps: Snapshot<Seat>,
 }
 
-/// What the workers of a node share, beside their sequencer and their gate.
+/// What the workers of a node share besides their sequencer and their gate.
 struct Shared<'a, R, J: WhichBook> {
     rt: &'a R,
     alloc: Global,
@@ -90,7 +90,7 @@ impl<'a, R, J: WhichBook> Clone for Shared<'a, R, J> {
 
 impl<'a, R, J: WhichBook> Copy for Shared<'a, R, J> {}
 
-/// What a thread of a daemon does: so many rounds of this daemon, by this link and this clock.
+/// What the thread of a daemon does: `rounds` rounds of this daemon, with this link and this clock.
 #[derive(Drop)]
 struct DoesRounds<L, C> {
     daemon: Snapshot<Daemon>,
@@ -106,7 +106,7 @@ impl<L: Link, C: Clock> Promise<Result<Rounds, NodeFault>> for DoesRounds<L, C> 
     ghost kept_by = { λ p result. RunsRounds C.gives C.failed L.does L.failed p.rounds p.turns p.daemon.value p.clock.value p.link.value result };
 }
 
-/// What a thread of a worker does: the worker of this session, with this gate, lease, clock and seat, serves it.
+/// What the thread of a worker does: a worker with this gate, lease, clock and seat serves this session.
 #[derive(Drop)]
 struct ServesSession<C, G> {
     session: u32,
@@ -150,7 +150,7 @@ fn first_rounds<R: Wait, L: Link + Drop, C: Clock + Drop>(
     )
 }
 
-/// Serves a session as the worker that has these parts, and gives its seat back.
+/// Serves a session by a worker with these parts, and gives its seat back.
 fn work<'a, R: Wait, C: Clock + Drop, I: ByteReader, O: ByteWriter, G: Gate + Copy, J: WhichBook>(
     shared: Shared<'a, R, J>,
     sequencer: &'a Sequencer,
@@ -290,7 +290,7 @@ fn start_daemon<
         .ok()
 }
 
-/// Starts the threads of all workers, from the last stream to the first: whether each was started.
+/// Starts the threads of all workers, from the last stream to the first. Answers whether each thread was started.
 fn start_workers<
     's,
     E,
@@ -343,7 +343,7 @@ fn start_workers<
     true
 }
 
-/// Joins all workers, from the one that was started last to the first, and joins their seats.
+/// Joins all workers, from the one that was started last to the one that was started first, and joins their seats.
 fn join_workers<R: Threads, C: Clock, G: Gate>(
     rt: &R,
     sequencer: &Sequencer,
@@ -374,7 +374,7 @@ fn join_workers<R: Threads, C: Clock, G: Gate>(
     Some((ends, all))
 }
 
-/// Joins the workers of a node that not all were started of.
+/// Joins the workers that were started, in a node in which some were not.
 fn drop_workers<R: Threads, C: Clock, G: Gate>(
     rt: &R,
     handles: Vec<PromisedHandle<(WorkerEnd, Seat), ServesSession<C, G>>>,
@@ -387,7 +387,7 @@ fn drop_workers<R: Threads, C: Clock, G: Gate>(
     }
 }
 
-/// Starts the daemon's thread and those of the workers, and joins all that were started.
+/// Starts the thread of the daemon and the threads of the workers, and joins all that were started.
 fn run_threads<
     's,
     E,
@@ -467,19 +467,22 @@ fn run_threads<
     })
 }
 
-/// Runs a node: one thread for the daemon, which does its rounds, and one for each stream, which serves its session;
-/// the sessions are numbered from 0 in the order of the streams. All of them work on one list of publications, one
-/// sequencer and one book, which begin here. Each session's service is a [`Worker`] with the clock of its number.
+/// Runs a node. One thread does the rounds of the daemon. For each stream, one thread serves the session of the stream.
+/// The sessions are numbered from 0, in the order of the streams. All threads work on one list of publications, one
+/// sequencer and one book, which this call opens. The service of each session is a [`Worker`], with the clock of the
+/// same number.
 ///
-/// It joins every thread that it started before it answers, also where one could not be started. What is published is
-/// kept until then. Where the daemon's rounds end with a fault it sets `daemon_failed`: the workers go on by the last
-/// publication until their sessions end, and a reader that looks at the flag can end its session.
+/// Before it answers, the call joins every thread that it started, also if one could not be started. The publications
+/// are kept until then. If the daemon's rounds end with a fault, the call sets `daemon_failed`. The workers then go on
+/// with the last publication until their sessions end. A reader that looks at the flag can end its session.
 ///
-/// Refuses, in this order: 1503 `BadLimits` where there is no stream, there are more than [`MAX_WATCHES`] streams, there
-/// is not one clock for each stream, or a limit is 0 (rounds, turns, reads or waits); 1 where an allocation failed; 804
-/// `Publish` where no place for a reader was given; 1 where a thread was not started; then what the daemon's rounds
-/// refused: 1501 `LinkFailed`, 1502 `ClockFailed`, 802 `Publish`, 1; never 805. A fault of a session is no fault of the node. Each
-/// worker has a copy of the gate; a call that it never lets pass is refused by 1504 and does nothing.
+/// Refuses, in this order: 1503 `BadLimits` where there is no stream, there are more than [`MAX_WATCHES`] streams,
+/// there is not one clock for each stream, or a limit is 0 (rounds, turns, reads or waits); 1 where an allocation
+/// failed; 804 `Publish` where no reader slot is free; 1 where a thread was not started; then what the daemon's rounds
+/// refused: 1501 `LinkFailed`, 1502 `ClockFailed`, 802 `Publish`, 1; never 805.
+///
+/// A fault of a session is not a fault of the node. Each worker has a copy of the gate. If the gate never lets a call
+/// pass, the call is rejected with 1504 and does nothing.
 pub fn run_node<
     'n,
     R: Threads + Wait + Sync,
@@ -502,13 +505,13 @@ pub fn run_node<
     ensures bad_limits { IsErrOf result NodeFault.BadLimits ↔ ((vec_len streams ≡ 0) ⊎ (max_watches < vec_len streams) ⊎ (vec_len clocks.workers ≢ vec_len streams)
         ⊎ (limits.rounds ≡ 0) ⊎ (limits.turns ≡ 0) ⊎ (limits.serve.reads ≡ 0) ⊎ (limits.serve.waits ≡ 0)) }
     ensures fault { IfErr result IsRunFault }
-    // The daemon did its rounds: the course of them, by what its clock and its link gave, of which the end tells. A fault
-    // of a device, or 802, is the one that ended them: the count of that device rose.
+    // The daemon did the course of its rounds, by what its clock and its link gave. The end says what they did. If the
+    // answer is a fault of a device or 802, this fault ended the rounds. For a device, its count of failures rose.
     ensures runs { RunsNode C.gives C.failed L.does L.failed limits.rounds limits.turns daemon clocks.daemon link result }
     ensures done { IfOk result (λ end. end.rounds.done ≡ limits.rounds) }
     ensures all { IfOk result (λ end. vec_len end.workers ≡ vec_len streams) }
-    // The seats of all workers are of one sequencer, and what all of them have stamped is one legal history, of which each
-    // has its part: the stamps of its own session, in their order, and no others.
+    // The seats of all workers are of one sequencer. What all workers have stamped is one legal history. Each worker
+    // has its part of the history: the stamps of its own session, in their order, and no others.
     ensures shares { IfOk result (λ end. SharesSequencer C.gives C.failed G.says G.hears limits.serve.waits gate.now limits.lease end.workers.items end.stamps.value) }
 {
     check_limits(streams.len(), clocks.workers.len(), &limits)?;
@@ -527,7 +530,7 @@ pub fn run_node<
     )
 }
 
-/// Runs a node within its limits, on a book that was just opened.
+/// Runs a node whose limits were checked, on a book that was just opened.
 fn run_on_book<
     'n,
     R: Threads + Wait + Sync,
@@ -572,7 +575,7 @@ fn run_on_book<
     )
 }
 
-/// Runs a node within its limits, on this book.
+/// Runs a node whose limits were checked, on this book.
 fn run_sharing<
     'n,
     R: Threads + Wait + Sync,
@@ -639,7 +642,7 @@ fn run_sharing<
     ended
 }
 
-/// Whether so many streams can be served with so many clocks, within these limits.
+/// Whether `streams` streams can be served with `clocks` clocks, within these limits.
 fn check_limits(streams: usize, clocks: usize, limits: &Limits) -> Result<(), NodeFault>
     ensures taken { OnOk result ((streams ≢ 0) × (clocks ≡ streams) × (streams ≤ max_watches)
         × (limits.now.rounds ≢ 0) × (limits.now.turns ≢ 0) × (limits.now.serve.reads ≢ 0) × (limits.now.serve.waits ≢ 0)) }

@@ -6,14 +6,14 @@ ghost use Rattle.tt_node.specs.declared.rounds.Rounds.{Rounds};
 use crate::rounds::Rounds;
 use tt_daemon::Daemon;
 
-/// Asked before each round of a daemon whether it may begin.
+/// A pace is asked before each round of a daemon whether the round may begin.
 pub trait Pace {
-    /// What the pace may answer where this was done so far, and the pace after it. A pace that other threads end, or
-    /// that goes by a clock, claims nothing.
+    /// What the pace may answer after what was done so far, and the pace after that. A pace that other threads end, or
+    /// that uses a clock, may answer anything.
     ghost says: { Self → Rounds → Bool → Self → Type 0 };
 
     /// Whether another round may begin, after what was done so far in this call. The pace makes its own pause. It may
-    /// ask the daemon, as for a log, and leaves it as it was.
+    /// ask the daemon for its state, for instance to write a log, and leaves the daemon as it was.
     fn goes_on(&mut self, daemon: &mut Daemon, did: &Rounds) -> bool
         ensures said { says self.old did.now result self.new }
         ensures same { daemon.new ≡ daemon.old };
@@ -22,7 +22,7 @@ pub trait Pace {
 /// A pace that lets a number of rounds begin, one right after the other.
 #[derive(Drop)]
 pub struct CountedPace {
-    /// The rounds.
+    /// How many rounds may begin.
     pub rounds: u32,
 }
 

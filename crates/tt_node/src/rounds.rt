@@ -1,4 +1,4 @@
-//! A daemon's rounds: it polls its sources, takes what they answer, fuses what it knows, and publishes the fusion.
+//! A daemon's rounds: it polls its sources, takes their answers, fuses what it knows, and publishes the fusion.
 
 ghost use Rattle.std.specs.Prelude.{◌≡◌, ℕ, ◌+◌, ◌<◌, ◌≤◌, ◌^◌, List, length, Option, Some, None, Result, IfOk, IfErr, IfSome, OnOk, OnErr, IsErrOf};
 ghost use Rattle.tt_node.specs.Link.{Exchange, Receive, came_as};
@@ -24,17 +24,17 @@ use tt_publish::{Clock, Teller};
 /// What some rounds did.
 #[derive(Clone, Copy, Debug, PartialEq, Eq)]
 pub struct Rounds {
-    /// The rounds.
+    /// How many rounds were done.
     pub done: u32,
-    /// The publications.
+    /// How many fusions were published.
     pub published: u64,
-    /// The packets and the fusions that were refused.
+    /// How many packets and fusions were refused.
     pub refused: u64,
-    /// What was counted, the refusals by their numbers.
+    /// What was counted. Refusals are counted by number.
     pub tally: Tally,
 }
 
-/// Polls a source, and sends the request, which is counted, unless the poll was refused.
+/// Polls a source. Unless the poll is refused, it counts the request and sends it.
 fn poll_one<L: Link>(
     daemon: &mut Daemon,
     link: &mut L,
@@ -97,7 +97,7 @@ fn read<C: Clock>(clock: &mut C) -> Result<u64, NodeFault>
     }
 }
 
-/// The next packet, if one came, with the peer that it came from and its length.
+/// Receives the next packet. If one came, answers the peer that it came from, and its length.
 pub(crate) fn receive<L: Link>(
     link: &mut L,
     buffer: &mut [u8; PACKET_LEN],
@@ -114,7 +114,7 @@ pub(crate) fn receive<L: Link>(
     }
 }
 
-/// One turn: takes the packet that comes, if one does. It is counted, taken or refused.
+/// Makes one turn: takes the packet that comes, if one comes. The packet is counted, as taken or as refused.
 fn turn<L: Link, C: Clock>(
     daemon: &mut Daemon,
     link: &mut L,
@@ -147,7 +147,7 @@ fn turn<L: Link, C: Clock>(
     }
 }
 
-/// So many turns.
+/// Makes `turns` turns.
 fn all_turns<L: Link, C: Clock>(
     daemon: &mut Daemon,
     link: &mut L,
@@ -208,7 +208,7 @@ fn fuse<R: Wait>(
     }
 }
 
-/// One round.
+/// Makes one round.
 fn round<R: Wait, L: Link, C: Clock>(
     rt: &R,
     daemon: &mut Daemon,
@@ -241,7 +241,7 @@ fn round<R: Wait, L: Link, C: Clock>(
     fuse(rt, daemon, teller, now, counts)
 }
 
-/// Rounds, for as long as the pace says so.
+/// Makes rounds as long as the pace says yes.
 fn paced_rounds<R: Wait, L: Link, C: Clock, P: Pace>(
     rt: &R,
     daemon: &mut Daemon,
@@ -280,21 +280,21 @@ fn paced_rounds<R: Wait, L: Link, C: Clock, P: Pace>(
     Ok(())
 }
 
-/// Does rounds, one after the other, for as long as the pace says so, and 2^32 - 1 at most. The pace is asked before
-/// each round, with what was done so far in this call; where it says no, the rounds end.
+/// Does rounds, one after the other, as long as the pace says yes, and at most 2^32 - 1. The pace is asked before each
+/// round, with what was done so far in this call. If it says no, the rounds end.
 ///
-/// Each round reads the clock and polls every source, in the order of their numbers; then receives `turns` times, and
-/// takes each packet that came at the next reading of the clock; then fuses what is known at the next reading, and
+/// Each round reads the clock and polls every source, in the order of their numbers. Then it receives `turns` times. It
+/// takes each packet that came, at the next reading of the clock. At the reading after that it fuses what is known, and
 /// publishes the fusion.
 ///
-/// A poll that the daemon refuses sends nothing. A poll that is sent is counted, and so are a packet that is taken, and one
-/// or a fusion that is refused, by the number of the refusal. A call that receives nothing is a turn too. Times are in
-/// nanoseconds.
+/// If the daemon refuses a poll, nothing is sent. The call counts each poll that is sent and each packet that is taken.
+/// It counts each packet and each fusion that is refused, by the number of the refusal. If a turn receives nothing, it
+/// counts as a turn too. Times are in nanoseconds.
 ///
-/// Refuses with 1501 `LinkFailed` or 1502 `ClockFailed` where the link or the clock failed, which ends the rounds, and
-/// with what [`Teller::publish`] refuses: 802 where the clock went back behind the last publication, 805 where as many
-/// as may are published, 1. Then the steps before it stand: the daemon has what it took, and what was published stays.
-/// The call may be made again.
+/// Refuses with 1501 `LinkFailed` if the link failed, and with 1502 `ClockFailed` if the clock failed. Refuses also as
+/// [`Teller::publish`] does: 802 if the clock went back behind the last publication, 805 if 2^64 - 1 publications were
+/// made, 1. A refusal ends the rounds. The steps before it stay done: the daemon has what it took, and what was
+/// published stays. The call may be made again.
 ///
 /// It may wait, as `publish` does.
 pub fn daemon_while<R: Wait, L: Link, C: Clock, P: Pace>(
@@ -306,18 +306,18 @@ pub fn daemon_while<R: Wait, L: Link, C: Clock, P: Pace>(
     pace: &mut P,
     turns: u32,
 ) -> Result<Rounds, NodeFault>
-    // What was done is the course of some number of rounds, by what the clock, the link and the memory gave in this
-    // call. The pace let each of them begin; where a fault ended them, it ended the last one.
+    // The call did the course of some number of rounds, by what the clock, the link and the memory gave in this call.
+    // The pace let each of these rounds begin. If a fault ended the rounds, it ended the last one.
     ensures course { (rounds : ℕ) × (tally : Tally) × Makes C.gives L.does (rounds_of rounds turns) clock.old clock.new link.old link.new
         (stand_of daemon.old (fusions_in teller.old.items) no_tally)
         (stand_of daemon.new (fusions_in teller.new.items) tally) (answer_of result)
         × IfOk result (λ did. (did.tally ≡ tally) × (did.refused ≡ refused_in tally) × (did.done ≡ rounds)) × OnErr result (LetsBegin P.says pace.old rounds pace.new) }
-    // Without a fault the pace ended the rounds.
+    // If there was no fault, the pace ended the rounds, or 2^32 - 1 of them were done.
     ensures paced { IfOk result (λ did. EndsAfter P.says pace.old did pace.new) }
-    // What is published grew, by publications with their certificates.
+    // The list of publications grew, by publications with their certificates.
     ensures grew { (published : ℕ) × Grows teller.old.items teller.new.items 0 published × IfOk result (λ did. did.published ≡ published) }
     ensures few { length teller.new.items ≤ length teller.old.items + 4294967295 }
-    // A device's fault is answered exactly where it failed.
+    // A fault of a device is answered exactly if this device failed.
     ensures link_fails { FailsBy result NodeFault.LinkFailed (L.failed link.old) (L.failed link.new) }
     ensures clock_fails { FailsBy result NodeFault.ClockFailed (C.failed clock.old) (C.failed clock.new) }
     ensures rounds_fault { IfErr result (IsRoundsFault teller.new.items) }
@@ -345,16 +345,16 @@ pub fn daemon_rounds<R: Wait, L: Link, C: Clock>(
     rounds: u32,
     turns: u32,
 ) -> Result<Rounds, NodeFault>
-    // What was done is the course of the rounds, by what the clock, the link and the memory gave in this call.
+    // The call did the course of the rounds, by what the clock, the link and the memory gave in this call.
     ensures course { (tally : Tally) × Makes C.gives L.does (rounds_of rounds turns) clock.old clock.new link.old link.new
         (stand_of daemon.old (fusions_in teller.old.items) no_tally)
         (stand_of daemon.new (fusions_in teller.new.items) tally) (answer_of result)
         × IfOk result (λ did. (did.tally ≡ tally) × (did.refused ≡ refused_in tally)) }
-    // What is published grew, by publications with their certificates.
+    // The list of publications grew, by publications with their certificates.
     ensures grew { (published : ℕ) × Grows teller.old.items teller.new.items 0 published × IfOk result (λ did. did.published ≡ published) }
     ensures done { IfOk result (λ did. did.done ≡ rounds) }
     ensures few { length teller.new.items ≤ length teller.old.items + 4294967295 }
-    // A device's fault is answered exactly where it failed.
+    // A fault of a device is answered exactly if this device failed.
     ensures link_fails { FailsBy result NodeFault.LinkFailed (L.failed link.old) (L.failed link.new) }
     ensures clock_fails { FailsBy result NodeFault.ClockFailed (C.failed clock.old) (C.failed clock.new) }
     ensures rounds_fault { IfErr result (IsRoundsFault teller.new.items) }
@@ -364,9 +364,9 @@ pub fn daemon_rounds<R: Wait, L: Link, C: Clock>(
     daemon_while(rt, daemon, link, clock, teller, &mut pace, turns)
 }
 
-/// A law of all parts of the course, the rounds of [`daemon_rounds`] among them: over a clock and a link that keep
-/// their lists, what a call did is the course that is computed from all that they had to give; it leaves them just
-/// what they have left, and what was sent is what the course sent.
+/// A law of all parts of the course, for instance the rounds of [`daemon_rounds`], over a clock and a link that each
+/// keep a list of what they are to give. What a call did is the course that is computed from these lists. The course
+/// leaves exactly what the clock and the link have left, and what was sent is what the course sent.
 pub fn course_laws()
     ensures lists { (part : Part (Unit {0})) (clock clock' : List (Option ℕ)) (line line' : Line) (from to : List Exchange → Stand)
         (answer : Result (Unit {0}) NodeFault) → Makes GivesInTurn MovesInTurn part clock clock' line line' from to answer →

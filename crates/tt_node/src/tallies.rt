@@ -6,51 +6,51 @@ ghost use Rattle.tt_node.specs.Tallies.{no_tally, packet_refused, fusion_refused
 use tt_daemon::DaemonFault;
 use tt_source::SourceFault;
 
-/// The packets that were refused, by the number of the refusal.
+/// How many packets were refused, by the number of the refusal.
 #[derive(Clone, Copy, Debug, PartialEq, Eq)]
 pub struct RefusedPackets {
-    /// By 401.
+    /// Rejected with 401.
     pub no_source: u64,
-    /// By 402.
+    /// Rejected with 402.
     pub clock_back: u64,
-    /// By 403.
+    /// Rejected with 403.
     pub nonces_used_up: u64,
-    /// By 404.
+    /// Rejected with 404.
     pub bad_message: u64,
-    /// By 405.
+    /// Rejected with 405.
     pub not_mine: u64,
-    /// By 406.
+    /// Rejected with 406.
     pub not_outstanding: u64,
-    /// By 407.
+    /// Rejected with 407.
     pub other_epoch: u64,
 }
 
-/// The fusions that were refused, by the number of the refusal.
+/// How many fusions were refused, by the number of the refusal.
 #[derive(Clone, Copy, Debug, PartialEq, Eq)]
 pub struct RefusedFusions {
-    /// By 402.
+    /// Rejected with 402.
     pub clock_back: u64,
-    /// By 504.
+    /// Rejected with 504.
     pub no_point: u64,
-    /// By 701.
+    /// Rejected with 701.
     pub unknown: u64,
 }
 
 /// What some rounds counted.
 #[derive(Clone, Copy, Debug, PartialEq, Eq)]
 pub struct Tally {
-    /// The polls whose requests were sent.
+    /// How many polls were sent.
     pub polls: u64,
-    /// The packets that were taken.
+    /// How many packets were taken.
     pub taken: u64,
-    /// The packets that were refused.
+    /// How many packets were refused.
     pub packets: RefusedPackets,
-    /// The fusions that were refused.
+    /// How many fusions were refused.
     pub fusions: RefusedFusions,
 }
 
 impl Tally {
-    /// Nothing was counted yet.
+    /// A tally in which nothing was counted yet.
     pub(crate) fn new() -> Tally
         ensures { result ≡ no_tally }
     {
@@ -74,7 +74,7 @@ impl Tally {
         }
     }
 
-    /// Counts a packet that was refused for this.
+    /// Counts a packet that was refused for this reason.
     pub(crate) fn refuse_packet(&mut self, fault: SourceFault)
         requires room { refused_in self.old + 1 < 2 ^ 64 }
         ensures { self.new ≡ packet_refused fault self.old }
@@ -90,7 +90,7 @@ impl Tally {
         }
     }
 
-    /// Counts a fusion that was refused for this.
+    /// Counts a fusion that was refused for this reason.
     pub(crate) fn refuse_fusion(&mut self, fault: DaemonFault)
         requires room { refused_in self.old + 1 < 2 ^ 64 }
         ensures { self.new ≡ fusion_refused fault self.old }

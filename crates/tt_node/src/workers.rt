@@ -19,7 +19,7 @@ use tt_shared_book::{BookView, SharedBook, WhichBook};
 use tt_span::Span;
 use tt_stamp::{Id, Seat, Sequencer, begin_step};
 
-/// How often a gate is asked for one call, at most.
+/// How often a gate is asked about one call at most.
 pub const MAX_TURNS: u32 = 10_000;
 
 /// The longest wait of one `pass` for a stamp, in nanoseconds: a tenth of a second.
@@ -41,17 +41,17 @@ struct Step {
     earliest: u64,
 }
 
-/// The service of one worker, for one session: it reads through a watch of its own by a clock of its own, draws its
-/// stamps with a seat of its own from the sequencer that it shares, and queues and releases commits in the book that
-/// it shares, of which it has a view of its own. A gate may hold each of its calls.
+/// The service of one worker, for one session. It takes readings with a watch and a clock of its own. It takes stamps
+/// with a seat of its own from the shared sequencer. It queues and releases commits in the shared book, through a view
+/// of its own. A gate may hold each of its calls.
 ///
 /// It keeps a note of each reading that `now` gave, with what the clock showed just before and just after it. Contracts
 /// see its watch, its clock, its seat, its lease, its notes and what its view has seen.
 ///
-/// Each call asks the gate first, with the session and the call's number, which counts from 0 and stays at 2^64 - 1
-/// once it is there, until the gate says yes. It is asked [`MAX_TURNS`] times at most; where it says no each time, the
-/// call is refused by 1504 and does nothing. After each call, refused or not, the gate is told once that it was
-/// answered.
+/// Each call first asks the gate, with the session and the number of the call, until the gate says yes. The number
+/// counts from 0, and stays at 2^64 - 1 once it is reached. The gate is asked at most [`MAX_TURNS`] times. If it says
+/// no each time, the call is rejected with 1504 and does nothing. After each call, refused or not, the gate is told
+/// once that the call was answered.
 #[derive(Drop)]
 pub struct Worker<'a, R, C, G, J: WhichBook> {
     rt: &'a R,
@@ -68,7 +68,7 @@ pub struct Worker<'a, R, C, G, J: WhichBook> {
     notes: Vec<LiveNote>,
     /// The commit that was begun last.
     begun: Option<Begun>,
-    /// What its waits are made by. Nothing ends one before its time.
+    /// Makes the waits. Nothing ends one before its time.
     parker: Parker,
 }
 
@@ -84,7 +84,7 @@ impl<'a, R, C, G, J: WhichBook> Model for Worker<'a, R, C, G, J> {
 }
 
 impl<'a, R: Wait, C: Clock, G: Gate, J: WhichBook> Worker<'a, R, C, G, J> {
-    /// The worker of a session, which has no notes yet. Requires: the seat is of the sequencer.
+    /// The worker of a session. It has no notes yet. Requires: the seat is of the sequencer.
     pub fn new(
         rt: &'a R,
         alloc: Global,
@@ -128,7 +128,7 @@ impl<'a, R: Wait, C: Clock, G: Gate, J: WhichBook> Worker<'a, R, C, G, J> {
 }
 
 impl<'a, R, C: Drop, G: Drop, J: WhichBook> Worker<'a, R, C, G, J> {
-    /// Its notes, oldest first, and its seat, once it has ended.
+    /// Ends the worker. Answers its notes, oldest first, and its seat.
     pub fn into_parts(self) -> (Vec<LiveNote>, Seat)
         ensures notes { result.0.items ≡ self.entry.notes }
         ensures seat { result.1 ≡ self.entry.seat }
@@ -139,7 +139,8 @@ impl<'a, R, C: Drop, G: Drop, J: WhichBook> Worker<'a, R, C, G, J> {
 }
 
 impl<'a, R: Wait, C: Clock, G: Gate, J: WhichBook> Worker<'a, R, C, G, J> {
-    /// Whether the gate lets the next call pass, with the session and the number of that call.
+    /// Asks the gate about the next call. Answers whether the gate lets it pass, with the session and the number of the
+    /// call.
     fn passes(&mut self) -> (bool, u32, u64)
         ensures asks { Asks G.says self.old.session self.old.calls self.old.gate result.0 self.new.gate }
         ensures counted { self.new ≡ after_asking self.old self.new.gate }
@@ -152,7 +153,7 @@ impl<'a, R: Wait, C: Clock, G: Gate, J: WhichBook> Worker<'a, R, C, G, J> {
         (passes, self.session, call)
     }
 
-    /// The gate is told that a call was answered.
+    /// Tells the gate that a call was answered.
     fn tell(&mut self, session: u32, call: u64)
         ensures told { G.hears self.old.gate session call self.new.gate }
         ensures kept { self.new ≡ with_gate self.old self.new.gate }
@@ -160,7 +161,7 @@ impl<'a, R: Wait, C: Clock, G: Gate, J: WhichBook> Worker<'a, R, C, G, J> {
         self.gate.answered(session, call);
     }
 
-    /// A reading, where the gate is open.
+    /// Takes a reading, if the gate let the call pass.
     fn read_where(&mut self, passes: bool) -> Result<Reading, u16>
         ensures does { DoesWhere passes (Reads C.gives C.failed) self.old result self.new }
     {
@@ -171,7 +172,7 @@ impl<'a, R: Wait, C: Clock, G: Gate, J: WhichBook> Worker<'a, R, C, G, J> {
         }
     }
 
-    /// A commit is stamped and queued, where the gate is open.
+    /// Stamps and queues a commit, if the gate let the call pass.
     fn commit_where(&mut self, passes: bool, number: u64, floor: u64) -> Result<u64, u16>
         ensures does { DoesWhere passes (Commits C.gives C.failed number floor) self.old result self.new }
     {
@@ -184,7 +185,7 @@ impl<'a, R: Wait, C: Clock, G: Gate, J: WhichBook> Worker<'a, R, C, G, J> {
         }
     }
 
-    /// One release step, where the gate is open.
+    /// Makes one release step, if the gate let the call pass.
     fn release_where(&mut self, passes: bool, number: u64) -> Result<bool, u16>
         ensures does { DoesWhere passes (Releases C.gives C.failed number) self.old result self.new }
     {
@@ -195,7 +196,7 @@ impl<'a, R: Wait, C: Clock, G: Gate, J: WhichBook> Worker<'a, R, C, G, J> {
         }
     }
 
-    /// A reading, of which a note is kept.
+    /// Takes a reading, and keeps a note of it.
     fn read(&mut self) -> Result<Reading, u16>
         ensures works { Works self.old self.new }
         ensures open { ¬ IsErrOf result 1504 }
@@ -225,7 +226,7 @@ impl<'a, R: Wait, C: Clock, G: Gate, J: WhichBook> Worker<'a, R, C, G, J> {
         Ok(reading)
     }
 
-    /// A commit is stamped and queued.
+    /// Stamps and queues a commit.
     fn commit(&mut self, number: u64, floor: u64) -> Result<u64, u16>
         ensures works { Works self.old self.new }
         ensures open { ¬ IsErrOf result 1504 }
@@ -254,7 +255,7 @@ impl<'a, R: Wait, C: Clock, G: Gate, J: WhichBook> Worker<'a, R, C, G, J> {
         }
     }
 
-    /// Keeps what is known of the last commit, where this is the answer to a `begin`.
+    /// Keeps the number and the stamp of the last commit, if this answer to a `begin` is a stamp.
     fn remember(&mut self, number: u64, answer: Result<u64, u16>)
         ensures same { self.new ≡ self.old }
     {
@@ -263,7 +264,8 @@ impl<'a, R: Wait, C: Clock, G: Gate, J: WhichBook> Worker<'a, R, C, G, J> {
         }
     }
 
-    /// One release step, and whether the commit is released. Where it is not, a wait follows, without the book.
+    /// Makes one release step. Answers whether the commit is released. If it is not, a wait follows, without a lock on
+    /// the book.
     fn release(&mut self, number: u64) -> Result<bool, u16>
         ensures works { Works self.old self.new }
         ensures open { ¬ IsErrOf result 1504 }
@@ -293,7 +295,7 @@ impl<'a, R: Wait, C: Clock, G: Gate, J: WhichBook> Worker<'a, R, C, G, J> {
         Ok(released)
     }
 
-    /// Waits for as long as the stamp of the commit is above the earliest that the step read, at most [`MAX_PAUSE`].
+    /// Waits for the time from the earliest of the step's reading to the stamp of the commit, at most [`MAX_PAUSE`].
     fn pause(&self, number: u64, step: Step) {
         let Some(begun) = self.begun else {
             return;
@@ -310,10 +312,10 @@ impl<'a, R: Wait, C: Clock, G: Gate, J: WhichBook> Worker<'a, R, C, G, J> {
 impl<'a, R: Wait, C: Clock, G: Gate, J: WhichBook> Service for Worker<'a, R, C, G, J> {
     ghost allows = { Allows C.gives C.failed G.says G.hears };
 
-    /// One [`Watch::now`] between two readings of the clock, of which a note is kept.
+    /// One [`Watch::now`] between two readings of the clock. A note of the three is kept.
     ///
-    /// Refuses with 1504 where the gate is closed, 1 where there is no room for the note, and then, in this order, as
-    /// the readings and `Watch::now` do: 803, 801, 803, 802, 803. Only an answer with a reading is noted.
+    /// Refuses, in this order: 1504 if the gate is closed, 1 if there is no memory for the note, then as the readings
+    /// of the clock and `Watch::now` do: 803, 801, 803, 802, 803. Only an answer with a reading is noted.
     fn now(&mut self) -> Result<Reading, u16> {
         let (passes, session, call) = self.passes();
         let answer = self.read_where(passes);
@@ -321,11 +323,11 @@ impl<'a, R: Wait, C: Clock, G: Gate, J: WhichBook> Service for Worker<'a, R, C, 
         answer
     }
 
-    /// One [`begin_step`], in the lease, and then one [`SharedBook::queue`] of the session and the number with the
-    /// stamp, which it answers. The book is held for the queueing alone.
+    /// One [`begin_step`] in the lease, then one [`SharedBook::queue`] of the session's commit with this number, under
+    /// the stamp. Answers the stamp, in nanoseconds. The book is locked only while the commit is queued.
     ///
-    /// Refuses with 1504 where the gate is closed, and then with the number of the first that refuses: 801, 803, 802,
-    /// 902, 901, 903, 1001, 1002, 1003, 1. A stamp that was given before a refused queueing is lost.
+    /// Refuses with 1504 if the gate is closed, then with the number of the first of these calls that refuses: 801,
+    /// 803, 802, 902, 901, 903, 1001, 1002, 1003, 1. If the book refuses, the stamp is lost.
     fn begin(&mut self, number: u64, floor: u64) -> Result<u64, u16> {
         let (passes, session, call) = self.passes();
         let answer = self.commit_where(passes, number, floor);
@@ -333,11 +335,12 @@ impl<'a, R: Wait, C: Clock, G: Gate, J: WhichBook> Service for Worker<'a, R, C, 
         answer
     }
 
-    /// One [`Watch::now`], and then one [`SharedBook::release_and_ask`] by that reading: whether the commit is
-    /// released then. Where the commit is the one that was begun last and is not released, it then waits, without the
-    /// book, for as long as the stamp is above the earliest of the reading, at most [`MAX_PAUSE`], and answers no.
+    /// One [`Watch::now`], then one [`SharedBook::release_and_ask`] by this reading. Answers whether the commit is
+    /// released then. If it is not released, and it is the commit that was begun last, the call waits before it answers
+    /// no: for the time from the earliest of the reading to the stamp, at most [`MAX_PAUSE`]. The book is not locked
+    /// during the wait.
     ///
-    /// Refuses with 1504 where the gate is closed, and then as the reading does: 801, 803, 802.
+    /// Refuses with 1504 if the gate is closed, then as the reading does: 801, 803, 802.
     fn pass(&mut self, number: u64) -> Result<bool, u16> {
         let (passes, session, call) = self.passes();
         let answer = self.release_where(passes, number);
@@ -346,7 +349,7 @@ impl<'a, R: Wait, C: Clock, G: Gate, J: WhichBook> Service for Worker<'a, R, C, 
     }
 }
 
-/// Whether a gate lets a call pass: it is asked until it says yes, at most [`MAX_TURNS`] times.
+/// Whether a gate lets a call pass. It is asked until it says yes, at most [`MAX_TURNS`] times.
 fn ask<G: Gate>(gate: &mut G, worker: u32, call: u64) -> bool
     ensures asks { Asks G.says worker call gate.old result gate.new }
 {

@@ -7,14 +7,14 @@ use crate::faults::ClockFault;
 
 /// A machine's clock.
 pub trait Clock {
-    /// What a call of the clock as it was gave, and the clock after it. A clock that keeps a list of its readings
-    /// names the next of them here; a clock of the world claims nothing.
+    /// What a call gave: the clock before the call, the reading or None, and the clock after the call. A clock that
+    /// keeps a list of its readings names the next one here. A real clock claims nothing.
     ghost gives: { Self → Option ℕ → Self → Type 0 };
 
-    /// Its failures so far; the count stays at 2^64 - 1 once it is there.
+    /// Its failures so far. The count stays at 2^64 - 1 once it is reached.
     ghost failed: { Self → ℕ };
 
-    /// What the clock shows, in nanoseconds. A fault is answered only where the clock failed.
+    /// What the clock shows, in nanoseconds. A fault is answered only if the clock failed.
     fn read(&mut self) -> Result<u64, ClockFault>
         ensures gave { MatchResult result (λ reading. gives self.old (Some reading) self.new) (λ _. gives self.old None self.new) }
         ensures sound { OnOk result (failed self.new ≡ failed self.old) }

@@ -1,4 +1,4 @@
-//! What is answered where a call refuses.
+//! Why a call is refused.
 
 ghost use Rattle.std.specs.Prelude.{◌≡◌};
 ghost use Rattle.tt_publish.specs.Fault.{clock_number_of, read_number_of, publish_number_of};

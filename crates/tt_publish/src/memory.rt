@@ -1,4 +1,4 @@
-//! A clock in memory, that gives the readings of a list and fails when told to: for tests, and for proofs over runs.
+//! A clock in memory, for tests and for proofs over runs. It gives the readings of a list, and fails at a chosen call.
 
 ghost use Rattle.std.specs.Prelude.{◌≡◌, ◌↔◌, ◌⊎◌, [], Some, None, OnOk, OnErr, IsErr, MatchResult};
 ghost use Rattle.tt_stream.specs.Counts.{HasFailed, count_after};
@@ -8,7 +8,7 @@ use crate::clocks::Clock;
 use crate::faults::ClockFault;
 use std::marker::Model;
 
-/// A clock over readings in memory. Where none is left it fails.
+/// A clock over readings in memory. It fails if no reading is left.
 #[derive(Drop)]
 pub struct MemoryClock<'a> {
     left: &'a [u64],
@@ -24,8 +24,8 @@ impl<'a> Model for MemoryClock<'a> {
 }
 
 impl<'a> MemoryClock<'a> {
-    /// A clock that gives these readings in turn, in nanoseconds. Its call number `fails_at`, counted from 1,
-    /// fails and gives none of them; `None`: none does.
+    /// A clock that gives these readings in order, in nanoseconds. Call number `fails_at`, counted from 1, fails and
+    /// gives none of them. `None` names no call.
     pub fn new(readings: &'a [u64], fails_at: Option<u64>) -> Self
         ensures { result ≡ record { left = readings.entry.now; fails_at = fails_at; calls = 0; failures = 0 } }
     {
@@ -43,7 +43,7 @@ impl<'a> Clock for MemoryClock<'a> {
 
     ghost failed = { λ clock. clock.failures };
 
-    /// The next reading. Fails at the call that is to fail, and where no reading is left.
+    /// Gives the next reading. Fails at call number `fails_at`, and if no reading is left.
     fn read(&mut self) -> Result<u64, ClockFault>
         ensures gave { MatchResult result (λ reading. GivesNext self.old (Some reading) self.new) (λ _. GivesNext self.old None self.new) }
         ensures sound { OnOk result (self.new.failures ≡ self.old.failures) }

@@ -1,10 +1,11 @@
-//! What is known of the publications: the last one, beside the history that it ends.
+//! What is known of the publications: the last one, and the history up to it.
 //!
-//! The history has each publication, and exists in the proofs alone: in memory are what is read of the last publication
-//! and how many there are. So it takes the same few bytes however long the list is.
+//! The history has each publication, and exists in the proofs alone. In memory are only what is read of the last
+//! publication, and how many publications there are. So this takes the same few bytes however long the list is.
 //!
-//! A publication is added by a pen, which it uses up, and it names the pen for the next one. Both exist in the proofs
-//! alone. There is one pen for the next publication of a source, and its teller has it.
+//! A pen is the right to add one publication. Adding it uses up the pen, and names the pen for the next publication.
+//! Pens exist in the proofs alone. In contracts a `source` is a chain of the history: the publications of one teller.
+//! There is one pen for the next publication of a source, and the teller has it.
 
 ghost use Rattle.std.specs.Prelude.{◌≡◌, ◌-◌, ◌<◌, ◌^◌, ◌++◌, ◌∷◌, [], ◌↔◌, length, IsTrue};
 ghost use mathlib.Core.List.{IsPrefix};
@@ -39,7 +40,7 @@ impl Rule<Entry, u64> for Law {
     ghost moves = { λ ask before after answer. Unit {0} };
 }
 
-/// Nothing is traded.
+/// What the update of a client gains: nothing.
 pub struct Nothing;
 
 impl Gain<Entry, u64> for Nothing {
@@ -74,7 +75,7 @@ impl Play<Entry, u64> for Add {
     ghost then = { Adds };
 }
 
-/// A publication that is to be added, beside what tells its chain, and the pen for the next one.
+/// What the step [`Add`] asks: a publication to add, what names its chain, and the pen for the next publication.
 #[derive(Drop)]
 pub struct Asked<'a> {
     pub item: &'a Fused,
@@ -91,7 +92,7 @@ impl<'a> Plain<Asked<'a>, Entry, u64> for Add {
     ghost state = { λ asked. None };
 }
 
-/// A pen for a chain of its own, which has no publication.
+/// A pen for a new chain, which has no publication.
 fn new_pen(word: &Word<Entry, u64, Law>, seen: &mut Seen<Entry, u64, Law>) -> Pen
     requires { word.now ≡ word_of seen.old.book }
     ensures book { (seen.new.book ≡ seen.old.book) × (result.book ≡ seen.old.book) }
@@ -105,8 +106,9 @@ fn new_pen(word: &Word<Entry, u64, Law>, seen: &mut Seen<Entry, u64, Law>) -> Pe
     pen
 }
 
-/// The history of one source, with the pen for its next publication. So nobody else can have added one, and what is
-/// known of it is all of it. Contracts see the source and the list of publications, oldest first.
+/// The history of one source, with the pen for its next publication. So nobody else can have added a publication, and
+/// what is known of the source is all of it. In contracts it is the `source` and the list of its publications, oldest
+/// first.
 #[derive(Drop)]
 pub struct History {
     word: Word<Entry, u64, Law>,
@@ -130,7 +132,7 @@ impl Model for History {
 }
 
 impl History {
-    /// With this publication behind the others.
+    /// The history with this publication at its end.
     fn with(self, item: &Fused) -> History
         ensures { result ≡ record self { items = self.items ++ item.now ∷ [] } }
     {
@@ -158,7 +160,8 @@ impl History {
     }
 }
 
-/// What is known of the publications of one source. Contracts see the source and the list of them, oldest first.
+/// What is known of the publications of one source. In contracts it is the `source` and the list of these publications,
+/// oldest first.
 #[derive(Drop)]
 pub struct Latest {
     last: Option<FusedSpan>,
@@ -181,7 +184,7 @@ impl Model for Latest {
 }
 
 impl Latest {
-    /// A source of its own, of which nothing is published.
+    /// A new source, which has no publication: its history, and what is known of it.
     pub fn open() -> (History, Latest)
         ensures history { result.0 ≡ result.1 }
         ensures none { result.1.items ≡ [] }
@@ -219,7 +222,7 @@ impl Latest {
         self.number
     }
 
-    /// Whether the clock of a publication is below that of the last one.
+    /// Whether the clock reading of this publication is below the clock reading of the last one.
     pub fn goes_back(&self, next: &Fused) -> bool
         ensures { IsTrue result ↔ GoesBack self.now.items next.now }
     {
@@ -229,7 +232,7 @@ impl Latest {
         }
     }
 
-    /// An equal one.
+    /// An equal value.
     pub fn copied(&self) -> Latest
         ensures { result ≡ self.now }
     {
@@ -241,7 +244,7 @@ impl Latest {
         }
     }
 
-    /// Takes in what the other knows, where that is more.
+    /// Learns what the other knows, if the other knows more.
     pub fn learn(&mut self, other: &Latest)
         requires { other.now.source ≡ self.old.source }
         ensures source { self.new.source ≡ self.old.source }
@@ -255,7 +258,7 @@ impl Latest {
         }
     }
 
-    /// The history with this publication behind the others, and what is known then.
+    /// The history with this publication at its end, and what is known then.
     pub fn extended(&self, history: History, next: &Fused) -> (History, Latest)
         requires history { history ≡ self.now }
         requires room { length self.now.items < 2 ^ 64 - 1 }

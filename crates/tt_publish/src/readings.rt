@@ -73,9 +73,9 @@ pub struct FusedSpan {
 }
 
 impl FusedSpan {
-    /// The reading when the clock shows `clock`, in nanoseconds, on a machine whose clock has this drift: the
-    /// fused span, aged by what the clock has gone on since. Refuses with 802 `ClockBack` where `clock` is below
-    /// that of the fusion, or above [`MAX_TIME`].
+    /// The reading when the clock shows `clock`, in nanoseconds, on a machine whose clock has this drift: the fused
+    /// span, aged by what the clock has gone on since the fusion. Refuses with 802 `ClockBack` if `clock` is below the
+    /// clock reading of the fusion, or above [`MAX_TIME`].
     pub fn read_at(&self, drift: Drift, clock: u64) -> Result<Reading, ReadFault>
         ensures answered { IsOk result ↔ CanBeReadAt self.now clock }
         ensures value { IfOk result (λ reading. reading ≡ reading_at drift self.now clock) }
@@ -88,7 +88,7 @@ impl FusedSpan {
     }
 }
 
-/// What can be read at a clock reading: a fusion with its certificate.
+/// A fusion with its certificate, which can be read at a clock reading.
 pub trait ReadAt {
     /// What is read of it.
     ghost fused_span: { Self → FusedSpan };

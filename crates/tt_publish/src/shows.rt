@@ -1,4 +1,4 @@
-//! How the latest is shown to many watches: two copies of it, of which readers take one with no lock.
+//! How a [`Latest`] is shown to many watches. There are two copies of it, and readers take one without a lock.
 
 ghost use Rattle.std.specs.Prelude.{◌≡◌, ◌<◌, ◌^◌, [], drop, Some, IfOk, IfSome, MatchResult};
 ghost use mathlib.Core.List.{IsPrefix};
@@ -24,20 +24,20 @@ impl Absorb<Latest> for Latest {
 
     ghost never_fails = { Unit {0} };
 
-    /// Knows what the operation knows.
+    /// Replaces what is known by what the operation knows.
     fn absorb_first(&mut self, operation: &Latest, _other: &Latest) -> Result<(), AllocError> {
         *self = operation.copied();
         Ok(())
     }
 
-    /// The same, with no further copy.
+    /// The same, without a further copy.
     fn absorb_second(&mut self, operation: Latest, _other: &Latest) -> Result<(), Latest> {
         *self = operation;
         Ok(())
     }
 }
 
-/// The rule of what is shown: all that those at it know is of one source.
+/// The rule of what is shown: all that the writer and the readers know is of one `source`.
 pub struct OneSource;
 
 impl Protocol<Latest, Option<Latest>> for OneSource {
@@ -58,7 +58,7 @@ impl Outcome<Latest, Option<Latest>> for See {
     ghost then = { Sees };
 }
 
-/// What the writer knows, told to a reader.
+/// How the writer tells a reader what it knows.
 pub struct Tell;
 
 impl Split<Option<Latest>> for Tell {
@@ -75,16 +75,16 @@ impl Join<Option<Latest>> for Tell {
     ghost spent = { None };
 }
 
-/// A watch's side of what is shown: it looks at one of the two copies, with no lock.
+/// The access of a watch to what is shown. It looks at one of the two copies, without a lock.
 pub type LatestReader = Reader<Latest, Option<Latest>, OneSource>;
 
-/// A teller's side of what is shown: it changes the copy that is not shown, and then shows that one.
+/// The access of a teller to what is shown. It changes the copy that is not shown, and then shows this copy.
 pub type LatestWriter = Writer<Latest, Latest, Option<Latest>, OneSource>;
 
 /// A writer that shows these publications to at most `readers` readers.
 ///
-/// It shows them twice. A writer keeps at most two operations at a time, so room for all later ones is taken
-/// here.
+/// It shows them twice. A writer keeps at most two operations at a time, so the memory for all later operations is
+/// taken here.
 pub fn writer_of<R: Wait>(
     rt: &R,
     alloc: Global,
@@ -113,7 +113,7 @@ pub fn writer_of<R: Wait>(
     }
 }
 
-/// Shows these publications. Where an allocation failed, the writer shows what it showed before.
+/// Shows these publications. If an allocation failed, the writer shows what it showed before.
 pub fn show<R: Wait>(
     rt: &R,
     mut writer: LatestWriter,
@@ -131,7 +131,7 @@ pub fn show<R: Wait>(
     }
 }
 
-/// A reader of what the writer shows. None where no reader slot is free.
+/// A reader of what the writer shows. None if no reader slot is free.
 pub fn reader_of(writer: &mut LatestWriter) -> Option<LatestReader>
     ensures reader { IfSome result (λ reader. view reader.place ≡ view writer.old.desk.place) }
     ensures shows { writer.new.desk.shown.value ≡ writer.old.desk.shown.value }
@@ -143,7 +143,7 @@ pub fn reader_of(writer: &mut LatestWriter) -> Option<LatestReader>
     Some(reader)
 }
 
-/// Looks at what is shown, and takes it in where it knows more. Where the writer is gone, nothing is taken in.
+/// Looks at what is shown, and learns it if it is more than `latest` knows. If the writer is gone, nothing is learned.
 pub fn look(reader: LatestReader, latest: &mut Latest) -> LatestReader
     requires { source_of (view reader.place) ≡ Some latest.old.source }
     ensures place { source_of (view result.place) ≡ Some latest.old.source }

@@ -1,4 +1,4 @@
-//! What publishes, and what it tells.
+//! The teller, which publishes, and what it tells.
 
 ghost use Rattle.std.specs.Prelude.{◌≡◌, ◌<◌, ◌↔◌, ◌⊎◌, ◌++◌, ◌∷◌, [], length, vec_len, All, IfOk, IfSome, OnOk, OnErr, IsErrOf};
 ghost use Rattle.tt_publish.specs.Known.{GoesBack, max_watches};
@@ -16,12 +16,12 @@ use tt_span::Drift;
 /// The most watches that one teller can show its publications to.
 pub const MAX_WATCHES: usize = 32;
 
-/// The writer's end: publishes the fusions of a machine. Contracts see its source and the list of what it has
-/// published, oldest first; its invariant says that this is what its watches are shown.
+/// Publishes the fusions of a machine. In contracts it is its `source`, which says whose publications these are, and
+/// the list of what it has published, oldest first. Its invariant says that its watches are shown this list.
 ///
-/// It has no drop: end it by [`close`](Teller::close).
+/// It has no `Drop`: end it by [`close`](Teller::close).
 pub struct Teller {
-    /// None once an allocation failed: then the history has a publication that no watch is shown.
+    /// None once an allocation failed. Then the history has a publication that no watch is shown.
     history: Option<History>,
     latest: Latest,
     /// Present between calls.
@@ -45,7 +45,7 @@ impl Model for Teller {
         × (source_of (seen_at writer.desk.place) ≡ Some t.latest.source)) };
 }
 
-/// What a teller had published when it was asked. Contracts see the source and the list, oldest first.
+/// What a teller had published when it was asked. In contracts it is the teller's `source` and the list, oldest first.
 #[derive(Drop)]
 pub struct Told {
     latest: Latest,
@@ -61,8 +61,8 @@ impl Model for Told {
 
 /// A teller that has published nothing, and `readers` watches of it, for machines whose clock has this drift.
 ///
-/// Refuses with 804 `Places` where `readers` is 0 or above [`MAX_WATCHES`], or no reader slot is free, and with
-/// 1 `Memory` where an allocation failed. It waits for no other thread.
+/// Refuses with 804 `Places` if `readers` is 0 or above [`MAX_WATCHES`], or if no reader slot is free, and with 1
+/// `Memory` if an allocation failed. It waits for no other thread.
 pub fn open<R: Wait>(
     rt: &R,
     alloc: Global,
@@ -99,15 +99,16 @@ pub fn open<R: Wait>(
 impl Teller {
     /// Publishes a fusion: from now on the watches read it.
     ///
-    /// Refuses, in this order: 802 `ClockBack` where its clock is below that of the last publication, 805 `UsedUp`
-    /// where 2^64 - 1 publications were made, 1 `Memory` where an allocation failed. Then nothing is published, the
-    /// watches are shown what they were shown before, and the fusion is dropped. It may wait for watches that are
-    /// still looking at the publication before the last.
+    /// Refuses, in this order: 802 `ClockBack` if its clock reading is below the clock reading of the last publication,
+    /// 805 `UsedUp` if 2^64 - 1 publications were made, 1 `Memory` if an allocation failed. After a refusal nothing is
+    /// published, the watches are shown what they were shown before, and the fusion is dropped. It may wait for watches
+    /// that are still looking at the publication before the last.
     ///
-    /// Nobody else can have added a publication in between: that takes a pen, which this teller alone has. So 1 has no
-    /// other cause than an allocation that failed, in this call or in an earlier one: after one, each later call that is
-    /// not rejected with 802 or 805 answers `Memory` too. [`open`](crate::open) takes the room for the two operations
-    /// that are ever kept, so `publish` does not allocate. No clause says so; runs with failing allocations show it.
+    /// Nobody else can have added a publication in between: that takes a pen, and only this teller has it. So the only
+    /// cause of 1 is an allocation that failed, in this call or in an earlier one. After such a failure, each later
+    /// call that is not rejected with 802 or 805 answers `Memory` too. [`open`](crate::open) takes the memory for the
+    /// two operations that are ever kept, so `publish` does not allocate. No clause says so; runs with failing
+    /// allocations show it.
     pub fn publish<R: Wait>(&mut self, rt: &R, fused: Fused) -> Result<(), PublishFault>
         ensures published { OnOk result (self.new ≡ record self.old { items = self.old.items ++ fused ∷ [] }) }
         ensures unchanged { OnErr result (self.new ≡ self.old) }
@@ -127,7 +128,8 @@ impl Teller {
         };
         let (history, next) = self.latest.extended(history, &fused);
         let (writer, shown) = show(rt, self.writer.take().unwrap(), &next);
-        // The writer was taken out above, so the place is empty. What `replace` gives has no drop, so it is asked for.
+        // The writer was taken out above, so `replace` gives None. What it may give has no `Drop`, so this has to match
+        // on it.
         if let Some(other) = self.writer.replace(writer) {
             other.take(rt);
         }
@@ -139,7 +141,7 @@ impl Teller {
         Ok(())
     }
 
-    /// What is published.
+    /// What is published so far.
     pub fn tell(&self) -> Told
         ensures { result ≡ self.now }
     {
@@ -148,7 +150,7 @@ impl Teller {
         }
     }
 
-    /// Ends the teller. Its watches keep what they have seen. It waits for those that are looking.
+    /// Ends the teller. Its watches keep what they have seen. It waits for the watches that are looking.
     pub fn close<R: Wait>(self, rt: &R) {
         let Teller {
             history: _history,
@@ -158,7 +160,7 @@ impl Teller {
         writer.unwrap().take(rt);
     }
 
-    /// This many watches. Each has seen what this teller has published.
+    /// `readers` watches. Each has seen what this teller has published.
     fn watches(
         &mut self,
         alloc: Global,

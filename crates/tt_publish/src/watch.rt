@@ -1,4 +1,4 @@
-//! What reads the publications.
+//! The watch, which reads the publications.
 
 ghost use Rattle.std.specs.Prelude.{◌≡◌, Some};
 ghost use mathlib.Core.List.{IsPrefix};
@@ -16,10 +16,11 @@ use crate::teller::Told;
 use std::marker::Model;
 use tt_span::Drift;
 
-/// The reader's end, for one thread. It keeps the last publication that it has seen.
+/// Reads the publications of a teller, in one thread. It keeps the last publication that it has seen.
 ///
-/// Contracts see its source, the drift of the clock that it reads by, and the list of what it has seen, oldest
-/// first. It never waits and never allocates, and may be moved to another thread.
+/// In contracts it is its `source`, which says whose publications it reads, the drift of the clock that it reads by,
+/// and the list of what it has seen, oldest first. It never waits and never allocates. It may be moved to another
+/// thread.
 #[derive(Drop)]
 pub struct Watch {
     /// Present between calls.
@@ -42,7 +43,7 @@ impl Model for Watch {
 }
 
 impl Watch {
-    /// A watch that has seen what the latest knows.
+    /// A watch that has seen what `latest` knows.
     pub(crate) fn over(reader: LatestReader, latest: Latest, drift: Drift) -> Watch
         requires { source_of (view reader.place) ≡ Some latest.source }
         ensures { result ≡ record { source = latest.source; drift = drift; items = latest.items } }
@@ -54,8 +55,8 @@ impl Watch {
         }
     }
 
-    /// Takes in what a teller told. From now on the watch reads no older publication. Requires: both came from one
-    /// call of [`open`](crate::open).
+    /// Learns what a teller told. From now on the watch reads no older publication. Requires: the watch and the teller
+    /// came from one call of [`open`](crate::open).
     pub fn learn(&mut self, told: &Told)
         requires { told.now.source ≡ self.old.source }
         ensures same { (self.new.source ≡ self.old.source) × (self.new.drift ≡ self.old.drift) }
@@ -64,13 +65,13 @@ impl Watch {
         self.latest.learn(told.latest());
     }
 
-    /// A reading of the last publication at what the clock shows, aged by the drift that
-    /// [`open`](crate::open) was given.
+    /// The reading of the last publication at what the clock shows, aged by the drift that [`open`](crate::open) was
+    /// given.
     ///
-    /// Looks first at what is published, and keeps what it saw before where its teller is closed. Refuses, in
-    /// this order: 801 `Nothing` where nothing was published so far, and then the clock is not read; 803
-    /// `ClockFailed` where the clock gave no reading; 802 `ClockBack` where the clock is below that of the
-    /// publication, or above the greatest time. A refused call may have seen more.
+    /// First it looks at what is published. If the teller is closed, the watch keeps what it saw before. Refuses, in
+    /// this order: 801 `Nothing` if nothing was published so far, and then the clock is not read; 803 `ClockFailed` if
+    /// the clock gave no reading; 802 `ClockBack` if the clock reading is below the clock reading of the publication,
+    /// or above the greatest time. After a refusal the watch may have seen more.
     pub fn now<C: Clock>(&mut self, clock: &mut C) -> Result<Reading, ReadFault>
         ensures looks { Looks C.gives C.failed self.old clock.old result self.new clock.new }
     {

@@ -1,4 +1,4 @@
-//! The laws of steps, of the courses of rounds, of tales, of what is assumed of sources, and of readings.
+//! The laws of steps, of the course of rounds, of tales, of the assumptions on sources, and of readings.
 
 ghost use Rattle.std.specs.Prelude.{◌≡◌, ℕ, ◌<◌, ◌≤◌, ◌+◌, ◌-◌, ◌^◌, List, [], ◌∷◌, ◌++◌, map, length, Result, IfOk};
 ghost use Rattle.std.specs.List.{AllByRecursion};
@@ -32,54 +32,57 @@ ghost use Rattle.tt_runs.specs.Tale.{AreOf, AreOfTime, BeginsLife, HeldTrueTime,
 
 use tt_publish::Clock;
 
-/// Laws of the steps of a machine's daemon in a run. A life has nonces for no more than 2^64 - 1 polls.
+/// Laws of the steps of a machine's daemon in a run of the model. A life has nonces for at most 2^64 - 1 polls.
 pub fn step_laws()
-    // After every list of events, of whatever actions, daemon and publications of a machine are what the steps of its
-    // life make of a new daemon that has published nothing. Nothing is assumed of times, clocks and sources.
+    // After every list of events, with any actions, the daemon and the publications of a machine are what the steps of
+    // its life make of a new daemon that has published nothing. Nothing is assumed about times, clocks and sources.
     ensures made_by_steps { (configs : List Configuration) (events : List Event) (m : ℕ) →
         sends_now (accepted configs events) m < 2 ^ 64 →
         kept_at configs (accepted configs events) m
         ≡ after_steps (new_kept (config_at configs m) m (life_of (accepted configs events) m)) (steps_in (accepted configs events) m) }
 
-    // Events that follow others, in the same life of the machine and none of them bad, make of what was kept what their
-    // steps make of it.
+    // Let events follow a base, in the same life of the machine, and let no event be bad. Then the daemon and the
+    // publications after these events are what their steps make of the daemon and the publications after the base.
     ensures goes_on_by_steps { (configs : List Configuration) (base events : List Event) (m : ℕ) (steps : List Step) →
         accepted configs (events ++ base) ≡ events ++ base → life_of (events ++ base) m ≡ life_of base m →
         steps_in (events ++ base) m ≡ steps ++ steps_in base m → sends_now (events ++ base) m < 2 ^ 64 →
         kept_at configs (events ++ base) m ≡ after_steps (kept_at configs base m) steps }
 {}
 
-/// Laws of the steps of the course of a daemon's rounds.
+/// Laws of the steps in the course of a daemon's rounds.
 pub fn round_laws()
-    // Wherever the rounds begin and whatever is given, failures included: what they leave of daemon and publications is
-    // what their steps make of it.
+    // The rounds may begin with any daemon and any publications. The clock, the link and the memory may give anything,
+    // failures included. The rounds leave the daemon and the publications as their steps make them.
     ensures made_by_steps { (rounds turns : ℕ) (stand : Stand) (given : Given) →
         IsMadeBy (kept_in stand) (rounds_steps rounds turns stand given) (rounds_of rounds turns stand given) }
 
-    // So a call whose course the rounds are, as `daemon_rounds` says of itself, left what their steps make.
+    // So each call that did the course of these rounds left what their steps make. `daemon_rounds` promises that it is
+    // such a call.
     ensures call_made_by_steps { (rounds turns : ℕ) (given : Given) (exchanges : List Exchange) (from to : List Exchange → Stand)
         (answer : Result (Unit {0}) NodeFault) → Leads (rounds_of rounds turns) given exchanges from to answer →
         kept_in (to exchanges) ≡ after_steps (kept_in (from [])) (rounds_steps rounds turns (from []) given) }
 {}
 
-/// Laws of tales, of machines that are there, after a base: any events none of which is bad.
+/// Laws of tales, for the machines that are configured, after a base. A base is any list of events in which no event is
+/// bad.
 pub fn tale_laws()
-    // There is a base for each life: after so many restarts, at one true time and one clock reading, a machine begins the
-    // life of the next number with a new daemon. A tale that begins then goes on from there.
+    // There is a base for each life. After `lives` restarts, at one true time and one clock reading, a machine begins
+    // the life with the next number. Its daemon is new. A tale that begins then goes on from there.
     ensures begins_life { (configs : List Configuration) (m at clock lives : ℕ) →
         m < length configs → at ≤ max_time → clock ≤ max_time → lives < 2 ^ 64 - 1 →
         BeginsLife configs m (lives + 1) at clock (restarts_of m at clock lives) }
 
-    // A tale in which neither true times nor clock readings fall, those of the base included, is a run of the model: no
-    // event of it is bad, and the machine makes just its steps, at just its moments. Nothing is assumed of what the
-    // sources answer.
+    // If neither true times nor clock readings fall, from the end of the base on, a tale is a run of the model. No
+    // event of it is bad. The machine makes exactly the steps of the tale, at exactly its moments. Nothing is assumed
+    // about the answers of the sources.
     ensures is_run { (configs : List Configuration) (m : ℕ) (base : List Event) (tale : List Timed) →
         m < length configs → accepted configs base ≡ base → AreOf (config_at configs m).sources (steps_told tale) →
         IsTale (time_of base) (clock_of base (life_at base m)) tale →
         IsRunOf configs m base (events_of base m tale) (steps_told tale) (moments_told tale) }
 
-    // So the rounds of a call, told with any true times and any answers of the sources, are a run of the model that
-    // leaves the machine the same daemon and the same publications, where it had those with which the call began.
+    // So the rounds of a call, with any true times and any answers of the sources, are a run of the model. If the
+    // machine had the daemon and the publications with which the call began, the run leaves it the daemon and the
+    // publications that the call left.
     ensures rounds_are_run { (configs : List Configuration) (m : ℕ) (base : List Event) (tale : List Timed) (rounds turns : ℕ) (given : Given)
         (exchanges : List Exchange) (from to : List Exchange → Stand) (answer : Result (Unit {0}) NodeFault) →
         m < length configs → accepted configs base ≡ base → kept_at configs base m ≡ kept_in (from []) →
@@ -90,10 +93,10 @@ pub fn tale_laws()
         × (kept_at configs (events_of base m tale ++ base) m ≡ kept_in (to exchanges)) }
 
     // So, under the assumptions of the model, each publication of such a call held the true time at a moment of the
-    // machine's life at which the clock showed the reading of the publication. The assumptions: the clock keeps its drift
-    // bound over the moments of the tale and those of the life before; and at each fusion no more of the packets that were
-    // taken last, one for each source, were made up, or are answers that did not hold the true time when they were given,
-    // than may be false.
+    // machine's life at which the clock showed the reading of the publication. There are two assumptions. The clock
+    // keeps its drift bound over the moments of the tale and the earlier moments of the life. At each fusion at most f
+    // of the packets that were taken last, one from each source, are false. A packet is false if it was made up, or if
+    // it is an answer that did not hold the true time when it was given.
     ensures publications_hold { (configs : List Configuration) (m : ℕ) (base : List Event) (tale : List Timed) (rounds turns : ℕ) (given : Given)
         (exchanges : List Exchange) (from to : List Exchange → Stand) (answer : Result (Unit {0}) NodeFault) →
         m < length configs → accepted configs base ≡ base → kept_at configs base m ≡ kept_in (from []) →
@@ -105,32 +108,32 @@ pub fn tale_laws()
         AllByRecursion (HeldTrueTime (moments_told tale ++ moments_of base (life_at base m))) (kept_in (to exchanges)).published }
 {}
 
-/// Laws of what is assumed of the sources of a running daemon, told without the events of the model. A machine is in the
-/// life of this number since the true time `at`, at which its clock showed `clock`.
+/// Laws of the assumptions on the sources of a running daemon, stated without the events of the model. The machine is
+/// in the life with this number since the true time `at`, at which its clock showed `clock`.
 pub fn assumption_laws()
-    // If at each fusion of a tale few sources are faulty, then in its events few lie, as the model assumes. The tale may
-    // follow any base after which the machine begins the life.
+    // If at most f sources are faulty at each fusion of a tale, then at most f of them lie in its events, as the model
+    // assumes. The tale may follow any base after which the machine begins the life.
     ensures few_lie { (configs : List Configuration) (m number at clock : ℕ) (base : List Event) (tale : List Timed) →
         m < length configs → BeginsLife configs m number at clock base → AreOf (config_at configs m).sources (steps_told tale) →
         IsTale (time_of base) (clock_of base (life_at base m)) tale → sends_now (events_of base m tale ++ base) m < 2 ^ 64 →
         FewFaulty (config_at configs m) (record { machine = m; number = number }) tale → FewLie configs (events_of base m tale ++ base) }
 
-    // And the other way round: the tale asks no more of the sources than the model does.
+    // The converse: what is assumed about the sources of a tale is no more than the model assumes.
     ensures few_are_faulty { (configs : List Configuration) (m number at clock : ℕ) (base : List Event) (tale : List Timed) →
         m < length configs → BeginsLife configs m number at clock base → AreOf (config_at configs m).sources (steps_told tale) →
         IsTale (time_of base) (clock_of base (life_at base m)) tale →
         sends_now (events_of base m tale ++ base) m < 2 ^ 64 → FewLie configs (events_of base m tale ++ base) →
         FewFaulty (config_at configs m) (record { machine = m; number = number }) tale }
 
-    // What calls that are made in turn leave of daemon and publications is what their steps make of what the first of
-    // them began with. So one tale tells all of them, whatever their answers were.
+    // Take calls that are made one after the other. They leave the daemon and the publications that their steps make of
+    // what the first call began with. So one tale covers all these calls, whatever their answers were.
     ensures calls_made_by_steps { (begun : Kept) (calls : List RoundsCall) →
         AreInTurn begun calls → kept_after begun calls ≡ after_steps begun (calls_steps calls) }
 
-    // So each publication of such calls, of which the first began with a new daemon, held the true time at a moment of
-    // the life at which the clock showed the reading of the publication, if in the tale of all their steps true times
-    // and clock readings do not fall, the clock keeps its drift bound, and at each fusion few sources are faulty. The
-    // model stands in none of these premises.
+    // So let the first of such calls begin with a new daemon. In the tale of all their steps let true times and clock
+    // readings not fall, let the clock keep its drift bound, and let at most f sources be faulty at each fusion. Then
+    // each publication of the calls held the true time at a moment of the life at which the clock showed the reading of
+    // the publication. No premise of this law names the model.
     ensures publications_hold { (config : Configuration) (m at clock lives : ℕ) (tale : List Timed) (calls : List RoundsCall) →
         at ≤ max_time → clock ≤ max_time → lives < 2 ^ 64 - 1 → IsConfiguration config →
         AreInTurn (new_kept config m (lives + 1)) calls → steps_told tale ≡ calls_steps calls →
@@ -139,7 +142,7 @@ pub fn assumption_laws()
         FewFaulty config (record { machine = m; number = lives + 1 }) tale →
         AllByRecursion (HeldTrueTime (moments_told tale ++ record { clock = clock; time = at } ∷ [])) (kept_after (new_kept config m (lives + 1)) calls).published }
 
-    // The same after any base after which the machine begins the life, other machines in it included.
+    // The same holds after any base after which the machine begins the life. The base may have other machines too.
     ensures publications_hold_after { (configs : List Configuration) (m number at clock : ℕ) (base : List Event) (tale : List Timed) (calls : List RoundsCall) →
         m < length configs → BeginsLife configs m number at clock base → AllByRecursion (λ event. IsAction event.action) base →
         IsConfiguration (config_at configs m) → AreInTurn (new_kept (config_at configs m) m number) calls → steps_told tale ≡ calls_steps calls →
@@ -149,18 +152,19 @@ pub fn assumption_laws()
         AllByRecursion (HeldTrueTime (moments_told tale ++ record { clock = clock; time = at } ∷ [])) (kept_after (new_kept (config_at configs m) m number) calls).published }
 {}
 
-/// Laws of readings of publications that held the true time, as those of `tale_laws` did: by the clock of their machine,
-/// at a true time that is no earlier than the publication.
+/// Laws of readings. The readings are made from publications that held the true time, as in `tale_laws`, by the clock
+/// of their machine, at a true time that is no earlier than the publication.
 pub fn reading_laws<C: Clock>()
-    // Such a reading holds the true time of its own moment, where the clock keeps its drift bound over that moment too.
+    // If the clock keeps its drift bound over the moment of such a reading too, the reading holds the true time of this
+    // moment.
     ensures reading_holds { (ppm : ℕ) (moments : List Moment) (publication : FusedSpan) (clock time : ℕ) →
         HeldTrueTime moments publication → KeepsDrift ppm (record { clock = clock; time = time } ∷ moments) →
         IsNoEarlier moments publication time → time ≤ max_time → CanBeReadAt publication clock →
         Holds (reading_at ppm publication clock) time }
 
-    // So each reading that a watch gives holds the true time, if what the watch has seen begins what was published: that
-    // is what `Watch::now` answers, and a worker's and a station's `now`, `begin` and `pass` look by it. Watches are read
-    // in any order, and one may have seen less than was published.
+    // So each reading that a watch gives holds the true time, if what the watch has seen is a first part of what was
+    // published. `Watch::now` answers such a reading. The calls `now`, `begin` and `pass` of a worker or a station take
+    // their readings by it. Watches are read in any order, and a watch may have seen less than was published.
     ensures look_holds { (old new : WatchState) (before after : C) (answer : Result Interval ReadFault) (moments : List Moment)
         (published : List FusedSpan) (time : ℕ) →
         Looks C.gives C.failed old before answer new after → AllByRecursion (HeldTrueTime moments) published →

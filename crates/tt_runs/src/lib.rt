@@ -1,10 +1,12 @@
-//! The rounds of a running daemon as a run of the model.
+//! The rounds of a running daemon as a run of the model of true time (`tt_world`).
 //!
-//! What a daemon does at the readings of its clock is a list of steps: it polls a source, takes some bytes, or fuses. Both
-//! the events of the model and the course of a daemon's rounds have such a list, and either leaves just what its steps
-//! make of a daemon and its publications. A tale puts the steps in the order of true time among the answers that the
-//! sources gave; it has events of the model, in which each packet that came is the answer that had its bytes, given when
-//! the tale says so, or else was made up.
+//! A daemon makes steps. A step is what it does at a reading of its clock: it polls a source, takes some bytes, or
+//! fuses. The events of the model have a list of steps, and the course of a daemon's rounds has one too. Both leave the
+//! daemon and its publications exactly as these steps make them.
+//!
+//! A tale is a list of what happened, in the order of true time: the steps of the daemon, and the answers that the
+//! sources gave. It has events in the model. In these events each packet that came is the answer with the same bytes,
+//! given when the tale says so. If there is no such answer, the packet was made up.
 //!
 //! - `laws`: `step_laws`, `round_laws`, `tale_laws`, `assumption_laws` and `reading_laws`.
 #![tactic(auto)]

@@ -1,22 +1,22 @@
-//! Machines, spans and events, in few words. Times and clocks are in nanoseconds.
+//! Short calls that make machines, spans and events. Times and clock readings are in nanoseconds.
 
 use tt_daemon::{Config, Fused};
 use tt_span::{Drift, Span};
 use tt_stamp::Id;
 use tt_world::{Action, Event};
 
-/// A machine of so many sources, of which so many may be faulty, with a drift in parts per million, and so many workers;
-/// none where there is no such machine.
+/// The configuration of a machine: how many sources it has, how many of them may be faulty, its drift in parts per
+/// million, and how many workers it has. None where there is no such machine.
 pub fn machine(sources: usize, faulty: usize, drift: u32, workers: usize) -> Option<Config> {
     Config::new(sources, faulty, Drift::new(drift)?, workers).ok()
 }
 
-/// The span of these ends, or the whole of time where it has none such.
+/// The span with these ends, or the whole of time if there is no such span.
 pub fn span(lo: u64, hi: u64) -> Span {
     Span::new(lo, hi).unwrap_or(Span::whole())
 }
 
-/// The fusion of one source that states this span, at clock 0.
+/// The fusion of one source that states this span, at clock reading 0.
 pub fn fused(lo: u64, hi: u64) -> Option<Fused> {
     Fused::make(0, &[span(lo, hi)], 0).ok()
 }
@@ -31,7 +31,7 @@ pub fn send(at: u64, machine: u8, source: u8, clock: u64) -> Event {
     Event { at, action }
 }
 
-/// The source of a request answers it by a span.
+/// The source of a request answers it with a span.
 pub fn answer(at: u64, packet: u64, lo: u64, hi: u64) -> Event {
     let action = Action::Answer {
         packet,
@@ -86,13 +86,13 @@ pub fn queue(at: u64, machine: u8, worker: u8) -> Event {
     Event { at, action }
 }
 
-/// A worker releases what its last reading allows.
+/// A worker releases the commits that its last reading allows.
 pub fn release(at: u64, machine: u8, worker: u8) -> Event {
     let action = Action::Release { machine, worker };
     Event { at, action }
 }
 
-/// A machine begins a new life, with its clock anywhere.
+/// A machine begins a new life, with any clock reading.
 pub fn restart(at: u64, machine: u8, clock: u64) -> Event {
     let action = Action::Restart { machine, clock };
     Event { at, action }

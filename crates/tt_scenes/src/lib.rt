@@ -1,5 +1,5 @@
-//! What the crates of tests, the memory sweep and the bench have in common: machines and events in few words, and runs that
-//! were worked out by hand.
+//! What the crates of tests, the memory sweep and the bench share: short calls that make machines and events, and runs
+//! that were worked out by hand.
 //!
 //! Modules:
 //!

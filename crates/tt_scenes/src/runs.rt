@@ -1,4 +1,4 @@
-//! Two worked runs as events, for what may not take memory for a script.
+//! Two worked runs as events, for programs that may not allocate memory for a script.
 
 use crate::events::{answer, arrive, deliver, fuse, queue, read, release, send, stamp};
 use tt_world::Event;

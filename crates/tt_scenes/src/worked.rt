@@ -3,7 +3,7 @@
 /// A run with the texts that belong to it.
 #[derive(Clone, Copy)]
 pub struct WorkedRun {
-    /// The script, as docs/FORMATS.md has it.
+    /// The script, in the format of docs/FORMATS.md.
     pub script: &'static str,
     /// A line for each event: its number, the event, an arrow, and its reply.
     pub trace: &'static str,
@@ -11,7 +11,7 @@ pub struct WorkedRun {
     pub report: &'static str,
 }
 
-/// All of them.
+/// All worked runs.
 pub const WORKED_RUNS: [WorkedRun; 10] = [
     COMMIT_WAIT,
     ONE_LIAR,
@@ -25,7 +25,8 @@ pub const WORKED_RUNS: [WorkedRun; 10] = [
     LAST_TIME,
 ];
 
-/// A commit of the first machine is released before one arrives at the second, which is stamped later.
+/// A commit of the first machine is released before a commit arrives at the second machine. The second commit has a
+/// later stamp.
 pub const COMMIT_WAIT: WorkedRun = WorkedRun {
     script: r#"event = [
   { do = "send", at = 150, machine = 0, source = 0, clock = 0 },
@@ -92,7 +93,7 @@ premise kept
 "#,
 };
 
-/// One of three sources is wrong about the time 50, as one may be.
+/// One of three sources is wrong about the time 50, and one may be wrong.
 pub const ONE_LIAR: WorkedRun = WorkedRun {
     script: r#"event = [
   { do = "send", at = 50, machine = 0, source = 0, clock = 0 },
@@ -138,7 +139,7 @@ premise kept
 "#,
 };
 
-/// Two of three sources are wrong about the time 50, which is one too many.
+/// Two of three sources are wrong about the time 50, but only one may be wrong.
 pub const TWO_LIARS: WorkedRun = WorkedRun {
     script: r#"event = [
   { do = "send", at = 50, machine = 0, source = 0, clock = 0 },
@@ -229,7 +230,7 @@ premise kept
 "#,
 };
 
-/// Behind the run of one liar six events, each of which is refused for another reason.
+/// The run [`ONE_LIAR`], and then six more events. Each of the six is refused for a different reason.
 pub const REFUSED_EVENTS: WorkedRun = WorkedRun {
     script: r#"event = [
   { do = "send", at = 50, machine = 0, source = 0, clock = 0 },
@@ -287,7 +288,7 @@ premise kept
 "#,
 };
 
-/// Any one of three sources may be wrong: both ends of each reading are true in a run that looks the same.
+/// Any one of three sources may be wrong. Each end of each reading is the true time in a run that looks the same.
 pub const ANY_MAY_LIE: WorkedRun = WorkedRun {
     script: r#"event = [
   { do = "send", at = 8, machine = 0, source = 0, clock = 1000 },
@@ -334,7 +335,7 @@ premise kept
 "#,
 };
 
-/// 5,000 nanoseconds of a clock take 5,002, which is more than its drift allows.
+/// A clock shows 5,000 nanoseconds while 5,002 nanoseconds pass. This is more than its drift allows.
 pub const DRIFT: WorkedRun = WorkedRun {
     script: r#"event = [
   { do = "send", at = 100, machine = 0, source = 0, clock = 0 },
@@ -361,7 +362,7 @@ premise broken 1 0 drift
 "#,
 };
 
-/// A machine restarts; the answers to its first life are refused, and its stamps begin anew.
+/// A machine restarts. The answers to its first life are refused, and its stamps begin anew.
 pub const RESTART: WorkedRun = WorkedRun {
     script: r#"event = [
   { do = "send", at = 100, machine = 0, source = 0, clock = 0 },
@@ -434,7 +435,7 @@ premise kept
 "#,
 };
 
-/// The run of commit wait with a lease that begins later: the stamp is delayed, and nothing is released.
+/// The run [`COMMIT_WAIT`] with a lease that begins later. So the stamp is delayed, and nothing is released.
 pub const LEASE: WorkedRun = WorkedRun {
     script: r#"event = [
   { do = "send", at = 150, machine = 0, source = 0, clock = 0 },
@@ -503,7 +504,7 @@ premise kept
 "#,
 };
 
-/// A reading of which both ends are cut at the greatest time.
+/// Both ends of a reading are cut at the greatest time.
 pub const LAST_TIME: WorkedRun = WorkedRun {
     script: r#"event = [
   { do = "send", at = 3999999999999999995, machine = 0, source = 0, clock = 0 },

@@ -1,4 +1,4 @@
-//! The client of a session, at the far end of a connection.
+//! The client of a session, at the other end of a connection.
 
 ghost use Rattle.std.specs.Prelude.{◌≡◌, ◌+◌, nat_lt};
 ghost use Rattle.tt_stream.specs.Counts.{HasFailed};
@@ -15,22 +15,22 @@ use tt_session::{Deadline, Timed, TimedReader, TimedWriter};
 use tt_station::Presence;
 use tt_stream::DeviceFault;
 
-/// How long a session may last, in nanoseconds: a day.
+/// The longest time of a session, in nanoseconds: a day.
 const DAY: u64 = 86_400_000_000_000;
 
-/// What the sessions of a machine have done so far, each count modulo 2^64.
+/// Counts of what the sessions of a machine have done so far. Each count is modulo 2^64.
 #[derive(Drop)]
 pub(crate) struct Counts {
     /// The sessions that have ended.
     pub(crate) sessions: AtomicU64,
     /// The lines that were answered.
     pub(crate) lines: AtomicU64,
-    /// Those of them that were answered `refused`.
+    /// The lines that were answered `refused`.
     pub(crate) refused: AtomicU64,
 }
 
 impl Counts {
-    /// Nothing was done so far.
+    /// The counts at the start: all 0.
     pub(crate) fn new() -> Counts {
         Counts {
             sessions: AtomicU64::new(0),
@@ -40,8 +40,8 @@ impl Counts {
     }
 }
 
-/// The deadline of a session that begins when the clock shows `now`, with clients that may be silent for `idle`, in
-/// nanoseconds: a day later, and as many looks as there are slices in the time that a client may be silent.
+/// The deadline of a session that begins when the clock shows `now`, and whose client may be silent for `idle`, both in
+/// nanoseconds. It is a day later. One call tries once for each slice in `idle`, and once more.
 pub(crate) fn deadline_at(now: u64, idle: u64) -> Deadline
     ensures value { result ≡ deadline_at now idle }
 {
@@ -51,15 +51,15 @@ pub(crate) fn deadline_at(now: u64, idle: u64) -> Deadline
     }
 }
 
-/// Whether more than `most` has gone by since a clock reading, in nanoseconds.
+/// Whether more than `most` nanoseconds have passed from the clock reading `since` to the clock reading `now`.
 fn is_over(since: u64, most: u64, now: u64) -> bool
     ensures { result ≡ nat_lt (since + most) now }
 {
     now.saturating_sub(since) > most
 }
 
-/// What a session reads from: the bytes of a connection, for as long as the machine does not end and each line comes
-/// within a time. That time begins with the first read behind the line before.
+/// The reader of a session: the bytes of a connection. A read fails if the machine ends, or if a line takes longer than
+/// its time. The time of a line begins with the first read after the line before.
 #[derive(Drop)]
 pub(crate) struct LineReader<'a, R> {
     device: Timed<&'a TcpStream>,
@@ -67,7 +67,7 @@ pub(crate) struct LineReader<'a, R> {
     clock: MachineClock<'a, R>,
     /// How long a line may take, in nanoseconds.
     idle: u64,
-    /// When the time of the line began that is awaited; None where it begins with the next read.
+    /// The clock reading at which the time of the current line began. None if it begins with the next read.
     since: Option<u64>,
     failures: u64,
 }
@@ -98,7 +98,7 @@ impl<'a, R: SystemClock> LineReader<'a, R> {
         DeviceFault
     }
 
-    /// Whether no more is to be read.
+    /// Whether no more may be read: the clock failed, the machine ends, or the line took too long.
     fn is_done(&mut self) -> bool
         ensures same { self.new.failures ≡ self.old.failures }
     {
@@ -138,7 +138,7 @@ impl<'a, R: SystemClock> TimedReader for LineReader<'a, R> {
     }
 }
 
-/// What a session writes to: a connection, for as long as the machine does not end. It counts the replies.
+/// The writer of a session: a connection. A write fails if the machine ends. The writer counts the replies.
 #[derive(Drop)]
 pub(crate) struct ReplyWriter<'a> {
     device: Timed<&'a TcpStream>,
@@ -166,7 +166,7 @@ impl<'a> ReplyWriter<'a> {
         DeviceFault
     }
 
-    /// Counts a reply whose end was written.
+    /// Counts a reply whose last byte was written.
     fn count(&self, bytes: &[u8]) {
         self.counts.lines.fetch_add(1, Ordering::SeqCst);
         if bytes.starts_with(b"refused ") {
@@ -206,8 +206,9 @@ impl<'a> TimedWriter for ReplyWriter<'a> {
     }
 }
 
-/// Whether a client is still there: it has left where it has closed its side of the connection, or the connection is
-/// broken. One that has sent further bytes is there. At the end of the machine all have left.
+/// The client of a connection, and whether it is still there. It has left if it has closed its side of the connection,
+/// or if the connection is broken. A client that has sent more bytes is there. At the end of the machine all clients
+/// have left.
 #[derive(Clone, Copy)]
 pub(crate) struct Client<'a> {
     stream: &'a TcpStream,

@@ -8,7 +8,7 @@ use std::time::{Clock as SystemClock, Duration};
 use tt_publish::{Clock, ClockFault};
 use tt_span::MAX_TIME;
 
-/// A duration in nanoseconds; None above [`MAX_TIME`].
+/// A duration in nanoseconds. None if it is above [`MAX_TIME`].
 fn nanos_of(elapsed: Duration) -> Option<u64>
     ensures shown { IfSome result (λ time. (time ≡ as_nanos elapsed) × (time ≤ max_time)) }
 {
@@ -18,10 +18,11 @@ fn nanos_of(elapsed: Duration) -> Option<u64>
     if time <= MAX_TIME { Some(time) } else { None }
 }
 
-/// The raw monotonic clock of the host, in nanoseconds since an arbitrary start. Daemon, workers and the readers of a
-/// shared file go by it. It fails where the system's clock can't be read, and above [`MAX_TIME`].
+/// The raw monotonic clock of the host, in nanoseconds since an arbitrary start. The daemon, the workers and the
+/// readers of a shared file use it. A read fails if the system's clock can't be read, or if it shows a time above
+/// [`MAX_TIME`].
 ///
-/// Of what the system's clock shows nothing is claimed.
+/// Nothing is claimed of what the system's clock shows.
 #[derive(Drop)]
 pub struct MachineClock<'a, R> {
     rt: &'a R,
@@ -39,7 +40,7 @@ impl<'a, R: SystemClock> MachineClock<'a, R> {
         }
     }
 
-    /// What it showed when it was read last, in nanoseconds; 0 before the first reading.
+    /// The last time that it showed, in nanoseconds; 0 before the first reading.
     pub fn last(&self) -> u64
         ensures value { result ≡ self.now.last }
     {

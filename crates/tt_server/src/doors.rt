@@ -1,4 +1,4 @@
-//! Where clients come in: a TCP listener, or a Unix socket.
+//! Where clients connect: a TCP listener, or a Unix socket.
 
 use std::fs::{self, Files};
 use std::io::{self, ErrorKind};
@@ -7,13 +7,13 @@ use std::os::fd::OwnedFd;
 use std::os::unix::net::{UnixListener, UnixStream};
 use std::time::Duration;
 
-/// How long one read or write of a connection waits at most: soon after it a session sees that the machine ends.
+/// The longest wait of one read or write of a connection, in nanoseconds. So a session soon sees that the machine ends.
 pub(crate) const SLICE: u64 = 200_000_000;
 
-/// How long it is tried to wake a worker, in milliseconds.
+/// The longest time of one attempt to wake a worker, in milliseconds.
 const WAKE: u64 = 10;
 
-/// Where clients come in.
+/// Where clients connect.
 #[derive(Drop)]
 pub(crate) enum Door {
     Tcp(TcpListener),
@@ -29,7 +29,7 @@ impl Door {
         Ok(Door::Tcp(TcpListener::bind(rt, (Ipv4Addr::LOCALHOST, port))?))
     }
 
-    /// The Unix socket at this path. A socket that a machine left there, and that nobody listens at, is put away first.
+    /// The Unix socket at this path. If a machine left a socket there, and nobody listens at it, it is removed first.
     pub(crate) fn at_path<R: Files + Net>(rt: &R, path: &str) -> io::Result<Door> {
         match UnixListener::bind(rt, path) {
             Ok(listener) => return Ok(Door::Unix(listener)),
@@ -43,7 +43,7 @@ impl Door {
         Ok(Door::Unix(UnixListener::bind(rt, path)?))
     }
 
-    /// The connection of the next client, ready to be served; None for one that is not served. Waits for it.
+    /// Waits for the next client, and gives its connection, ready to be served. None if this client is not served.
     pub(crate) fn accept(&self) -> io::Result<Option<TcpStream>> {
         match self {
             Door::Tcp(listener) => {
@@ -55,7 +55,7 @@ impl Door {
             }
             Door::Unix(listener) => {
                 let (stream, _peer) = listener.accept()?;
-                // The calls of a TCP stream that are made of it are those of any stream socket.
+                // The stream is used as a TCP stream, but only with calls that work on any stream socket.
                 Ok(ready(TcpStream::from(OwnedFd::from(stream))))
             }
         }
@@ -72,7 +72,7 @@ impl Door {
         }
     }
 
-    /// Lets so many calls of `accept` go on.
+    /// Wakes `times` calls of `accept`.
     pub(crate) fn wake<R: Net<Listener = TcpListener, Stream = TcpStream>>(
         &self,
         rt: &R,
@@ -90,7 +90,7 @@ impl Door {
     }
 }
 
-/// Lets one call of `accept` go on. Where so many clients wait that there is no room for another, none has to be woken.
+/// Wakes one call of `accept`. If no more clients can connect, because too many wait already, no call has to be woken.
 fn wake_at<R: Net<Listener = TcpListener, Stream = TcpStream>>(rt: &R, listener: &TcpListener) {
     if let Ok(address) = listener.local_addr() {
         let _ = TcpStream::connect_timeout(rt, &address, Duration::from_millis(WAKE));
@@ -105,7 +105,7 @@ fn is_left<R: Net>(rt: &R, path: &str) -> bool {
     }
 }
 
-/// A connection whose reads and writes don't wait for ever.
+/// The connection, with a limit on the wait of its reads and writes. None if the limits can't be set.
 fn ready(stream: TcpStream) -> Option<TcpStream> {
     let slice = Some(Duration::from_nanos(SLICE));
     if stream.set_read_timeout(slice).is_err() || stream.set_write_timeout(slice).is_err() {

@@ -7,7 +7,7 @@ use thiserror::Error;
 use tt_epoch::EpochFault;
 use tt_publish::PublishFault;
 
-/// Why a machine does not serve. Each comes before the first client is served.
+/// Why a machine does not serve. Each fault comes before the first client is served.
 #[derive(Clone, Copy, Debug, PartialEq, Eq, Error)]
 pub enum ServerFault {
     #[error("the address can't be listened at")]
@@ -29,8 +29,9 @@ pub enum ServerFault {
 }
 
 impl ServerFault {
-    /// The fault's number: 1807 `CannotListen`, 1808 `CannotPoll`, 1809 `CannotListenSocket`, 1810 `TooFewWorkers`,
-    /// the number of the fault within for `Epoch` (1811 to 1815, 1) and `Publish`, 1816 `NoThread`, 1 `Memory`.
+    /// The number of the fault: 1807 `CannotListen`, 1808 `CannotPoll`, 1809 `CannotListenSocket`,
+    /// 1810 `TooFewWorkers`, the number of the inner fault for `Epoch` (1811 to 1815, 1) and `Publish`,
+    /// 1816 `NoThread`, 1 `Memory`.
     pub fn number(&self) -> u16
         ensures value { result ≡ number_of self.now }
     {

@@ -15,7 +15,7 @@ use tt_settings::Pauses;
 use tt_span::Span;
 use tt_status::Event;
 
-/// What a machine is in this life.
+/// The number, the epoch and the settings of the machine in this life.
 #[derive(Clone, Copy)]
 pub(crate) struct Life {
     pub(crate) machine: u8,
@@ -25,7 +25,7 @@ pub(crate) struct Life {
     pub(crate) lease: Span,
 }
 
-/// What the threads of a machine share, beside the handle.
+/// What the threads of a machine share, besides the runtime handle.
 #[derive(Drop)]
 pub(crate) struct Hall {
     pub(crate) life: Life,
@@ -33,13 +33,13 @@ pub(crate) struct Hall {
     pub(crate) side_door: Option<Door>,
     pub(crate) ended: AtomicBool,
     pub(crate) counts: Counts,
-    /// What the daemon's pauses are made by: the end wakes it.
+    /// Makes the pauses of the daemon. The end of the machine wakes it.
     pub(crate) pause: Parker,
     pub(crate) limits: Mutex<Limits>,
 }
 
 impl Hall {
-    /// The hall of a machine whose clients come in here.
+    /// The hall of a machine whose clients connect here.
     pub(crate) fn new(life: Life, door: Door, side_door: Option<Door>) -> Hall {
         Hall {
             life,
@@ -52,7 +52,7 @@ impl Hall {
         }
     }
 
-    /// Whether the machine is to end.
+    /// Whether the machine has to end.
     pub(crate) fn has_ended(&self) -> bool {
         self.ended.load(Ordering::SeqCst)
     }
@@ -67,7 +67,7 @@ impl Hall {
     }
 }
 
-/// What each thread is lent.
+/// What each thread borrows.
 pub(crate) struct Shared<'a, R> {
     pub(crate) rt: &'a R,
     pub(crate) alloc: Global,
@@ -86,7 +86,7 @@ impl<'a, R> Clone for Shared<'a, R> {
 
 impl<'a, R> Copy for Shared<'a, R> {}
 
-/// Says an event in the log, unless a line of its kind was said less than ten seconds before.
+/// Logs an event, unless a line of its kind was logged less than ten seconds before.
 pub(crate) fn say<R: Wait + SystemClock + Eprint>(shared: Shared<'_, R>, event: Event) {
     let (rt, hall) = (shared.rt, shared.hall);
     let now = match rt.monotonic() {

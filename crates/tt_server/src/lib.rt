@@ -1,21 +1,36 @@
-//! One machine that runs as a process of its own: it polls its masters over UDP, fuses what they answer and publishes the
-//! fusions, and serves clients over TCP, and over a Unix socket where it has one.
+//! The server of one machine, which runs as a process of its own. It polls its masters over UDP, fuses their answers,
+//! publishes the fusions, and serves clients over TCP and, if its settings name one, over a Unix socket.
 //!
-//! [`serve`] runs it. One thread makes the rounds of the daemon. Each worker is a thread that accepts a client, serves its
-//! session by a service of its own, and accepts the next; all draw their stamps from one sequencer and read one list of
-//! publications. What the settings mean is decided in `tt_settings`, what a session is answered in `tt_session` and
-//! `tt_station`, and what a round does in `tt_node`. Here are the threads, and what is said, written and shared after each
+//! `ttd serve` makes these calls:
+//!
+//! ```text
+//! let settings = tt_settings::read(alloc, text)?;    // the text of the configuration file
+//! if check {
+//!     let would = outline(alloc, &settings)?;        // `ttd serve --check`: what the machine would do, as text
+//! } else {
+//!     serve(rt, &settings, until_eof)?;              // runs the machine
+//! }
+//! ```
+//!
+//! [`serve`] runs the machine in threads. One thread makes the rounds of the daemon. Each worker is a thread that
+//! accepts a client, serves its session by a service of its own, and accepts the next client. All workers take their
+//! stamps from one sequencer, and read one list of publications.
+//!
+//! `tt_settings` decides what the settings mean, `tt_session` and `tt_station` decide the replies to a session, and
+//! `tt_node` decides what a round does. This crate has the threads, and what is logged, written and shared after each
 //! round.
 //!
-//! - `servers`: [`serve`], which starts the threads and ends them. `halls`: what they share.
-//! - `rounds`: the thread of the daemon. `links`: its link, which remembers what was heard.
-//! - `tallies`: what a round came to, and the status. `logs`: which lines the log says. `shares`: what is shared.
+//! - `servers`: [`serve`], which starts the threads and ends them. `halls`: what the threads share.
+//! - `rounds`: the thread of the daemon. `links`: its link, which remembers the peers that it heard.
+//! - `tallies`: the outcomes of rounds, and the status. `logs`: which lines are logged. `shares`: what is shared.
 //! - `statuses`: the status file. `modes`: who may write the files.
-//! - `workers`: the threads of the workers. `doors`: where clients come in. `clients`: a client at the far end.
+//! - `workers`: the threads of the workers. `doors`: where clients connect. `clients`: the client at the other end of a
+//!   connection.
 //! - `clocks`: [`MachineClock`]. `outlines`: [`outline`]. `faults`: why a machine does not serve.
 //!
-//! Proved are the functions over values: outline, numbers, statuses, log lines, modes, what is shared and until when. Of the
-//! threads and their loops nothing is claimed; each turn of a loop is one call with a contract of its own.
+//! The functions over values are proved: the outline, the numbers of faults, statuses, log lines, file modes, and what
+//! is shared and until when. Nothing is claimed of the threads and their loops. Each turn of a loop is one call with a
+//! contract of its own.
 #![tactic(auto)]
 
 mod clients;

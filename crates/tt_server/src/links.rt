@@ -4,10 +4,10 @@ ghost use Rattle.std.specs.Prelude.{◌≡◌};
 
 use tt_node::{Link, LinkFault, PACKET_LEN};
 
-/// How many peers are remembered: as many as there are sources at most.
+/// How many peers are remembered: as many as a machine can have sources.
 const PEERS: usize = 16;
 
-/// A link that remembers from which peers a packet came, since it was asked to forget.
+/// A link that remembers the peers that sent a packet since the last call of `forget`.
 #[derive(Drop)]
 pub(crate) struct HearingLink<L> {
     link: L,
@@ -15,7 +15,7 @@ pub(crate) struct HearingLink<L> {
 }
 
 impl<L> HearingLink<L> {
-    /// The link by this one.
+    /// The link over this one. No peer was heard so far.
     pub(crate) fn new(link: L) -> Self {
         HearingLink {
             link,
@@ -23,7 +23,7 @@ impl<L> HearingLink<L> {
         }
     }
 
-    /// Whether a packet came from a peer.
+    /// Whether a packet came from this peer.
     pub(crate) fn heard(&self, peer: usize) -> bool {
         match self.heard.get(peer) {
             Some(heard) => *heard,

@@ -1,4 +1,4 @@
-//! Which lines of the log are said, and how often.
+//! Which lines are logged, and how often.
 
 ghost use Rattle.std.specs.Prelude.{◌≡◌, ◌<◌};
 ghost use Rattle.tt_server.specs.Log.{kind_of};
@@ -8,16 +8,17 @@ use std::io::Eprint;
 use std::time::Clock as SystemClock;
 use tt_status::{Event, Limit, push_event};
 
-/// How many kinds of lines there are.
+/// The number of kinds of lines.
 const KINDS: usize = 48;
 
-/// The place of the first source among the kinds: of lines that say that one is silent, and that one is suspect.
+/// The kind of the lines that say that source 0 is silent. The kinds of the other sources follow.
 const SILENT: usize = 16;
 
+/// The kind of the lines that say that source 0 is a suspect. The kinds of the other sources follow.
 const SUSPECT: usize = 32;
 
-/// The kind of an event, of which one line is said in ten seconds: what more sources are faulty than may be is a kind of
-/// its own, and so is each source.
+/// The kind of an event. At most one line of each kind is logged in ten seconds. A fusion that is refused because more
+/// than f sources are faulty has a kind of its own, and each source has kinds of its own.
 fn kind_of(event: Event) -> usize
     ensures value { result ≡ kind_of event }
     ensures in_range { result < 48 }
@@ -43,28 +44,29 @@ fn kind_of(event: Event) -> usize
     }
 }
 
-/// What is kept of each kind of line.
+/// The limit of each kind of line.
 #[derive(Drop)]
 pub(crate) struct Limits {
     limits: [Limit; KINDS],
 }
 
 impl Limits {
-    /// Nothing was said so far.
+    /// The limits when no line was logged so far.
     pub(crate) fn new() -> Limits {
         Limits {
             limits: [Limit::new(); KINDS],
         }
     }
 
-    /// Whether the line of an event is said when the clock shows `now`, in nanoseconds: how many of its kind were left
-    /// out, and None where it is left out itself.
+    /// Whether the line of an event is logged when the clock shows `now`, in nanoseconds. `Some` says that it is, and
+    /// how many lines of its kind were left out before. `None` says that it is left out.
     pub(crate) fn admit(&mut self, event: Event, now: u64) -> Option<u64> {
         self.limits[kind_of(event)].admit(now)
     }
 }
 
-/// Writes the line of an event to standard error. Nothing is done where memory or standard error fails.
+/// Writes the line of an event to standard error. If it is out of memory, or standard error fails, nothing more is
+/// done.
 pub(crate) fn write_event<R: SystemClock + Eprint>(
     rt: &R,
     alloc: Global,

@@ -13,10 +13,11 @@ use std::time::Clock as SystemClock;
 use tt_settings::Settings;
 use tt_status::Event;
 
-/// The bits of a mode by which a file's group, and all others, may write it.
+/// The bits of a mode that let the group of a file, and all others, write it.
 const OTHERS_WRITE: u32 = 0o022;
 
-/// What others than its owner may write, as it was found at the start.
+/// Whether others than the owner may write the folder of the state, the file of the epoch and the shared file, each as
+/// found at the start.
 #[derive(Clone, Copy)]
 pub(crate) struct Loose {
     state: bool,
@@ -31,7 +32,7 @@ fn is_tight(mode: u32) -> bool
     mode & OTHERS_WRITE == 0
 }
 
-/// Whether others than its owner may write what stands at this path; a path where nothing stands is no such one.
+/// Whether others than its owner may write the file or folder at this path. False if nothing is there.
 fn is_loose_at<R: Files>(rt: &R, path: &str) -> bool {
     match rt.metadata(path) {
         Ok(metadata) => !is_tight(metadata.permissions().mode()),
@@ -40,7 +41,7 @@ fn is_loose_at<R: Files>(rt: &R, path: &str) -> bool {
 }
 
 impl Loose {
-    /// What stands there now. Where there is no memory for the path of the epoch, it is not looked at.
+    /// What others may write now. If there is no memory for the path of the epoch's file, that file is not looked at.
     pub(crate) fn found<R: Files>(rt: &R, alloc: Global, settings: &Settings) -> Loose {
         let folder = settings.state();
         let epoch = match format!(in alloc; "{folder}/epoch") {
@@ -58,7 +59,7 @@ impl Loose {
         }
     }
 
-    /// Says so in the log, in one line for each.
+    /// Logs one line for each of them.
     pub(crate) fn say_in<R: Wait + SystemClock + Eprint>(self, shared: Shared<'_, R>) {
         if self.state {
             say(shared, Event::StateLoose);

@@ -11,10 +11,10 @@ use tt_settings::{FilePath, Pauses, Settings};
 use tt_span::{Drift, Span};
 use tt_text::push_line;
 
-/// What a machine takes of memory beside its workers, in bytes.
+/// The memory that a machine takes apart from its workers, in bytes.
 const BASE: u64 = 4_194_304;
 
-/// What each of its workers takes at most while it serves, in bytes.
+/// The most memory that each of its workers takes while it serves, in bytes.
 const EACH: u64 = 131_072;
 
 /// Adds the line of a word and a text.
@@ -48,7 +48,7 @@ fn push_masters(text: &mut String, masters: &[u16]) -> Result<(), AllocError>
     Ok(())
 }
 
-/// Adds the line of a path, where there is one.
+/// Adds the line of a path, if there is one.
 fn push_path(text: &mut String, word: &str, path: Option<&FilePath>) -> Result<(), AllocError>
     ensures { OnOk result (string_bytes text.new ≡ string_bytes text.old ++ path_line word.now (option_copied path.entry)) }
 {
@@ -58,15 +58,15 @@ fn push_path(text: &mut String, word: &str, path: Option<&FilePath>) -> Result<(
     }
 }
 
-/// By how much a reading grows wider from one publication to the next at most, in nanoseconds.
+/// The most by which a reading grows wider from one publication to the next, in nanoseconds.
 fn growth_of(pauses: &Pauses, drift: Drift) -> u64
     ensures { result ≡ growth_of pauses.now drift }
 {
     2 * drift.widen(period_of(pauses))
 }
 
-/// How many threads a machine with so many workers has at most: those of the workers, the daemon's, and one that waits for
-/// the end of standard input.
+/// The most threads of a machine with `workers` workers: the threads of the workers, the thread of the daemon, and one
+/// that waits for the end of standard input.
 fn threads_of(workers: u64) -> u64
     requires { workers ≤ 32 }
     ensures { result ≡ threads_of workers }
@@ -74,7 +74,7 @@ fn threads_of(workers: u64) -> u64
     workers + 2
 }
 
-/// How much memory a machine with so many workers takes at most, as far as was seen, in bytes.
+/// The most memory that a machine with `workers` workers takes, in bytes, as far as was observed.
 fn memory_of(workers: u64) -> u64
     requires { workers ≤ 32 }
     ensures { result ≡ memory_of workers }
@@ -82,7 +82,7 @@ fn memory_of(workers: u64) -> u64
     BASE + EACH * workers
 }
 
-/// Adds the lines of how long the parts of a machine wait.
+/// Adds the lines of the times for which the parts of a machine wait.
 #[tactic(auto, unfolding(crate::specs::Outline::pauses_text))]
 fn push_pauses(text: &mut String, pauses: &Pauses) -> Result<(), AllocError>
     ensures { OnOk result (string_bytes text.new ≡ string_bytes text.old ++ pauses_text pauses.now) }
@@ -93,7 +93,7 @@ fn push_pauses(text: &mut String, pauses: &Pauses) -> Result<(), AllocError>
     push_line(text, "idle", &[pauses.idle])
 }
 
-/// Adds the lines of what a machine is set up with.
+/// Adds the lines of the configuration of a machine.
 #[tactic(auto, unfolding(crate::specs::Outline::config_text))]
 fn push_config(text: &mut String, config: &Config) -> Result<(), AllocError>
     ensures { OnOk result (string_bytes text.new ≡ string_bytes text.old ++ config_text config.now) }
@@ -103,7 +103,7 @@ fn push_config(text: &mut String, config: &Config) -> Result<(), AllocError>
     push_line(text, "drift", &[u64::from(config.drift().ppm())])
 }
 
-/// Adds the lines of what a machine comes to: how its readings grow, its threads, and its memory.
+/// Adds the lines that are computed from the settings: how readings grow, the threads, and the memory.
 #[tactic(auto, unfolding(crate::specs::Outline::sums_text))]
 fn push_sums(text: &mut String, pauses: &Pauses, config: &Config) -> Result<(), AllocError>
     ensures { OnOk result (string_bytes text.new ≡ string_bytes text.old ++ sums_text pauses.now config.now) }
@@ -147,12 +147,14 @@ fn push_files(text: &mut String, settings: &Settings) -> Result<(), AllocError>
     push_path(text, "status", settings.status())
 }
 
-/// What a machine with these settings would do: a line for each of `machine`, `listen`, `master` (one for each, in the
-/// order of the sources), `faulty`, `workers`, `drift`, `poll`, `wait`, `floor_ahead`, `idle`, `lease`, `growth`, `threads`,
-/// `memory`, `state`, and of `socket`, `shared` and `status` those that there are. Times are in nanoseconds.
+/// What a machine with these settings would do, as text. There is one line for each of `machine`, `listen`, `master`
+/// (one for each master, in the order of the sources), `faulty`, `workers`, `drift`, `poll`, `wait`, `floor_ahead`,
+/// `idle`, `lease`, `growth`, `threads`, `memory`, `state`, and for each of `socket`, `shared` and `status` that the
+/// settings have. Times are in nanoseconds.
 ///
-/// A reading is as wide as what the masters state, and as the poll took; until the next publication it grows wider by
-/// `growth` at most, where no master fails. `memory` is in bytes, and an estimate. Refuses where memory runs out.
+/// A reading is as wide as what the masters state, plus the time that the poll took. Until the next publication it
+/// grows wider by at most `growth`, if no master fails. `memory` is an estimate, in bytes. Refuses if it is out of
+/// memory.
 pub fn outline(alloc: Global, settings: &Settings) -> Result<String, AllocError>
     ensures written { IfOk result (λ text. string_bytes text ≡ outline_text settings.now) }
 {

@@ -1,4 +1,4 @@
-//! The daemon: one round after the other, and what is said, written and shared after each.
+//! The daemon: one round after the other, and what is logged, written and shared after each.
 
 ghost use Rattle.std.specs.Prelude.{◌≡◌};
 ghost use Rattle.tt_server.specs.Round.{turns_of, first_pause_of, waits_on};
@@ -20,13 +20,13 @@ use tt_publish::{Clock, Teller};
 use tt_shared::{FilePlace, SharedSpan, SharedTeller};
 use tt_status::Event;
 
-/// How long clients wait for the first publication at most, in nanoseconds: two seconds.
+/// The longest time that clients wait for the first publication, in nanoseconds: two seconds.
 const FIRST: u64 = 2_000_000_000;
 
-/// The longest pause before it.
+/// The longest pause before the first publication, in nanoseconds.
 const FIRST_PAUSE: u64 = 100_000_000;
 
-/// What the daemon's thread has of its own.
+/// The state of the daemon's thread.
 #[derive(Drop)]
 pub(crate) struct Desk<L> {
     daemon: Daemon,
@@ -38,7 +38,7 @@ pub(crate) struct Desk<L> {
 }
 
 impl<L> Desk<L> {
-    /// What the daemon's thread has at its start.
+    /// The state of the daemon's thread at its start.
     pub(crate) fn new(
         daemon: Daemon,
         link: L,
@@ -56,7 +56,7 @@ impl<L> Desk<L> {
     }
 }
 
-/// The shared file, as long as it can be written, and what stands in it.
+/// The writer of the shared file, as long as it can be written, and the last publication in the file.
 #[derive(Drop)]
 struct Share {
     teller: Option<SharedTeller<FilePlace>>,
@@ -64,7 +64,7 @@ struct Share {
 }
 
 impl Share {
-    /// Puts a publication into the shared file. Where the file can't be written, the sharing ends, and it answers the
+    /// Writes a publication into the shared file. If the file can't be written, the sharing ends, and it answers the
     /// number of the fault.
     fn put(&mut self, span: SharedSpan) -> Option<u16> {
         let Some(teller) = self.teller.as_mut() else {
@@ -83,8 +83,8 @@ impl Share {
     }
 }
 
-/// How many turns a round has, with so many sources: more than one for each, so that strange packets take none that an
-/// answer needs.
+/// The number of turns of a round with `sources` sources. It is more than one for each source, so that unexpected
+/// packets do not take the turns that answers need.
 fn turns_of(sources: usize) -> u32
     ensures { result ≡ turns_of sources }
 {
@@ -94,7 +94,7 @@ fn turns_of(sources: usize) -> u32
     }
 }
 
-/// How long the pauses are before the first publication, in nanoseconds: a tenth of a second at most.
+/// The pause before the first publication, in nanoseconds: at most a tenth of a second.
 fn first_pause_of(poll: u64) -> u64
     ensures { result ≡ first_pause_of poll }
 {
@@ -120,7 +120,7 @@ fn put<R: Wait + SystemClock + Eprint>(shared: Shared<'_, R>, into: &mut Share, 
     }
 }
 
-/// Tells of a publication: to those who wait for the first, in the log, and in the shared file.
+/// Tells of a publication: logs its suspects, keeps what the status shows of it, and shares it.
 fn tell<R: Wait + SystemClock + Eprint, L>(
     shared: Shared<'_, R>,
     desk: &mut Desk<L>,
@@ -146,10 +146,10 @@ fn tell<R: Wait + SystemClock + Eprint, L>(
     Outcome::Published { width: shown.width }
 }
 
-/// One round, and what it came to, with how many answers were refused in it.
+/// Makes one round. Answers its outcome, and how many answers were refused in it.
 ///
-/// The daemon and the clock are as they were when the round fused. So the fusion that is made here once more is what
-/// was published, or refused for the same reason.
+/// The daemon and the clock are still as they were when the round fused. So the fusion that is made here again is the
+/// one that was published, or it is refused for the same reason.
 fn round<R: Wait + SystemClock + Eprint, L: Link>(
     shared: Shared<'_, R>,
     desk: &mut Desk<L>,
@@ -178,7 +178,8 @@ fn round<R: Wait + SystemClock + Eprint, L: Link>(
     }
 }
 
-/// Says what a round came to.
+/// Logs a round: its outcome if the log has a line for it, the answers that were refused in it, and the sources that
+/// were silent.
 fn report<R: Wait + SystemClock + Eprint, L>(
     shared: Shared<'_, R>,
     desk: &mut Desk<L>,
@@ -204,7 +205,7 @@ fn report<R: Wait + SystemClock + Eprint, L>(
     desk.link.forget();
 }
 
-/// Writes the status file, where there is one.
+/// Writes the status file, if there is one.
 fn show<R: Wait + SystemClock + Eprint + Files<File = File>, L>(
     shared: Shared<'_, R>,
     desk: &Desk<L>,
@@ -229,7 +230,7 @@ fn show<R: Wait + SystemClock + Eprint + Files<File = File>, L>(
     }
 }
 
-/// One round with all that follows it, but the pause.
+/// Makes one round and does all that follows it, except the pause.
 fn go_round<R: Wait + SystemClock + Eprint + Files<File = File>, L: Link>(
     shared: Shared<'_, R>,
     desk: &mut Desk<L>,
@@ -242,7 +243,7 @@ fn go_round<R: Wait + SystemClock + Eprint + Files<File = File>, L: Link>(
     show(shared, desk, clock);
 }
 
-/// Shares at the end that the last publication is not fresh any more.
+/// When the machine ends, shares that the last publication is no longer fresh.
 fn end<R: Wait + SystemClock + Eprint>(
     shared: Shared<'_, R>,
     share: &mut Share,
@@ -255,7 +256,7 @@ fn end<R: Wait + SystemClock + Eprint>(
     put(shared, share, ended_at(&last, now));
 }
 
-/// Rounds until something is published, for two seconds at most, so that clients are not served before.
+/// Makes rounds until something is published, for at most two seconds. Clients are not served before that.
 pub(crate) fn run_first<R: Wait + SystemClock + Eprint + Files<File = File>, L: Link>(
     shared: Shared<'_, R>,
     desk: &mut Desk<L>,
@@ -274,7 +275,7 @@ pub(crate) fn run_first<R: Wait + SystemClock + Eprint + Files<File = File>, L: 
     }
 }
 
-/// The rounds of the daemon, with a pause after each, until the machine ends.
+/// Makes the rounds of the daemon until the machine ends, each after a pause.
 pub(crate) fn run_daemon<R: Wait + SystemClock + Eprint + Files<File = File>, L: Link>(
     shared: Shared<'_, R>,
     desk: &mut Desk<L>,

@@ -1,4 +1,4 @@
-//! A machine that serves: its threads are started, and ended in order.
+//! Runs a machine: starts its threads, and ends them in order.
 
 ghost use Rattle.std.specs.Prelude.{◌≡◌, ◌<◌, ◌≤◌, ◌+◌, IfErr};
 ghost use Rattle.tt_server.specs.Round.{side_workers_of};
@@ -33,7 +33,7 @@ use tt_status::Event;
 /// The greatest number of a machine.
 const MAX_MACHINE: u8 = 7;
 
-/// How many of the workers serve the clients of the Unix socket, where there is one: half of them.
+/// How many of the workers serve the clients of the Unix socket: half of them, or none if there is no Unix socket.
 fn side_workers_of(workers: usize, has_socket: bool) -> usize
     ensures value { result ≡ side_workers_of workers has_socket }
     ensures some_are_left { result ≤ workers }
@@ -41,7 +41,7 @@ fn side_workers_of(workers: usize, has_socket: bool) -> usize
     if has_socket { workers / 2 } else { 0 }
 }
 
-/// Starts the threads of all workers: whether each was started.
+/// Starts the threads of all workers. Answers whether all were started.
 fn start_workers<'s, E, R: Wait + SystemClock + Eprint + Sync>(
     scope: &Scope<'s, E>,
     shared: Shared<'s, R>,
@@ -66,7 +66,7 @@ fn start_workers<'s, E, R: Wait + SystemClock + Eprint + Sync>(
     true
 }
 
-/// Ends the machine at the end of its standard input.
+/// Waits for the end of standard input, and then ends the machine.
 fn end_with_input<I: Read + Drop>(hall: &Hall, input: I) {
     let mut input = input;
     let mut buffer = [0; 512];
@@ -80,7 +80,7 @@ fn end_with_input<I: Read + Drop>(hall: &Hall, input: I) {
     hall.pause.unpark();
 }
 
-/// Starts the thread that ends the machine at the end of its standard input, if one can be made.
+/// Starts the thread that ends the machine at the end of standard input. None if the thread can't be started.
 fn start_end<'s, E, I: Read + Send + Drop + 's>(
     scope: &Scope<'s, E>,
     hall: &'s Hall,
@@ -89,7 +89,7 @@ fn start_end<'s, E, I: Read + Send + Drop + 's>(
     scope.spawn(move || end_with_input(hall, input)).ok()
 }
 
-/// Lets all workers see that the machine ends, those too that wait for a client.
+/// Tells all workers that the machine ends, and wakes those that wait for a client.
 fn end_all<R: Net<Listener = TcpListener, Stream = TcpStream>>(
     rt: &R,
     hall: &Hall,
@@ -104,7 +104,7 @@ fn end_all<R: Net<Listener = TcpListener, Stream = TcpStream>>(
     }
 }
 
-/// Starts all threads but that of the daemon: whether all were started.
+/// Starts all threads except the daemon's. Answers whether all were started.
 fn start_all<
     's,
     E,
@@ -127,8 +127,8 @@ fn start_all<
     start_end(scope, shared.hall, shared.rt.reader()).is_some()
 }
 
-/// Makes the rounds of the daemon, and starts all other threads after its first publication: whether all were started.
-/// With `until_eof` it returns after the end of the standard input.
+/// Makes the rounds of the daemon, and starts all other threads after the first publication, or after two seconds.
+/// Answers whether all were started. With `until_eof` it returns after the end of standard input.
 fn run_threads<
     's,
     E,
@@ -172,7 +172,7 @@ fn run_threads<
     started
 }
 
-/// The path of the Unix socket; empty where there is none.
+/// The path of the Unix socket. It is empty if there is none.
 fn socket_of(settings: &Settings) -> &str {
     match settings.socket() {
         Some(path) => path.as_str(),
@@ -180,7 +180,7 @@ fn socket_of(settings: &Settings) -> &str {
     }
 }
 
-/// The link to the masters at these ports.
+/// The link to the masters at the ports of the settings.
 fn link_to<'a, R: SystemClock + Net>(
     rt: &'a R,
     alloc: Global,
@@ -203,7 +203,7 @@ fn link_to<'a, R: SystemClock + Net>(
     }
 }
 
-/// The writer of the shared file, where there is to be one.
+/// The writer of the shared file, if the settings name one.
 fn share_at<R: Files<File = File>>(
     rt: &R,
     alloc: Global,
@@ -219,7 +219,7 @@ fn share_at<R: Files<File = File>>(
     }
 }
 
-/// The status file, where there is to be one.
+/// The status file, if the settings name one.
 fn status_at(alloc: Global, settings: &Settings) -> Result<Option<StatusFile>, ServerFault> {
     let Some(path) = settings.status() else {
         return Ok(None);
@@ -230,7 +230,7 @@ fn status_at(alloc: Global, settings: &Settings) -> Result<Option<StatusFile>, S
     }
 }
 
-/// The listener of the Unix socket, where there is to be one.
+/// The listener of the Unix socket, if the settings name one.
 fn side_door_of<R: Files + Net>(rt: &R, settings: &Settings) -> Result<Option<Door>, ServerFault> {
     let Some(path) = settings.socket() else {
         return Ok(None);
@@ -241,7 +241,7 @@ fn side_door_of<R: Files + Net>(rt: &R, settings: &Settings) -> Result<Option<Do
     }
 }
 
-/// What the daemon's thread has at its start.
+/// The state of the daemon's thread at its start.
 fn desk_of<R: Wait + SystemClock + Eprint + Files<File = File>, L: Drop>(
     shared: Shared<'_, R>,
     settings: &Settings,
@@ -261,7 +261,7 @@ fn desk_of<R: Wait + SystemClock + Eprint + Files<File = File>, L: Drop>(
             None
         }
     };
-    // A start that was not refused has an epoch from 1 on, and settings that were read a machine up to 7.
+    // An epoch that was taken is at least 1, and the machine's number in settings that were read is at most 7.
     let epoch = hall.life.epoch.max(1);
     let machine = hall.life.machine.min(MAX_MACHINE);
     let daemon = Daemon::new(machine, &hall.life.config, epoch);
@@ -314,18 +314,22 @@ fn run<
     }
 }
 
-/// Runs one machine: it polls, fuses and publishes, and serves clients. It returns where it is not started, and with
-/// `until_eof` in order after the end of standard input; otherwise it goes on until the process is ended.
+/// Runs one machine: it polls, fuses and publishes, and serves clients. It returns if the machine is not started. With
+/// `until_eof` it ends the machine in order after the end of standard input, and returns. Otherwise it goes on until
+/// the process is ended.
 ///
-/// It listens at the TCP address, locks the folder of the epoch for as long as it runs, takes the next epoch, listens at
-/// the Unix socket where there is one, starts the daemon, and starts the workers after the first publication, or after
-/// two seconds. The clients of a Unix socket have half of the workers, the others those of the TCP address.
+/// It listens at the TCP address, locks the folder of the epoch for as long as it runs, takes the next epoch, listens
+/// at the Unix socket if the settings name one, and starts the daemon. It starts the workers after the first
+/// publication, or after two seconds. If there is a Unix socket, half of the workers serve its clients, and the other
+/// workers serve the clients of the TCP address.
 ///
-/// Refuses, in this order, with 1810 `TooFewWorkers` where there is a Unix socket and one worker, 1807 `CannotListen`,
-/// 1808 `CannotPoll`, `Epoch` (1815 where another process holds the folder, 1811 to 1814, 1), 1809 `CannotListenSocket`,
-/// `Publish`, 1816 `NoThread`, and 1 `Memory` in place of each. No epoch is taken before the folder is locked. A shared
-/// file that can't be opened is no refusal: the log says so. It says too where others than their owner may write the
-/// folder of the state, the file of the epoch or the shared file, as they were found.
+/// Refuses, in this order: 1810 `TooFewWorkers` where there is a Unix socket and one worker, 1807 `CannotListen`,
+/// 1808 `CannotPoll`, `Epoch` (1815 where another process holds the folder, 1811 to 1814, 1),
+/// 1809 `CannotListenSocket`, `Publish`, 1816 `NoThread`, and 1 `Memory` in place of each. No epoch is taken before the
+/// folder is locked.
+///
+/// A shared file that can't be opened is not a refusal: it is logged. If others than the owner may write the folder of
+/// the state, the file of the epoch or the shared file, as found at the start, that is logged too.
 pub fn serve<
     I: Read + Send + Drop,
     R: Threads

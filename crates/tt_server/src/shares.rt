@@ -11,8 +11,8 @@ use tt_settings::Pauses;
 use tt_shared::SharedSpan;
 use tt_span::{Drift, MAX_TIME};
 
-/// How long it is from one publication to the next at most, where the round between them waits as long as it may, in
-/// nanoseconds.
+/// The longest time from one publication to the next, in nanoseconds, if the round between them waits as long as it
+/// may.
 pub(crate) fn period_of(pauses: &Pauses) -> u64
     ensures value { result ≡ period_of pauses.now }
     ensures in_time { result ≤ max_time }
@@ -20,7 +20,8 @@ pub(crate) fn period_of(pauses: &Pauses) -> u64
     pauses.poll.saturating_add(pauses.wait).min(MAX_TIME)
 }
 
-/// Until when what was fused at this clock reading is fresh, in nanoseconds: for three periods.
+/// The last clock reading, in nanoseconds, at which a fusion that was made at the reading `clock` is fresh: three
+/// periods later.
 pub(crate) fn fresh_until(clock: u64, period: u64) -> u64
     requires { period ≤ max_time }
     ensures value { result ≡ fresh_until clock period }
@@ -50,7 +51,8 @@ pub(crate) fn shared_of(
     }
 }
 
-/// The same publication when its machine has ended in order at this clock reading: it is not fresh any more behind it.
+/// The same publication after its machine ended in order at the clock reading `now`. After this reading it is no longer
+/// fresh.
 pub(crate) fn ended_at(shared: &SharedSpan, now: u64) -> SharedSpan
     ensures value { result ≡ record shared.now { valid_until = now } }
 {
@@ -63,7 +65,7 @@ pub(crate) fn ended_at(shared: &SharedSpan, now: u64) -> SharedSpan
     }
 }
 
-/// The folder of a path, and the name in it.
+/// The folder of a path, and the name of the file in it.
 pub(crate) fn folder_and_name(path: &str) -> (&str, &str) {
     match path.rsplit_once('/') {
         Some((folder, name)) => {

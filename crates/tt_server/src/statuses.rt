@@ -6,7 +6,7 @@ use std::io::{self, Write};
 use std::os::unix::fs::OpenOptionsExt;
 use tt_status::{Status, push_status};
 
-/// The file that a status is written to, and the draft beside it that takes its place.
+/// The status file, and the draft beside it. A status is written to the draft, which then takes the place of the file.
 #[derive(Drop)]
 pub(crate) struct StatusFile {
     path: String,
@@ -22,7 +22,7 @@ impl StatusFile {
         })
     }
 
-    /// Writes a status, whole: a reader finds the one before or this one. The file can be read by all (mode 0644).
+    /// Writes a status as a whole: a reader finds the status before or this one. All may read the file (mode 0644).
     pub(crate) fn write<R: Files<File = File>>(
         &self,
         rt: &R,

@@ -1,4 +1,4 @@
-//! What the rounds of a machine come to: what they have done so far, what the log says of each, and the status.
+//! The outcomes of the rounds of a machine: what they have done so far, what is logged of each round, and the status.
 
 ghost use Rattle.std.specs.Prelude.{◌≡◌};
 ghost use Rattle.tt_server.specs.Tally.{tally_after, event_of, refused_answers, shown_of, status_of, one_if};
@@ -8,7 +8,7 @@ use tt_node::{NodeFault, Rounds};
 use tt_publish::PublishFault;
 use tt_status::{Event, Status};
 
-/// What a round came to.
+/// The outcome of a round.
 #[derive(Clone, Copy, Debug, PartialEq, Eq)]
 pub(crate) enum Outcome {
     /// A fusion was published, of this width in nanoseconds.
@@ -19,7 +19,7 @@ pub(crate) enum Outcome {
     Failed(NodeFault),
 }
 
-/// What the rounds of a life have done so far. Each count stays at 2^64 - 1 once it is there.
+/// Counts of what the rounds of a life have done so far. Each count stays at 2^64 - 1 once it is reached.
 #[derive(Clone, Copy, Debug, PartialEq, Eq)]
 pub(crate) struct Tally {
     pub(crate) rounds: u64,
@@ -29,18 +29,18 @@ pub(crate) struct Tally {
     pub(crate) too_few: u64,
 }
 
-/// What was published last, as the status shows it.
+/// The last publication, as the status shows it.
 #[derive(Clone, Copy, Debug, PartialEq, Eq)]
 pub(crate) struct Shown {
-    /// What the clock showed, in nanoseconds.
+    /// The clock reading of its fusion, in nanoseconds.
     pub(crate) clock: u64,
-    /// The width in nanoseconds.
+    /// Its width, in nanoseconds.
     pub(crate) width: u64,
-    /// How many sources it speaks against.
+    /// How many sources are suspects.
     pub(crate) suspects: u64,
 }
 
-/// What the sessions have done so far.
+/// Counts of what the sessions have done so far.
 #[derive(Clone, Copy, Debug, PartialEq, Eq)]
 pub(crate) struct Work {
     pub(crate) sessions: u64,
@@ -48,7 +48,8 @@ pub(crate) struct Work {
     pub(crate) refused_lines: u64,
 }
 
-/// How many of the packets of one round were refused. Its fusion was refused too where nothing was published.
+/// How many packets were refused in one round. If nothing was published, the fusion was refused too, and does not count
+/// here.
 pub(crate) fn refused_answers(did: &Rounds) -> u64
     ensures value { result ≡ refused_answers did.now }
 {
@@ -57,7 +58,7 @@ pub(crate) fn refused_answers(did: &Rounds) -> u64
 }
 
 impl Tally {
-    /// Nothing was done so far.
+    /// The counts at the start: all 0.
     pub(crate) fn new() -> Tally
         ensures { result ≡ record { rounds = 0; published = 0; refused_answers = 0; no_point = 0; too_few = 0 } }
     {
@@ -70,7 +71,7 @@ impl Tally {
         }
     }
 
-    /// What was done after one more round, in which so many answers were refused.
+    /// The counts after one more round, in which `refused` answers were refused.
     pub(crate) fn after(&self, outcome: &Outcome, refused: u64) -> Tally
         ensures { result ≡ tally_after self.now outcome.now refused }
     {
@@ -91,7 +92,7 @@ impl Tally {
     }
 }
 
-/// What the log says of a round, after so many publications.
+/// What is logged of a round that comes after `published` publications.
 pub(crate) fn event_of(outcome: &Outcome, published: u64) -> Option<Event>
     ensures { result ≡ event_of outcome.now published }
 {
@@ -115,7 +116,7 @@ pub(crate) fn event_of(outcome: &Outcome, published: u64) -> Option<Event>
     }
 }
 
-/// What the status shows of a publication that speaks against so many sources.
+/// What the status shows of a publication with `suspects` suspects.
 pub(crate) fn shown_of(fused: &Fused, suspects: u64) -> Shown
     ensures { result ≡ shown_of fused.now suspects }
 {
@@ -127,7 +128,7 @@ pub(crate) fn shown_of(fused: &Fused, suspects: u64) -> Shown
     }
 }
 
-/// 1 where it is so, and else 0.
+/// 1 if it is so, otherwise 0.
 fn one_if(is_so: bool) -> u64
     ensures { result ≡ one_if is_so }
 {

@@ -20,13 +20,13 @@ use tt_stamp::{Seat, Sequencer};
 use tt_station::{Post, Terms};
 use tt_status::Event;
 
-/// How many release steps a line has at most, each with a pause of a twentieth of a second at most.
+/// The most release steps of one line. Each makes a pause of at most a twentieth of a second.
 const WAITS: u32 = 10_000;
 
-/// How long a worker sleeps where no connection was accepted, in milliseconds.
+/// How long a worker sleeps after it could not accept a connection, in milliseconds.
 const SLEEP: u64 = 100;
 
-/// A seat, with the sequencer that it is of.
+/// A seat, and the sequencer that it belongs to.
 #[derive(Drop)]
 pub(crate) struct Place<'a> {
     seat: Seat,
@@ -41,7 +41,7 @@ fn place_of<'a>(seat: Seat, sequencer: &'a Sequencer) -> Place<'a>
     Place { seat, sequencer }
 }
 
-/// All seats with their sequencer. None where memory runs out.
+/// All seats, each with its sequencer. None if it is out of memory.
 pub(crate) fn places_of<'a>(
     alloc: Global,
     sequencer: &'a Sequencer,
@@ -62,7 +62,7 @@ pub(crate) fn places_of<'a>(
     Some(places)
 }
 
-/// Serves one session. The post is there for the next one, whatever ended this one.
+/// Serves one session. It gives back the post for the next session, whatever ended this one.
 fn serve_one<'a, R: Wait + SystemClock>(
     shared: Shared<'a, R>,
     post: Post<'a, R, MachineClock<'a, R>>,
@@ -120,7 +120,7 @@ fn work<'a, R: Wait + SystemClock + Eprint>(
     unreachable!()
 }
 
-/// Starts the thread of a worker, if one can be made.
+/// Starts the thread of a worker. None if the thread can't be started.
 pub(crate) fn start_worker<'s, E, R: Wait + SystemClock + Eprint + Sync>(
     scope: &Scope<'s, E>,
     shared: Shared<'s, R>,

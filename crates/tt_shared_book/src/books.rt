@@ -1,4 +1,4 @@
-//! The book, beside its history, under a lock, and what each thread has seen of the history.
+//! The book and its history under a lock, and what each thread has seen of the history.
 
 ghost use Rattle.std.specs.Prelude.{◌≡◌, ◌∷◌, [], List, None, OnOk, OnErr, IfErr, ◌⊎◌};
 ghost use Rattle.tt_stamp.specs.History.{IsLegalHistory, waiting_of, release_of, with_receipts, first_queue_fault, receipt_of};
@@ -12,7 +12,7 @@ use std::sync::{Mutex, Wait};
 use tt_publish::Reading;
 use tt_stamp::{Book, BookFault, Entry, Id, Receipt};
 
-/// Which shared book it is, by the source of its history. A program names a book when it opens it.
+/// The name of a shared book: the `source` of its history. A program names a book when it opens it.
 pub trait WhichBook {
     ghost use Rattle.tt_shared_book.specs.Known.{Source};
 
@@ -23,7 +23,7 @@ impl WhichBook for Brand {
     ghost source = { record { log = record { number = 0; log_name = 0; cells_name = 0 }; chain = 0 } };
 }
 
-/// The history of a book that was just opened and has no name yet. Contracts see its source.
+/// The history of a book that was just opened and has no name yet. In contracts it is its `source`.
 #[derive(Drop)]
 pub struct OpenedBook {
     history: History,
@@ -48,8 +48,8 @@ impl OpenedBook {
         }
     }
 
-    /// The shared book, and a view of it, which has seen that nothing has happened. Requires: it is the book of that
-    /// name.
+    /// The shared book, and a view of it. The view has seen that nothing has happened. Requires: `J` is the name of
+    /// this book.
     pub fn named<J: WhichBook>(self, alloc: Global) -> (SharedBook<J>, BookView<J>)
         requires { self ≡ J.source }
         ensures none { result.1 ≡ [] }
@@ -70,8 +70,8 @@ impl OpenedBook {
     }
 }
 
-/// What lies under the lock: the book, beside the history that it keeps, with the pen for the next entry. Contracts see
-/// the history, newest first.
+/// What the lock protects: the book, and its history with the pen for the next entry. In contracts it is the history,
+/// newest first.
 #[derive(Drop)]
 struct Kept<J: WhichBook> {
     book: Book,
@@ -90,7 +90,8 @@ impl<J: WhichBook> Model for Kept<J> {
     ghost invariant = { λ k. (k.history.source ≡ J.source) × (k.history.past ≡ k.book) };
 }
 
-/// What one thread has seen of the history of a shared book. Contracts see its entries, newest first. It takes no bytes.
+/// What one thread has seen of the history of a shared book. In contracts it is the entries that were seen, newest
+/// first. It takes no bytes.
 #[derive(Drop)]
 pub struct BookView<J: WhichBook> {
     glance: Glance,
@@ -110,7 +111,7 @@ impl<J: WhichBook> Model for BookView<J> {
 }
 
 impl<J: WhichBook> BookView<J> {
-    /// An equal one, for another thread.
+    /// An equal view, for another thread.
     pub fn again(&self) -> BookView<J>
         ensures { result ≡ self.now }
     {
@@ -120,14 +121,15 @@ impl<J: WhichBook> BookView<J> {
         }
     }
 
-    /// What was seen is a legal history.
+    /// A law: what the view has seen is a legal history.
     pub fn legal(&self)
         ensures { IsLegalHistory self.now }
     {
         let _ = &self.glance;
     }
 
-    /// Of what two views have seen, one is an earlier state of the other, and both are legal histories.
+    /// A law: what one of the two views has seen is an earlier state of what the other has seen, and both are legal
+    /// histories.
     pub fn compare(&self, other: &BookView<J>)
         ensures one { GoesOn self.now other.now ⊎ GoesOn other.now self.now }
         ensures legal { IsLegalHistory self.now × IsLegalHistory other.now }
@@ -137,7 +139,7 @@ impl<J: WhichBook> BookView<J> {
 }
 
 impl<J: WhichBook> Kept<J> {
-    /// A view that has seen all.
+    /// A view that has seen the whole history.
     fn view(&self) -> BookView<J>
         ensures { result ≡ self.now }
     {
@@ -165,7 +167,7 @@ impl<J: WhichBook> Kept<J> {
         answer
     }
 
-    /// Releases by a reading.
+    /// Releases each commit whose stamp has surely passed by this reading.
     fn release(&mut self, reading: &Reading)
         ensures { self.new ≡ with_receipts (release_of (waiting_of self.old) reading.now.lo) self.old }
     {
@@ -174,7 +176,7 @@ impl<J: WhichBook> Kept<J> {
         self.history.add_behind(self.book.history(), before);
     }
 
-    /// Releases by a reading, and then asks whether a commit is released.
+    /// Releases as `release` does, and then asks whether a commit is released.
     fn release_and_ask(
         &mut self,
         view: &mut BookView<J>,
@@ -200,7 +202,7 @@ pub struct SharedBook<J: WhichBook> {
 }
 
 impl<J: WhichBook> SharedBook<J> {
-    /// A view, for another thread, which has seen all that has happened in the book so far.
+    /// A view for another thread. It has seen everything that has happened in the book so far.
     pub fn view(&self, rt: &impl Wait) -> BookView<J>
         ensures legal { IsLegalHistory result }
     {
@@ -209,11 +211,12 @@ impl<J: WhichBook> SharedBook<J> {
         view
     }
 
-    /// Queues a commit with its stamp, in nanoseconds: one [`Book::queue`], in one hold of the lock. Then the view has
-    /// seen all that had happened in the book, and the commit's entry as the last.
+    /// Queues a commit with its stamp, in nanoseconds. It makes one [`Book::queue`] while it holds the lock. Then the
+    /// view has seen everything that had happened in the book, and the commit's entry as the last one.
     ///
-    /// Refuses, in this order: 1001 `Full`, 1002 `IdThere`, 1003 `StampThere`, which are the first fault of the history
-    /// that the view has seen then, and 1 `Memory`, where it has none. Then nothing is queued.
+    /// Refuses, in this order: 1001 `Full`, 1002 `IdThere`, 1003 `StampThere`, 1 `Memory`. A refusal with one of the
+    /// first three names the first fault of the history that the view has seen then. `Memory` comes only if this
+    /// history has no fault. After a refusal nothing is queued.
     pub fn queue(
         &self,
         rt: &impl Wait,
@@ -231,10 +234,11 @@ impl<J: WhichBook> SharedBook<J> {
         answer
     }
 
-    /// Releases what has surely passed by this reading, and then asks whether this commit is released: one
-    /// [`Book::release`] and one [`Book::is_released`], in one hold of the lock. Then the view has seen all that had
-    /// happened in the book, and the receipts of this release as the last entries. The answer is the receipt of the
-    /// commit in what the view has seen then, whoever released it. It takes no memory.
+    /// Releases each commit whose stamp has surely passed by this reading, and then asks whether this commit is
+    /// released. It makes one [`Book::release`] and one [`Book::is_released`], and keeps the lock in between. Then the
+    /// view has seen everything that had happened in the book, and the receipts of this release as the last entries.
+    /// The answer is the receipt of the commit in what the view has seen then, whichever thread released the commit. It
+    /// takes no memory.
     pub fn release_and_ask(
         &self,
         rt: &impl Wait,

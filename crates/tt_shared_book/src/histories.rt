@@ -1,7 +1,8 @@
-//! The history of a shared book, in a log that exists in the proofs alone, and what is known of it.
+//! The history of a shared book, and what is known of it. It is part of a log that exists in the proofs alone.
 //!
-//! An entry is added by a pen, which it uses up, and it names the pen for the next one. There is one pen for the next
-//! entry of a history, so who has it knows the whole history.
+//! A pen is the right to add one entry. Adding it uses up the pen, and names the pen for the next entry. There is one
+//! pen for the next entry of a history, so the owner of this pen knows the whole history. In contracts the `source` of
+//! a history says which chain of the log it is.
 
 ghost use Rattle.std.specs.Prelude.{◌≡◌, ◌≤◌, ◌∷◌, [], List, length, reverse, drop, ◌++◌, ◌⊎◌};
 ghost use Rattle.logbook.specs.Pages.{may_write};
@@ -34,7 +35,7 @@ impl Rule<Written, u64> for Law {
     ghost moves = { λ ask before after answer. Unit {0} };
 }
 
-/// Nothing is traded.
+/// What the update of a client gains: nothing.
 pub struct Nothing;
 
 impl Gain<Written, u64> for Nothing {
@@ -69,7 +70,7 @@ impl Play<Written, u64> for Add {
     ghost then = { Adds };
 }
 
-/// An entry that is to be added, beside what tells its chain, and the pen for the next one.
+/// What the step [`Add`] asks: an entry to add, what names its chain, and the pen for the next entry.
 #[derive(Drop)]
 pub struct Asked<'a> {
     pub entry: &'a Entry,
@@ -86,7 +87,7 @@ impl<'a> Plain<Asked<'a>, Written, u64> for Add {
     ghost state = { λ asked. None };
 }
 
-/// The step that looks at a chain, by the pen for its next entry, which it keeps.
+/// The step that looks at a chain, by the pen for its next entry. It keeps the pen.
 pub struct Look;
 
 impl Play<Written, u64> for Look {
@@ -104,7 +105,7 @@ impl Plain<Seen<Written, u64, Law>, Written, u64> for Look {
     ghost state = { λ first. None };
 }
 
-/// A pen for a chain of its own, which has no entry.
+/// A pen for a new chain, which has no entry.
 fn new_pen(word: &Word<Written, u64, Law>, seen: &mut Seen<Written, u64, Law>) -> Pen
     requires { word.now ≡ word_of seen.old.book }
     ensures book { (seen.new.book ≡ seen.old.book) × (result.book ≡ seen.old.book) }
@@ -118,8 +119,9 @@ fn new_pen(word: &Word<Written, u64, Law>, seen: &mut Seen<Written, u64, Law>) -
     pen
 }
 
-/// The history of one shared book, with the pen for its next entry. So nobody else can have added one, and what is known
-/// of it is all of it. Contracts see the source and the entries, newest first. It takes the bytes of one word.
+/// The history of one shared book, with the pen for its next entry. So nobody else can have added an entry, and what is
+/// known of the history is all of it. In contracts it is the `source` and the entries, newest first. It takes the bytes
+/// of one word.
 #[derive(Drop)]
 pub struct History {
     word: Word<Written, u64, Law>,
@@ -142,8 +144,8 @@ impl Model for History {
     ghost invariant = { λ h. (h.word ≡ word_of h.seen.book) × (h.pen.book ≡ h.seen.book) × (h.pen.nib.right ≡ may_write) × (h.pen.nib.key ≡ pen_of (chain_of h.first.log) h.seen.log) };
 }
 
-/// What was seen of the history of one shared book. Contracts see the source and the entries, newest first. It takes no
-/// bytes.
+/// What was seen of the history of one shared book. In contracts it is the `source` and the entries, newest first. It
+/// takes no bytes.
 #[derive(Drop)]
 pub struct Glance {
     /// What was seen when the chain began.
@@ -161,7 +163,7 @@ impl Model for Glance {
 }
 
 impl History {
-    /// A history of its own, in which nothing has happened.
+    /// A new history, in which nothing has happened.
     pub fn open() -> History
         ensures none { result.past ≡ [] }
     {
@@ -177,7 +179,7 @@ impl History {
         }
     }
 
-    /// All that happened so far.
+    /// Everything that has happened so far.
     pub fn glance(&self) -> Glance
         ensures { result ≡ self.now }
     {
@@ -187,7 +189,7 @@ impl History {
         }
     }
 
-    /// What the other has seen of this history is an earlier state of it.
+    /// A law: what the other has seen of this history is an earlier state of it.
     pub fn catch_up(&mut self, other: &Glance)
         requires { other.now.source ≡ self.old.source }
         ensures same { self.new ≡ self.old }
@@ -201,7 +203,7 @@ impl History {
             .compare_exchange::<Look, Nothing>(0, 0, &mut self.seen, &mut offer, &mut self.pen);
     }
 
-    /// The entry happens.
+    /// Adds an entry, as the newest.
     pub fn add(&mut self, entry: &Entry)
         ensures { self.new ≡ record self.old { past = entry.now ∷ self.old.past } }
     {
@@ -220,7 +222,7 @@ impl History {
         self.pen = next;
     }
 
-    /// The entries happen, one after the other.
+    /// Adds these entries, one after the other.
     pub fn add_all(&mut self, entries: &[Entry])
         ensures { self.new ≡ record self.old { past = reverse entries.now ++ self.old.past } }
     {
@@ -229,7 +231,7 @@ impl History {
         }
     }
 
-    /// The entries behind this many happen, one after the other.
+    /// Adds the entries after the first `count`, one after the other.
     pub fn add_behind(&mut self, entries: &[Entry], count: usize)
         requires { count ≤ length entries.now }
         ensures { self.new ≡ record self.old { past = reverse (drop count entries.now) ++ self.old.past } }
@@ -240,7 +242,7 @@ impl History {
 }
 
 impl Glance {
-    /// An equal one.
+    /// An equal value.
     pub fn again(&self) -> Glance
         ensures { result ≡ self.now }
     {
@@ -250,7 +252,7 @@ impl Glance {
         }
     }
 
-    /// Of what two have seen of one history, one is an earlier state of the other.
+    /// A law: what one of the two has seen of the history is an earlier state of what the other has seen.
     pub fn compare(&self, other: &Glance)
         requires { other.now.source ≡ self.now.source }
         ensures { GoesOn self.now.past other.now.past ⊎ GoesOn other.now.past self.now.past }

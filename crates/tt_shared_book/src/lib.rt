@@ -1,15 +1,26 @@
 //! One book of commits that many threads share, and what each of them knows of it.
 //!
-//! A [`SharedBook`] has a [`tt_stamp::Book`] under a lock. What happens in it is one legal history, as that of a book.
-//! Each thread has a [`BookView`], which has seen an earlier state of this history or all of it, and takes no bytes.
-//! After each call the view has seen all that had happened up to the end of the call's hold of the lock. So a call says
-//! exactly what it did: a queued commit is the last entry of what the view has seen, a refusal is the first fault of it, and
-//! the receipt of a commit is the one in it. Of what two views have seen, one is an earlier state of the other.
+//! A [`SharedBook`] has a [`tt_stamp::Book`] under a lock. What happens in it is one legal history, as in any book.
+//! Each thread has a [`BookView`], which takes no bytes. The view has seen all of this history, or an earlier state of
+//! it.
 //!
-//! The history exists in the proofs alone. Which book it is stands in a type, [`WhichBook`]: [`OpenedBook::new`] makes
-//! the history, and [`OpenedBook::named`] the shared book of that name with its first view.
+//! After each call the view has seen everything that had happened when the call gave the lock back. So a call says
+//! exactly what it did: a queued commit is the last entry that the view has seen, a refusal is the first fault of the
+//! history that the view has seen, and the receipt of a commit is the one in this history. What one of two views has
+//! seen is an earlier state of what the other has seen.
 //!
-//! - `written`: what the log of all histories has. `histories`: one history, its pen, and what was seen of it.
+//! ```text
+//! let (book, mut view) = opened.named::<J>(alloc);   // opened is OpenedBook::new(), and J names it
+//! book.queue(rt, &mut view, id, 5)?;
+//! let reading = Reading::of(Span::new(6, 20)?);
+//! let receipt = book.release_and_ask(rt, &mut view, &reading, id);
+//! // 5 is below 6, so the commit is released: its receipt has the stamp 5 and the earliest 6
+//! ```
+//!
+//! The history exists in the proofs alone. A type, [`WhichBook`], says which book it is. [`OpenedBook::new`] makes the
+//! history, and [`OpenedBook::named`] makes the shared book of that name with its first view.
+//!
+//! - `written`: the lines of the log of all histories. `histories`: one history, its pen, and what was seen of it.
 //! - `books`: the book under the lock, and the views.
 #![tactic(auto)]
 

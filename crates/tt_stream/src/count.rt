@@ -1,11 +1,11 @@
-//! A count that stays at its greatest value.
+//! A count that stays at its greatest value once it is reached.
 
 ghost use Rattle.std.specs.Prelude.{◌≡◌, ℕ};
 ghost use Rattle.tt_stream.specs.Counts.{count_after};
 
 use std::marker::Model;
 
-/// How often something came, up to 2^64 - 1.
+/// How often something happened, at most 2^64 - 1.
 #[derive(Clone, Copy)]
 pub(crate) struct Count(u64);
 

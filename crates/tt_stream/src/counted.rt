@@ -8,13 +8,13 @@ use crate::device::{ByteReader, ByteWriter};
 use crate::fault::DeviceFault;
 use std::io::{Read, Write};
 
-/// A reader or a writer of the standard library that counts its failures. Each error is a failure, one that
-/// says that the call was interrupted too: nothing is tried again. So is a write that takes none of some
-/// bytes. What was written or is left is known where the device within says so.
+/// A reader or a writer of the standard library that counts its failures. Every error is a failure, also an error that
+/// says that the call was interrupted: no call is tried again. A write of some bytes that takes none of them is a
+/// failure too. What is left or was written is known if the device within says so.
 ///
-/// Proved: an error is answered only with a failure counted. That it is counted only where the device within
-/// failed, and that the device is asked at all where it does not keep its bytes, is tested: the standard
-/// library's traits do not say when a call fails.
+/// It is proved that an error is answered only if a failure is counted. The traits of the standard library do not say
+/// when a call fails, so two things are only tested: that a failure is counted only if the device within failed, and
+/// that a device that does not keep its bytes is asked at all.
 #[derive(Drop)]
 pub struct Counted<D> {
     device: D,

@@ -1,4 +1,4 @@
-//! What is answered where a device failed, or where an input could not be read whole.
+//! The fault of a device, and why an input could not be read whole.
 
 ghost use Rattle.std.specs.Prelude.{◌≡◌};
 ghost use Rattle.tt_stream.specs.declared.fault.ReadFault.TheVariants.{Failed, Memory};
@@ -11,8 +11,8 @@ use thiserror::Error;
 #[error("the device failed")]
 pub struct DeviceFault;
 
-/// Why an input could not be read whole. These faults have no numbers of their own: who asked for the input
-/// answers its own numbers for them, and 1 for out of memory.
+/// Why an input could not be read whole. These faults have no numbers of their own. The caller answers numbers of its
+/// own for them, and 1 for `Memory`.
 #[derive(Clone, Copy, Debug, PartialEq, Eq, Error)]
 pub enum ReadFault {
     /// The reader failed.
@@ -21,7 +21,7 @@ pub enum ReadFault {
     /// The input has more bytes than are allowed.
     #[error("the input is too long")]
     TooLong,
-    /// None of the allowed reads said that the input has ended.
+    /// All allowed reads were made, and none said that the input has ended.
     #[error("the reads are used up")]
     UsedUp,
     /// Out of memory: an allocation for the bytes that came failed.

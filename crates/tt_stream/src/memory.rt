@@ -1,5 +1,5 @@
-//! Devices in memory, that give and take piece by piece and fail when told to: for tests, and for proofs over
-//! runs.
+//! Devices in memory, for tests and for proofs over runs. They give or take bytes piece by piece, and fail at a chosen
+//! call.
 
 ghost use Rattle.std.specs.Prelude.{◌≡◌, ◌<◌, ◌≤◌, ◌++◌, ◌↔◌, Some, [], true, false, length, take, drop, min, IfOk, OnOk, OnErr, IsErr};
 ghost use Rattle.std.specs.Io.KnownBytes.{Keeps, ReadConsumes, WriteAppends};
@@ -12,7 +12,7 @@ use crate::fault::DeviceFault;
 use std::alloc::Global;
 use std::marker::Model;
 
-// The call that is to fail, counted from 1, with the calls and the failures so far.
+// The number of the call that fails, counted from 1, with the calls and the failures so far.
 #[derive(Drop)]
 struct Course {
     fails_at: Option<u64>,
@@ -31,7 +31,7 @@ impl Course {
         }
     }
 
-    // Counts a call, which fails where it is the one that is to.
+    // Counts a call. It fails if its number is `fails_at`.
     fn call(&mut self) -> Result<(), DeviceFault>
         ensures fails { IsErr result ↔ (self.old.fails_at ≡ Some (count_after self.old.calls 1)) }
         ensures ok { OnOk result (self.new ≡ record self.old { calls = count_after self.old.calls 1 }) }
@@ -70,8 +70,8 @@ impl<'a> Model for MemoryReader<'a> {
 }
 
 impl<'a> MemoryReader<'a> {
-    /// A reader that gives at most `piece` bytes by each call. Its call number `fails_at`, counted from 1,
-    /// fails; `None`: none does.
+    /// A reader that gives at most `piece` bytes by each call. Call number `fails_at`, counted from 1, fails. `None`
+    /// names no call. Requires: `piece` is not 0.
     pub fn new(bytes: &'a [u8], piece: usize, fails_at: Option<u64>) -> Self
         requires { 0 < piece }
         ensures { result ≡ record { left = bytes.entry.now; piece = piece; fails_at = fails_at; calls = 0; failures = 0 } }
@@ -91,7 +91,7 @@ impl<'a> ByteReader for MemoryReader<'a> {
 
     ghost asked = { λ reader. reader.calls };
 
-    /// As many bytes as there are, fit and are allowed in a piece.
+    /// Gives some bytes. Their number is the least of three: what is left, what fits into the buffer, and `piece`.
     fn read(&mut self, buffer: &mut [u8]) -> Result<usize, DeviceFault>
         ensures count { IfOk result (λ n. n ≤ length buffer.new) }
         ensures bytes { ReadConsumes (Some self.old.left) (Some self.new.left) result buffer.new }
@@ -117,7 +117,7 @@ impl<'a> ByteReader for MemoryReader<'a> {
     }
 }
 
-/// A writer into memory. Where an allocation fails, it fails.
+/// A writer into memory. It fails if an allocation fails.
 #[derive(Drop)]
 pub struct MemoryWriter {
     taken: Vec<u8>,
@@ -134,8 +134,8 @@ impl Model for MemoryWriter {
 }
 
 impl MemoryWriter {
-    /// A writer that takes at most `piece` bytes by each call; with 0 it takes none, and so fails. Its call
-    /// number `fails_at`, counted from 1, fails; `None`: none does. A flush is a call too.
+    /// A writer that takes at most `piece` bytes by each call. If `piece` is 0 it takes no byte, and so a write of some
+    /// bytes fails. Call number `fails_at`, counted from 1, fails. `None` names no call. A flush is a call too.
     pub fn new(alloc: Global, piece: usize, fails_at: Option<u64>) -> Self
         ensures { result ≡ record { taken = []; piece = piece; fails_at = fails_at; calls = 0; failures = 0; flushed = true } }
     {
@@ -162,7 +162,7 @@ impl ByteWriter for MemoryWriter {
 
     ghost flushed = { λ writer. writer.flushed };
 
-    /// As many bytes as are allowed in a piece.
+    /// Takes some bytes. Their number is the lesser of two: the length of `bytes`, and `piece`.
     fn write(&mut self, bytes: &[u8]) -> Result<usize, DeviceFault>
         ensures count { IfOk result (λ n. n ≤ length bytes.now) }
         ensures some { IfOk result (λ n. 0 < length bytes.now → 0 < n) }

@@ -1,4 +1,4 @@
-//! A whole input, and a whole answer.
+//! Reading a whole input, and writing a whole answer.
 
 ghost use Rattle.std.specs.Prelude.{◌≡◌, ◌≢◌, ◌<◌, ◌≤◌, ◌+◌, ◌-◌, ◌++◌, ℕ, List, length, vec_len, true, false, IfOk, OnOk, OnErr, IfSome, IsErrOf};
 ghost use Rattle.std.specs.Io.KnownBytes.{Appends, Consumes, IsAtEnd};
@@ -12,24 +12,24 @@ use std::alloc::Global;
 /// How many bytes one read asks for at most.
 const PIECE: usize = 4096;
 
-/// Reads an input to its end, by at most `reads` reads, and answers its bytes, of which at most `most` are
-/// allowed. The read that says that the input has ended counts too.
+/// Reads an input to its end by at most `reads` reads, and answers its bytes. At most `most` bytes are allowed. The
+/// read that says that the input has ended counts too.
 ///
-/// Refused with
-/// - `Failed`: a read failed. It was the last one.
+/// Refuses with
+/// - `Failed`: a read failed. It was the last read.
 /// - `TooLong`: more than `most` bytes came. The rest is not read.
-/// - `UsedUp`: none of `reads` reads said that the input has ended. It can't come where `reads` is above
-///   `most`, since a read that does not say so gives a byte at least.
+/// - `UsedUp`: none of `reads` reads said that the input has ended. This cannot happen if `reads` is above `most`,
+///   since a read that does not say so gives at least one byte.
 /// - `Memory`: an allocation for the bytes that came failed.
 ///
-/// After a refusal the reader has given a front of its bytes, which is lost.
+/// After a refusal the reader has given a first part of its bytes. This part is lost.
 pub fn read_to_end<R: ByteReader>(
     alloc: Global,
     reader: &mut R,
     most: usize,
     reads: u32,
 ) -> Result<Vec<u8>, ReadFault>
-    // All bytes that were still to come, and no more than are allowed.
+    // The answer is all bytes that were still to come, and no more than are allowed.
     ensures whole { IfOk result (λ bytes. IfSome (R.left reader.old) (λ all. bytes.items ≡ all)) }
     ensures end { OnOk result (IsAtEnd (R.left reader.new)) }
     ensures short { IfOk result (λ bytes. vec_len bytes ≤ most) }
@@ -57,7 +57,7 @@ pub fn read_to_end<R: ByteReader>(
     Err(ReadFault::UsedUp)
 }
 
-// One read, whose bytes go behind those that came before. It answers whether the input goes on.
+// Makes one read, and appends its bytes to the bytes that came before. Answers whether the input goes on.
 fn read_piece<R: ByteReader>(
     reader: &mut R,
     buffer: &mut [u8],
@@ -89,8 +89,8 @@ fn read_piece<R: ByteReader>(
     Ok(n > 0)
 }
 
-/// Writes all bytes, by as many writes as the writer needs. Where the writer fails, it has taken a front of
-/// them, and not all. What it holds back is not passed on: `flush` does that.
+/// Writes all bytes, by as many writes as the writer needs. If the writer fails, it has taken a first part of the
+/// bytes, and not all of them. What the writer holds back is not sent: `flush` does that.
 pub fn write_all<W: ByteWriter>(writer: &mut W, bytes: &[u8]) -> Result<(), DeviceFault>
     ensures ok { OnOk result (Appends (W.taken writer.old) (W.taken writer.new) bytes.now) }
     ensures err { OnErr result (WritesFront (W.taken writer.old) (W.taken writer.new) bytes.now) }

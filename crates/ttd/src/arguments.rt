@@ -1,4 +1,4 @@
-//! The words that the program was started with.
+//! The arguments with which the program was started.
 
 ghost use Rattle.std.specs.Prelude.{◌≡◌, ◌≢◌, ◌⊎◌, IfOk, Some, map, string_bytes};
 ghost use Rattle.clap.specs.Walk.{texts};
@@ -21,15 +21,16 @@ use ttd_cli::{mistake_text, usage_text};
 use ttd_commands::{Ended, Fault, Status, answer_live, explain, give};
 use ttd_services::{names_service, run};
 
-/// What standard error is told where the answer could not be written.
+/// The message for standard error if the answer could not be written.
 const UNWRITTEN: &[u8] = b"ttd: refused 1605: writing failed\n";
 
-/// The words after the program's name, of which one may be no text.
+/// The arguments after the program's name. This fails if one of them is not UTF-8.
 fn words_or_error(rt: &(impl Env + AllocGlobal)) -> io::Result<Vec<String>> {
     Ok(env::args(rt)?.skip(1).collect(rt.alloc())?)
 }
 
-/// The words after the program's name. Words of which one is no text are bad words, as no words are.
+/// The arguments after the program's name. If one of them is not UTF-8, it answers no arguments, which are invalid
+/// arguments.
 pub(crate) fn words_given(rt: &(impl Env + AllocGlobal)) -> Result<Vec<String>, AllocError> {
     match words_or_error(rt) {
         Ok(words) => Ok(words),
@@ -38,7 +39,7 @@ pub(crate) fn words_given(rt: &(impl Env + AllocGlobal)) -> Result<Vec<String>, 
     }
 }
 
-/// The words as texts.
+/// The arguments as texts.
 fn as_texts(alloc: Global, words: &[String]) -> Result<Vec<&str>, AllocError>
     ensures { IfOk result (λ all. texts all.items ≡ map string_bytes words.entry.now) }
 {
@@ -49,7 +50,7 @@ fn as_texts(alloc: Global, words: &[String]) -> Result<Vec<&str>, AllocError>
     Ok(all)
 }
 
-/// Runs the program with these words. The notes gain what else is to be said on standard error.
+/// Runs the program with these arguments. Adds to the notes what else has to be said on standard error.
 pub(crate) fn main_from<
     H: AllocGlobal
         + Threads
@@ -73,8 +74,8 @@ pub(crate) fn main_from<
     }
 }
 
-/// Runs the service that these words name, where they name one, and answers how it ended. Where memory runs out before, they name
-/// none.
+/// Runs the service that these arguments name, and answers how it ended. None if they name no service, or if it is out
+/// of memory before that is known.
 pub(crate) fn service_from<
     S: Read + Send + Drop,
     H: AllocGlobal
@@ -97,8 +98,8 @@ pub(crate) fn service_from<
     }
 }
 
-/// Says in a sentence what was refused, of words that were refused which of them, and then the notes. Where that can't be written,
-/// nothing more is done.
+/// Writes a sentence that says what was refused. For invalid arguments it also writes which of them is wrong. Then it
+/// writes the notes. If that can't be written, nothing more is done.
 pub(crate) fn say<W: Write>(
     alloc: Global,
     errors: &mut W,
@@ -121,7 +122,7 @@ pub(crate) fn say<W: Write>(
     let _ = errors.write_all(notes.as_bytes());
 }
 
-/// Says which word the command line did not expect, and where there is no word, how the program is used.
+/// Writes which argument the command line did not expect or, if there are no arguments, how the program is used.
 fn say_mistake<W: Write>(alloc: Global, errors: &mut W, words: &[String]) {
     let Ok(texts) = as_texts(alloc, words) else {
         return;

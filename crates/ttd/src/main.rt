@@ -1,7 +1,7 @@
-//! The program `ttd`: the commands of `ttd_commands` and the services of `ttd_services` over the arguments that it was started
-//! with, its standard input and its standard output. What was refused is said in a sentence on standard error too.
+//! The program `ttd`: the commands of `ttd_commands` and the services of `ttd_services`, with the arguments of the
+//! process, its standard input and its standard output. A refusal is also explained in a sentence on standard error.
 //!
-//! - `arguments`: the words that it was started with.
+//! - `arguments`: the arguments with which the program was started.
 #![tactic(auto)]
 
 mod arguments;

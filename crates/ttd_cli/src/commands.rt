@@ -1,4 +1,4 @@
-//! The command line as clap is told it.
+//! The command line, as it is given to clap.
 
 ghost use Rattle.std.specs.Prelude.{◌≡◌, IfOk, false};
 ghost use Rattle.clap.specs.Simple.{new_app};
@@ -17,7 +17,7 @@ use tt_span::MAX_DRIFT;
 /// The version of the program.
 const VERSION: &str = "0.2 (rattle-kit-13)";
 
-/// The option `--drift N`: 200 where it is not given, and at most [`MAX_DRIFT`].
+/// The option `--drift N`: 200 if it is not given, and at most [`MAX_DRIFT`].
 fn drift_option<'a>(alloc: Global) -> Arg<'a>
     ensures rule { rule_of result ≡ drift_rule }
     ensures local { result.global ≡ false }
@@ -30,7 +30,7 @@ fn drift_option<'a>(alloc: Global) -> Arg<'a>
         .value_parser(value_parser!(u64).range(..=i64::from(MAX_DRIFT)))
 }
 
-/// An option `--NAME VALUE` with a number of 64 bits, which has to be given.
+/// A required option `--NAME VALUE` with a number of 64 bits.
 fn given_option<'a>(alloc: Global, name: &'a str, value: &'a str, help: &'a str) -> Arg<'a>
     ensures rule { rule_of result ≡ given_rule name.entry.now }
     ensures local { result.global ≡ false }
@@ -63,7 +63,7 @@ fn age_command<'a>(alloc: Global) -> Result<Command<'a>, AllocError>
     with_got.arg(clock)
 }
 
-/// An option `--NAME TEXT` with any text, which has to be given.
+/// A required option `--NAME TEXT` with any text.
 fn text_option<'a>(alloc: Global, name: &'a str, value: &'a str, help: &'a str) -> Arg<'a>
     ensures rule { rule_of result ≡ text_rule name.entry.now }
     ensures local { result.global ≡ false }
@@ -97,7 +97,7 @@ fn twin_command<'a>(alloc: Global) -> Result<Command<'a>, AllocError>
     with_event.arg(side)
 }
 
-/// A command without options, with what its help says of it before and after its usage.
+/// A command without options, with the texts of its help before and after its usage.
 fn plain_command<'a>(alloc: Global, name: &'a str, about: &'a str, after: &'a str) -> Command<'a>
     ensures app { app_of result ≡ new_app name.entry.now }
     ensures local { (out-Command result).has_globals ≡ false }
@@ -118,7 +118,7 @@ fn bare_command<'a>(alloc: Global) -> Result<Command<'a>, AllocError>
         .bin_name("ttd")
 }
 
-/// The program with the commands that read what sources answered: `age`, `fuse` and `check`.
+/// The program with the commands that read the answers of sources: `age`, `fuse` and `check`.
 fn sources_command<'a>(alloc: Global) -> Result<Command<'a>, AllocError>
     ensures app { IfOk result (λ c. app_of c ≡ sources_app) }
 {
@@ -141,7 +141,7 @@ fn sources_command<'a>(alloc: Global) -> Result<Command<'a>, AllocError>
     with_fuse.subcommand(check)
 }
 
-/// The program with these commands and those that tell of a script's run: `run`, `trace` and `twin`.
+/// The program with these commands and the commands on the run of a script: `run`, `trace` and `twin`.
 fn runs_command<'a>(alloc: Global) -> Result<Command<'a>, AllocError>
     ensures app { IfOk result (λ c. app_of c ≡ runs_app) }
 {

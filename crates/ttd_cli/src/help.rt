@@ -1,6 +1,6 @@
-//! What the help says behind the options: of the program, and of each command.
+//! The texts of the help after the options: of the program, and of each command.
 
-/// What every command does with what it reads.
+/// What every command does with its input.
 pub(crate) const ABOUT_ANSWERS: &str = "\
 Each command reads standard input to its end, at most 1048576 bytes (judge: 1 GiB):
   ttd run < FILE

@@ -19,7 +19,7 @@ use tt_span::Drift;
 pub enum Command {
     /// `age`: ages the answer that is read.
     Age {
-        /// What the clock may be wrong by: 200 parts per million where it was not given.
+        /// The drift of the clock: 200 parts per million if it was not given.
         drift: Drift,
         /// The clock when the poll was sent, in nanoseconds.
         sent: u64,
@@ -34,7 +34,7 @@ pub enum Command {
     Check,
     /// `run`: runs the script that is read, and reports on the run.
     Run,
-    /// `trace`: runs the script that is read, and tells each event with its reply.
+    /// `trace`: runs the script that is read, and prints each event with its reply.
     Trace,
     /// `twin`: gives the twin of a reading in the run of the script that is read.
     Twin {
@@ -45,7 +45,7 @@ pub enum Command {
     },
     /// `picture`: draws the run of the script that is read.
     Picture,
-    /// `live`: runs a machine live, by the script that is read.
+    /// `live`: runs the machine of the script that is read, in threads.
     Live,
     /// `judge`: judges whether the history of commits that is read is externally consistent.
     Judge,
@@ -122,7 +122,7 @@ fn age_asked(matches: &ArgMatches<'_>) -> Command
     }
 }
 
-/// The side that a text names.
+/// The side with this name.
 fn side_named(text: &str) -> Option<Side>
     ensures { result ≡ side_of text.now }
 {
@@ -133,7 +133,7 @@ fn side_named(text: &str) -> Option<Side>
     }
 }
 
-/// The command `twin` with these options. Refuses with [`WordsFault::BadWords`] a side that is neither `low` nor `high`.
+/// The command `twin` with these options. Refuses with [`WordsFault::BadWords`] a side other than `low` and `high`.
 fn twin_asked(matches: &ArgMatches<'_>) -> Result<Command, WordsFault>
     requires { IsSome (number_at (codes "event") (rows_of (found_of matches.now))) }
     ensures { result ≡ twin_of (rows_of (found_of matches.now)) }
@@ -148,7 +148,7 @@ fn twin_asked(matches: &ArgMatches<'_>) -> Result<Command, WordsFault>
     }
 }
 
-/// The command that clap found, if its options are such as can be.
+/// The command that clap found, if its options are valid.
 fn command_asked(matches: &ArgMatches<'_>) -> Result<Command, WordsFault>
     requires { HasNumbers (subcommand_rows_of matches.now) }
     ensures { result ≡ command_named (subcommand_rows_of matches.now) }
@@ -167,7 +167,7 @@ fn command_asked(matches: &ArgMatches<'_>) -> Result<Command, WordsFault>
     }
 }
 
-/// What clap makes of the words.
+/// What clap finds in the arguments.
 fn parsed<'a>(alloc: Global, words: &'a [&'a str]) -> Result<ArgMatches<'a>, Error>
     ensures named { IfOk result (λ matches. subcommand_rows_of matches ≡ named_by (texts words.entry.now)) }
     ensures fails { FailsBy (faults_of (texts words.entry.now)) result }
@@ -177,10 +177,12 @@ fn parsed<'a>(alloc: Global, words: &'a [&'a str]) -> Result<ArgMatches<'a>, Err
 
 /// What the arguments after the program's name ask for.
 ///
-/// A number is read as `u64` reads it: decimal digits after one `+` or none; leading zeros are allowed. Rejects with
-/// [`WordsFault::BadWords`] (1601) arguments that the command line does not take: none at all, a word that it does not know, an option
-/// that is missing or comes twice, a value that is not a number of 64 bits, a drift above 100000, or a side other than `low` and `high`; and with [`WordsFault::Memory`] (1)
-/// where an allocation failed. After `help`, a word that names no command is rejected or answered with the help of the program.
+/// A number is read as `u64` reads it: decimal digits, with one `+` in front or none; leading zeros are allowed.
+///
+/// Rejects with [`WordsFault::BadWords`] (1601) arguments that the command line does not take: none at all, an unknown
+/// word, an option that is missing or comes twice, a value that is not a number of 64 bits, a drift above 100000, or a
+/// side other than `low` and `high`. Rejects arguments with [`WordsFault::Memory`] (1) where an allocation failed.
+/// After `help`, a word that names no command is rejected, or answered with the help of the program.
 pub fn read_words(alloc: Global, words: &[&str]) -> Result<Asked, WordsFault>
     ensures taken { AreTaken (texts words.now) → IsOk (asked_of (texts words.now))
         × IsUnlessMemory WordsFault.Memory (asked_of (texts words.now)) result }
@@ -199,10 +201,11 @@ pub fn read_words(alloc: Global, words: &[&str]) -> Result<Asked, WordsFault>
     }
 }
 
-/// The text of the help, or of the version, that the arguments ask for, where [`read_words`] answers [`Asked::Help`] to them. Its wording is clap's own.
+/// The text of the help, or of the version, that the arguments ask for. They ask for it if [`read_words`] answers
+/// [`Asked::Help`] to them. The wording is clap's own.
 ///
-/// Rejects with [`WordsFault::BadWords`] (1601) arguments that do not ask for help, and with [`WordsFault::Memory`] (1) where an allocation
-/// failed.
+/// Rejects with [`WordsFault::BadWords`] (1601) arguments that do not ask for help, and with [`WordsFault::Memory`] (1)
+/// where an allocation failed.
 pub fn help_text(alloc: Global, words: &[&str]) -> Result<String, WordsFault>
     ensures helped { AreForHelp (texts words.now) → IfErr result (λ fault. fault ≡ WordsFault.Memory) }
     ensures taken { AreTaken (texts words.now) → IsUnlessMemory WordsFault.Memory (Err WordsFault.BadWords) result }
@@ -220,7 +223,7 @@ pub fn help_text(alloc: Global, words: &[&str]) -> Result<String, WordsFault>
     }
 }
 
-/// What to say on standard error of a side that is neither `low` nor `high`.
+/// The message for standard error about a side other than `low` and `high`.
 fn side_mistake(alloc: Global, matches: &ArgMatches<'_>) -> Result<String, AllocError> {
     let side = match matches.subcommand() {
         Some((_, options)) => options.get_str("side").unwrap_or(""),
@@ -231,10 +234,11 @@ fn side_mistake(alloc: Global, matches: &ArgMatches<'_>) -> Result<String, Alloc
     )
 }
 
-/// What to say on standard error of arguments that [`read_words`] rejects with 1601: which of them was not expected or is missing, with
-/// a tip and the usage, in a few lines, each with its line feed. None where they are taken or ask for help. Its wording is clap's own.
+/// The message for standard error about arguments that [`read_words`] rejects with 1601: which argument was not
+/// expected or is missing, with a tip and the usage. It has a few lines, each with its line feed. None if the arguments
+/// are taken, or if they ask for help. The wording is clap's own.
 ///
-/// Refuses only where an allocation failed.
+/// Refuses only if an allocation failed.
 pub fn mistake_text(alloc: Global, words: &[&str]) -> Result<Option<String>, AllocError>
     ensures taken { AreTaken (texts words.now) → IfOk result (λ text. IsNone text) }
     ensures helped { AreForHelp (texts words.now) → IfOk result (λ text. IsNone text) }
@@ -253,16 +257,17 @@ pub fn mistake_text(alloc: Global, words: &[&str]) -> Result<Option<String>, All
     }
 }
 
-/// What the program does and which commands it has, in a few lines, for standard error where no command was given. Its wording is clap's own.
+/// What the program does and which commands it has, in a few lines, for standard error if no command was given. The
+/// wording is clap's own.
 ///
-/// Refuses only where an allocation failed.
+/// Refuses only if an allocation failed.
 pub fn usage_text(alloc: Global) -> Result<String, AllocError> {
     ttd_command(alloc)?.after_help("").render_help()
 }
 
-/// Arguments that are taken always ask for a command; those at which clap finds nothing wrong are taken or a mistake; none at all are a mistake; `--help`, alone or after a command, asks for help, and so
-/// does `--version`.
-/// The arguments of one `age`, with the default drift, ask for it with its three numbers.
+/// Laws of arguments. Arguments that are taken always ask for a command. Arguments in which clap finds nothing wrong
+/// are taken or are a mistake. No arguments at all are a mistake. `--help`, alone or after a command, asks for help,
+/// and so does `--version`. The arguments of one `age`, with the default drift, ask for it with its three numbers.
 pub fn word_laws()
     ensures total { (words : List (List ℕ)) → AreTaken words → (command : Command) × (asked_of words ≡ Ok (Asked.Run command)) }
     ensures judged { (words : List (List ℕ)) → faults_of words ≡ [] → AreTaken words ⊎ AreMistaken words }

@@ -1,4 +1,4 @@
-//! The command `age`: the answer to a poll, aged.
+//! The command `age`: ages the answer to a poll.
 
 ghost use Rattle.std.specs.Prelude.{◌≡◌, ◌≢◌, Err, string_bytes};
 ghost use Rattle.hex.specs.Hex.{decode_of};
@@ -17,7 +17,7 @@ use tt_span::{Drift, Span};
 /// The options of `age`.
 #[derive(Clone, Copy, Debug, PartialEq, Eq)]
 pub(crate) struct Ageing {
-    /// What the clock may be wrong by.
+    /// The drift of the clock.
     pub(crate) drift: Drift,
     /// The clock when the poll was sent, in nanoseconds.
     pub(crate) sent: u64,
@@ -38,8 +38,8 @@ fn without_line_feed(text: &[u8]) -> &[u8]
     }
 }
 
-/// The span of the answer that the bytes spell, in the format in which they are read. What is not a message is refused
-/// with the decoder's number, a request with 405.
+/// The span of the answer in these bytes, read in the format of the bytes. Bytes that are not a message are refused
+/// with the number of the decoder, and a request with 405.
 fn answer_span_of(bytes: &[u8]) -> Result<Span, Fault>
     ensures value { result ≡ answered_of bytes.now }
     ensures no_device { result ≢ Err Fault.ReadFailed }
@@ -69,7 +69,7 @@ fn aged(ageing: &Ageing, span: Span) -> Result<Span, Fault>
         .map_err(Fault::Source)
 }
 
-/// The aged span of the message that the text writes in hex.
+/// The aged span of the message in this hex text.
 fn aged_from_hex(alloc: Global, ageing: &Ageing, text: &[u8]) -> Result<Span, Fault>
     ensures value { IsUnlessMemory Fault.Memory (aged_hex ageing.now (decode_of text.now)) result }
     ensures no_device { result ≢ Err Fault.ReadFailed }
@@ -84,11 +84,12 @@ fn aged_from_hex(alloc: Global, ageing: &Ageing, text: &[u8]) -> Result<Span, Fa
     aged(ageing, span)
 }
 
-/// What `age` answers to its input: one poll answer of either format in hex, of either case, with one line feed allowed
-/// after it.
+/// The answer of `age` to its input: one poll answer of either format in hex, in upper or lower case, with one line
+/// feed allowed after it.
 ///
-/// Rejects, in this order, with 1602 `BadHex` what is not hex; with the decoder's number what is not a valid poll message; with 405
-/// a request; with 402 clock readings that are out of order or past the greatest time; and with 1 `Memory`.
+/// Refuses, in this order: 1602 `BadHex` where the input is not hex; the number of the decoder where it is not a valid
+/// poll message; 405 where it is a request; 402 where clock readings are out of order or past the greatest time; and
+/// 1 `Memory`.
 pub(crate) fn age_text(alloc: Global, ageing: &Ageing, input: &[u8]) -> Result<String, Fault>
     ensures value { HasReply string_bytes (λ reply. reply ≡ age_of ageing.now input.now) result }
     ensures no_device { result ≢ Err Fault.ReadFailed }

@@ -1,5 +1,5 @@
-//! Why a run in threads gave no reading, or its daemon published nothing, in lines for standard error. Their wording is not fixed. Where
-//! memory runs out, less is said.
+//! The reasons why a run in threads gave no reading, or why its daemon published nothing, in lines for standard error.
+//! Their wording is not fixed. If it is out of memory, less is written.
 
 use std::alloc::AllocError;
 use tt_daemon::DaemonFault;
@@ -7,7 +7,7 @@ use tt_live::LiveEnd;
 use tt_node::{RefusedFusions, RefusedPackets, Rounds};
 use tt_source::SourceFault;
 
-/// Adds to the notes what the daemon counted, where no worker gave a reading or nothing was published.
+/// Adds to the notes what the daemon counted, if no worker gave a reading or nothing was published.
 pub(crate) fn note_causes(notes: &mut String, end: &LiveEnd) {
     let _ = if end.report.readings == 0 {
         note_no_reading(notes, &end.rounds)
@@ -24,7 +24,8 @@ fn note_no_reading(notes: &mut String, rounds: &Rounds) -> Result<(), AllocError
     note_rounds(notes, rounds)
 }
 
-/// Adds what the daemon counted: a line for all its rounds, and one for each number by which something was refused.
+/// Adds what the daemon counted: one line for all its rounds, and one line for each number with which something was
+/// refused.
 fn note_rounds(notes: &mut String, rounds: &Rounds) -> Result<(), AllocError> {
     let (done, published) = (rounds.done, rounds.published);
     let (polls, taken) = (rounds.tally.polls, rounds.tally.taken);
@@ -36,7 +37,7 @@ fn note_rounds(notes: &mut String, rounds: &Rounds) -> Result<(), AllocError> {
     note_fusions(notes, &rounds.tally.fusions)
 }
 
-/// Adds a line for each number by which packets were refused.
+/// Adds a line for each number with which packets were refused.
 fn note_packets(notes: &mut String, packets: &RefusedPackets) -> Result<(), AllocError> {
     let counts = [
         (SourceFault::NoSource, packets.no_source),
@@ -59,7 +60,7 @@ fn note_packets(notes: &mut String, packets: &RefusedPackets) -> Result<(), Allo
     Ok(())
 }
 
-/// Adds a line for each number by which fusions were refused.
+/// Adds a line for each number with which fusions were refused.
 fn note_fusions(notes: &mut String, fusions: &RefusedFusions) -> Result<(), AllocError> {
     let counts = [
         (DaemonFault::ClockBack, fusions.clock_back),

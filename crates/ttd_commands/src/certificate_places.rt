@@ -1,4 +1,4 @@
-//! Where a certificate is refused: the line that is none of its text, and the time at which its stretches leave a gap.
+//! Where a certificate is refused: the bad line of its text, and the time at which its stretches leave a gap.
 
 use crate::places::first_line;
 use std::alloc::AllocError;
@@ -9,7 +9,7 @@ use tt_text::numbers_behind;
 /// The most stretches on one side.
 const MOST_STRETCHES: u32 = 33;
 
-/// The number of the first bad line of a certificate text, counted from 1, and what it has to be.
+/// The number of the first bad line of a certificate text, counted from 1, and what the line has to be.
 pub(crate) fn bad_certificate_line(text: &[u8]) -> Option<(u64, &'static str)> {
     let (claim, behind_claim) = first_line(text);
     if !is_claim(claim) {
@@ -26,7 +26,7 @@ pub(crate) fn bad_certificate_line(text: &[u8]) -> Option<(u64, &'static str)> {
     bad_stretch_line(stretches)
 }
 
-/// The number of the first bad line behind the three first ones, and what it has to be.
+/// The number of the first bad line behind the first three, and what the line has to be.
 fn bad_stretch_line(text: &[u8]) -> Option<(u64, &'static str)> {
     let mut rest = text;
     let mut number: u64 = 3;
@@ -53,7 +53,7 @@ fn bad_stretch_line(text: &[u8]) -> Option<(u64, &'static str)> {
     None
 }
 
-/// Whether a line is that of a claim.
+/// Whether a line is the line of a claim.
 fn is_claim(line: &[u8]) -> bool {
     let Some(numbers) = numbers_behind(b"claim", line) else {
         return false;
@@ -105,8 +105,8 @@ pub(crate) fn note_cover(
     }
 }
 
-/// The time at which the next stretch has to begin where stretches do not lie side by side from `start` up to just before
-/// `stop`.
+/// The time at which the next stretch has to begin, if the stretches do not lie side by side from `start` to just
+/// before `stop`.
 fn gap_in(stretches: &[Stretch], start: u64, stop: u64) -> Option<u64> {
     let mut next = start;
     for stretch in stretches {

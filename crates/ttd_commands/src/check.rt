@@ -13,12 +13,13 @@ use std::alloc::Global;
 use tt_cert::{CertFault, Certificate, check, read_text};
 use tt_span::Span;
 
-/// What `check` answers to its input, a spans text and behind it a certificate text, which begins at the first line that begins with
-/// `claim`: the line `valid` where the certificate proves that the claim is the fusion of the spans.
+/// The answer of `check` to its input, a spans text with a certificate text behind it. The certificate text begins at
+/// the first line that begins with `claim`. The answer is the line `valid` if the certificate proves that the claim is
+/// the fusion of the spans.
 ///
-/// Refuses, in this order, with 1603 `BadInput` what stands before that line, or the whole where there is none, if it is no spans text;
-/// with 606 what is no certificate text; with 501 to 503 spans that have no fusion whatever they are; with 601 to 605 a certificate
-/// that proves nothing; and with 1 `Memory`.
+/// Refuses, in this order: 1603 `BadInput` where the text before that line is not spans text, or the whole input if
+/// there is no such line; 606 where the rest is not certificate text; 501 to 503 where this number of spans has no
+/// fusion, whatever the spans are; 601 to 605 where the certificate does not prove its claim; and 1 `Memory`.
 pub(crate) fn check_text(alloc: Global, input: &[u8]) -> Result<String, Fault>
     ensures value { HasReply string_bytes (IsCheckReply input.now) result }
     ensures no_device { result ≢ Err Fault.ReadFailed }
@@ -38,7 +39,7 @@ fn valid_text(alloc: Global) -> Result<String, Fault>
     format!(in alloc; "valid\n").map_err(|_| Fault::Memory)
 }
 
-/// The place of the first line that begins with `claim`, or the end of the text where there is none.
+/// The place of the first line that begins with `claim`, or the end of the text if there is none.
 pub(crate) fn claim_place(text: &[u8]) -> usize
     ensures place { IsClaimPlace text.now result }
     ensures within { result ≤ length text.now }
@@ -51,7 +52,7 @@ pub(crate) fn claim_place(text: &[u8]) -> usize
     text.len()
 }
 
-/// Whether a line that begins with `claim` begins at that place.
+/// Whether a line that begins with `claim` begins at this place.
 fn is_claim_line(text: &[u8], at: usize) -> bool
     requires { at < length text.now }
     ensures { IsTrue result ↔ IsClaimLine text.now at }
@@ -59,7 +60,7 @@ fn is_claim_line(text: &[u8], at: usize) -> bool
     (at == 0 || text[at - 1] == b'\n') && text[at..].starts_with(b"claim")
 }
 
-/// Whether the text is that of a certificate which proves its claim for the spans.
+/// Whether the text is a certificate that proves its claim for the spans.
 fn judge(read: &SpansText, text: &[u8]) -> Result<(), Fault>
     ensures judged { JudgesText read.now.spans.items read.now.faulty text.now (result_map_both (λ _. valid_line) (λ fault. fault) result) }
     ensures refused { IfErr result (λ fault. (fault ≢ Fault.ReadFailed) × ((live : LiveFault) → fault ≢ Fault.Live live) × (fault ≢ Fault.Memory)) }
@@ -69,7 +70,7 @@ fn judge(read: &SpansText, text: &[u8]) -> Result<(), Fault>
     Ok(())
 }
 
-/// What a look at the certificate answers.
+/// The answer of `tt_cert::check` for this certificate.
 fn verdict_on(read: &SpansText, claim: &Span, certificate: &Certificate) -> Result<(), CertFault>
     ensures { IsVerdict read.now.spans.items read.now.faulty claim.now certificate.now result }
 {

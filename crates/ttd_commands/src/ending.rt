@@ -18,14 +18,14 @@ pub enum Status {
     Memory,
     /// The arguments or the input were rejected, and the refusal was written: 2.
     Bad,
-    /// A report was written, of a run that does not keep the assumptions: 3.
+    /// The report of a run that does not keep the assumptions was written: 3.
     Broken,
     /// A device failed, in reading (1604, which was written) or in writing (1605, which can't be): 4.
     Device,
 }
 
 impl Status {
-    /// The status as a number, as the system is told it.
+    /// The status as the number with which the process exits.
     pub fn code(self) -> u8
         ensures { result ≡ code_of self }
     {
@@ -39,12 +39,12 @@ impl Status {
     }
 }
 
-/// What a command answers: a text to be written, and how the program ends after it.
+/// What a command answers: a text to write, and how the program ends after it.
 #[derive(Debug, Drop)]
 pub enum CommandOutput {
-    /// The answer, after which the program ends as [`Status::Fine`].
+    /// The answer. The program then ends as [`Status::Fine`].
     Fine(String),
-    /// The report of a run that does not keep the assumptions, after which the program ends as [`Status::Broken`].
+    /// The report of a run that does not keep the assumptions. The program then ends as [`Status::Broken`].
     Broken(String),
 }
 
@@ -53,11 +53,11 @@ pub enum CommandOutput {
 pub struct Ended {
     /// The status with which the program ends.
     pub status: Status,
-    /// What was refused, where a refusal was to be written.
+    /// The refusal, if there was one to write.
     pub refusal: Option<Fault>,
 }
 
-/// The reply that is a text alone, after which the program ends as fine.
+/// The reply that is only a text. The program then ends as fine.
 pub(crate) fn fine(text: Result<String, Fault>) -> Result<CommandOutput, Fault>
     ensures { result ≡ result_map_both Fine (λ fault. fault) text }
 {

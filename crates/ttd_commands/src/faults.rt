@@ -40,13 +40,13 @@ pub enum Fault {
     /// The spans have no fusion.
     #[error("no fusion: {0}")]
     Fusion(FuseFault),
-    /// The certificate does not prove its claim, or the text is not that of a certificate.
+    /// The certificate does not prove its claim, or the text is not certificate text.
     #[error("not a valid certificate: {0}")]
     Certificate(CertFault),
-    /// The text is not that of a history.
+    /// The text is not a history.
     #[error("not a history: {0}")]
     History(HistoryFault),
-    /// The text is not that of a script.
+    /// The text is not a script.
     #[error("not a valid script: {0}")]
     Script(ScriptFault),
     /// The reading has no twin.
@@ -80,8 +80,9 @@ impl From<CertFault> for Fault {
 }
 
 impl Fault {
-    /// The number of the refusal: 1601 `BadWords`, 1602 `BadHex`, 1603 `BadInput`, 1604 `ReadFailed`, the numbers of
-    /// the fault within for `Poll`, `Source`, `Fusion`, `Certificate`, `History`, `Script`, `Twin`, `World` and `Live`, and 1 for `Memory`.
+    /// The number of the refusal: 1601 `BadWords`, 1602 `BadHex`, 1603 `BadInput`, 1604 `ReadFailed`, the number of the
+    /// inner fault for `Poll`, `Source`, `Fusion`, `Certificate`, `History`, `Script`, `Twin`, `World` and `Live`, and
+    /// 1 for `Memory`.
     pub fn number(&self) -> u16
         ensures { result ≡ number_of self.now }
     {

@@ -14,10 +14,12 @@ use tt_fuse::{FuseFault, fuse, suspects};
 use tt_span::Span;
 use tt_text::push_line;
 
-/// What `fuse` answers to its input, a spans text: the text of the fusion with its canonical certificate, and then the line
-/// `suspects none`, or `suspects I I ..` with the numbers of the sources whose span does not meet the fusion, ascending.
+/// The answer of `fuse` to its input, a spans text: the text of the fusion with its canonical certificate, and then the
+/// line `suspects none`, or `suspects I I ..` with the numbers of the sources whose spans do not meet the fusion,
+/// ascending.
 ///
-/// Refuses, in this order, with 1603 `BadInput` what is no spans text; with 501 to 504 spans that have no fusion; and with 1 `Memory`.
+/// Refuses, in this order: 1603 `BadInput` where the input is not spans text; 501 to 504 where the spans have no
+/// fusion; and 1 `Memory`.
 pub(crate) fn fuse_text(alloc: Global, input: &[u8]) -> Result<String, Fault>
     ensures value { HasReply string_bytes (IsFuseReply input.now) result }
     ensures no_device { result ≢ Err Fault.ReadFailed }
@@ -50,7 +52,7 @@ fn fusion_text(alloc: Global, read: &SpansText, claim: &Span) -> Result<String, 
     Ok(text)
 }
 
-/// Writes the line of the suspects at the end.
+/// Writes the line of the suspects at the end of the text.
 fn push_suspects(alloc: Global, text: &mut String, suspects: &[u8]) -> Result<(), AllocError>
     ensures { OnOk result (string_bytes text.new ≡ string_bytes text.old ++ suspects_line suspects.now) }
 {
@@ -61,7 +63,7 @@ fn push_suspects(alloc: Global, text: &mut String, suspects: &[u8]) -> Result<()
     push_line(text, "suspects", numbers.as_slice())
 }
 
-/// The numbers of sources, as a line has them.
+/// The numbers of the sources, as numbers of a line.
 fn numbers_of(alloc: Global, sources: &[u8]) -> Result<Vec<u64>, AllocError>
     ensures { IfOk result (λ numbers. numbers.items ≡ sources.now) }
 {

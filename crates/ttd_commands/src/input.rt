@@ -1,4 +1,4 @@
-//! The input, read whole.
+//! Reads the whole input.
 
 ghost use Rattle.std.specs.Prelude.{◌≡◌, ◌≢◌, ◌<◌, ◌≤◌, length, vec_len, IfOk, IfErr, OnOk, IfSome, IsErrOf};
 ghost use Rattle.std.specs.Io.KnownBytes.{IsAtEnd};
@@ -10,10 +10,10 @@ use crate::faults::Fault;
 use std::alloc::Global;
 use tt_stream::{ByteReader, ReadFault, read_to_end};
 
-/// How many bytes of input are allowed to all commands but `judge`.
+/// The most bytes of input for all commands except `judge`.
 pub const MOST_INPUT: usize = 1_048_576;
 
-/// How many bytes of input are allowed to `judge`: 1 GiB.
+/// The most bytes of input for `judge`: 1 GiB.
 pub const MOST_HISTORY: usize = 1_073_741_824;
 
 impl From<ReadFault> for Fault {
@@ -28,8 +28,8 @@ impl From<ReadFault> for Fault {
     }
 }
 
-/// Reads the input to its end. Refuses with 1603 `BadInput` more than `most` bytes, with 1604 `ReadFailed` where the reader
-/// failed, and with 1 `Memory`. The reads can't be used up, since each but the last gives a byte.
+/// Reads the input to its end. Refuses with 1603 `BadInput` where it has more than `most` bytes, with 1604 `ReadFailed`
+/// where the reader failed, and with 1 `Memory`. There are enough reads, since each read but the last gives a byte.
 pub(crate) fn read_input<R: ByteReader>(
     alloc: Global,
     input: &mut R,

@@ -22,10 +22,11 @@ impl From<HistoryFault> for Fault {
     }
 }
 
-/// What `judge` answers to its input, a history: how many commits there are, how many of them have a stamp that is not above that of
-/// some commit that ended before they began, and the first of these. The program ends as fine where there is none, else as broken.
+/// The answer of `judge` to its input, a history: how many commits there are, how many of them are violated, and the
+/// first of these. A commit is violated if its stamp is not above the stamp of some commit that ended before it began.
+/// The program ends as fine if no commit is violated, otherwise as broken.
 ///
-/// Refuses with 1603 `BadLine` what is no history, and with 1 `Memory`.
+/// Refuses with 1603 `BadLine` where the input is not a history, and with 1 `Memory`.
 pub(crate) fn judge_reply(alloc: Global, input: &[u8]) -> Result<CommandOutput, Fault>
     ensures value { HasReply answer_in (IsJudgeReply input.now) result }
     ensures no_device { result ≢ Err Fault.ReadFailed }

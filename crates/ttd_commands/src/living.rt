@@ -21,12 +21,12 @@ use tt_live::{LiveEnd, live};
 use tt_script::Script;
 use ttd_cli::{Asked, Command};
 
-/// What `live` answers to its input, a script: the report on its run, after which the program ends as fine where no reading was wrong,
-/// and as broken where one was.
+/// The answer of `live` to its input, a script: the report on its run. The program ends as fine if no reading was
+/// wrong, otherwise as broken.
 ///
-/// Refuses, in this order, with 1603 `BadInput` what is not UTF-8; with 1301 to 1305 what is no script; with 1302 a
-/// script without a part for a run in threads; with 1303 one whose part does not fit its machine; and then as the run
-/// does. The notes gain why a run gave no reading, or its daemon published nothing.
+/// Refuses, in this order: 1603 `BadInput` where the input is not UTF-8; 1301 to 1305 where it is not a valid script;
+/// 1302 where the script has no part for a run in threads; 1303 where that part does not fit its machine; and then as
+/// the run does. Adds to the notes why a run gave no reading, or why its daemon published nothing.
 pub(crate) fn live_reply<
     H: Threads + Wait + Clock + Sync + Net<Listener = TcpListener, Stream = TcpStream>,
 >(rt: &H, alloc: Global, input: &[u8], notes: &mut String) -> Result<CommandOutput, Fault>
@@ -39,7 +39,7 @@ pub(crate) fn live_reply<
     }
 }
 
-/// The report on the run of a script's machine in threads. The notes gain why there is little to report.
+/// The report on the run of a script's machine in threads. Adds to the notes why there is little to report.
 fn lived<H: Threads + Wait + Clock + Sync + Net<Listener = TcpListener, Stream = TcpStream>>(
     rt: &H,
     alloc: Global,
@@ -63,7 +63,7 @@ fn lived<H: Threads + Wait + Clock + Sync + Net<Listener = TcpListener, Stream =
     }
 }
 
-/// The report of a run. The notes gain why there is little to report.
+/// The report of a run. Adds to the notes why there is little to report.
 fn noted(notes: &mut String, end: LiveEnd) -> LiveReport
     ensures { result ≡ end.report }
 {
@@ -79,7 +79,7 @@ fn report_text(alloc: Global, report: &LiveReport) -> Result<String, AllocError>
     format!(in alloc; "readings {readings}\nwrong {wrong}\n")
 }
 
-/// The word `live` alone asks for the command, and `live --help` for help.
+/// Laws of the arguments: `live` alone asks for the command, and `live --help` asks for help.
 pub fn live_word_laws()
     ensures live { AreTaken (codes "live" ∷ []) × (asked_of (codes "live" ∷ []) ≡ Ok (Asked.Run Command.Live)) }
     ensures help { AreForHelp (codes "live" ∷ codes "--help" ∷ []) }

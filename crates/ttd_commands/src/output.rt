@@ -15,7 +15,7 @@ use std::alloc::Global;
 use std::io::Write;
 use tt_stream::{ByteWriter, DeviceFault, write_all};
 
-/// Writes all bytes, and passes them on.
+/// Writes all bytes, and flushes them.
 fn write<W: ByteWriter>(output: &mut W, bytes: &[u8]) -> Result<(), DeviceFault>
     ensures ok { OnOk result (Appends (W.taken output.old) (W.taken output.new) bytes.now) }
     ensures flushed { OnOk result (W.flushed output.new ≡ true) }
@@ -27,7 +27,7 @@ fn write<W: ByteWriter>(output: &mut W, bytes: &[u8]) -> Result<(), DeviceFault>
     output.flush()
 }
 
-/// Writes a text, after which the program ends with `status`, unless the writer fails.
+/// Writes a text. The program then ends with `status`, unless the writer fails.
 fn end_with<W: ByteWriter>(output: &mut W, text: &str, status: Status) -> Status
     ensures { Gives (record { text = text.now; status = status }) (output_of W.ByteWriter output.old) (output_of W.ByteWriter output.new) result }
 {
@@ -56,15 +56,15 @@ fn refuse<W: ByteWriter>(output: &mut W, fault: &Fault) -> Status
     end_with(output, line.as_str(), fault.status())
 }
 
-/// Says a refusal in a sentence: its number, and what it means. Where that can't be written, nothing more is done.
+/// Writes a refusal as a sentence: its number, and what it means. If that can't be written, nothing more is done.
 pub fn explain<W: Write>(alloc: Global, errors: &mut W, refusal: &Fault) {
     if let Ok(line) = format!(in alloc; "ttd: refused {}: {refusal}\n", refusal.number()) {
         let _ = errors.write_all(line.as_bytes());
     }
 }
 
-/// Writes a reply: its text as it is, after which the program ends as the reply says, or the one line of a refusal. It takes no memory, so
-/// no refusal is replaced by another.
+/// Writes a reply. A text is written as it is, and the program ends as the reply says. For a refusal its one line is
+/// written. This takes no memory, so no refusal is replaced by another.
 pub fn give<W: ByteWriter>(output: &mut W, reply: Result<CommandOutput, Fault>) -> Ended
     ensures gives { Gives (answer_of (result_map_both answer_in (λ fault. fault) reply)) (output_of W.ByteWriter output.old) (output_of W.ByteWriter output.new) result.status }
     ensures memory { result.status ≡ Status.Memory → IsWritten memory_answer (output_of W.ByteWriter output.old) (output_of W.ByteWriter output.new) result.status }

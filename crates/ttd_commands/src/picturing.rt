@@ -1,4 +1,4 @@
-//! The command `picture`: a script's run, drawn.
+//! The command `picture`: draws a script's run.
 
 ghost use Rattle.std.specs.Prelude.{◌≡◌, ◌≢◌, Err};
 ghost use Rattle.tt_live.specs.declared.faults.LiveFault.{LiveFault};
@@ -24,10 +24,11 @@ impl From<PictureFault> for Fault {
     }
 }
 
-/// What `picture` answers to its input, a script: its run as a document in SVG, after which the program ends as fine. It
-/// does so also where the run does not keep the assumptions: the lies and the wrong readings are marked in the picture.
+/// The answer of `picture` to its input, a script: its run as a document in SVG. The program ends as fine, also if the
+/// run does not keep the assumptions. The picture marks the lies and the wrong readings.
 ///
-/// Refuses, in this order, with 1603 `BadInput` what is not UTF-8; with 1301 to 1305 what is no script; and with 1 `Memory`.
+/// Refuses, in this order: 1603 `BadInput` where the input is not UTF-8; 1301 to 1305 where it is not a valid script;
+/// and 1 `Memory`.
 pub(crate) fn picture_reply(alloc: Global, input: &[u8]) -> Result<CommandOutput, Fault>
     ensures value { HasReply answer_in (IsPictureReply input.now) result }
     ensures no_device { result ≢ Err Fault.ReadFailed }

@@ -1,5 +1,5 @@
-//! Where an input is refused, in lines for standard error. What such a line says is exact, or it is not said; its wording is not
-//! fixed. Where memory runs out, less is said.
+//! Where an input is refused, in lines for standard error. What such a line says is exact, or it is not said. The
+//! wording is not fixed. If it is out of memory, less is written.
 
 use crate::certificate_places::{bad_certificate_line, note_cover};
 use crate::check::claim_place;
@@ -31,7 +31,7 @@ pub(crate) fn note(
     };
 }
 
-/// Adds where a script is refused, and its keys that no rule names.
+/// Adds where a script is refused, and which of its keys no rule names.
 fn note_script(
     alloc: Global,
     notes: &mut String,
@@ -57,7 +57,7 @@ fn note_script(
     Ok(())
 }
 
-/// Adds which line of a spans text is bad, where it was refused for that.
+/// Adds which line of a spans text is bad, if the text was refused because of it.
 fn note_spans(
     notes: &mut String,
     text: &[u8],
@@ -93,7 +93,7 @@ fn note_check(
     note_certificate(notes, &read, &claim, &certificate, *fault)
 }
 
-/// Adds which line of a certificate text is bad, where it stands behind that spans text.
+/// Adds which line of a certificate text is bad. The text stands behind the spans text `front`.
 fn note_text(notes: &mut String, front: &[u8], text: &[u8]) -> Result<(), AllocError> {
     match bad_certificate_line(text) {
         Some((number, why)) => {
@@ -162,7 +162,7 @@ fn span_fault(line: &[u8]) -> Option<&'static str> {
     }
 }
 
-/// Adds the source or the stretch by which a certificate was refused.
+/// Adds the source or the stretch for which a certificate was refused.
 fn note_certificate(
     notes: &mut String,
     read: &SpansText,
@@ -221,7 +221,7 @@ fn note_set(
     )
 }
 
-/// Adds which stretch is too deep, or names another depth; whether there is one.
+/// Adds which stretch is too deep, or names another depth. Answers whether there is one.
 fn note_stretch(
     notes: &mut String,
     word: &str,

@@ -45,7 +45,7 @@ impl From<WordsFault> for Fault {
     }
 }
 
-/// How many bytes of input are allowed to a command.
+/// The most bytes of input for a command.
 fn most_of(command: &Command) -> usize
     ensures value { result ≡ most_input_of command.now }
     ensures few { result ≤ most_history }
@@ -56,7 +56,7 @@ fn most_of(command: &Command) -> usize
     }
 }
 
-/// What a command that takes no threads answers to its input.
+/// The answer to this input of a command that uses no threads.
 fn reply_to(alloc: Global, command: &Command, input: &[u8]) -> Result<CommandOutput, Fault>
     requires { command.now ≢ Command.Live }
     ensures value { HasReply answer_in (IsCommandReply command.now input.now) result }
@@ -89,7 +89,8 @@ fn reply_to(alloc: Global, command: &Command, input: &[u8]) -> Result<CommandOut
     }
 }
 
-/// Reads the input, and answers what a command that takes no threads says of it. The notes gain what is to be said on standard error.
+/// Reads the input, and gives the answer of a command that uses no threads. Adds to the notes what has to be said on
+/// standard error.
 fn command_reply<R: ByteReader>(
     alloc: Global,
     command: &Command,
@@ -97,7 +98,7 @@ fn command_reply<R: ByteReader>(
     notes: &mut String,
 ) -> Result<CommandOutput, Fault>
     requires { command.now ≢ Command.Live }
-    // What it requires, for a caller that knows it by a match alone.
+    // The requirement again, for a caller that knows it only from a match.
     ensures other { command.now ≢ Command.Live }
     ensures value { IsReplyRead (most_input_of command.now) answer_in (IsReply command.now) (input_of R.ByteReader input.old) (input_of R.ByteReader input.new) result }
     ensures failed { IsErrOf result Fault.ReadFailed → HasFailed (R.failed input.old) (R.failed input.new) }
@@ -112,7 +113,7 @@ fn command_reply<R: ByteReader>(
     reply
 }
 
-/// Reads the input, and answers what `live` says of it. The notes gain what is to be said on standard error.
+/// Reads the input, and gives the answer of `live`. Adds to the notes what has to be said on standard error.
 fn live_command_reply<
     H: Threads + Wait + Clock + Sync + Net<Listener = TcpListener, Stream = TcpStream>,
     R: ByteReader,
@@ -130,22 +131,22 @@ fn live_command_reply<
     reply
 }
 
-/// What the words ask for.
+/// What the arguments ask for.
 fn asked_by(alloc: Global, words: &[&str]) -> Result<Asked, WordsFault>
     ensures { IsAskedBy (texts words.now) result }
 {
     read_words(alloc, words)
 }
 
-/// Whether words that were read ask for `live`.
+/// Whether these arguments ask for `live`.
 fn asks_live(asked: &Result<Asked, WordsFault>) -> bool
     ensures { IsTrue result ↔ (asked.now ≡ Ok (Asked.Run Command.Live)) }
 {
     matches!(asked, Ok(Asked::Run(Command::Live)))
 }
 
-/// What the program has to write where the words were read: the text that they ask for, or a refusal. Words that ask for `live` are
-/// rejected as bad words are.
+/// What the program has to write after the arguments were read: the text that they ask for, or a refusal. Arguments
+/// that ask for `live` are rejected like invalid arguments.
 fn reply<R: ByteReader>(
     alloc: Global,
     words: &[&str],
@@ -181,7 +182,7 @@ fn reply<R: ByteReader>(
     }
 }
 
-/// The same where there are threads, so that words which ask for `live` are answered too.
+/// As `reply`, but with threads. So arguments that ask for `live` are answered too.
 fn reply_in_threads<
     H: Threads + Wait + Clock + Sync + Net<Listener = TcpListener, Stream = TcpStream>,
     R: ByteReader,
@@ -214,7 +215,7 @@ fn reply_in_threads<
     }
 }
 
-/// Runs the program as [`main_with`] does, and says also what was refused.
+/// Runs the program as [`main_with`] does. It also answers what was refused.
 pub fn answer_with<R: ByteReader, W: ByteWriter>(
     alloc: Global,
     words: &[&str],
@@ -238,7 +239,7 @@ pub fn answer_with<R: ByteReader, W: ByteWriter>(
         (input_of R.ByteReader input.old) (input_of R.ByteReader input.new)
         (output_of W.ByteWriter output.old) (output_of W.ByteWriter output.new) result.status }
 
-    // Whatever the words are.
+    // For all arguments.
     ensures device { result.status ≡ Status.Device → HasFailed (R.failed input.old) (R.failed input.new)
         ⊎ HasFailed (W.failed output.old) (W.failed output.new) }
     ensures sound { (result.status ≢ Status.Device) → (R.failed input.new ≡ R.failed input.old)
@@ -254,8 +255,9 @@ pub fn answer_with<R: ByteReader, W: ByteWriter>(
     give(output, reply)
 }
 
-/// Runs the program as [`live_with`] does, and says also what was refused. The notes gain lines for standard error: where the input was
-/// refused, and which keys of a script no rule names. A place is exact, or not said; the wording is not fixed.
+/// Runs the program as [`live_with`] does. It also answers what was refused. Adds lines for standard error to the
+/// notes: where the input was refused, and which keys of a script no rule names. A place is exact, or it is not said;
+/// the wording is not fixed.
 pub fn answer_live<
     H: Threads + Wait + Clock + Sync + Net<Listener = TcpListener, Stream = TcpStream>,
     R: ByteReader,
@@ -275,7 +277,7 @@ pub fn answer_live<
         (input_of R.ByteReader input.old) (input_of R.ByteReader input.new)
         (output_of W.ByteWriter output.old) (output_of W.ByteWriter output.new) result.status }
 
-    // Whatever the words are. A run in threads may say of its own devices that one failed.
+    // For all arguments. A run in threads may also say that one of its own devices failed.
     ensures device { result.status ≡ Status.Device → (HasFailed (R.failed input.old) (R.failed input.new)
         ⊎ HasFailed (W.failed output.old) (W.failed output.new)) ⊎ ((live : LiveFault) × (result.refusal ≡ Some (Fault.Live live))) }
     ensures sound { (result.status ≢ Status.Device) → (R.failed input.new ≡ R.failed input.old)
@@ -288,35 +290,48 @@ pub fn answer_live<
     give(output, reply)
 }
 
-/// Runs the program with the words after its name: reads the input, writes one answer to the output, and says how the program ends.
+/// Runs the program with the arguments after its name: reads the input, writes one answer to the output, and says how
+/// the program ends.
 ///
-/// `age --drift N --sent N --got N --clock N` (the drift in parts per million, 200 where it is left out, the others in nanoseconds)
-/// writes `aged LO HI` for the poll answer that the input gives in hex. `fuse` writes the fusion of the spans that the input gives as
-/// text, with its canonical certificate and its suspects. `check` writes `valid` where the certificate behind the spans proves its claim.
-/// `run` writes the report on the run of the script that the input gives. `trace` writes a line for each event of that run, with its reply,
-/// and the last line of that report. `judge` writes how many commits of the history that the input gives are violated, and the first of them. `twin --event K --side low` (or `high`) writes the events of the
-/// twin of the reading of event K in that run, and that reading with the true time at the twin's end. Each ends with [`Status::Fine`] then, but a report ends with
-/// [`Status::Broken`] where the run did not keep the assumptions, and `judge` where a commit is violated. `picture` writes the run of the script that the input gives as a
-/// document in SVG, and ends with [`Status::Fine`] whether the run kept the assumptions or not. `--help` writes the help.
+/// - `age --drift N --sent N --got N --clock N` writes `aged LO HI` for the poll answer in the input, which is in hex.
+///   The drift is in parts per million, and 200 if it is left out. The other numbers are in nanoseconds.
+/// - `fuse` writes the fusion of the spans in the input, which are text, with its canonical certificate and its
+///   suspects.
+/// - `check` writes `valid` if the certificate behind the spans proves its claim.
+/// - `run` writes the report on the run of the script in the input.
+/// - `trace` writes a line for each event of that run, with its reply, and then the last line of that report.
+/// - `twin --event K --side low` (or `high`) writes the events of the twin of the reading of event K in that run, and
+///   then that reading with the true time at the end of the twin.
+/// - `picture` writes that run as a document in SVG.
+/// - `judge` writes how many commits of the history in the input are violated, and the first of them.
+/// - `--help` writes the help.
 ///
-/// Each refusal is the one line `refused N`, with [`Status::Bad`], of the first number that applies: 1601 bad words, before any read; 1603
-/// more than 1,048,576 bytes of input (`judge`: 1,073,741,824); and then those of the command.
-/// - `age`: 1602 no hex, after which one line feed is allowed; 201 to 208 no poll message; 405 a request; 402 an answer that came before
-///   its poll was sent, a clock reading before that, or one past the greatest time.
-/// - `fuse`: 1603 no spans text; 501 no source, 502 more than 16, 503 fewer than twice the number that may be wrong and one, 504 no
-///   possible time.
-/// - `check`: 1603 no spans text before the first line that begins with `claim`; 606 no certificate text from there on; 501 to 503 as
-///   `fuse`; 601 to 605 a certificate that proves nothing.
-/// - `run`: 1603 no UTF-8; 1301 to 1305 no script.
+/// After such an answer the program ends with [`Status::Fine`]. But `run` ends with [`Status::Broken`] if the run did
+/// not keep the assumptions, and `judge` if a commit is violated. `picture` ends with [`Status::Fine`] whether the run
+/// kept the assumptions or not.
+///
+/// Each refusal is the one line `refused N`, with [`Status::Bad`]. N is the first number that applies: 1601 invalid
+/// arguments, before any read; 1603 more than 1,048,576 bytes of input (`judge`: 1,073,741,824); and then the numbers
+/// of the command.
+///
+/// - `age`: 1602 not hex, with one line feed allowed after it; 201 to 208 not a valid poll message; 405 a request; 402
+///   an answer that came before its poll was sent, a clock reading before the answer came, or one past the greatest
+///   time.
+/// - `fuse`: 1603 not spans text; 501 no source, 502 more than 16, 503 fewer than `2 * f + 1` sources if f may be
+///   wrong, 504 no possible time.
+/// - `check`: 1603 not spans text before the first line that begins with `claim`; 606 not certificate text from there
+///   on; 501 to 503 as `fuse`; 601 to 605 a certificate that does not prove its claim.
+/// - `run`: 1603 not UTF-8; 1301 to 1305 not a valid script.
 /// - `trace` and `picture`: as `run`.
-/// - `judge`: 1603 a line that is not a commit's.
-/// - `twin`: as `run`, then 1401 no reading at event K, 1402 that end of it lies past the greatest time.
+/// - `judge`: 1603 a line that is not the line of a commit.
+/// - `twin`: as `run`, then 1401 no reading at event K, 1402 the chosen end of the reading lies past the greatest time.
 ///
-/// [`Status::Device`] comes only where a device failed: the reader, which is told by `refused 1604`, or the writer (1605), which has then
-/// taken a front of the answer. Out of memory is `refused 1`, with [`Status::Memory`]; to write a refusal takes no memory. Nothing but the
-/// answer is ever written, and it is flushed.
+/// [`Status::Device`] comes only if a device failed: the reader, and then the answer is `refused 1604`, or the writer
+/// (1605), which then has taken a prefix of the answer. Out of memory is `refused 1`, with [`Status::Memory`]; it takes
+/// no memory to write a refusal. Nothing but the answer is ever written, and it is flushed.
 ///
-/// `live` is rejected with 1601 as other bad words are, before any read: [`live_with`](crate::live_with) runs it.
+/// `live` is rejected with 1601, like other invalid arguments, before any read: [`live_with`](crate::live_with) runs
+/// it.
 pub fn main_with<R: ByteReader, W: ByteWriter>(
     alloc: Global,
     words: &[&str],
@@ -340,7 +355,7 @@ pub fn main_with<R: ByteReader, W: ByteWriter>(
         (input_of R.ByteReader input.old) (input_of R.ByteReader input.new)
         (output_of W.ByteWriter output.old) (output_of W.ByteWriter output.new) result }
 
-    // Whatever the words are.
+    // For all arguments.
     ensures device { result ≡ Status.Device → HasFailed (R.failed input.old) (R.failed input.new)
         ⊎ HasFailed (W.failed output.old) (W.failed output.new) }
     ensures sound { (result ≢ Status.Device) → (R.failed input.new ≡ R.failed input.old)
@@ -351,14 +366,16 @@ pub fn main_with<R: ByteReader, W: ByteWriter>(
     answer_with(alloc, words, input, output).status
 }
 
-/// Runs the program as [`main_with`] does, and the command `live` too, whose only word is `live`: reads the input, a script, runs its machine
-/// in threads ([`tt_live::live`]), and writes `readings N` and `wrong N`, how many readings its workers gave and how many of them were wrong.
-/// It ends with [`Status::Fine`] then, or with [`Status::Broken`] where a reading was wrong. `live --help` writes the help.
+/// Runs the program as [`main_with`] does, and also the command `live`, whose only argument is `live`. This command
+/// reads a script from the input, runs its machine in threads ([`tt_live::live`]), and writes `readings N` and
+/// `wrong N`: how many readings its workers gave, and how many of them were wrong. The program then ends with
+/// [`Status::Fine`], or with [`Status::Broken`] if a reading was wrong. `live --help` writes the help.
 ///
-/// `live` refuses, each by the one line `refused N` of the first number that applies: 1603 more than 1,048,576 bytes of input, 1604 reading
-/// failed; 1603 no UTF-8; 1301 to 1305 no script; 1302 no part for a run in threads; 1303 not exactly one machine, not one master for each
-/// source, or not one session for each worker; and then what the run refused. It ends with [`Status::Device`] after 1604, 1501, 1502 and 304,
-/// with [`Status::Memory`] after 1, and else with [`Status::Bad`].
+/// `live` writes each refusal as the one line `refused N`. N is the first number that applies: 1603 more than 1,048,576
+/// bytes of input, 1604 reading failed; 1603 not UTF-8; 1301 to 1305 not a valid script; 1302 no part for a run in
+/// threads; 1303 not exactly one machine, not one master for each source, or not one session for each worker; and then
+/// what the run refused. The program ends with [`Status::Device`] after 1604, 1501, 1502 and 304, with
+/// [`Status::Memory`] after 1, and otherwise with [`Status::Bad`].
 pub fn live_with<
     H: Threads + Wait + Clock + Sync + Net<Listener = TcpListener, Stream = TcpStream>,
     R: ByteReader,
@@ -378,7 +395,7 @@ pub fn live_with<
         (input_of R.ByteReader input.old) (input_of R.ByteReader input.new)
         (output_of W.ByteWriter output.old) (output_of W.ByteWriter output.new) result }
 
-    // Whatever the words are.
+    // For all arguments.
     ensures sound { (result ≢ Status.Device) → (R.failed input.new ≡ R.failed input.old)
         × (W.failed output.new ≡ W.failed output.old) }
     ensures memory { result ≡ Status.Memory → IsWritten memory_answer (output_of W.ByteWriter output.old) (output_of W.ByteWriter output.new) result }

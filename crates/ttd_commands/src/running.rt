@@ -35,10 +35,11 @@ impl From<AuditFault> for Fault {
     }
 }
 
-/// What `run` answers to its input, a script: the report of its run, after which the program ends as fine where the run kept the
-/// assumptions, and as broken where it did not.
+/// The answer of `run` to its input, a script: the report on its run. The program ends as fine if the run kept the
+/// assumptions, otherwise as broken.
 ///
-/// Refuses, in this order, with 1603 `BadInput` what is not UTF-8; with 1301 to 1305 what is no script; and with 1 `Memory`.
+/// Refuses, in this order: 1603 `BadInput` where the input is not UTF-8; 1301 to 1305 where it is not a valid script;
+/// and 1 `Memory`.
 pub(crate) fn run_reply(alloc: Global, input: &[u8]) -> Result<CommandOutput, Fault>
     ensures value { HasReply answer_in (IsRunReply input.now) result }
     ensures no_device { result ≢ Err Fault.ReadFailed }
@@ -48,7 +49,7 @@ pub(crate) fn run_reply(alloc: Global, input: &[u8]) -> Result<CommandOutput, Fa
     told(alloc, &script)
 }
 
-/// The report of a script's run, and how the program ends after it.
+/// The report on a script's run, and how the program ends after it.
 fn told(alloc: Global, script: &Script) -> Result<CommandOutput, Fault>
     ensures value { HasReply answer_in (TellsRun script.now) result }
     ensures no_device { result ≢ Err Fault.ReadFailed }

@@ -1,4 +1,4 @@
-//! Scripts from the input.
+//! Reads scripts from the input.
 
 ghost use Rattle.std.specs.Prelude.{◌≡◌, ◌≢◌, Err, IfErr, IfOk};
 ghost use Rattle.tt_live.specs.declared.faults.LiveFault.{LiveFault};
@@ -20,9 +20,10 @@ impl From<ScriptFault> for Fault {
     }
 }
 
-/// The script whose text the input is.
+/// The script in the input.
 ///
-/// Refuses, in this order, with 1603 `BadInput` what is not UTF-8; with 1301 to 1305 what is no script; and with 1 `Memory`.
+/// Refuses, in this order: 1603 `BadInput` where the input is not UTF-8; 1301 to 1305 where it is not a valid script;
+/// and 1 `Memory`.
 pub(crate) fn script_from(alloc: Global, input: &[u8]) -> Result<Script, Fault>
     ensures found { IfOk result (IsScriptText input.now) }
     ensures refused { IfErr result (IsScriptFault input.now) }

@@ -1,4 +1,4 @@
-//! Spans from text.
+//! Reads spans from text.
 
 ghost use Rattle.std.specs.Prelude.{◌≡◌, ℕ, ◌≤◌, List, [], ◌∷◌, length, drop, MatchOption, IfErr, IfOk, MatchResult};
 ghost use Rattle.tt_span.specs.Interval.{Interval, IsInterval};
@@ -11,7 +11,7 @@ use std::alloc::Global;
 use tt_cert::{line_at, text_laws};
 use tt_span::Span;
 
-/// What a spans text says.
+/// The content of a spans text.
 #[derive(Debug, Drop)]
 pub(crate) struct SpansText {
     /// How many of the sources may be wrong.
@@ -20,11 +20,12 @@ pub(crate) struct SpansText {
     pub(crate) spans: Vec<Span>,
 }
 
-/// What the text says: the line `faulty F`, and then one line `span LO HI` for each source, in the order of their numbers. Times are
-/// nanoseconds. Each line ends with one line feed, one space stands before each number, and no zero in front of one.
+/// The content of a spans text: the line `faulty F`, and then one line `span LO HI` for each source, in the order of
+/// the source numbers. Times are in nanoseconds. Each line ends with one line feed. One space stands before each
+/// number, and numbers have no leading zeros.
 ///
-/// Refuses with 1603 `BadInput` any other text, one with a number above 2^64 - 1 or with two ends that make no span among them, and with
-/// 1 `Memory`. How many sources there are is not looked at.
+/// Refuses with 1603 `BadInput` any other text, also one with a number above 2^64 - 1, or with two ends that are not a
+/// span; and with 1 `Memory`. The number of sources is not checked.
 pub(crate) fn read_spans(alloc: Global, text: &[u8]) -> Result<SpansText, Fault>
     ensures found { IfOk result (λ read. IsSpansText text.now read.faulty read.spans.items) }
     ensures only { IfOk result (λ read. (f : ℕ) (spans : List Interval) → IsSpansText text.now f spans →
@@ -41,7 +42,7 @@ pub(crate) fn read_spans(alloc: Global, text: &[u8]) -> Result<SpansText, Fault>
     })
 }
 
-/// How many sources may be wrong, from the line at that place, and what comes after it.
+/// How many sources may be wrong, from the line at this place, and the place after this line.
 fn faulty_at(text: &[u8], at: usize) -> Option<(u64, usize)>
     requires { at ≤ length text.now }
     ensures { MatchOption result (ReadsNothing faulty_line IsNumber Anything (drop at text.now))
@@ -63,7 +64,7 @@ fn one_of(numbers: &[u64]) -> Option<u64>
     }
 }
 
-/// The spans of the lines from that place on, up to the end of the text.
+/// The spans of the lines from this place to the end of the text.
 fn spans_at(alloc: Global, text: &[u8], at: usize) -> Result<Vec<Span>, Fault>
     requires { at ≤ length text.now }
     ensures { MatchResult result (λ spans. AreSpansOf (drop at text.now) spans.items)
@@ -82,7 +83,7 @@ fn spans_at(alloc: Global, text: &[u8], at: usize) -> Result<Vec<Span>, Fault>
     Ok(spans)
 }
 
-/// The span of the line at that place, and what comes after it.
+/// The span of the line at this place, and the place after this line.
 fn span_at(text: &[u8], at: usize) -> Option<(Span, usize)>
     requires { at ≤ length text.now }
     ensures { MatchOption result (ReadsNothing span_line IsInterval Anything (drop at text.now))
@@ -94,7 +95,7 @@ fn span_at(text: &[u8], at: usize) -> Option<(Span, usize)>
     Some((span, next))
 }
 
-/// The span of two ends.
+/// The span with these two ends.
 fn span_of(numbers: &[u64]) -> Option<Span>
     ensures { MatchOption result ((span : Interval) → IsInterval span → ends_of span ≡ numbers.now → ⊥)
         (λ span. IsInterval span × (ends_of span ≡ numbers.now)) }

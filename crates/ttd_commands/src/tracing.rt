@@ -17,10 +17,12 @@ use tt_script::Script;
 use tt_trace::trace_text;
 use tt_world::{Event, Reply, run};
 
-/// What `trace` answers to its input, a script: a line for each event of its run, with its number, the event and its reply, and then the
-/// last line of the report that `run` gives. The program ends as fine then, also where the run does not keep the assumptions.
+/// The answer of `trace` to its input, a script: a line for each event of its run, with the event's number, the event
+/// and its reply, and then the last line of the report that `run` gives. The program ends as fine, also if the run does
+/// not keep the assumptions.
 ///
-/// Refuses, in this order, with 1603 `BadInput` what is not UTF-8; with 1301 to 1305 what is no script; and with 1 `Memory`.
+/// Refuses, in this order: 1603 `BadInput` where the input is not UTF-8; 1301 to 1305 where it is not a valid script;
+/// and 1 `Memory`.
 pub(crate) fn trace_reply(alloc: Global, input: &[u8]) -> Result<CommandOutput, Fault>
     ensures value { HasReply answer_in (IsTraceReply input.now) result }
     ensures no_device { result ≢ Err Fault.ReadFailed }
@@ -44,7 +46,8 @@ fn traced(alloc: Global, script: &Script) -> Result<CommandOutput, Fault>
     Ok(CommandOutput::Fine(text))
 }
 
-/// The text of a trace, and behind it the line that says whether the assumptions were kept, or which event breaks them first.
+/// The text of a trace, and behind it the line that says whether the assumptions were kept, or which event breaks them
+/// first.
 fn text_of(
     alloc: Global,
     events: &[Event],

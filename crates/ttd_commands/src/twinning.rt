@@ -32,7 +32,7 @@ impl From<TwinFault> for Fault {
     }
 }
 
-/// The side that a word names, as the twin is asked for.
+/// This side, in the type that a call of `tt_twin::twin` takes.
 fn side_of(side: Side) -> tt_twin::Side
     ensures { result ≡ twin_side side }
 {
@@ -42,11 +42,13 @@ fn side_of(side: Side) -> tt_twin::Side
     }
 }
 
-/// What `twin` answers to its input, a script: the events of the twin of the reading of event `k` on this side, one on each line, and then
-/// `reading LO HI truth T` with that reading and the true time at the twin's end, in nanoseconds.
+/// The answer of `twin` to its input, a script: the events of the twin of the reading of event `k` on this side, one on
+/// each line, and then `reading LO HI truth T` with that reading and the true time at the end of the twin, in
+/// nanoseconds.
 ///
-/// Refuses, in this order, with 1603 `BadInput` what is not UTF-8; with 1301 to 1305 what is no script; with 1401 where event `k` is not
-/// there or gives no reading; with 1402 where the chosen end lies past the greatest time; and with 1 `Memory`.
+/// Refuses, in this order: 1603 `BadInput` where the input is not UTF-8; 1301 to 1305 where it is not a valid script;
+/// 1401 where there is no event `k` or it gives no reading; 1402 where the chosen end lies past the greatest time; and
+/// 1 `Memory`.
 pub(crate) fn twin_reply(
     alloc: Global,
     k: u64,
@@ -61,7 +63,7 @@ pub(crate) fn twin_reply(
     found(alloc, &script, k as usize, side)
 }
 
-/// The reply to the twin of the reading of event `k` in the run of a script.
+/// The answer with the twin of the reading of event `k` in the run of a script.
 fn found(alloc: Global, script: &Script, k: usize, side: Side) -> Result<CommandOutput, Fault>
     ensures value { HasReply answer_in (TellsFound script.now k (twin_of script.now.configs script.now.events k (twin_side side))) result }
     ensures no_device { result ≢ Err Fault.ReadFailed }
@@ -83,7 +85,7 @@ fn found(alloc: Global, script: &Script, k: usize, side: Side) -> Result<Command
     Ok(CommandOutput::Fine(text))
 }
 
-/// The reading that the reply to event `k` gives.
+/// The reading in the reply to event `k`.
 fn reading_at(given: &[tt_world::Reply], k: usize) -> &Reading
     requires { (reading : Interval) × (slice_get given.now k ≡ Some (replies.Read reading)) }
     ensures { slice_get given.now k ≡ Some (replies.Read result.now) }
@@ -94,7 +96,7 @@ fn reading_at(given: &[tt_world::Reply], k: usize) -> &Reading
     }
 }
 
-/// The text of a twin and of the reading whose twin it is.
+/// The text of a twin, and of its reading.
 fn text_of(alloc: Global, twin: &[Event], reading: &Reading) -> Result<String, AllocError>
     ensures { IfOk result (λ text. string_bytes text ≡ twin_text twin.now reading.now) }
 {
@@ -106,7 +108,7 @@ fn text_of(alloc: Global, twin: &[Event], reading: &Reading) -> Result<String, A
     Ok(text)
 }
 
-/// The true time of the last event, in nanoseconds, or 0 where there is none.
+/// The true time of the last event, in nanoseconds, or 0 if there is none.
 fn ended_at(events: &[Event]) -> u64
     ensures { result ≡ time_of (reverse events.now) }
 {
@@ -116,7 +118,7 @@ fn ended_at(events: &[Event]) -> u64
     }
 }
 
-/// Writes the line of a reading and of the true time at it at the end.
+/// Writes the line of a reading and its true time at the end of the text.
 fn push_truth(text: &mut String, reading: &Reading, truth: u64) -> Result<(), AllocError>
     ensures { OnOk result (string_bytes text.new ≡ string_bytes text.old ++ truth_line reading.now truth) }
 {

@@ -9,22 +9,23 @@ use std::thread;
 use std::time::{Clock as SystemClock, Duration};
 use tt_stream::{ByteReader, ByteWriter, Counted, DeviceFault, write_all};
 
-/// How often a line may be sent again at most while nothing is published.
+/// The most times that a line may be sent again while nothing is published.
 pub(crate) const MOST_RETRY: u64 = 9999;
 
-/// How often one line is sent at most.
+/// The most times that one line is sent.
 const MAX_ASKS: u32 = 10_000;
 
-/// How long it waits for a reply, in seconds: longer than a machine holds a commit back.
+/// How long it waits for a reply, in seconds. This is longer than a machine delays the reply to a commit.
 const REPLY_WAIT: u64 = 30;
 
 /// How long it waits before it sends a line again while nothing is published, in milliseconds.
 const PAUSE: u64 = 100;
 
-/// Asks the machine at this port of 127.0.0.1: the lines of a text, or where there is none those of the input. The replies are
-/// written, each as soon as it is there.
+/// Sends lines to the machine at this port of 127.0.0.1: the lines of `text`, or the lines of the input if there is no
+/// text. It writes each reply as soon as it comes.
 ///
-/// Refuses with 1501 `LinkFailed` where the connection can't be had or failed, or no reply came in 30 seconds, and with 1604 `ReadFailed` where the input failed.
+/// Refuses with 1501 `LinkFailed` where there is no connection, the connection failed, or no reply came in 30 seconds;
+/// and with 1604 `ReadFailed` where the input failed.
 pub(crate) fn ask<H: SystemClock + Net<Stream = TcpStream>, I: ByteReader, O: ByteWriter>(
     rt: &H,
     port: u16,
@@ -47,7 +48,7 @@ pub(crate) fn ask<H: SystemClock + Net<Stream = TcpStream>, I: ByteReader, O: By
     }
 }
 
-/// Asks the lines of a text.
+/// Sends the lines of a text.
 fn ask_text<H: SystemClock, S: ByteReader + ByteWriter, O: ByteWriter>(
     rt: &H,
     connection: &mut S,
@@ -66,7 +67,7 @@ fn ask_text<H: SystemClock, S: ByteReader + ByteWriter, O: ByteWriter>(
     Ok(())
 }
 
-/// Asks the lines of the input.
+/// Sends the lines of the input.
 fn ask_input<H: SystemClock, S: ByteReader + ByteWriter, I: ByteReader, O: ByteWriter>(
     rt: &H,
     connection: &mut S,
@@ -87,7 +88,7 @@ fn ask_input<H: SystemClock, S: ByteReader + ByteWriter, I: ByteReader, O: ByteW
     Ok(())
 }
 
-/// Asks one line, and writes its last reply.
+/// Sends one line, and writes its last reply.
 fn ask_line<H: SystemClock, S: ByteReader + ByteWriter, O: ByteWriter>(
     rt: &H,
     connection: &mut S,
@@ -101,8 +102,8 @@ fn ask_line<H: SystemClock, S: ByteReader + ByteWriter, O: ByteWriter>(
     }
 }
 
-/// Sends a line and reads its reply, again while that is a commit's `waiting`, and at most `retry` times while nothing is
-/// published; at most [`MAX_ASKS`] times in all. The last reply.
+/// Sends a line, and reads its reply. It sends the line again as long as the reply is the `waiting` of a commit, and at
+/// most `retry` times while nothing is published, but at most [`MAX_ASKS`] times in all. Answers the last reply.
 fn last_reply<H: SystemClock, S: ByteReader + ByteWriter>(
     rt: &H,
     connection: &mut S,

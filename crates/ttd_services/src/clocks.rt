@@ -12,7 +12,8 @@ use tt_master::{RefFault, Reference};
 use tt_publish::{Clock, ClockFault};
 use tt_span::MAX_TIME;
 
-/// What a clock that is off so much shows at a time since 1970, in nanoseconds: None before 1970 and past [`MAX_TIME`].
+/// What a clock with this offset shows at a time since 1970, in nanoseconds. None if that is before 1970 or past
+/// [`MAX_TIME`].
 pub(crate) fn shown_at(offset: Offset, time: Duration) -> Option<u64>
     ensures value { result ≡ shown_at offset (as_nanos time) }
     ensures in_time { IfSome result (λ shown. shown ≤ max_time) }
@@ -28,8 +29,9 @@ pub(crate) fn shown_at(offset: Offset, time: Duration) -> Option<u64>
     }
 }
 
-/// The reference of a master: this computer's real-time clock, in nanoseconds since 1970, off by an offset. It fails where that
-/// clock can't be read, and where it would show a time before 1970 or past [`MAX_TIME`]. Nothing is claimed of what it shows.
+/// The reference of a master: this computer's real-time clock, in nanoseconds since 1970, moved by an offset. A read
+/// fails if that clock can't be read, or if it would show a time before 1970 or past [`MAX_TIME`]. Nothing is claimed
+/// of what it shows.
 #[derive(Drop)]
 pub(crate) struct RealTime<'a, R> {
     rt: &'a R,
@@ -38,7 +40,7 @@ pub(crate) struct RealTime<'a, R> {
 }
 
 impl<'a, R: SystemClock> RealTime<'a, R> {
-    /// The clock that is off so much.
+    /// The clock with this offset.
     pub(crate) fn new(rt: &'a R, offset: Offset) -> Self {
         RealTime {
             rt,
@@ -47,7 +49,7 @@ impl<'a, R: SystemClock> RealTime<'a, R> {
         }
     }
 
-    /// The time, unless the clock fails, which is counted.
+    /// The time. None if the clock fails, and then the failure is counted.
     fn time(&mut self) -> Option<u64>
         ensures in_time { IfSome result (λ time. time ≤ max_time) }
         ensures sound { OnSome result (self.new.failures ≡ self.old.failures) }
@@ -80,8 +82,8 @@ impl<'a, R: SystemClock> Reference for RealTime<'a, R> {
     }
 }
 
-/// The clock of a machine: this computer's monotonic clock, in nanoseconds. It fails where that clock can't be read, and past
-/// [`MAX_TIME`]. Nothing is claimed of what it shows.
+/// The clock of a machine: this computer's monotonic clock, in nanoseconds. A read fails if that clock can't be read,
+/// or if it shows a time past [`MAX_TIME`]. Nothing is claimed of what it shows.
 #[derive(Drop)]
 pub(crate) struct Monotonic<'a, R> {
     rt: &'a R,

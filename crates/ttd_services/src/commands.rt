@@ -1,4 +1,4 @@
-//! The command line as clap is told it.
+//! The command line, as it is given to clap.
 
 ghost use Rattle.std.specs.Prelude.{◌≡◌, IfOk, codes, false};
 ghost use Rattle.clap.specs.Simple.{new_app};
@@ -16,7 +16,7 @@ use std::alloc::{AllocError, Global};
 use tt_poll::MAX_SOURCE;
 use tt_span::MAX_TIME;
 
-/// A command without options, with what its help says of it before and after its usage.
+/// A command without options, with the texts of its help before and after its usage.
 fn plain_command<'a>(alloc: Global, name: &'a str, about: &'a str, after: &'a str) -> Command<'a>
     ensures app { app_of result ≡ new_app name.entry.now }
     ensures local { (out-Command result).has_globals ≡ false }
@@ -112,7 +112,7 @@ fn flag<'a>(alloc: Global, name: &'a str, help: &'a str) -> Arg<'a>
         .help(help)
 }
 
-/// A word by its place, which has to be given.
+/// A required positional argument.
 fn place<'a>(alloc: Global, name: &'a str, value: &'a str, help: &'a str) -> Arg<'a>
     ensures rule { rule_of result ≡ place_rule name.entry.now }
     ensures local { result.global ≡ false }
@@ -123,7 +123,7 @@ fn place<'a>(alloc: Global, name: &'a str, value: &'a str, help: &'a str) -> Arg
         .help(help)
 }
 
-/// All further words.
+/// All further arguments.
 fn line_words<'a>(alloc: Global) -> Arg<'a>
     ensures rule { rule_of result ≡ words_rule }
     ensures local { result.global ≡ false }
@@ -134,7 +134,7 @@ fn line_words<'a>(alloc: Global) -> Arg<'a>
         .help("The words of one line; without them the lines of standard input")
 }
 
-/// The command `master` with the options that have to be given.
+/// The command `master` with its required options.
 fn plain_master_command<'a>(alloc: Global) -> Result<Command<'a>, AllocError>
     ensures app { IfOk result (λ c. app_of c ≡ plain_master_app) }
     ensures local { IfOk result (λ c. (out-Command c).has_globals ≡ false) }
@@ -233,7 +233,7 @@ fn servers_command<'a>(alloc: Global) -> Result<Command<'a>, AllocError>
     with_master.subcommand(serve)
 }
 
-/// The whole command line: these commands, `ask` and `read`.
+/// The whole command line: `master`, `serve`, `ask` and `read`.
 pub(crate) fn services_command<'a>(alloc: Global) -> Result<Command<'a>, AllocError>
     ensures app { IfOk result (λ c. app_of c ≡ services_app) }
 {

@@ -26,7 +26,7 @@ pub enum Status {
 }
 
 impl Status {
-    /// The status as a number, as the system is told it.
+    /// The status as the number with which the process exits.
     pub fn code(self) -> u8
         ensures { result ≡ code_of self }
     {
@@ -53,7 +53,7 @@ pub enum ServiceFault {
     /// The arguments after the program's name are invalid.
     #[error("invalid arguments")]
     BadWords,
-    /// An address is not one of this host.
+    /// An address is not an address of this host.
     #[error("not an address of this host, as 127.0.0.1:7001")]
     NotLocal,
     /// The configuration file is longer than 1 MiB, or is not UTF-8.
@@ -62,7 +62,7 @@ pub enum ServiceFault {
     /// The configuration file or standard input can't be read.
     #[error("reading failed")]
     ReadFailed,
-    /// A socket can't be had, or the connection failed.
+    /// A socket can't be opened, or the connection failed.
     #[error("the link failed")]
     LinkFailed,
     /// The configuration is refused.
@@ -80,8 +80,8 @@ pub enum ServiceFault {
 }
 
 impl ServiceFault {
-    /// The number of the refusal: 1601 `BadWords`, 1805 `NotLocal`, 1603 `BadFile`, 1604 `ReadFailed`, 1501 `LinkFailed`,
-    /// that of the fault within for `Settings`, `Shared` and `Server`, and 1 `Memory`.
+    /// The number of the refusal: 1601 `BadWords`, 1805 `NotLocal`, 1603 `BadFile`, 1604 `ReadFailed`,
+    /// 1501 `LinkFailed`, the number of the inner fault for `Settings`, `Shared` and `Server`, and 1 `Memory`.
     pub fn number(&self) -> u16
         ensures { result ≡ number_of self.now }
     {
@@ -113,7 +113,7 @@ impl ServiceFault {
     }
 }
 
-/// How the program ends where a configuration is refused.
+/// How the program ends if a configuration is refused.
 fn status_of_settings(fault: SettingsFault) -> Status
     ensures { result ≡ status_of_settings fault }
 {
@@ -123,7 +123,7 @@ fn status_of_settings(fault: SettingsFault) -> Status
     }
 }
 
-/// How the program ends where a shared file gives no reading.
+/// How the program ends if a shared file gives no reading.
 fn status_of_shared(fault: SharedFault) -> Status
     ensures { result ≡ status_of_shared fault }
 {
@@ -133,8 +133,8 @@ fn status_of_shared(fault: SharedFault) -> Status
     }
 }
 
-/// How the program ends where a machine does not serve, by the number: as at a failed device for its sockets (1807 to 1809) and the
-/// folder of its epoch (1811, 1812).
+/// How the program ends if a machine does not serve, by the number of the refusal. For its sockets (1807 to 1809) and
+/// the folder of its epoch (1811, 1812) it ends as after a failed device.
 fn status_of_server(number: u16) -> Status
     ensures { result ≡ status_of_server number }
 {

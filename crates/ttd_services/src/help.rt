@@ -1,4 +1,4 @@
-//! What the help says behind the options of each service.
+//! The texts of the help after the options of each service.
 
 /// What `master` does.
 pub(crate) const ABOUT_MASTER: &str = "\

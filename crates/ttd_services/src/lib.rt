@@ -1,16 +1,26 @@
-//! The services of the program `ttd`, which other processes speak to: `master` answers polls, `serve` runs a machine, `ask` asks
-//! one, and `read` reads the time that one shares in a file.
+//! The services of the program `ttd`, which talk to other processes: `master` answers polls, `serve` runs a machine,
+//! `ask` sends lines to a machine, and `read` reads the time that a machine shares in a file.
 //!
-//! [`run`] is the whole of it: it reads the words, of which the first names a service, and does what they ask for. Its answer is
-//! written to an output, and a refusal as the one line `refused N`; what an operator may want to know goes to standard error.
-//! What the words mean is a definition, `service_named` in `specs/Reading.antt`, over clap's own definitions, which say from a
-//! command and words alone whether clap takes them and what it finds in them; `specs/CommandLine.antt` gives the command. That
-//! clap takes the words of a service only with all that it needs is not stated: then they are rejected as words are that clap
-//! does not take.
+//! [`run`] reads the arguments, and does what they ask for. The first argument names the service. `run` writes its
+//! answer to an output, and a refusal as the one line `refused N`. What an operator may want to know goes to standard
+//! error.
 //!
-//! - `commands`: the command line, with the texts of `help`. `options`: what was given for an option. [`words`]: what the words
-//!   ask for.
-//! - `clocks`: this computer's clocks. `links`: the link of a master to whoever polls it. `masters`: the service `master`.
+//! ```text
+//! let words = &["ask", "127.0.0.1:5601", "now"];
+//! if names_service(words) {
+//!     let status = run(&rt, words, &mut input, &mut output);   // writes a reply like `now 1000 2000` to the output
+//! }
+//! ```
+//!
+//! The meaning of the arguments is a definition, `service_named` in `specs/Reading.antt`. It stands on the definitions
+//! of clap, which say from a command and the arguments alone whether clap takes them, and what it finds in them.
+//! `specs/CommandLine.antt` gives the command. It is not stated that clap takes the arguments of a service only if they
+//! have all that the service needs. If something is missing, they are rejected like arguments that clap does not take.
+//!
+//! - `commands`: the command line, with the texts of `help`. `options`: what was given for an option. [`words`]: what
+//!   the arguments ask for.
+//! - `clocks`: this computer's clocks. `links`: the link of a master to the senders of polls. `masters`: the service
+//!   `master`.
 //! - `replies`: what the reply to a line means. `lines`: lines from a device. `asking`: the service `ask`.
 //! - `reading`: the service `read`. `serving`: the service `serve`.
 //! - `faults`: refusals, and how the program ends. `output`: what is written. `program`: [`run`].

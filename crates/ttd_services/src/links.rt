@@ -1,4 +1,4 @@
-//! The link of a master to whoever polls it.
+//! The link of a master to the senders of polls.
 
 ghost use Rattle.tt_stream.specs.Counts.{HasFailed};
 
@@ -6,10 +6,10 @@ use std::io::ErrorKind;
 use std::net::{SocketAddr, UdpSocket};
 use tt_node::{Link, LinkFault, PACKET_LEN};
 
-/// A link over a UDP socket that sends to where the last packet came from, which is peer 0. A packet from outside this host is
-/// passed over as if nothing had come. A wait for a packet has no end but a packet or a failure.
+/// A link over a UDP socket. It sends to the sender of the last packet, which is peer 0. It ignores a packet from
+/// outside this host, as if nothing had come. A wait for a packet ends only with a packet or a failure.
 ///
-/// Nothing is claimed of what the socket delivers. A fault is answered only with a failure counted.
+/// Nothing is claimed of what the socket delivers. If it answers a fault, it has counted a failure.
 #[derive(Drop)]
 pub(crate) struct AnsweringLink {
     socket: UdpSocket,
@@ -18,7 +18,7 @@ pub(crate) struct AnsweringLink {
 }
 
 impl AnsweringLink {
-    /// The link by this socket.
+    /// The link over this socket.
     pub(crate) fn new(socket: UdpSocket) -> AnsweringLink {
         AnsweringLink {
             socket,

@@ -22,7 +22,7 @@ use tt_status::{Event, Limit, push_event};
 /// How long a master waits after a failure before it goes on, in milliseconds.
 const PAUSE: u64 = 100;
 
-/// What a master is to do.
+/// What a master has to do.
 #[derive(Clone, Copy)]
 pub(crate) struct MasterPlan<'a> {
     pub(crate) source: u64,
@@ -32,7 +32,7 @@ pub(crate) struct MasterPlan<'a> {
     pub(crate) acts: &'a [Act],
 }
 
-/// Says a line of the log, at the time of the real-time clock. Where that can't be done, nothing more is.
+/// Writes a line of the log, with the time of the real-time clock. If that can't be done, nothing more is done.
 fn say<H: SystemClock + Eprint + AllocGlobal>(rt: &H, event: Event, left_out: u64) {
     let time = match rt.since_1970() {
         Ok(since) => u64::try_from(since.as_nanos()).unwrap_or(u64::MAX),
@@ -44,7 +44,7 @@ fn say<H: SystemClock + Eprint + AllocGlobal>(rt: &H, event: Event, left_out: u6
     }
 }
 
-/// Says that a master failed, if that is due.
+/// Logs that a master failed, unless the limit leaves the line out.
 fn say_failure<H: SystemClock + Eprint + AllocGlobal>(rt: &H, limit: &mut Limit, fault: NodeFault) {
     let Ok(now) = rt.monotonic() else {
         return;
@@ -56,11 +56,12 @@ fn say_failure<H: SystemClock + Eprint + AllocGlobal>(rt: &H, limit: &mut Limit,
     }
 }
 
-/// Answers polls by this computer's clock until it is ended. It does one act for each poll that comes, in the order of the plan,
-/// and the last one for all further polls. A failure of the link or of the clock is logged, and it goes on after a pause.
+/// Answers polls by this computer's clock until the process is ended. For each poll that comes it does one act, in the
+/// order of the plan, and it does the last act for all further polls. A failure of the link or of the clock is logged,
+/// and it goes on after a pause.
 ///
-/// Refuses with 1601 `BadWords` a source above [`MAX_SOURCE`], an uncertainty above [`MAX_TIME`], and no act at all, and with 1501
-/// `LinkFailed` where the socket can't be had.
+/// Refuses with 1601 `BadWords` where the source is above [`MAX_SOURCE`], the uncertainty is above [`MAX_TIME`], or
+/// there is no act; and with 1501 `LinkFailed` where the socket can't be opened.
 pub(crate) fn serve_polls<H: Wait + SystemClock + Eprint + Net + AllocGlobal>(
     rt: &H,
     plan: MasterPlan<'_>,

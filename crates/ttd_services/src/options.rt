@@ -1,4 +1,4 @@
-//! What was given for an option or a place.
+//! The values that were given for options and positional arguments.
 
 ghost use Rattle.std.specs.Prelude.{◌≡◌, ◌⊎◌, codes, map, Ok, Err, MatchResult, option_map, string_bytes};
 ghost use Rattle.clap.specs.Walk.{all_of, texts};
@@ -25,7 +25,7 @@ fn number_given(matches: &ArgMatches<'_>, id: &str) -> Option<u64>
     matches.get_one::<u64>(id)
 }
 
-/// The number of at most `most` that was given for an option, or its default.
+/// The number that was given for an option, or its default. It has to be at most `most`.
 pub(crate) fn number_to(matches: &ArgMatches<'_>, id: &str, most: u64) -> Result<u64, ServiceFault>
     ensures { result ≡ number_to id.now most (rows_of (found_of matches.now)) }
 {
@@ -35,7 +35,7 @@ pub(crate) fn number_to(matches: &ArgMatches<'_>, id: &str, most: u64) -> Result
     }
 }
 
-/// The text that was given for an option or a place, or its default.
+/// The text that was given for an option or a positional argument, or its default.
 pub(crate) fn text_at<'a>(matches: &ArgMatches<'a>, id: &str) -> Result<&'a str, ServiceFault>
     ensures { let defined = text_at id.now (rows_of (found_of matches.now)) in
         MatchResult result (λ text. defined ≡ Ok text.now) (λ fault. defined ≡ Err fault) }
@@ -46,7 +46,7 @@ pub(crate) fn text_at<'a>(matches: &ArgMatches<'a>, id: &str) -> Result<&'a str,
     }
 }
 
-/// The port of the address of this host that was given.
+/// The port of the address that was given. It has to be an address of this host.
 pub(crate) fn port_at(matches: &ArgMatches<'_>, id: &str) -> Result<u16, ServiceFault>
     ensures { result ≡ port_at id.now (rows_of (found_of matches.now)) }
 {
@@ -66,7 +66,7 @@ pub(crate) fn flag_at(matches: &ArgMatches<'_>, id: &str) -> bool
     }
 }
 
-/// The time that the text writes behind a word.
+/// The time behind this word in the text.
 fn time_behind(word: &str, text: &str) -> Option<u64>
     ensures { result ≡ time_behind word.now text.now }
 {
@@ -76,7 +76,7 @@ fn time_behind(word: &str, text: &str) -> Option<u64>
     }
 }
 
-/// The offset that a text writes.
+/// The offset in this text.
 fn offset_in(text: &str) -> Result<Offset, ServiceFault>
     ensures { result ≡ offset_in text.now }
 {
@@ -99,7 +99,7 @@ pub(crate) fn offset_at(matches: &ArgMatches<'_>, id: &str) -> Result<Offset, Se
     offset_in(text_at(matches, id)?)
 }
 
-/// The act that a text writes.
+/// The act in this text.
 fn act_of(text: &str) -> Result<Act, ServiceFault>
     ensures { result ≡ act_of (act_in_script text.now) }
 {
@@ -109,7 +109,7 @@ fn act_of(text: &str) -> Result<Act, ServiceFault>
     }
 }
 
-/// The acts that texts write, one after the other.
+/// The acts in these texts, in their order.
 fn acts_in(alloc: Global, given: &[&str]) -> Result<Vec<Act>, ServiceFault>
     ensures { let defined = acts_in (texts given.now) in
         MatchResult result (λ acts. defined ≡ Ok acts.items) (λ fault. (defined ≡ Err fault) ⊎ (fault ≡ ServiceFault.Memory)) }
@@ -121,7 +121,7 @@ fn acts_in(alloc: Global, given: &[&str]) -> Result<Vec<Act>, ServiceFault>
     Ok(acts)
 }
 
-/// The acts that were given, and honesty where there are none.
+/// The acts that were given, or the honest act if none was given.
 pub(crate) fn acts_at(
     alloc: Global,
     matches: &ArgMatches<'_>,
@@ -140,7 +140,7 @@ pub(crate) fn acts_at(
     }
 }
 
-/// The words of a line, with one space between two, where there are words.
+/// The words of a line, with one space between two words. None if there are no words.
 pub(crate) fn line_at(
     alloc: Global,
     matches: &ArgMatches<'_>,

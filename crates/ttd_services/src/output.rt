@@ -10,10 +10,10 @@ use arrayvec::ArrayString;
 use itoa::Buffer;
 use tt_stream::{ByteWriter, DeviceFault, write_all};
 
-/// Why a service stops before its answer is whole.
+/// Why a service stops before its answer is complete.
 #[derive(Clone, Copy, Debug, PartialEq, Eq)]
 pub(crate) enum Stop {
-    /// It is refused.
+    /// The service refused.
     Refused(ServiceFault),
     /// The output failed.
     Unwritten,
@@ -29,7 +29,7 @@ impl From<ServiceFault> for Stop {
     }
 }
 
-/// Writes all bytes, and passes them on.
+/// Writes all bytes, and flushes them.
 pub(crate) fn write<W: ByteWriter>(output: &mut W, bytes: &[u8]) -> Result<(), DeviceFault>
     ensures ok { OnOk result (IsWritten W.ByteWriter bytes.now output.old output.new) }
     ensures err { OnErr result (IsCutShort W.ByteWriter bytes.now output.old output.new) }

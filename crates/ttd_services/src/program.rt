@@ -1,4 +1,4 @@
-//! The services by their words.
+//! Runs the service that the arguments ask for.
 
 ghost use Rattle.std.specs.Prelude.{◌≡◌, ◌⊎◌, ℕ, List, Err};
 ghost use Rattle.clap.specs.Walk.{texts};
@@ -21,11 +21,12 @@ use std::thread::Threads;
 use std::time::Clock;
 use tt_stream::{ByteReader, ByteWriter};
 
-/// What is said of words that clap takes, of which an offset or an act is none.
+/// The message for arguments that clap takes, but in which an offset or an act is invalid.
 const OTHER_MISTAKE: &str =
     "error: invalid value for '--offset <NS>' or '--act <ACT>'\n\nFor more information, try '--help'.\n";
 
-/// Whether the words are for a service: the first of them names one, or it is `help` and the next one does.
+/// Whether the arguments are for a service: the first argument names one, or the first is `help` and the next names
+/// one.
 pub fn names_service(words: &[&str]) -> bool
     ensures { result ≡ names_service (texts words.now) }
 {
@@ -35,7 +36,7 @@ pub fn names_service(words: &[&str]) -> bool
     }
 }
 
-/// Whether the first of the words names a service.
+/// Whether the first argument names a service.
 fn begins_with_service(words: &[&str]) -> bool
     ensures { result ≡ begins_with_service (texts words.now) }
 {
@@ -52,8 +53,8 @@ fn is_service(word: &str) -> bool
     matches!(word, "master" | "serve" | "ask" | "read")
 }
 
-/// Does what the words ask for, of which the first names a service, and answers how the program ends. Standard error says what a
-/// refusal means.
+/// Does what the arguments ask for, and answers how the program ends. The first argument names a service. Standard
+/// error says what a refusal means.
 pub fn run<
     S: Read + Send + Drop,
     H: AllocGlobal
@@ -85,7 +86,7 @@ pub fn run<
     }
 }
 
-/// Does what the words ask for.
+/// Does what the arguments ask for.
 fn answer<
     S: Read + Send + Drop,
     H: AllocGlobal
@@ -113,7 +114,7 @@ fn answer<
     }
 }
 
-/// Does a service.
+/// Runs a service.
 fn serve<
     S: Read + Send + Drop,
     H: AllocGlobal
@@ -162,7 +163,7 @@ fn serve<
     }
 }
 
-/// Says on standard error what a refusal means, and of words that clap does not take, which of them.
+/// Writes to standard error what a refusal means and, if clap does not take the arguments, which argument is wrong.
 fn say<H: Eprint + AllocGlobal>(rt: &H, words: &[&str], fault: ServiceFault) {
     let _ = eprint!(rt; "ttd: refused {}: {fault}\n", fault.number());
     if fault == ServiceFault::BadWords {

@@ -10,10 +10,10 @@ use tt_shared::open_view;
 use tt_stream::ByteWriter;
 use tt_text::short_line;
 
-/// Writes the reading of a shared file, and says on standard error where it is stale.
+/// Writes the reading of a shared file. Standard error says if it is stale.
 ///
-/// Refuses with 1701 `CannotOpen` and 1702 `BadFile` where the file can't be opened or is none, and then as the reader does: 801,
-/// 802, 803, 1701, 1703, 1704.
+/// Refuses with 1701 `CannotOpen` where the file can't be opened, with 1702 `BadFile` where it is not a shared file,
+/// and then as the reader does: 801, 802, 803, 1701, 1703, 1704.
 pub(crate) fn read<H: Files<File = File> + SystemClock + Eprint, O: ByteWriter>(
     rt: &H,
     file: &str,

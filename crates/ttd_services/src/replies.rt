@@ -1,4 +1,4 @@
-//! What the reply to a line means for whoever sent it.
+//! What the reply to a line means for the sender of the line.
 
 ghost use Rattle.std.specs.Prelude.{◌≡◌, ◌↔◌, IsTrue, MatchOption};
 ghost use Rattle.ttd_services.specs.Replies.{BeginsWith, HasNoTwo, IsPending, nothing_yet};
@@ -13,14 +13,14 @@ const NOTHING_YET: &[u8] = b"refused 801\n";
 pub enum Meaning {
     /// It is the answer.
     Final,
-    /// The commit that the line asks for is not committed yet: the line has to be sent again.
+    /// The commit of this line is not committed yet: the line has to be sent again.
     Pending,
     /// Nothing is published yet: the line may be sent again a little later.
     NothingYet,
 }
 
-/// What the reply to a line means, both with their line feeds: `Pending` where the line is `commit ID FLOOR` and the reply
-/// `waiting ID S` with the same ID, `NothingYet` where the reply is `refused 801`, and `Final` for all else.
+/// What the reply to a line means, both with their line feeds. It is `Pending` if the line is `commit ID FLOOR` and the
+/// reply is `waiting ID S` with the same ID, `NothingYet` if the reply is `refused 801`, and `Final` otherwise.
 pub fn meaning_of(line: &[u8], reply: &[u8]) -> Meaning
     ensures pending { result ≡ Meaning.Pending ↔ IsPending line.now reply.now }
     ensures nothing_yet { result ≡ Meaning.NothingYet ↔ reply.now ≡ nothing_yet }
@@ -47,7 +47,7 @@ fn is_pending(line: &[u8], reply: &[u8]) -> bool
     named == asked
 }
 
-/// The first number of a line, where it is this word and two numbers.
+/// The first number of a line, if the line is this word and two numbers.
 fn first_of_two(word: &[u8], line: &[u8]) -> Option<u64>
     ensures { MatchOption result (HasNoTwo word.now line.now) (BeginsWith word.now line.now) }
 {

@@ -14,7 +14,7 @@ use tt_server::{ServerFault, outline, serve};
 use tt_settings::{Settings, SettingsFault};
 use tt_stream::{ByteWriter, Counted, ReadFault, read_to_end};
 
-/// How many bytes a configuration has at most: 1 MiB.
+/// The most bytes of a configuration: 1 MiB.
 const MOST_FILE: usize = 1_048_576;
 
 /// The bytes of a file.
@@ -35,7 +35,7 @@ fn bytes_of<H: Files<File = File>>(
     }
 }
 
-/// The settings that a file says. Of a configuration that is refused standard error says where.
+/// The settings in a file. If the configuration is refused, standard error says where.
 fn settings_of<H: Files<File = File> + Eprint>(
     rt: &H,
     alloc: Global,
@@ -55,10 +55,10 @@ fn settings_of<H: Files<File = File> + Eprint>(
     }
 }
 
-/// Runs the machine of a configuration until it is ended, or writes what it would do.
+/// Runs the machine of a configuration until it is ended. With `check` it only writes what the machine would do.
 ///
-/// Refuses with 1604 `ReadFailed` where the file can't be read, with 1603 `BadFile` where it is longer than 1 MiB or is not UTF-8,
-/// with 1801 to 1806 where the configuration is refused, and with what ended the server.
+/// Refuses with 1604 `ReadFailed` where the file can't be read, with 1603 `BadFile` where it is longer than 1 MiB or is
+/// not UTF-8, with 1801 to 1806 where the configuration is refused, and with what ended the server.
 pub(crate) fn run_server<
     S: Read + Send + Drop,
     H: AllocGlobal

@@ -21,9 +21,9 @@ use tt_span::MAX_TIME;
 /// How far a master's clock is off on purpose, in nanoseconds.
 #[derive(Clone, Copy, Debug, PartialEq, Eq)]
 pub enum Offset {
-    /// It shows so much more than this computer's clock.
+    /// It shows this much more than this computer's clock.
     Later(u64),
-    /// It shows so much less.
+    /// It shows this much less than this computer's clock.
     Earlier(u64),
 }
 
@@ -32,33 +32,33 @@ pub enum Offset {
 pub enum Service<'a> {
     /// `master`: answers polls until it is ended.
     Master {
-        /// The source that it is, at most [`MAX_SOURCE`].
+        /// The number of the source that it is, at most [`MAX_SOURCE`].
         source: u64,
-        /// The port of 127.0.0.1 where it is asked.
+        /// The port of 127.0.0.1 at which it is polled.
         port: u16,
         /// What its clock may be wrong by, in nanoseconds, at most [`MAX_TIME`].
         uncertainty: u64,
         /// How far its clock is off on purpose.
         offset: Offset,
-        /// What it does with the polls, in turn, and the last of it with all further ones.
+        /// Its acts: one for each poll in order, and the last one for all further polls.
         acts: Vec<Act>,
     },
     /// `serve`: runs a machine until it is ended.
     Serve {
         /// The path of its configuration.
         file: &'a str,
-        /// Whether only to say what it would do.
+        /// Whether it only says what it would do.
         check: bool,
-        /// Whether it ends when standard input does.
+        /// Whether it ends when standard input ends.
         until_eof: bool,
     },
     /// `ask`: asks a machine.
     Ask {
         /// The port of 127.0.0.1 where the machine listens.
         port: u16,
-        /// The words of the line, with one space between two, where there are words.
+        /// The words of the line, with one space between two words. None if there are no words.
         line: Option<String>,
-        /// How often a line is sent again at most while nothing is published, at most 9999.
+        /// The most times that a line is sent again while nothing is published, at most 9999.
         retry: u64,
     },
     /// `read`: reads the time from a shared file.
@@ -125,7 +125,7 @@ fn read_asked<'a>(matches: &ArgMatches<'a>) -> Result<Service<'a>, ServiceFault>
     Ok(Service::Read { file })
 }
 
-/// The service that clap found, if its options are such as can be.
+/// The service that clap found, if its options are valid.
 fn service_asked<'a>(alloc: Global, matches: &ArgMatches<'a>) -> Result<Service<'a>, ServiceFault>
     ensures { IsMeant (service_named (subcommand_rows_of matches.now)) result }
 {
@@ -138,7 +138,7 @@ fn service_asked<'a>(alloc: Global, matches: &ArgMatches<'a>) -> Result<Service<
     }
 }
 
-/// What clap makes of the words.
+/// What clap finds in the arguments.
 fn parsed<'a>(alloc: Global, words: &'a [&'a str]) -> Result<ArgMatches<'a>, Error>
     ensures named { IfOk result (λ matches. subcommand_rows_of matches ≡ named_by (texts words.entry.now)) }
     ensures fails { FailsBy (faults_of (texts words.entry.now)) result }
@@ -146,11 +146,13 @@ fn parsed<'a>(alloc: Global, words: &'a [&'a str]) -> Result<ArgMatches<'a>, Err
     services_command(alloc)?.try_get_matches_from(words)
 }
 
-/// What the arguments after the program's name ask for, of which the first names a service.
+/// What the arguments after the program's name ask for. The first of them names a service.
 ///
-/// A number is read as `u64` reads it: decimal digits after one `+` or none; leading zeros are allowed. An offset is decimal
-/// digits with no zero in front, behind a `+`, a `-` or nothing. An act is as in a script. An address is `127.0.0.1:` and a
-/// port. Rejects with 1601 `BadWords` arguments that the command line does not take, an offset or an act that is none; with
+/// A number is read as `u64` reads it: decimal digits, with one `+` in front or none; leading zeros are allowed. An
+/// offset is decimal digits without leading zeros, behind a `+`, a `-` or nothing. An act is as in a script. An address
+/// is `127.0.0.1:` and a port.
+///
+/// Rejects with 1601 `BadWords` arguments that the command line does not take, and an invalid offset or act; with
 /// 1805 `NotLocal` another address; and with 1 `Memory` where an allocation failed.
 pub fn read_words<'a>(alloc: Global, words: &'a [&'a str]) -> Result<Asked<'a>, ServiceFault>
     ensures taken { AreTaken (texts words.entry.now) → IsAsked (texts words.entry.now) result }
@@ -167,8 +169,8 @@ pub fn read_words<'a>(alloc: Global, words: &'a [&'a str]) -> Result<Asked<'a>, 
     }
 }
 
-/// The text of the help that the arguments ask for, where [`read_words`] answers [`Asked::Help`] to them. Its wording is clap's
-/// own.
+/// The text of the help that the arguments ask for. They ask for help if [`read_words`] answers [`Asked::Help`] to
+/// them. The wording is clap's own.
 ///
 /// Rejects with 1601 `BadWords` arguments that do not ask for help, and with 1 `Memory` where an allocation failed.
 pub fn help_text(alloc: Global, words: &[&str]) -> Result<String, ServiceFault>
@@ -188,10 +190,11 @@ pub fn help_text(alloc: Global, words: &[&str]) -> Result<String, ServiceFault>
     }
 }
 
-/// What to say on standard error of arguments that the command line does not take: which of them was not expected or is
-/// missing, with the usage. None where it takes them or they ask for help. Its wording is clap's own.
+/// The message for standard error about arguments that the command line does not take: which argument was not expected
+/// or is missing, with the usage. None if the command line takes them, or if they ask for help. The wording is clap's
+/// own.
 ///
-/// Refuses only where an allocation failed.
+/// Refuses only if an allocation failed.
 pub fn mistake_text(alloc: Global, words: &[&str]) -> Result<Option<String>, AllocError>
     ensures taken { AreTaken (texts words.now) → IfOk result (λ text. IsNone text) }
     ensures helped { AreForHelp (texts words.now) → IfOk result (λ text. IsNone text) }
