@@ -7,7 +7,8 @@ use thiserror::Error;
 use tt_epoch::EpochFault;
 use tt_publish::PublishFault;
 
-/// Why a machine does not serve. Each fault comes before the first client is served.
+/// Why a machine does not serve. Each fault comes before the first client is served. Only before `NoThread` may the
+/// workers that were started have served some.
 #[derive(Clone, Copy, Debug, PartialEq, Eq, Error)]
 pub enum ServerFault {
     #[error("the address can't be listened at")]

@@ -18,7 +18,8 @@ pub enum Status {
     Memory,
     /// The arguments or the input were rejected, and the refusal was written: 2.
     Bad,
-    /// The report of a run that does not keep the assumptions was written: 3.
+    /// A report was written of something wrong: a run that does not keep the assumptions, a wrong reading of `live`, or
+    /// a history that is not consistent: 3.
     Broken,
     /// A device failed, in reading (1604, which was written) or in writing (1605, which can't be): 4.
     Device,
@@ -44,7 +45,7 @@ impl Status {
 pub enum CommandOutput {
     /// The answer. The program then ends as [`Status::Fine`].
     Fine(String),
-    /// The report of a run that does not keep the assumptions. The program then ends as [`Status::Broken`].
+    /// The report of something wrong. The program then ends as [`Status::Broken`].
     Broken(String),
 }
 
