@@ -96,10 +96,17 @@ fn the_last_fusion_is_read(rt: HostRuntime) -> Result<(), Fail> {
     let mut clock = MemoryClock::new(&[2000, 7000, 1999, 2000], None);
     let (mut teller, mut first, mut second) = opened(&rt, rt.alloc(), 200).ok_or("watches")?;
     assert!(rt; ends(second.now(&mut clock)) == Err(801));
+    let nothing = teller.tell();
     assert!(rt; teller.publish(&rt, older) == Ok(()));
     assert!(rt; teller.publish(&rt, newer) == Ok(()));
     assert!(rt; teller.publish(&rt, too_old) == Err(PublishFault::ClockBack));
     first.learn(&teller.tell());
+    assert!(rt;
+        (
+            first.seen().is_within(&nothing),
+            second.seen().is_within(&nothing)
+        ) == (false, true)
+    );
     for read in [Ok((1003, 1020)), Ok((6002, 6021)), Err(802)] {
         assert!(rt; ends(first.now(&mut clock)) == read);
     }

@@ -4,6 +4,7 @@ pub mod Listing
 pub mod Fusings
 pub mod Pacing
 pub mod Running
+pub mod Reading
 pub mod Sharing
 pub mod Turns
 pub mod Gating

@@ -36,21 +36,20 @@ first-told rounds published tally added (Ok did) count done publishes counts = (
 first-told rounds published tally added (Err fault) count done publishes counts = tt
 
 module _ {C L : Type 0} (gives : C → Option ℕ → C → Type 0) (clock_failed : C → ℕ) (does : L → Call → Gift → L → Type 0) (link_failed : L → ℕ) where
-  pub first-rounds : (rounds turns : ℕ) (daemon daemon' : DaemonState) (clock clock' : C) (link link' : L) (old new : List Publication) (answer : Result Rounds NodeFault) → old ≡ []
+  pub first-rounds : (rounds turns : ℕ) (daemon daemon' : DaemonState) (clock clock' : C) (link link' : L) (old new told : List Publication) (answer : Result Rounds NodeFault) → old ≡ [] → told ≡ new
       → ((tally : Tally) × Makes gives does (rounds_of rounds turns) clock clock' link link' (stand_of daemon (fusions_in old) no_tally) (stand_of daemon' (fusions_in new) tally) (answer_of answer) × IfOk answer (λ did. (did.tally ≡ tally) × (did.refused ≡ refused_in tally)))
       → ((published : ℕ) × Grows old new 0 published × IfOk answer (λ did. did.published ≡ published))
       → IfOk answer (λ did. did.done ≡ rounds)
       → length new ≤ length old + 4294967295
       → FailsBy answer node.LinkFailed (link_failed link) (link_failed link') → FailsBy answer node.ClockFailed (clock_failed clock) (clock_failed clock')
       → IfErr answer (IsRoundsFault new)
-      → RunsRounds gives clock_failed does link_failed rounds turns daemon clock link answer
-  first-rounds rounds turns daemon daemon' clock clock' link link' old new answer none (tally, made, counts) (published, grew, publishes) done few link_fails clock_fails fault =
+      → RunsRounds gives clock_failed does link_failed rounds turns daemon clock link told answer
+  first-rounds rounds turns daemon daemon' clock clock' link link' old new told answer none tells (tally, made, counts) (published, grew, publishes) done few link_fails clock_fails fault =
       let is : new ≡ grew.added = grew.grew ∙ ap (λ items. items ++ grew.added) none in
-      record {
+      subst (λ items. RunsRounds gives clock_failed does link_failed rounds turns daemon clock link items answer) (sym tells) (record {
         daemon_after = daemon';
         clock_after = clock';
         link_after = link';
-        published = new;
         tally = tally;
         course = subst (λ items. Makes gives does (rounds_of rounds turns) clock clock' link link' (stand_of daemon (fusions_in items) no_tally) (stand_of daemon' (fusions_in new) tally) (answer_of answer)) none made;
         each = subst (λ items. All IsPublication items) (sym is) grew.each;
@@ -59,4 +58,4 @@ module _ {C L : Type 0} (gives : C → Option ℕ → C → Type 0) (clock_faile
         link_fails = link_fails;
         clock_fails = clock_fails;
         fault = first-faults old new answer none few fault;
-      }
+      })

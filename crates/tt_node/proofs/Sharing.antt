@@ -1,9 +1,11 @@
 -- Workers that share a sequencer.
-use Rattle.std.proofs.Common.{◌≡◌, ℕ, zero, suc, ◌+◌, ◌-◌, Bool, true, false, List, [], ◌∷◌, ◌++◌, length, map, Option, Result, Ok, Err, IfOk, IsErrOf, refl, sym, ap, ◌∙◌, subst, length-append, arith}
+use Rattle.std.proofs.Common.{◌≡◌, ℕ, zero, suc, ◌+◌, ◌-◌, Bool, true, false, List, [], ◌∷◌, ◌++◌, length, map, All, Option, Result, Ok, Err, IfOk, IsErrOf, refl, sym, ap, ◌∙◌, subst, length-append, arith}
 use Rattle.std.specs.List.{range_with_len}
+use Rattle.std.proofs.lemmas.List.Elements.{All-nil, All-cons}
 use Rattle.std.proofs.lemmas.List.FromFn.{length-map-range_with_len}
 use Rattle.atomic_table.specs.Seated.{TableId}
 use Rattle.tt_span.specs.Interval.{Interval}
+use Rattle.tt_publish.specs.Known.{Known, WatchState}
 use Rattle.tt_publish.specs.declared.faults.ReadFault.{ReadFault}
 use Rattle.tt_session.specs.Conversation.{Conversation}
 use Rattle.tt_session.specs.Session.{Serves, Breaks}
@@ -21,7 +23,7 @@ use Rattle.tt_stamp.specs.declared.faults.StampFault.TheVariants.{UsedUp, FloorT
 use Rattle.tt_stamp.specs.declared.stampings.Stamping.{Stamping}
 use Rattle.tt_stamp.proofs.Runs.{entries_of-within, AreAmong-append_left, AreAmong-append_right}
 use Rattle.tt_stamp.proofs.Seats.{Continues-trans}
-use Rattle.tt_node.specs.Sharing.{AllFrom, AllDown, IsNewSeat, IsLater, IsServed, ServesWith, HasPart, HasShare, IsServing, ServesAt, SharesSequencer}
+use Rattle.tt_node.specs.Sharing.{AllFrom, AllDown, IsNewSeat, IsLater, IsServed, ServesWith, HasPart, HasShare, IsServing, ServesAt, SharesSequencer, ReadsBy}
 use Rattle.tt_node.specs.Working.{WorkerState, PassesGate, DoesWhere, Allows, after_asking}
 use Rattle.tt_node.specs.declared.nodes.ServesSession.{ServesSession}
 use Rattle.tt_node.specs.declared.nodes.WorkerEnd.{WorkerEnd}
@@ -41,6 +43,10 @@ AllFrom-unsnoc Holds place (y ∷ ys) x (here, rest) =
 pub AllFrom-map : {A : Type 0} (Holds Goes : ℕ → A → Type 0) → ((place : ℕ) (x : A) → Holds place x → Goes place x) → (place : ℕ) (xs : List A) → AllFrom Holds place xs → AllFrom Goes place xs
 AllFrom-map Holds Goes goes place [] none = tt
 AllFrom-map Holds Goes goes place (x ∷ xs) (here, rest) = (goes place x here, AllFrom-map Holds Goes goes (place + 1) xs rest)
+
+All-from : {A : Type 0} (Holds : ℕ → A → Type 0) (Goes : A → Type 0) → ((place : ℕ) (x : A) → Holds place x → Goes x) → (place : ℕ) (xs : List A) → AllFrom Holds place xs → All Goes xs
+All-from Holds Goes goes place [] none = All-nil Goes
+All-from Holds Goes goes place (x ∷ xs) (here, rest) = All-cons Goes x xs (goes place x here) (All-from Holds Goes goes (place + 1) xs rest)
 
 pub AllFrom-new : (table : TableId) (seats place count : ℕ) → AllFrom (IsNewSeat table seats) place (map (new_seat table seats) (range_with_len place count))
 AllFrom-new table seats place zero = tt
@@ -194,11 +200,11 @@ has-part all seat mine i = record {
 }
 
 module _ {C G : Type 0} (gives : C → Option ℕ → C → Type 0) (failed : C → ℕ) (says : G → ℕ → ℕ → Bool → G → Type 0) (hears : G → ℕ → ℕ → G → Type 0)
-    (waits : ℕ) (gate : G) (lease : Interval) (table : TableId) (seats : ℕ) where
+    (waits : ℕ) (gate : G) (lease : Interval) (watch : WatchState) (table : TableId) (seats : ℕ) where
   -- the end of the worker of this number, whose seat was joined to this one
   pub record EndsIn (all : SeatState) (number : ℕ) (end : WorkerEnd) : Type 0 where
     pub clock : C
-    pub serves : ServesWith gives failed says hears waits number gate lease clock (new_seat table seats number) end
+    pub serves : ServesWith gives failed says hears waits number gate lease watch clock (new_seat table seats number) end
     pub joined : IsIn all end.seat.value
 
   -- the seats of the first workers were joined to this one
@@ -210,28 +216,29 @@ module _ {C G : Type 0} (gives : C → Option ℕ → C → Type 0) (failed : C 
     pub each : AllFrom (EndsIn all) 0 ends
 
   -- what a thread promised, by what is known of its promise
-  pub serves-at : (number : ℕ) (promise : ServesSession C G) (end : WorkerEnd) → IsServing gate waits lease number (new_seat table seats number) promise
-      → ServesWith gives failed says hears promise.waits promise.session promise.gate.value promise.lease promise.clock.value promise.seat.value end
-      → ServesWith gives failed says hears waits number gate lease promise.clock.value (new_seat table seats number) end
+  pub serves-at : (number : ℕ) (promise : ServesSession C G) (end : WorkerEnd) → IsServing gate waits lease watch number (new_seat table seats number) promise
+      → ServesWith gives failed says hears promise.waits promise.session promise.gate.value promise.lease promise.watch.value promise.clock.value promise.seat.value end
+      → ServesWith gives failed says hears waits number gate lease watch promise.clock.value (new_seat table seats number) end
   serves-at number promise end is serves =
-      subst (λ s. ServesWith gives failed says hears waits number gate lease promise.clock.value s end) is.seat_is
-      (subst (λ l. ServesWith gives failed says hears waits number gate l promise.clock.value promise.seat.value end) is.lease_is
-      (subst (λ g. ServesWith gives failed says hears waits number g promise.lease promise.clock.value promise.seat.value end) is.gate_is
-      (subst (λ n. ServesWith gives failed says hears waits n promise.gate.value promise.lease promise.clock.value promise.seat.value end) is.session_is
-      (subst (λ n. ServesWith gives failed says hears n promise.session promise.gate.value promise.lease promise.clock.value promise.seat.value end) is.waits_are serves))))
+      subst (λ s. ServesWith gives failed says hears waits number gate lease watch promise.clock.value s end) is.seat_is
+      (subst (λ w. ServesWith gives failed says hears waits number gate lease w promise.clock.value promise.seat.value end) is.watch_is
+      (subst (λ l. ServesWith gives failed says hears waits number gate l promise.watch.value promise.clock.value promise.seat.value end) is.lease_is
+      (subst (λ g. ServesWith gives failed says hears waits number g promise.lease promise.watch.value promise.clock.value promise.seat.value end) is.gate_is
+      (subst (λ n. ServesWith gives failed says hears waits n promise.gate.value promise.lease promise.watch.value promise.clock.value promise.seat.value end) is.session_is
+      (subst (λ n. ServesWith gives failed says hears n promise.session promise.gate.value promise.lease promise.watch.value promise.clock.value promise.seat.value end) is.waits_are serves)))))
 
   -- the thread that is taken from the end served the session of its place, and those before it are as they were
   pub taken-serves : {H : Type 0} (promise : H → ServesSession C G) (old new : List H) (handle : H) (number : ℕ) (end : WorkerEnd) → old ≡ new ++ handle ∷ [] → seats ≡ length new + number + 1
-      → AllDown (λ k h. ServesAt table seats gate waits lease k (promise h)) seats old
-      → (let p = promise handle in ServesWith gives failed says hears p.waits p.session p.gate.value p.lease p.clock.value p.seat.value end)
-      → AllDown (λ k h. ServesAt table seats gate waits lease k (promise h)) seats new
-      × (let p = promise handle in ServesWith gives failed says hears waits number gate lease p.clock.value (new_seat table seats number) end)
+      → AllDown (λ k h. ServesAt table seats gate waits lease watch k (promise h)) seats old
+      → (let p = promise handle in ServesWith gives failed says hears p.waits p.session p.gate.value p.lease p.watch.value p.clock.value p.seat.value end)
+      → AllDown (λ k h. ServesAt table seats gate waits lease watch k (promise h)) seats new
+      × (let p = promise handle in ServesWith gives failed says hears waits number gate lease watch p.clock.value (new_seat table seats number) end)
   taken-serves promise old new handle number end is count each serves =
-      let (front, last) = AllDown-unsnoc (λ k h. ServesAt table seats gate waits lease k (promise h)) seats new handle (subst (λ hs. AllDown (λ k h. ServesAt table seats gate waits lease k (promise h)) seats hs) is each) in
+      let (front, last) = AllDown-unsnoc (λ k h. ServesAt table seats gate waits lease watch k (promise h)) seats new handle (subst (λ hs. AllDown (λ k h. ServesAt table seats gate waits lease watch k (promise h)) seats hs) is each) in
       let place : seats - 1 - length new ≡ number = omega (arith, count) in
-      (front, serves-at number (promise handle) end (subst (λ k. ServesAt table seats gate waits lease k (promise handle)) place last) serves)
+      (front, serves-at number (promise handle) end (subst (λ k. ServesAt table seats gate waits lease watch k (promise handle)) place last) serves)
 
-  pub joined-first : (clock : C) (end : WorkerEnd) (seat : SeatState) → ServesWith gives failed says hears waits 0 gate lease clock (new_seat table seats 0) end → end.seat.value ≡ seat
+  pub joined-first : (clock : C) (end : WorkerEnd) (seat : SeatState) → ServesWith gives failed says hears waits 0 gate lease watch clock (new_seat table seats 0) end → end.seat.value ≡ seat
       → IsLegalRun seat.seats seat.seen → entries_of seat.numbers seat.seen ≡ seat.own → HasJoined (end ∷ []) seat
   joined-first clock end seat serves is legal mine =
       record {
@@ -243,7 +250,7 @@ module _ {C G : Type 0} (gives : C → Option ℕ → C → Type 0) (failed : C 
       }
 
   pub joined-next : (ends : List WorkerEnd) (all both : SeatState) (clock : C) (end : WorkerEnd) (seat : SeatState) → HasJoined ends all
-      → ServesWith gives failed says hears waits (length ends) gate lease clock (new_seat table seats (length ends)) end → end.seat.value ≡ seat
+      → ServesWith gives failed says hears waits (length ends) gate lease watch clock (new_seat table seats (length ends)) end → end.seat.value ≡ seat
       → Unites all seat both → HasJoined (ends ++ end ∷ []) both
   joined-next ends all both clock end seat h serves is u =
       record {
@@ -257,18 +264,28 @@ module _ {C G : Type 0} (gives : C → Option ℕ → C → Type 0) (failed : C 
             (let e : length ends ≡ 0 + length ends = omega arith in subst (λ n. EndsIn both n end) e (record { clock = clock; serves = serves; joined = subst (λ s. IsIn both s) (sym is) (in-second all seat both u) }));
       }
 
-  shares-at : (ends : List WorkerEnd) (all : SeatState) → table ≡ all.table → seats ≡ length ends → HasJoined ends all → SharesSequencer gives failed says hears waits gate lease ends all
+  shares-at : (ends : List WorkerEnd) (all : SeatState) → table ≡ all.table → seats ≡ length ends → HasJoined ends all → SharesSequencer gives failed says hears waits gate lease watch ends all
   shares-at ends all t n h = record {
     legal = subst (λ m. IsLegalRun m all.seen) (h.seats_are ∙ n) h.legal;
     each =
-        AllFrom-map (EndsIn all) (HasShare gives failed says hears waits gate lease all.table (length ends) all.seen)
+        AllFrom-map (EndsIn all) (HasShare gives failed says hears waits gate lease watch all.table (length ends) all.seen)
         (λ k e i. record {
           clock = i.clock;
-          serves = subst (λ m. ServesWith gives failed says hears waits k gate lease i.clock (new_seat all.table m k) e) n
-              (subst (λ x. ServesWith gives failed says hears waits k gate lease i.clock (new_seat x seats k) e) t i.serves);
+          serves = subst (λ m. ServesWith gives failed says hears waits k gate lease watch i.clock (new_seat all.table m k) e) n
+              (subst (λ x. ServesWith gives failed says hears waits k gate lease watch i.clock (new_seat x seats k) e) t i.serves);
           part = has-part all e.seat.value h.mine i.joined;
         }) 0 ends h.each;
   }
 
-  pub shares : (ends : List WorkerEnd) (all : SeatState) → seats ≡ length ends → HasJoined ends all → SharesSequencer gives failed says hears waits gate lease ends all
+  pub shares : (ends : List WorkerEnd) (all : SeatState) → seats ≡ length ends → HasJoined ends all → SharesSequencer gives failed says hears waits gate lease watch ends all
   shares ends all n h = shares-at ends all (sym h.table_is) n h
+
+  reads-one : (seat : SeatState) (clock : C) (number : ℕ) (end : WorkerEnd) → ServesWith gives failed says hears waits number gate lease watch clock seat end → ReadsBy watch.source watch.drift end
+  reads-one seat clock number end serves = record {
+    source_is = ap (λ (k : Known). k.source) serves.seen ∙ serves.watch_later.source;
+    readings = serves.readings;
+  }
+
+  -- what is known of the watches of the first workers
+  pub reads-by : (ends : List WorkerEnd) (all : SeatState) → HasJoined ends all → All (ReadsBy watch.source watch.drift) ends
+  reads-by ends all h = All-from (EndsIn all) (ReadsBy watch.source watch.drift) (λ number end i. reads-one (new_seat table seats number) i.clock number end i.serves) 0 ends h.each

@@ -1,5 +1,5 @@
 -- The course of a daemon's rounds: computed from the daemon, what is published, and all that the devices give.
-use Rattle.std.specs.Prelude.{ℕ, zero, suc, ◌+◌, ◌==◌, Bool, true, false, if◌then◌else◌, List, [], ◌∷◌, ◌++◌, length, Option, Some, None, Result, Ok, Err}
+use Rattle.std.specs.Prelude.{ℕ, zero, suc, ◌==◌, Bool, true, false, if◌then◌else◌, List, [], ◌∷◌, ◌++◌, length, Option, Some, None, Result, Ok, Err}
 use Rattle.tt_poll.specs.Spelling.{spelling_of2}
 use Rattle.tt_poll.specs.declared.messages.Message2.TheVariants as message
 use Rattle.tt_source.specs.Table.{TableState, poll_of, take_of}

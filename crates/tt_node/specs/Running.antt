@@ -15,13 +15,12 @@ use Rattle.tt_node.specs.declared.rounds.Rounds.{Rounds}
 use Rattle.tt_node.specs.declared.tallies.Tally.{Tally}
 use Rattle.tt_node.specs.Tallies.{no_tally, refused_in}
 
--- a daemon that had published nothing did so many rounds: the course of them, by what this clock and this link gave, and the answer tells what was done, or the fault that ended them
+-- a daemon that had published nothing did so many rounds: the course of them, by what this clock and this link gave, and the answer tells what was done, or the fault that ended them; then these are published
 pub record RunsRounds {C L : Type 0} (gives : C → Option ℕ → C → Type 0) (clock_failed : C → ℕ) (does : L → Call → Gift → L → Type 0) (link_failed : L → ℕ)
-    (rounds turns : ℕ) (daemon : DaemonState) (clock : C) (link : L) (answer : Result Rounds NodeFault) : Type 0 where
+    (rounds turns : ℕ) (daemon : DaemonState) (clock : C) (link : L) (published : List Publication) (answer : Result Rounds NodeFault) : Type 0 where
   pub daemon_after : DaemonState
   pub clock_after : C
   pub link_after : L
-  pub published : List Publication
   pub tally : Tally
   pub course : Makes gives does (rounds_of rounds turns) clock clock_after link link_after
       (stand_of daemon [] no_tally) (stand_of daemon_after (fusions_in published) tally) (answer_of answer)
@@ -31,7 +30,8 @@ pub record RunsRounds {C L : Type 0} (gives : C → Option ℕ → C → Type 0)
   pub clock_fails : FailsBy answer ClockFailed (clock_failed clock) (clock_failed clock_after)
   pub fault : IfErr answer IsFirstFault
 
--- a node did the rounds of its daemon, of which its end tells; where it ended with a fault that only a daemon has, that one ended them
+-- a node did the rounds of its daemon, of which its end tells, with what they published; where it ended with a fault that only a daemon has, that one ended them
 abbrev pub RunsNode : {C L : Type 0} → (C → Option ℕ → C → Type 0) → (C → ℕ) → (L → Call → Gift → L → Type 0) → (L → ℕ) → ℕ → ℕ → DaemonState → C → L → Result NodeEnd NodeFault → Type 0
-RunsNode gives clock_failed does link_failed rounds turns daemon clock link (Ok end) = RunsRounds gives clock_failed does link_failed rounds turns daemon clock link (Ok end.rounds)
-RunsNode gives clock_failed does link_failed rounds turns daemon clock link (Err fault) = IsDaemonFault fault → RunsRounds gives clock_failed does link_failed rounds turns daemon clock link (Err fault)
+RunsNode gives clock_failed does link_failed rounds turns daemon clock link (Ok end) = RunsRounds gives clock_failed does link_failed rounds turns daemon clock link end.published.items (Ok end.rounds)
+RunsNode gives clock_failed does link_failed rounds turns daemon clock link (Err fault) =
+    IsDaemonFault fault → (published : List Publication) × RunsRounds gives clock_failed does link_failed rounds turns daemon clock link published (Err fault)

@@ -3,7 +3,7 @@
 ghost use Rattle.std.specs.Prelude.{◌≡◌, ◌≢◌, ◌<◌, ◌≤◌, ◌↔◌, ◌⊎◌, ◌+◌, [], All, Ok, Err, IfOk, IfErr, IfSome, IsSome, IsErrOf, OnOk, IsTrue, vec_len, vec_capacity};
 ghost use Rattle.tt_node.specs.Fault.{IsRunFault, IsFirstFault};
 ghost use Rattle.tt_node.specs.Running.{RunsRounds, RunsNode};
-ghost use Rattle.tt_node.specs.Sharing.{AllFrom, AllDown, IsNewSeat, IsServing, ServesAt, ServesWith, SharesSequencer};
+ghost use Rattle.tt_node.specs.Sharing.{AllFrom, AllDown, IsNewSeat, IsServing, ReadsBy, ReadsPublished, ServesAt, ServesWith, SharesSequencer, new_watch};
 ghost use Rattle.tt_publish.specs.Known.{max_watches};
 
 use crate::faults::NodeFault;
@@ -20,10 +20,10 @@ use std::thread;
 use std::thread::{Promise, PromisedHandle, Scope, Threads};
 use tt_audit::LiveNote;
 use tt_daemon::Daemon;
-use tt_publish::{Clock, MAX_WATCHES, Teller, Watch, open};
+use tt_publish::{Clock, MAX_WATCHES, Teller, Told, Watch, open};
 use tt_session::{ServeFault, Served, Turns, serve};
 use tt_shared_book::{OpenedBook, SharedBook, WhichBook};
-use tt_span::Span;
+use tt_span::{Drift, Span};
 use tt_stamp::{Seat, Sequencer};
 use tt_stream::{ByteReader, ByteWriter};
 
@@ -56,6 +56,8 @@ pub struct WorkerEnd {
     pub served: Result<Served, ServeFault>,
     /// The notes of the readings that it gave, oldest first.
     pub notes: Vec<LiveNote>,
+    /// What its watch had seen at its end: the first ones of the publications of the node.
+    pub seen: Told,
     /// The seat that it had at its end. The value is for contracts.
     pub seat: Snapshot<Seat>,
 }
@@ -65,6 +67,8 @@ pub struct WorkerEnd {
 pub struct NodeEnd {
     /// What its daemon did.
     pub rounds: Rounds,
+    /// What its daemon published.
+    pub published: Told,
     /// How its workers ended, in the order of their streams.
     pub workers: Vec<WorkerEnd>,
     /// The seats of all workers, joined into one. The value is for contracts.
@@ -90,29 +94,34 @@ impl<'a, R, J: WhichBook> Clone for Shared<'a, R, J> {
 
 impl<'a, R, J: WhichBook> Copy for Shared<'a, R, J> {}
 
-/// What the thread of a daemon does: `rounds` rounds of this daemon, with this link and this clock.
+/// What the thread of a daemon does: `rounds` rounds of this daemon, with this link and this clock. It tells what they
+/// published, by a teller that had told `opened` before.
 #[derive(Drop)]
 struct DoesRounds<L, C> {
     daemon: Snapshot<Daemon>,
     link: Snapshot<L>,
     clock: Snapshot<C>,
+    opened: Snapshot<Told>,
     rounds: u32,
     turns: u32,
 }
 
-impl<L: Link, C: Clock> Promise<Result<Rounds, NodeFault>> for DoesRounds<L, C> {
+impl<L: Link, C: Clock> Promise<(Result<Rounds, NodeFault>, Told)> for DoesRounds<L, C> {
+    ghost use Rattle.std.specs.Prelude.{◌≡◌};
     ghost use Rattle.tt_node.specs.Running.{RunsRounds};
 
-    ghost kept_by = { λ p result. RunsRounds C.gives C.failed L.does L.failed p.rounds p.turns p.daemon.value p.clock.value p.link.value result };
+    ghost kept_by = { λ p result. RunsRounds C.gives C.failed L.does L.failed p.rounds p.turns p.daemon.value p.clock.value p.link.value result.1.items result.0
+        × (result.1.source ≡ p.opened.value.source) };
 }
 
-/// What the thread of a worker does: a worker with this gate, lease, clock and seat serves this session.
+/// What the thread of a worker does: a worker with this gate, lease, watch, clock and seat serves this session.
 #[derive(Drop)]
 struct ServesSession<C, G> {
     session: u32,
     waits: u32,
     lease: Span,
     gate: Snapshot<G>,
+    watch: Snapshot<Watch>,
     clock: Snapshot<C>,
     seat: Snapshot<Seat>,
 }
@@ -122,10 +131,10 @@ impl<C: Clock, G: Gate> Promise<(WorkerEnd, Seat)> for ServesSession<C, G> {
     ghost use Rattle.tt_node.specs.Sharing.{ServesWith};
 
     ghost kept_by = { λ p result. (result.0.seat.value ≡ result.1)
-        × ServesWith C.gives C.failed G.says G.hears p.waits p.session p.gate.value p.lease p.clock.value p.seat.value result.0 };
+        × ServesWith C.gives C.failed G.says G.hears p.waits p.session p.gate.value p.lease p.watch.value p.clock.value p.seat.value result.0 };
 }
 
-/// Does the first rounds of a daemon.
+/// Does the first rounds of a daemon. Tells also what they published, even if a fault ended them.
 fn first_rounds<R: Wait, L: Link + Drop, C: Clock + Drop>(
     rt: &R,
     daemon: Daemon,
@@ -134,12 +143,13 @@ fn first_rounds<R: Wait, L: Link + Drop, C: Clock + Drop>(
     teller: &mut Teller,
     rounds: u32,
     turns: u32,
-) -> Result<Rounds, NodeFault>
+) -> (Result<Rounds, NodeFault>, Told)
     requires nothing { teller.old.items ≡ [] }
-    ensures runs { RunsRounds C.gives C.failed L.does L.failed rounds turns daemon clock link result }
+    ensures runs { RunsRounds C.gives C.failed L.does L.failed rounds turns daemon clock link result.1.items result.0 }
+    ensures source { result.1.source ≡ teller.old.source }
 {
     let (mut daemon, mut link, mut clock) = (daemon, link, clock);
-    daemon_rounds(
+    let did = daemon_rounds(
         rt,
         &mut daemon,
         &mut link,
@@ -147,7 +157,8 @@ fn first_rounds<R: Wait, L: Link + Drop, C: Clock + Drop>(
         teller,
         rounds,
         turns,
-    )
+    );
+    (did, teller.tell())
 }
 
 /// Serves a session by a worker with these parts, and gives its seat back.
@@ -165,7 +176,7 @@ fn work<'a, R: Wait, C: Clock + Drop, I: ByteReader, O: ByteWriter, G: Gate + Co
 ) -> (WorkerEnd, Seat)
     requires of_it { seat.table ≡ sequencer.now }
     ensures seat { result.0.seat.value ≡ result.1 }
-    ensures serves { ServesWith C.gives C.failed G.says G.hears limits.now.serve.waits session gate.now limits.now.lease clock seat result.0 }
+    ensures serves { ServesWith C.gives C.failed G.says G.hears limits.now.serve.waits session gate.now limits.now.lease watch clock seat result.0 }
 {
     let mut worker = Worker::new(
         shared.rt,
@@ -181,10 +192,11 @@ fn work<'a, R: Wait, C: Clock + Drop, I: ByteReader, O: ByteWriter, G: Gate + Co
         limits.lease,
     );
     let served = serve(reader, writer, &mut worker, limits.serve);
-    let (notes, seat) = worker.into_parts();
+    let (notes, seat, watch) = worker.into_parts();
     let end = WorkerEnd {
         served,
         notes,
+        seen: watch.seen(),
         seat: Snapshot::of(&seat),
     };
     (end, seat)
@@ -213,13 +225,14 @@ fn start<
     stream: (I, O),
 ) -> Option<PromisedHandle<(WorkerEnd, Seat), ServesSession<C, G>>>
     requires of_it { seat.table ≡ sequencer.now }
-    ensures promise { IfSome result (λ handle. IsServing gate.now limits.now.serve.waits limits.now.lease session seat handle.promise) }
+    ensures promise { IfSome result (λ handle. IsServing gate.now limits.now.serve.waits limits.now.lease watch session seat handle.promise) }
 {
     let promise = ServesSession {
         session,
         waits: limits.serve.waits,
         lease: limits.lease,
         gate: Snapshot::of(gate),
+        watch: Snapshot::of(&watch),
         clock: Snapshot::of(&clock),
         seat: Snapshot::of(&seat),
     };
@@ -230,7 +243,7 @@ fn start<
             move || -> (WorkerEnd, Seat)
                 requires { seat.table ≡ sequencer.now }
                 ensures { (result.0.seat.value ≡ result.1)
-                    × ServesWith C.gives C.failed G.says G.hears limits.entry.now.serve.waits session gate.entry.now limits.entry.now.lease clock seat result.0 }
+                    × ServesWith C.gives C.failed G.says G.hears limits.entry.now.serve.waits session gate.entry.now limits.entry.now.lease watch clock seat result.0 }
             {
                 let (mut reader, mut writer) = (reader, writer);
                 work(
@@ -266,15 +279,18 @@ fn start_daemon<
     teller: &'s mut Teller,
     rounds: u32,
     turns: u32,
-) -> Option<PromisedHandle<Result<Rounds, NodeFault>, DoesRounds<L, C>>>
+) -> Option<PromisedHandle<(Result<Rounds, NodeFault>, Told), DoesRounds<L, C>>>
     requires nothing { teller.old.items ≡ [] }
     ensures promise { IfSome result (λ handle. (handle.promise.rounds ≡ rounds) × (handle.promise.turns ≡ turns)
-        × (handle.promise.daemon.value ≡ daemon) × (handle.promise.link.value ≡ link) × (handle.promise.clock.value ≡ clock)) }
+        × (handle.promise.daemon.value ≡ daemon) × (handle.promise.link.value ≡ link) × (handle.promise.clock.value ≡ clock)
+        × (handle.promise.opened.value ≡ teller.old)) }
 {
+    let opened = teller.tell();
     let promise = DoesRounds {
         daemon: Snapshot::of(&daemon),
         link: Snapshot::of(&link),
         clock: Snapshot::of(&clock),
+        opened: Snapshot::of(&opened),
         rounds,
         turns,
     };
@@ -282,15 +298,17 @@ fn start_daemon<
     scope
         .spawn_with(
             promise,
-            move || -> Result<Rounds, NodeFault>
+            move || -> (Result<Rounds, NodeFault>, Told)
                 requires { lent.now.items ≡ [] }
-                ensures { RunsRounds C.gives C.failed L.does L.failed rounds turns daemon clock link result }
+                ensures { RunsRounds C.gives C.failed L.does L.failed rounds turns daemon clock link result.1.items result.0
+                    × (result.1.source ≡ lent.entry.now.source) }
             { first_rounds(rt, daemon, link, clock, lent, rounds, turns) },
         )
         .ok()
 }
 
-/// Starts the threads of all workers, from the last stream to the first. Answers whether each thread was started.
+/// Starts the threads of all workers, from the last stream to the first. Answers whether each thread was started. Each
+/// watch is a new one of the teller that told `_opened`.
 fn start_workers<
     's,
     E,
@@ -306,6 +324,8 @@ fn start_workers<
     sequencer: &'s Sequencer,
     gate: &'s G,
     limits: &'s Limits,
+    _opened: &Told,
+    _drift: &Drift,
     seats: Vec<Seat>,
     watches: Vec<Watch>,
     clocks: Vec<C>,
@@ -316,9 +336,10 @@ fn start_workers<
     requires room { vec_len streams ≤ vec_capacity handles.old }
     requires one_each { vec_len seats ≡ vec_len streams }
     requires new { AllFrom (IsNewSeat sequencer.now (vec_len streams)) 0 seats.items }
+    requires watches { All (λ watch. watch ≡ new_watch _opened.now.source _drift.now) watches.items }
     ensures all { IsTrue result → vec_len handles.new ≡ vec_len streams }
     ensures some { vec_len handles.new ≤ vec_len streams }
-    ensures each { AllDown (λ number handle. ServesAt sequencer.now (vec_len streams) gate.now limits.now.serve.waits limits.now.lease number handle.promise) (vec_len streams) handles.new.items }
+    ensures each { AllDown (λ number handle. ServesAt sequencer.now (vec_len streams) gate.now limits.now.serve.waits limits.now.lease (new_watch _opened.now.source _drift.now) number handle.promise) (vec_len streams) handles.new.items }
 {
     let (mut seats, mut watches) = (seats, watches);
     let (mut clocks, mut streams) = (clocks, streams);
@@ -349,15 +370,18 @@ fn join_workers<R: Threads, C: Clock, G: Gate>(
     sequencer: &Sequencer,
     _gate: &G,
     _limits: &Limits,
+    _published: &Told,
+    _drift: &Drift,
     handles: Vec<PromisedHandle<(WorkerEnd, Seat), ServesSession<C, G>>>,
     ends: Vec<WorkerEnd>,
 ) -> Option<(Vec<WorkerEnd>, Seat)>
     requires none { ends.items ≡ [] }
     requires room { vec_len handles ≤ vec_capacity ends }
-    requires each { AllDown (λ number handle. ServesAt sequencer.now (vec_len handles) _gate.now _limits.now.serve.waits _limits.now.lease number handle.promise) (vec_len handles) handles.items }
+    requires each { AllDown (λ number handle. ServesAt sequencer.now (vec_len handles) _gate.now _limits.now.serve.waits _limits.now.lease (new_watch _published.now.source _drift.now) number handle.promise) (vec_len handles) handles.items }
     ensures all { IfSome result (λ r. vec_len r.0 ≡ vec_len handles) }
     ensures some { IsSome result ↔ (0 < vec_len handles) }
-    ensures shares { IfSome result (λ r. SharesSequencer C.gives C.failed G.says G.hears _limits.now.serve.waits _gate.now _limits.now.lease r.0.items r.1) }
+    ensures shares { IfSome result (λ r. SharesSequencer C.gives C.failed G.says G.hears _limits.now.serve.waits _gate.now _limits.now.lease (new_watch _published.now.source _drift.now) r.0.items r.1) }
+    ensures read { IfSome result (λ r. All (ReadsBy _published.now.source _drift.now) r.0.items) }
 {
     let (mut handles, mut ends) = (handles, ends);
     let (end, mut all) = handles.pop()?.join(rt);
@@ -372,6 +396,19 @@ fn join_workers<R: Threads, C: Clock, G: Gate>(
         all = sequencer.join(all, seat);
     }
     Some((ends, all))
+}
+
+/// Whether the workers read nothing but these publications.
+fn read_published(workers: &[WorkerEnd], published: &Told, _drift: &Drift) -> bool
+    requires { All (ReadsBy published.now.source _drift.now) workers.now }
+    ensures { IsTrue result ↔ All (ReadsPublished _drift.now published.now) workers.now }
+{
+    for worker in workers {
+        if !worker.seen.is_within(published) {
+            return false;
+        }
+    }
+    true
 }
 
 /// Joins the workers that were started, in a node in which some were not.
@@ -408,6 +445,7 @@ fn run_threads<
     link: L,
     clocks: Clocks<C>,
     teller: &'s mut Teller,
+    drift: &'s Drift,
     seats: Vec<Seat>,
     watches: Vec<Watch>,
     streams: Vec<(I, O)>,
@@ -417,9 +455,11 @@ fn run_threads<
     requires some { 0 < vec_len streams }
     requires one_each { vec_len seats ≡ vec_len streams }
     requires new { AllFrom (IsNewSeat sequencer.now (vec_len streams)) 0 seats.items }
+    requires watches { All (λ watch. watch ≡ new_watch teller.old.source drift.now) watches.items }
     ensures runs { RunsNode C.gives C.failed L.does L.failed limits.now.rounds limits.now.turns daemon clocks.daemon link result }
     ensures all { IfOk result (λ end. vec_len end.workers ≡ vec_len streams) }
-    ensures shares { IfOk result (λ end. SharesSequencer C.gives C.failed G.says G.hears limits.now.serve.waits gate.now limits.now.lease end.workers.items end.stamps.value) }
+    ensures shares { IfOk result (λ end. SharesSequencer C.gives C.failed G.says G.hears limits.now.serve.waits gate.now limits.now.lease (new_watch end.published.source drift.now) end.workers.items end.stamps.value) }
+    ensures reads { IfOk result (λ end. All (ReadsPublished drift.now end.published) end.workers.items) }
     ensures fault { IfErr result (λ fault. IsFirstFault fault ⊎ (fault ≡ NodeFault.Memory)) }
 {
     let Clocks {
@@ -433,6 +473,7 @@ fn run_threads<
     let Ok(ends) = Vec::with_capacity(alloc, streams.len()) else {
         return Err(NodeFault::Memory);
     };
+    let opened = teller.tell();
     let (rounds, turns) = (limits.rounds, limits.turns);
     let Some(running) = start_daemon(scope, rt, daemon, link, clock, teller, rounds, turns) else {
         return Err(NodeFault::Memory);
@@ -443,13 +484,15 @@ fn run_threads<
         sequencer,
         gate,
         limits,
+        &opened,
+        drift,
         seats,
         watches,
         workers,
         streams,
         &mut handles,
     );
-    let did = running.join(rt);
+    let (did, published) = running.join(rt);
     if did.is_err() {
         daemon_failed.store(true, Ordering::SeqCst);
     }
@@ -457,11 +500,19 @@ fn run_threads<
         drop_workers(rt, handles);
         return Err(NodeFault::Memory);
     }
-    let Some((workers, seat)) = join_workers(rt, sequencer, gate, limits, handles, ends) else {
+    let Some((workers, seat)) = join_workers(
+        rt, sequencer, gate, limits, &published, drift, handles, ends,
+    ) else {
         return Err(NodeFault::Memory);
     };
+    // The answer is always yes: a watch sees only what its teller shows, and the daemon has ended. But of a watch the
+    // proofs know only that it reads publications of this teller's source.
+    if !read_published(&workers, &published, drift) {
+        return Err(NodeFault::Memory);
+    }
     Ok(NodeEnd {
         rounds: did?,
+        published,
         workers,
         stamps: Snapshot::of(&seat),
     })
@@ -512,7 +563,10 @@ pub fn run_node<
     ensures all { IfOk result (λ end. vec_len end.workers ≡ vec_len streams) }
     // The seats of all workers are of one sequencer. What all workers have stamped is one legal history. Each worker
     // has its part of the history: the stamps of its own session, in their order, and no others.
-    ensures shares { IfOk result (λ end. SharesSequencer C.gives C.failed G.says G.hears limits.serve.waits gate.now limits.lease end.workers.items end.stamps.value) }
+    ensures shares { IfOk result (λ end. SharesSequencer C.gives C.failed G.says G.hears limits.serve.waits gate.now limits.lease (new_watch end.published.source daemon.config.drift) end.workers.items end.stamps.value) }
+    // The workers read nothing but what this daemon published: each has seen just the first ones of its publications, and
+    // each noted reading is the reading of one of them.
+    ensures reads { IfOk result (λ end. All (ReadsPublished daemon.config.drift end.published) end.workers.items) }
 {
     check_limits(streams.len(), clocks.workers.len(), &limits)?;
     let opened = OpenedBook::new();
@@ -558,7 +612,8 @@ fn run_on_book<
     ensures fault { IfErr result IsRunFault }
     ensures runs { RunsNode C.gives C.failed L.does L.failed limits.rounds limits.turns daemon clocks.daemon link result }
     ensures all { IfOk result (λ end. vec_len end.workers ≡ vec_len streams) }
-    ensures shares { IfOk result (λ end. SharesSequencer C.gives C.failed G.says G.hears limits.serve.waits gate.now limits.lease end.workers.items end.stamps.value) }
+    ensures shares { IfOk result (λ end. SharesSequencer C.gives C.failed G.says G.hears limits.serve.waits gate.now limits.lease (new_watch end.published.source daemon.config.drift) end.workers.items end.stamps.value) }
+    ensures reads { IfOk result (λ end. All (ReadsPublished daemon.config.drift end.published) end.workers.items) }
 {
     let (book, _) = opened.named::<J>(alloc);
     run_sharing(
@@ -602,7 +657,8 @@ fn run_sharing<
     ensures fault { IfErr result IsRunFault }
     ensures runs { RunsNode C.gives C.failed L.does L.failed limits.rounds limits.turns daemon clocks.daemon link result }
     ensures all { IfOk result (λ end. vec_len end.workers ≡ vec_len streams) }
-    ensures shares { IfOk result (λ end. SharesSequencer C.gives C.failed G.says G.hears limits.serve.waits gate.now limits.lease end.workers.items end.stamps.value) }
+    ensures shares { IfOk result (λ end. SharesSequencer C.gives C.failed G.says G.hears limits.serve.waits gate.now limits.lease (new_watch end.published.source daemon.config.drift) end.workers.items end.stamps.value) }
+    ensures reads { IfOk result (λ end. All (ReadsPublished daemon.config.drift end.published) end.workers.items) }
 {
     let Ok((sequencer, seats)) = Sequencer::open(alloc, streams.len()) else {
         return Err(NodeFault::Memory);
@@ -613,13 +669,14 @@ fn run_sharing<
         Err(fault) => return Err(NodeFault::Publish(fault)),
     };
     let shared = Shared { rt, alloc, book };
-    let (lent, shown, terms) = (&mut teller, &sequencer, &limits);
+    let (lent, shown, terms, bound) = (&mut teller, &sequencer, &limits, &drift);
     let ended = thread::scope(
         thread::scope_env(),
         rt,
         move |scope| -> Result<NodeEnd, NodeFault>
             requires { (lent.now.items ≡ []) × (0 < vec_len streams) × (vec_len seats ≡ vec_len streams)
-                × AllFrom (IsNewSeat shown.now (vec_len streams)) 0 seats.items }
+                × AllFrom (IsNewSeat shown.now (vec_len streams)) 0 seats.items
+                × All (λ watch. watch ≡ new_watch lent.now.source bound.now) watches.items }
         {
             run_threads(
                 scope,
@@ -631,6 +688,7 @@ fn run_sharing<
                 link,
                 clocks,
                 lent,
+                bound,
                 seats,
                 watches,
                 streams,

@@ -128,13 +128,19 @@ impl<'a, R: Wait, C: Clock, G: Gate, J: WhichBook> Worker<'a, R, C, G, J> {
 }
 
 impl<'a, R, C: Drop, G: Drop, J: WhichBook> Worker<'a, R, C, G, J> {
-    /// Ends the worker. Answers its notes, oldest first, and its seat.
-    pub fn into_parts(self) -> (Vec<LiveNote>, Seat)
+    /// Ends the worker. Answers its notes, oldest first, its seat and its watch.
+    pub fn into_parts(self) -> (Vec<LiveNote>, Seat, Watch)
         ensures notes { result.0.items ≡ self.entry.notes }
         ensures seat { result.1 ≡ self.entry.seat }
+        ensures watch { result.2 ≡ self.entry.watch }
     {
-        let Worker { notes, seat, .. } = self;
-        (notes, seat)
+        let Worker {
+            notes,
+            seat,
+            watch,
+            ..
+        } = self;
+        (notes, seat, watch)
     }
 }
 

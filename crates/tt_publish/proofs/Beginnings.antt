@@ -1,8 +1,8 @@
 -- Beginnings of one list, and its last item.
-use Rattle.std.proofs.Common.{ℕ, IsTrue, nat_lt, ◌≡◌, ◌≤◌, ◌↔◌, List, [], ◌∷◌, ◌++◌, length, Option, Some, None, ◌≢◌, refl, ap, sym, subst, inl, inr, ⊎_elim, arith}
+use Rattle.std.proofs.Common.{ℕ, ◌+◌, IsTrue, nat_lt, nat_le, ◌≡◌, ◌≤◌, ◌↔◌, List, [], ◌∷◌, ◌++◌, length, Option, Some, None, ◌≢◌, refl, ap, sym, ◌∙◌, subst, inl, inr, ⊎_elim, arith, length-append}
 use Rattle.std.specs.List.{last_or}
 use Rattle.std.specs.Option.{option_map}
-use Rattle.std.proofs.lemmas.Bool.{lt-ltb, ltb-true}
+use Rattle.std.proofs.lemmas.Bool.{lt-ltb, ltb-true, le-leb, leb-true}
 use Rattle.tt_span.specs.Interval.{Interval}
 use mathlib.Core.List.{IsPrefix}
 use Rattle.tt_daemon.specs.Publication.{Publication}
@@ -32,6 +32,17 @@ prefix_whole [] (y ∷ ys) p le = absurd (omega arith)
 prefix_whole (x ∷ xs) [] p le = absurd (cc (p.1))
 prefix_whole (x ∷ xs) (y ∷ ys) p le =
     let rest = prefix_whole xs ys (p.0, cc (p.1)) (omega arith) in cc (p.1, rest)
+
+-- a beginning is no longer than the whole
+prefix_length : {A : Type 0} (xs ys : List A) → IsPrefix xs ys → length xs ≤ length ys
+prefix_length xs ys p = let all : length xs + length p.0 ≡ length ys = sym (length-append xs p.0) ∙ ap length p.1 in omega (arith, all)
+
+-- of two beginnings of one list, of these lengths, the first begins the second just where it is no longer
+pub begins_by : {A : Type 0} (xs ys zs : List A) (n m : ℕ) → n ≡ length xs → m ≡ length ys → IsPrefix xs zs → IsPrefix ys zs → IsTrue (nat_le n m) ↔ IsPrefix xs ys
+begins_by xs ys zs n m first second p q = (
+  (λ less. let short : n ≤ m = leb-true n m less in prefix_shorter xs ys zs p q (omega (arith, short, first, second))),
+  (λ begins. let short = prefix_length xs ys begins in le-leb n m (omega (arith, short, first, second))),
+)
 
 last_or-more : {A : Type 0} (o : Option A) (xs : List A) (x : A) → last_or o (xs ++ x ∷ []) ≡ Some x
 last_or-more o [] x = refl

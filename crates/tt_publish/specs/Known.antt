@@ -29,6 +29,10 @@ pub record WatchState : Type 0 where
   pub drift : ℕ
   pub items : List Publication
 
+-- what a watch has seen
+abbrev pub seen_of : WatchState → Known
+seen_of watch = record { source = watch.source; items = watch.items }
+
 -- the last of a list, if it has one
 abbrev pub last_of : {A : Type 0} → List A → Option A
 last_of xs = last_or None xs

@@ -27,7 +27,7 @@
 //! - `shows`: how the publications are shown to many watches.
 //! - `teller`: `open`, `Teller` and `Told`. `watch`: `Watch`.
 //!
-//! The calls that only read, `tell`, `learn` and `now`, never wait and never allocate.
+//! The calls that only read, `tell`, `learn`, `seen`, `is_within` and `now`, never wait and never allocate.
 #![tactic(auto)]
 
 mod clocks;

@@ -258,6 +258,16 @@ impl Latest {
         }
     }
 
+    /// Whether the publications that are known here are the first ones of those that the other knows.
+    pub fn is_within(&self, other: &Latest) -> bool
+        requires { other.now.source ≡ self.now.source }
+        ensures { IsTrue result ↔ IsPrefix self.now.items other.now.items }
+    {
+        let mut both = self.seen.again();
+        both.learn(&other.seen);
+        self.number <= other.number
+    }
+
     /// The history with this publication at its end, and what is known then.
     pub fn extended(&self, history: History, next: &Fused) -> (History, Latest)
         requires history { history ≡ self.now }

@@ -1,6 +1,7 @@
 //! The teller, which publishes, and what it tells.
 
-ghost use Rattle.std.specs.Prelude.{◌≡◌, ◌<◌, ◌↔◌, ◌⊎◌, ◌++◌, ◌∷◌, [], length, vec_len, All, IfOk, IfSome, OnOk, OnErr, IsErrOf};
+ghost use Rattle.std.specs.Prelude.{◌≡◌, ◌<◌, ◌↔◌, ◌⊎◌, ◌++◌, ◌∷◌, [], length, vec_len, All, IfOk, IfSome, OnOk, OnErr, IsErrOf, IsTrue};
+ghost use mathlib.Core.List.{IsPrefix};
 ghost use Rattle.tt_publish.specs.Known.{GoesBack, max_watches};
 
 use crate::faults::PublishFault;
@@ -45,7 +46,8 @@ impl Model for Teller {
         × (source_of (seen_at writer.desk.place) ≡ Some t.latest.source)) };
 }
 
-/// What a teller had published when it was asked. In contracts it is the teller's `source` and the list, oldest first.
+/// The first publications of a teller: those that it had published when it was asked, or those that a watch has seen.
+/// In contracts it is the teller's `source` and the list, oldest first.
 #[derive(Drop)]
 pub struct Told {
     latest: Latest,
@@ -195,7 +197,24 @@ impl Teller {
 }
 
 impl Told {
-    /// What the teller had published when it was asked.
+    /// What `latest` knows.
+    pub(crate) fn of(latest: Latest) -> Told
+        ensures { result ≡ latest }
+    {
+        Told { latest }
+    }
+
+    /// Whether these publications are the first ones of the other's. If a watch has seen these, and a teller told the
+    /// other's, then the watch has seen nothing that the teller had not published. Requires: both are of one call of
+    /// [`open`](crate::open).
+    pub fn is_within(&self, other: &Told) -> bool
+        requires { other.now.source ≡ self.now.source }
+        ensures within { IsTrue result ↔ IsPrefix self.now.items other.now.items }
+    {
+        self.latest.is_within(&other.latest)
+    }
+
+    /// What is known of these publications.
     pub(crate) fn latest(&self) -> &Latest
         ensures { result.now ≡ self.now }
     {

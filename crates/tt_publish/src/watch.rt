@@ -3,7 +3,7 @@
 ghost use Rattle.std.specs.Prelude.{◌≡◌, Some};
 ghost use mathlib.Core.List.{IsPrefix};
 ghost use Rattle.left_right.specs.Sides.{view};
-ghost use Rattle.tt_publish.specs.Known.{IsLonger};
+ghost use Rattle.tt_publish.specs.Known.{IsLonger, seen_of};
 ghost use Rattle.tt_publish.specs.Looks.{Looks};
 ghost use Rattle.tt_publish.specs.Shown.{source_of};
 
@@ -63,6 +63,13 @@ impl Watch {
         ensures longer { IsLonger self.old.items told.now.items self.new.items }
     {
         self.latest.learn(told.latest());
+    }
+
+    /// What the watch has seen of the publications.
+    pub fn seen(&self) -> Told
+        ensures { result ≡ seen_of self.now }
+    {
+        Told::of(self.latest.copied())
     }
 
     /// The reading of the last publication at what the clock shows, aged by the drift that [`open`](crate::open) was

@@ -1,15 +1,18 @@
--- There is one handle for each thread that was started, and the seats that are left are those of the streams that are left.
-use Rattle.std.proofs.Common.{◌≡◌, ◌≤◌, ◌+◌, vec_len, vec_capacity}
-use Rattle.tt_node.specs.Sharing.{AllFrom, AllDown, IsNewSeat, ServesAt}
+-- There is one handle for each thread that was started, the seats that are left are those of the streams that are left, and the watches that are left are new.
+use Rattle.std.proofs.Common.{◌≡◌, ◌≤◌, ◌+◌, All, vec_len, vec_capacity}
+use Rattle.tt_publish.specs.Known.{WatchState}
+use Rattle.tt_node.specs.Sharing.{AllFrom, AllDown, IsNewSeat, ServesAt, new_watch}
 use Rattle.tt_node.proofs.nodes.start_workers.Given as goal
 
 abbrev pub invariant-loop : goal.invariant-loop
 invariant-loop g l =
+    let watch = new_watch l._opened.source l._drift in
     record {
       len : vec_len l.handles ≡ l.counter;
       room : vec_len l.initial.streams ≤ vec_capacity l.handles;
       left : vec_len l.streams + l.counter ≡ vec_len l.initial.streams;
       one_each : vec_len l.seats ≡ vec_len l.streams;
       new : AllFrom (IsNewSeat l.sequencer (vec_len l.initial.streams)) 0 l.seats.items;
-      each : AllDown (λ number handle. ServesAt l.sequencer (vec_len l.initial.streams) l.gate l.limits.serve.waits l.limits.lease number handle.promise) (vec_len l.initial.streams) l.handles.items;
+      watches : All (λ (w : WatchState). w ≡ watch) l.watches.items;
+      each : AllDown (λ number handle. ServesAt l.sequencer (vec_len l.initial.streams) l.gate l.limits.serve.waits l.limits.lease watch number handle.promise) (vec_len l.initial.streams) l.handles.items;
     }

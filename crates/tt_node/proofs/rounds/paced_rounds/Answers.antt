@@ -1,4 +1,4 @@
-use Rattle.std.proofs.Common.{◌≡◌, ◌+◌, ◌∙◌, inl, inr, true, false, Ok, Err, rules, tests, arith, refl, sym, ap, subst}
+use Rattle.std.proofs.Common.{◌≡◌, ◌+◌, ◌∙◌, Ok, Err, rules, tests, arith, refl, sym, ap, subst}
 use Rattle.tt_node.specs.Fusing.{Grows, fusions_in}
 use Rattle.tt_node.specs.Course.{round_of}
 use Rattle.tt_node.specs.Tallies.{refused_in, counted_in}
@@ -6,7 +6,7 @@ use Rattle.tt_node.specs.Making.{Makes, stand_of}
 use Rattle.std.proofs.lemmas.Result.{err_from_is_err_and}
 use Rattle.std.proofs.lemmas.Grind.{common_steps}
 use Rattle.tt_node.proofs.Failing.{not_failed}
-use Rattle.tt_node.proofs.Leading.{Makes-more, Makes-ends_below, rounds-none, rounds-all}
+use Rattle.tt_node.proofs.Leading.{Makes-more, rounds-none, rounds-all}
 use Rattle.tt_node.proofs.Fusings.{Grows-none, Grows-then}
 use Rattle.tt_node.proofs.Pacing.{Lets-more}
 use Rattle.tt_node.proofs.rounds.paced_rounds.Goals as goal

@@ -1,5 +1,4 @@
-use Rattle.std.proofs.Common.{rules, tests, arith, subst}
-use Rattle.tt_node.specs.Gating.{SaysNo}
+use Rattle.std.proofs.Common.{rules, tests}
 use Rattle.tt_node.proofs.Gating.{no-none, no-more}
 use Rattle.tt_node.proofs.workers.ask.Goals as goal
 
