@@ -102,6 +102,6 @@ ssize_t write(int file, const void *bytes, size_t size) {
 }
 
 ssize_t sendto(int file, const void *bytes, size_t size, int flags, const struct sockaddr *address, socklen_t length) {
-    if (begun && send_failed && ++sends >= send_failed) { errno = EIO; return -1; }
+    if (begun && send_failed && ++sends >= send_failed) { errno = EBADF; return -1; }
     return syscall(SYS_sendto, file, bytes, size, flags, address, length);
 }

@@ -13,6 +13,9 @@
  * Calls answer 0, or the number of a refusal. A refused tt_now leaves the interval of all times in its reading, so a
  * caller that does not look is told nothing wrong.
  *
+ * Where an owner of the file or of its folder truncates the file, a mapped one raises SIGBUS. Open it with tt_open_unmapped,
+ * and tt_now refuses instead; it makes three system calls more.
+ *
  * Reads version 1 of the format (its first four bytes are TTS1). Needs Linux on a little-endian 64-bit machine, and
  * GCC or Clang: C11 or later with POSIX (-std=gnu11, or -std=c11 -D_POSIX_C_SOURCE=200809L), or C++17.
  */
@@ -52,15 +55,17 @@ enum tt_refusal {
     TT_NOTHING = 801,      /* the daemon has published nothing so far */
     TT_CLOCK_BACK = 802,   /* the clock is below that of the publication, or above the greatest time */
     TT_CLOCK_FAILED = 803, /* the clock gave no reading */
-    TT_NO_FILE = 1701,     /* the file cannot be opened or mapped, or the client is not open */
+    TT_NO_FILE = 1701,     /* the file cannot be opened, mapped or read, or the client is not open */
     TT_OTHER_FILE = 1702,  /* not such a file, or of another owner, writable by others, of another boot or another clock */
     TT_NO_SLOT = 1703,     /* no daemon wrote what stands there */
     TT_BUSY = 1704         /* another publication came during each of the tries */
 };
 
-/* A mapped file. Set it by tt_open; after that any number of threads may use it. */
+/* A file. Set it by tt_open or tt_open_unmapped; after that any number of threads may use it. */
 typedef struct tt_client {
-    const uint64_t *words;
+    const uint64_t *words; /* where it is mapped */
+    int file;              /* where it is not */
+    bool is_unmapped;
 } tt_client;
 
 /* What the daemon published. */
@@ -96,59 +101,96 @@ static inline bool tt_is_same_clock(const char *boot) {
     return is_same && is_found && seconds == 0 && nanoseconds == 0;
 }
 
-/* Maps the file at this path. Refuses with 1701 and 1702; then the client is not open. */
-static inline int tt_open(tt_client *client, const char *path, uid_t owner) {
+/* Reads so many bytes at this place, and no later read comes before that. False where the file has not that many. */
+static inline bool tt_pread(int file, void *bytes, size_t length, size_t at) {
+    bool is_whole = pread(file, bytes, length, (off_t)at) == (ssize_t)length;
+    __sync_synchronize(); /* checks of threads know no __atomic_thread_fence */
+    return is_whole;
+}
+
+/* Refuses, with 1701 and 1702, all but the shared file of this boot that the user owns and nobody else may write. */
+static inline int tt_check_file(int file, uid_t owner) {
     struct stat found;
-    client->words = NULL;
-    int file = open(path, O_RDONLY | O_CLOEXEC | O_NOFOLLOW | O_NONBLOCK);
-    if (file < 0) return TT_NO_FILE;
-    if (fstat(file, &found) != 0) {
-        close(file);
-        return TT_NO_FILE;
-    }
+    char head[8 * TT_FIRST_SLOT];
+    if (fstat(file, &found) != 0) return TT_NO_FILE;
     if (!S_ISREG(found.st_mode) || found.st_size != TT_BYTES || found.st_uid != owner ||
-        (found.st_mode & (S_IWGRP | S_IWOTH)) != 0) {
-        close(file);
+        (found.st_mode & (S_IWGRP | S_IWOTH)) != 0)
         return TT_OTHER_FILE;
-    }
-    void *mapped = mmap(NULL, TT_BYTES, PROT_READ, MAP_SHARED, file, 0);
-    close(file);
-    if (mapped == MAP_FAILED) return TT_NO_FILE;
-    const char *head = (const char *)mapped;
+    if (!tt_pread(file, head, sizeof head, 0)) return TT_NO_FILE;
     /* The format, the length, and the clock: 1 is CLOCK_MONOTONIC. The boot has 36 letters, and 4 zeros follow. */
     if (memcmp(head, "TTS1\xc0\0\0\0\1\0\0\0\0\0\0\0", 16) != 0 || memcmp(head + 60, "\0\0\0\0", 4) != 0 ||
-        !tt_is_same_clock(head + 24)) {
-        munmap(mapped, TT_BYTES);
+        !tt_is_same_clock(head + 24))
         return TT_OTHER_FILE;
-    }
+    return 0;
+}
+
+/* Opens the file at this path, to be read at each call. Refuses with 1701 and 1702; then the client is not open. */
+static inline int tt_open_unmapped(tt_client *client, const char *path, uid_t owner) {
+    client->words = NULL;
+    client->is_unmapped = false;
+    client->file = open(path, O_RDONLY | O_CLOEXEC | O_NOFOLLOW | O_NONBLOCK);
+    if (client->file < 0) return TT_NO_FILE;
+    int refused = tt_check_file(client->file, owner);
+    client->is_unmapped = refused == 0;
+    if (refused != 0) close(client->file);
+    return refused;
+}
+
+/* Maps the file at this path. Refuses with 1701 and 1702; then the client is not open. */
+static inline int tt_open(tt_client *client, const char *path, uid_t owner) {
+    int refused = tt_open_unmapped(client, path, owner);
+    if (refused != 0) return refused;
+    void *mapped = mmap(NULL, TT_BYTES, PROT_READ, MAP_SHARED, client->file, 0);
+    close(client->file);
+    client->is_unmapped = false;
+    if (mapped == MAP_FAILED) return TT_NO_FILE;
     client->words = (const uint64_t *)mapped;
     return 0;
 }
 
-/* Unmaps the file. A client that is not open stays so. */
+/* Unmaps or closes the file. A client that is not open stays so. */
 static inline void tt_close(tt_client *client) {
     if (client->words != NULL) munmap((void *)(uintptr_t)client->words, TT_BYTES);
+    if (client->is_unmapped) close(client->file);
     client->words = NULL;
+    client->is_unmapped = false;
 }
 
-/* Copies the slot of the index that is shown, and tells whether the copy is whole: a publication changes the index
- * before the next one writes into this slot, and no index comes twice. So one index before and after means that no
- * byte of the slot has changed in between. The loads stay in their order, since each one is an acquire. */
-static inline bool tt_copy(const tt_client *client, uint64_t *index, uint64_t copy[TT_SLOT_WORDS]) {
+/* The word at which the slot begins that is current at this index. The publication's count is odd where an odd number of
+ * the eight bytes of the index are odd. */
+static inline int tt_slot_of(uint64_t index) {
+    return TT_FIRST_SLOT + __builtin_parityll(index & UINT64_C(0x0101010101010101)) * TT_SLOT_WORDS;
+}
+
+/* Copies the slot of the index that is shown. Refuses with 1704 where the copy may not be whole. It is whole where the
+ * index is the same before and after: a publication changes the index before the next one writes into this slot, and no
+ * index comes twice, so no byte of the slot has changed in between. The loads stay in their order, since each one is an
+ * acquire. */
+static inline int tt_copy(const tt_client *client, uint64_t *index, uint64_t copy[TT_SLOT_WORDS]) {
     *index = __atomic_load_n(&client->words[TT_INDEX_WORD], __ATOMIC_ACQUIRE);
-    /* The publication's count is odd where an odd number of the eight bytes of the index are odd. */
-    int slot = __builtin_parityll(*index & UINT64_C(0x0101010101010101));
-    const uint64_t *words = client->words + TT_FIRST_SLOT + slot * TT_SLOT_WORDS;
+    const uint64_t *words = client->words + tt_slot_of(*index);
     for (int place = 0; place < TT_SLOT_WORDS; place++) copy[place] = __atomic_load_n(&words[place], __ATOMIC_ACQUIRE);
-    return __atomic_load_n(&client->words[TT_INDEX_WORD], __ATOMIC_ACQUIRE) == *index;
+    return __atomic_load_n(&client->words[TT_INDEX_WORD], __ATOMIC_ACQUIRE) == *index ? 0 : TT_BUSY;
+}
+
+/* The same of a file that is not mapped. Refuses with 1701, too: it is not open, cannot be read, or has become shorter. */
+static inline int tt_copy_unmapped(const tt_client *client, uint64_t *index, uint64_t copy[TT_SLOT_WORDS]) {
+    uint64_t again;
+    if (!client->is_unmapped || !tt_pread(client->file, index, 8, 8 * TT_INDEX_WORD) ||
+        !tt_pread(client->file, copy, 8 * TT_SLOT_WORDS, 8 * (size_t)tt_slot_of(*index)) ||
+        !tt_pread(client->file, &again, 8, 8 * TT_INDEX_WORD))
+        return TT_NO_FILE;
+    return again == *index ? 0 : TT_BUSY;
 }
 
 /* The last publication. Refuses with 1701, 801, 1704 and 1703. */
 static inline int tt_read(const tt_client *client, tt_publication *published) {
     uint64_t index, word[TT_SLOT_WORDS];
-    if (client->words == NULL) return TT_NO_FILE;
-    for (int tries = 0; !tt_copy(client, &index, word); tries++)
-        if (tries + 1 == TT_TRIES) return TT_BUSY;
+    for (int tries = 0;; tries++) {
+        int refused = client->words != NULL ? tt_copy(client, &index, word) : tt_copy_unmapped(client, &index, word);
+        if (refused == 0) break;
+        if (refused == TT_NO_FILE || tries + 1 == TT_TRIES) return refused;
+    }
     if (index == 0) return TT_NOTHING;
     if (word[0] != index || word[1] > TT_MAX_TIME_NS || word[2] > word[3] || word[3] > TT_MAX_TIME_NS ||
         word[7] > TT_MAX_DRIFT_PPM)

@@ -1,4 +1,5 @@
 import java.io.IOException;
+import java.io.UncheckedIOException;
 import java.lang.invoke.MethodHandles;
 import java.lang.invoke.VarHandle;
 import java.nio.ByteBuffer;
@@ -27,11 +28,15 @@ import java.util.Map;
  * System.out.println(now.earliestNs() + " " + now.latestNs()); // the true time lies between them, in nanoseconds
  * }</pre>
  *
+ * <p>Where an owner of the file or of its folder truncates the file, the access to a mapped one fails with an {@link
+ * InternalError}, at some moment. A client of {@link #openUnmapped} refuses instead; each of its calls makes three system
+ * calls more.
+ *
  * <p>Reads version 1 of the format (its first four bytes are TTS1). Needs Linux on a little-endian 64-bit machine and
  * Java 17 or later. A mapping lives as long as its client object does. {@link System#nanoTime} has to show
  * CLOCK_MONOTONIC, as it does in OpenJDK on Linux.
  */
-public final class TrueTime {
+public final class TrueTime implements AutoCloseable {
     /** The greatest time and the greatest clock reading, in nanoseconds. */
     public static final long MAX_TIME_NS = 4_000_000_000_000_000_000L;
     /** The greatest drift of a clock, in parts per million. */
@@ -49,15 +54,18 @@ public final class TrueTime {
         801, "the daemon has published nothing so far",
         802, "the clock is below that of the publication, or above the greatest time",
         803, "the clock gave no reading",
-        1701, "the file cannot be opened or mapped",
+        1701, "the file cannot be opened, mapped or read",
         1702, "not such a file, or of another owner, writable by others, of another boot or another clock",
         1703, "no daemon wrote what stands there",
         1704, "another publication came during each of the tries");
 
+    /** One of these is null. */
     private final ByteBuffer mapped;
+    private final FileChannel file;
 
-    private TrueTime(ByteBuffer mapped) {
+    private TrueTime(ByteBuffer mapped, FileChannel file) {
         this.mapped = mapped;
+        this.file = file;
     }
 
     /** A refusal; {@link #number} says which. */
@@ -124,33 +132,48 @@ public final class TrueTime {
 
     /** Maps the file at this path, which the named user has to own. Refuses with 1701 and 1702. */
     public static TrueTime open(Path path, String owner) {
-        try {
-            PosixFileAttributes found = Files.readAttributes(path, PosixFileAttributes.class, LinkOption.NOFOLLOW_LINKS);
-            if (!found.isRegularFile() || found.size() != BYTES || !found.owner().getName().equals(owner)
-                    || found.permissions().contains(PosixFilePermission.GROUP_WRITE)
-                    || found.permissions().contains(PosixFilePermission.OTHERS_WRITE)) {
-                throw new Refused(1702);
-            }
-            try (FileChannel file = FileChannel.open(path, StandardOpenOption.READ, LinkOption.NOFOLLOW_LINKS)) {
-                TrueTime client = new TrueTime(file.map(FileChannel.MapMode.READ_ONLY, 0, BYTES));
-                client.checkHead();
-                return client;
-            }
+        try (FileChannel file = opened(path, owner)) {
+            return new TrueTime(file.map(FileChannel.MapMode.READ_ONLY, 0, BYTES), null);
         } catch (IOException failed) {
             throw new Refused(1701);
         }
     }
 
-    /** The last publication. Refuses with 801, 1704 and 1703. */
+    /**
+     * Opens it as {@link #open}, and each call reads it. An interrupt of a thread in such a call closes the file, as that of
+     * a thread in a {@link FileChannel} does; then all calls refuse with 1701.
+     */
+    public static TrueTime openUnmapped(Path path, String owner) {
+        try {
+            return new TrueTime(null, opened(path, owner));
+        } catch (IOException failed) {
+            throw new Refused(1701);
+        }
+    }
+
+    /** Closes the file; a mapped one goes with its client object. */
+    @Override
+    public void close() {
+        try {
+            if (file != null) {
+                file.close();
+            }
+        } catch (IOException failed) {
+            throw new UncheckedIOException(failed);
+        }
+    }
+
+    /** The last publication. Refuses with 801, 1704 and 1703, and with 1701 where it is not mapped and has become shorter. */
     public Publication read() {
         for (int tries = 0; tries < TRIES; tries++) {
-            long index = word(INDEX_AT);
+            long index = index();
             // The publication's count is odd where an odd number of the eight bytes of the index are odd.
-            int slot = FIRST_SLOT_AT + SLOT_BYTES * (Long.bitCount(index & LOWEST_BITS) & 1);
-            long echo = word(slot);
-            Publication published = new Publication(word(slot + 8), word(slot + 16), word(slot + 24), word(slot + 32),
-                word(slot + 40), word(slot + 48), word(slot + 56));
-            if (word(INDEX_AT) != index) {
+            int at = FIRST_SLOT_AT + SLOT_BYTES * (Long.bitCount(index & LOWEST_BITS) & 1);
+            ByteBuffer copy = mapped == null ? bytesAt(file, at, SLOT_BYTES) : null;
+            long echo = word(copy, at, 0);
+            Publication published = new Publication(word(copy, at, 8), word(copy, at, 16), word(copy, at, 24), word(copy, at, 32),
+                word(copy, at, 40), word(copy, at, 48), word(copy, at, 56));
+            if (index() != index) {
                 continue;
             }
             if (index == 0) {
@@ -164,21 +187,60 @@ public final class TrueTime {
         throw new Refused(1704);
     }
 
-    /** The time now. Refuses with 801, 1704, 1703 and 802. */
+    /** The time now. Refuses as {@link #read}, and with 802. */
     public Reading now() {
         Publication published = read();
         // The clock is read after the publication, so it is not below that of the publication.
         return published.readAt(System.nanoTime());
     }
 
-    private long word(int at) {
-        return (long) WORD.getAcquire(mapped, at);
+    private long index() {
+        return mapped == null ? bytesAt(file, INDEX_AT, Long.BYTES).getLong(0) : (long) WORD.getAcquire(mapped, INDEX_AT);
     }
 
-    private void checkHead() throws IOException {
+    /** A word of the slot that begins here, from its copy, or where there is none from the mapped file. */
+    private long word(ByteBuffer copy, int slot, int at) {
+        return copy == null ? (long) WORD.getAcquire(mapped, slot + at) : copy.getLong(at);
+    }
+
+    /** So many bytes of a file, before any that is read later. Refuses with 1701. */
+    private static ByteBuffer bytesAt(FileChannel file, int at, int length) {
+        ByteBuffer bytes = ByteBuffer.allocate(length).order(ByteOrder.LITTLE_ENDIAN);
+        try {
+            while (bytes.hasRemaining()) {
+                if (file.read(bytes, at + bytes.position()) <= 0) {
+                    throw new Refused(1701);
+                }
+            }
+        } catch (IOException failed) {
+            throw new Refused(1701);
+        }
+        VarHandle.acquireFence();
+        return bytes;
+    }
+
+    /** The file at this path, where it is such a file. */
+    private static FileChannel opened(Path path, String owner) throws IOException {
+        PosixFileAttributes found = Files.readAttributes(path, PosixFileAttributes.class, LinkOption.NOFOLLOW_LINKS);
+        if (!found.isRegularFile() || found.size() != BYTES || !found.owner().getName().equals(owner)
+                || found.permissions().contains(PosixFilePermission.GROUP_WRITE)
+                || found.permissions().contains(PosixFilePermission.OTHERS_WRITE)) {
+            throw new Refused(1702);
+        }
+        FileChannel file = FileChannel.open(path, StandardOpenOption.READ, LinkOption.NOFOLLOW_LINKS);
+        try {
+            checkHead(bytesAt(file, 0, FIRST_SLOT_AT));
+            return file;
+        } catch (IOException | Refused failed) {
+            file.close();
+            throw failed;
+        }
+    }
+
+    private static void checkHead(ByteBuffer head) throws IOException {
         byte[] boot = new byte[36];
-        mapped.get(24, boot);
-        boolean isFormat = word(0) == MAGIC_AND_LENGTH && word(8) == 1 && mapped.getInt(60) == 0;
+        head.get(24, boot);
+        boolean isFormat = head.getLong(0) == MAGIC_AND_LENGTH && head.getLong(8) == 1 && head.getInt(60) == 0;
         if (!isFormat || !isSameClock(boot)) {
             throw new Refused(1702);
         }

@@ -16,6 +16,9 @@ Timestamps come from the service itself, over TCP or its Unix socket::
         ...                          # write and commit locally, under this timestamp
         session.wait()               # only now may anybody be told of the commit
 
+Where an owner of the file or of its folder truncates the file, a mapped one raises SIGBUS, which ends Python. With
+``Client(path, owner, mapped=False)`` a call refuses instead; it makes three system calls more.
+
 Reads version 1 of the format (its first four bytes are TTS1). Needs Linux on a little-endian 64-bit machine, Python 3.9
 or later, and nothing but the standard library.
 """
@@ -48,7 +51,7 @@ _MEANINGS = {
     801: "the daemon has published nothing so far",
     802: "the clock is below that of the publication, or above the greatest time",
     803: "the clock gave no reading",
-    1701: "the file cannot be opened or mapped",
+    1701: "the file cannot be opened, mapped or read",
     1702: "not such a file, or of another owner, writable by others, of another boot or another clock",
     1703: "no daemon wrote what stands there",
     1704: "another publication came during each of the tries",
@@ -275,22 +278,30 @@ class Publication(NamedTuple):
 
 
 class Client:
-    """A mapped file. Any number of threads may use one client."""
+    """A file of a daemon. Any number of threads may use one client."""
 
-    def __init__(self, path: str, owner: int) -> None:
-        """Maps the file at this path, which the user ``owner`` has to own. Refuses with 1701 and 1702."""
+    def __init__(self, path: str, owner: int, mapped: bool = True) -> None:
+        """Opens the file at this path, which the user ``owner`` has to own. Refuses with 1701 and 1702.
+
+        Where it is not ``mapped``, each call reads it.
+        """
         if sys.byteorder != "little" or _WORD.size != 8:
             raise Refused(1702)
-        self._mapped = _map(path, owner)
-        try:
-            _check_head(self._mapped)
-        except Refused:
-            self.close()
-            raise
+        self._mapped: Union[mmap.mmap, None] = None
+        self._file = _opened(path, owner)
+        if mapped:
+            try:
+                self._mapped = mmap.mmap(self._file, _BYTES, mmap.MAP_SHARED, mmap.PROT_READ)
+            except (OSError, ValueError):  # a ValueError where it has become shorter
+                raise Refused(1701) from None
+            finally:
+                self._close_file()
 
     def close(self) -> None:
-        """Unmaps the file."""
-        self._mapped.close()
+        """Unmaps or closes the file."""
+        if self._mapped is not None:
+            self._mapped.close()
+        self._close_file()
 
     def __enter__(self) -> "Client":
         return self
@@ -299,14 +310,11 @@ class Client:
         self.close()
 
     def read(self) -> Publication:
-        """The last publication. Refuses with 801, 1704 and 1703."""
-        mapped = self._mapped
+        """The last publication. Refuses with 801, 1704 and 1703, and with 1701 where it is not mapped and has become shorter."""
+        copied = self._copied_unmapped if self._mapped is None else self._copied
         for _ in range(_TRIES):
-            (index,) = _WORD.unpack_from(mapped, _INDEX_AT)
-            # The publication's count is odd where an odd number of the eight bytes of the index are odd.
-            slot = _SLOTS_AT[bin(index & _LOWEST_BITS).count("1") & 1]
-            echo, *words = _SLOT.unpack_from(mapped, slot)
-            if _WORD.unpack_from(mapped, _INDEX_AT) != (index,):
+            index, (echo, *words), again = copied()
+            if again != index:
                 continue
             if index == 0:
                 raise Refused(801)
@@ -316,8 +324,28 @@ class Client:
             return published
         raise Refused(1704)
 
+    def _copied(self) -> "tuple[int, tuple[int, ...], int]":
+        """The index, the slot that is current at it, and the index again."""
+        mapped = self._mapped
+        (index,) = _WORD.unpack_from(mapped, _INDEX_AT)
+        slot = _SLOT.unpack_from(mapped, _slot_at(index))
+        return index, slot, _WORD.unpack_from(mapped, _INDEX_AT)[0]
+
+    def _copied_unmapped(self) -> "tuple[int, tuple[int, ...], int]":
+        try:
+            (index,) = _WORD.unpack(os.pread(self._file, _WORD.size, _INDEX_AT))
+            slot = _SLOT.unpack(os.pread(self._file, _SLOT.size, _slot_at(index)))
+            return index, slot, _WORD.unpack(os.pread(self._file, _WORD.size, _INDEX_AT))[0]
+        except (OSError, struct.error):  # a struct.error where it has become shorter
+            raise Refused(1701) from None
+
+    def _close_file(self) -> None:
+        if self._file >= 0:
+            os.close(self._file)
+        self._file = -1
+
     def now(self) -> Reading:
-        """The time now. Refuses with 801, 1704, 1703, 803 and 802."""
+        """The time now. Refuses as ``read``, and with 803 and 802."""
         published = self.read()
         # The clock is read after the publication, so it is not below that of the publication.
         try:
@@ -350,7 +378,12 @@ def _is_in_range(published: Publication) -> bool:
     )
 
 
-def _map(path: str, owner: int) -> mmap.mmap:
+def _slot_at(index: int) -> int:
+    # The publication's count is odd where an odd number of the eight bytes of the index are odd.
+    return _SLOTS_AT[bin(index & _LOWEST_BITS).count("1") & 1]
+
+
+def _opened(path: str, owner: int) -> int:
     try:
         file = os.open(path, os.O_RDONLY | os.O_CLOEXEC | os.O_NOFOLLOW | os.O_NONBLOCK)
     except OSError:
@@ -360,16 +393,16 @@ def _map(path: str, owner: int) -> mmap.mmap:
         is_plain = stat.S_ISREG(found.st_mode) and found.st_size == _BYTES
         if not is_plain or found.st_uid != owner or found.st_mode & (stat.S_IWGRP | stat.S_IWOTH):
             raise Refused(1702)
-        return mmap.mmap(file, _BYTES, mmap.MAP_SHARED, mmap.PROT_READ)
+        head = os.pread(file, 64, 0)
+        if head[:16] != _HEAD or head[60:] != bytes(4) or not _is_same_clock(head[24:60]):
+            raise Refused(1702)
     except OSError:
-        raise Refused(1701) from None
-    finally:
         os.close(file)
-
-
-def _check_head(mapped: mmap.mmap) -> None:
-    if mapped[:16] != _HEAD or mapped[60:64] != bytes(4) or not _is_same_clock(mapped[24:60]):
-        raise Refused(1702)
+        raise Refused(1701) from None
+    except Refused:
+        os.close(file)
+        raise
+    return file
 
 
 def _is_same_clock(boot: bytes) -> bool:

@@ -2,6 +2,7 @@
  *
  *     probe vectors < LINES    for each line `CLOCK LO HI DRIFT NOW`, the reading `EARLIEST LATEST`, or `refused N`
  *     probe open PATH          `published CLOCK LO HI VALID_UNTIL EPOCH NUMBER DRIFT` of the file, or `refused N`
+ *     probe files < LINES      for each line `open PATH` the same of a file that is not mapped, and for `again` of that file now
  *     probe session < CALLS    for each call of a session, what it gives, `refused N`, `timed out`, `invalid` or `failed`.
  *                              The calls are `open tcp PORT MILLISECONDS`, `open unix PATH MILLISECONDS`, `now`, `after T`,
  *                              `before T`, `begin FLOOR`, `wait`, `commit FLOOR`, `ask LINE`, `close`
@@ -31,16 +32,40 @@ static int try_vectors(void) {
     return 0;
 }
 
+static void print_publication(int refused, const tt_publication *p) {
+    if (refused != 0)
+        printf("refused %d\n", refused);
+    else
+        printf("published %" PRIu64 " %" PRIu64 " %" PRIu64 " %" PRIu64 " %" PRIu64 " %" PRIu64 " %" PRIu64 "\n", p->clock_ns,
+               p->lo_ns, p->hi_ns, p->valid_until_ns, p->epoch, p->number, p->drift_ppm);
+    fflush(stdout);
+}
+
 static int try_file(const char *path) {
     tt_client client;
     tt_publication p;
     int refused = tt_open(&client, path, geteuid());
     if (refused == 0) refused = tt_read(&client, &p);
-    if (refused != 0)
-        printf("refused %d\n", refused);
-    else
-        printf("published %" PRIu64 " %" PRIu64 " %" PRIu64 " %" PRIu64 " %" PRIu64 " %" PRIu64 " %" PRIu64 "\n", p.clock_ns,
-               p.lo_ns, p.hi_ns, p.valid_until_ns, p.epoch, p.number, p.drift_ppm);
+    print_publication(refused, &p);
+    tt_close(&client);
+    return 0;
+}
+
+static int try_files(void) {
+    tt_client client;
+    tt_publication p;
+    char line[512];
+    memset(&client, 0, sizeof client);
+    while (fgets(line, sizeof line, stdin) != NULL) {
+        line[strcspn(line, "\n")] = '\0';
+        int refused = 0;
+        if (strncmp(line, "open ", 5) == 0) {
+            tt_close(&client);
+            refused = tt_open_unmapped(&client, line + 5, geteuid());
+        }
+        if (refused == 0) refused = tt_read(&client, &p);
+        print_publication(refused, &p);
+    }
     tt_close(&client);
     return 0;
 }
@@ -111,7 +136,8 @@ static int try_sessions(void) {
 int main(int count, char **words) {
     if (count == 2 && strcmp(words[1], "vectors") == 0) return try_vectors();
     if (count == 3 && strcmp(words[1], "open") == 0) return try_file(words[2]);
+    if (count == 2 && strcmp(words[1], "files") == 0) return try_files();
     if (count == 2 && strcmp(words[1], "session") == 0) return try_sessions();
-    fprintf(stderr, "usage: probe vectors | probe open PATH | probe session\n");
+    fprintf(stderr, "usage: probe vectors | probe open PATH | probe files | probe session\n");
     return 2;
 }

@@ -6,7 +6,7 @@
  * `pieces` (eight writes of eight bytes), `stores` (atomic words through a mapping), `bytes` (single bytes through a
  * mapping, the last first), `killed` (as pwrite, killed at any moment and started again), `thread` (as stores, in a thread
  * of this process, for the thread sanitizer), or `unchecked`, a control: as pwrite, and the readers take each copy without
- * the second look at the index.
+ * the second look at the index. The last of several readers has the file not mapped.
  *
  * Every number of publication n is made from n, so a copy that mixes two publications shows. Prints one line of counts.
  * Ends with status 1 where a reading was wrong or a publication older than the one before it.
@@ -161,6 +161,7 @@ static void await_first(void) {
 
 typedef struct reader {
     pthread_t thread;
+    bool is_unmapped; /* then it reads a hundredth as often, since it rarely meets a pause */
     uint64_t whole, nothing, busy, refused, wrong, back;
 } reader;
 
@@ -179,13 +180,13 @@ static void *read_on(void *given) {
     tt_client client;
     tt_publication p;
     uint64_t last = 0;
-    if (tt_open(&client, path, geteuid()) != 0) fail("tt_open");
-    for (uint64_t i = 0; i < reads_each; i++) {
+    if ((me->is_unmapped ? tt_open_unmapped : tt_open)(&client, path, geteuid()) != 0) fail("tt_open");
+    for (uint64_t i = 0; i < (me->is_unmapped ? reads_each / 100 : reads_each); i++) {
         int refused = read_once(&client, &p);
         me->whole += refused == 0;
         me->nothing += refused == TT_NOTHING;
         me->busy += refused == TT_BUSY;
-        me->refused += refused == TT_NO_SLOT;
+        me->refused += refused == TT_NO_SLOT || refused == TT_NO_FILE;
         if (refused != 0) continue;
         me->wrong += !is_publication(&p);
         me->back += p.number < last;
@@ -235,6 +236,7 @@ int main(int count, char **words) {
     await_first();
     reader readers[9];
     memset(readers, 0, sizeof readers);
+    readers[number - 1].is_unmapped = number > 1 && chosen != UNCHECKED;
     for (int i = 0; i < number; i++) pthread_create(&readers[i].thread, NULL, read_on, &readers[i]);
     pthread_create(&joiner, NULL, join_all, readers);
     uint64_t kills = chosen == KILLED ? kill_again_and_again(&child) : 0;

@@ -7,6 +7,7 @@ import java.net.UnixDomainSocketAddress;
 import java.nio.charset.StandardCharsets;
 import java.nio.file.Path;
 import java.time.Duration;
+import java.util.function.Supplier;
 
 /** What the reader answers, for the tests: as ../../c/test/probe.c. */
 public final class Probe {
@@ -28,14 +29,28 @@ public final class Probe {
         }
     }
 
-    private static String published(String path) {
+    /** What a reader says, which is opened first where that is so. */
+    private static String published(Supplier<TrueTime> reader) {
         try {
-            TrueTime.Publication p = TrueTime.open(Path.of(path), System.getProperty("user.name")).read();
+            TrueTime.Publication p = reader.get().read();
             return String.format("published %d %d %d %s %s %s %d", p.clockNs(), p.loNs(), p.hiNs(),
                 Long.toUnsignedString(p.validUntilNs()), Long.toUnsignedString(p.epoch()),
                 Long.toUnsignedString(p.number()), p.driftPpm());
         } catch (TrueTime.Refused refused) {
             return "refused " + refused.number();
+        }
+    }
+
+    private static void tryFiles(BufferedReader lines) throws IOException {
+        String user = System.getProperty("user.name");
+        TrueTime[] client = new TrueTime[1];
+        for (String line = lines.readLine(); line != null; line = lines.readLine()) {
+            if (line.startsWith("open ")) {
+                Path path = Path.of(line.substring(5));
+                System.out.println(published(() -> client[0] = TrueTime.openUnmapped(path, user)));
+            } else {
+                System.out.println(published(() -> client[0]));
+            }
         }
     }
 
@@ -99,10 +114,14 @@ public final class Probe {
 
     public static void main(String[] words) throws IOException {
         if (words.length == 2 && words[0].equals("open")) {
-            System.out.println(published(words[1]));
+            System.out.println(published(() -> TrueTime.open(Path.of(words[1]), System.getProperty("user.name"))));
             return;
         }
         BufferedReader lines = new BufferedReader(new InputStreamReader(System.in, StandardCharsets.US_ASCII));
+        if (words.length == 1 && words[0].equals("files")) {
+            tryFiles(lines);
+            return;
+        }
         if (words.length == 1 && words[0].equals("session")) {
             trySessions(lines);
             return;

@@ -26,6 +26,20 @@ def open_file(path):
         print("refused", refused.number)
 
 
+def try_files(lines):
+    client = None
+    for line in lines:
+        name, _, path = line.rstrip("\n").partition(" ")
+        try:
+            if name == "open":
+                if client:
+                    client.close()
+                client = truetime.Client(path, os.geteuid(), mapped=False)
+            print("published", *client.read(), flush=True)
+        except truetime.Refused as refused:
+            print("refused", refused.number, flush=True)
+
+
 def call_session(session, name, rest):
     """Makes a call, and gives the session and what the call gives."""
     if name == "open":
@@ -64,7 +78,9 @@ if sys.argv[1:] == ["vectors"]:
     answer(sys.stdin)
 elif len(sys.argv) == 3 and sys.argv[1] == "open":
     open_file(sys.argv[2])
+elif sys.argv[1:] == ["files"]:
+    try_files(sys.stdin)
 elif sys.argv[1:] == ["session"]:
     try_sessions(sys.stdin)
 else:
-    sys.exit("usage: probe.py vectors | probe.py open PATH | probe.py session")
+    sys.exit("usage: probe.py vectors | probe.py open PATH | probe.py files | probe.py session")

@@ -21,9 +21,33 @@ fn answer_vectors() -> io::Result<()> {
     Ok(())
 }
 
+fn user() -> Result<u32, Refused> {
+    fs::metadata("/proc/self").map(|found| found.uid()).map_err(|_| Refused::NoFile)
+}
+
 fn read_file(path: &str) -> Result<Publication, Refused> {
-    let user = fs::metadata("/proc/self").map_err(|_| Refused::NoFile)?.uid();
-    Client::open(path, user)?.read()
+    Client::open(path, user()?)?.read()
+}
+
+fn print_publication(read: Result<Publication, Refused>) {
+    match read {
+        Ok(p) => println!(
+            "published {} {} {} {} {} {} {}",
+            p.clock_ns, p.lo_ns, p.hi_ns, p.valid_until_ns, p.epoch, p.number, p.drift_ppm
+        ),
+        Err(refused) => println!("refused {}", refused.number()),
+    }
+}
+
+fn try_files() -> io::Result<()> {
+    let mut client = Err(Refused::NoFile);
+    for line in io::stdin().lines() {
+        if let Some(path) = line?.strip_prefix("open ") {
+            client = user().and_then(|user| Client::open_unmapped(path, user));
+        }
+        print_publication(client.as_ref().map_err(|refused| *refused).and_then(Client::read));
+    }
+    Ok(())
 }
 
 fn open_session(address: &str) -> Result<Session, Error> {
@@ -82,16 +106,11 @@ fn main() -> io::Result<()> {
     match words.iter().map(String::as_str).collect::<Vec<_>>()[..] {
         ["vectors"] => answer_vectors(),
         ["open", path] => {
-            match read_file(path) {
-                Ok(p) => println!(
-                    "published {} {} {} {} {} {} {}",
-                    p.clock_ns, p.lo_ns, p.hi_ns, p.valid_until_ns, p.epoch, p.number, p.drift_ppm
-                ),
-                Err(refused) => println!("refused {}", refused.number()),
-            }
+            print_publication(read_file(path));
             Ok(())
         }
+        ["files"] => try_files(),
         ["session"] => try_sessions(),
-        _ => panic!("usage: probe vectors | probe open PATH | probe session"),
+        _ => panic!("usage: probe vectors | probe open PATH | probe files | probe session"),
     }
 }

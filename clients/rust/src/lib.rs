@@ -10,6 +10,9 @@
 //! # Ok::<(), truetime::Refused>(())
 //! ```
 //!
+//! Where an owner of the file or of its folder truncates the file, a mapped one raises SIGBUS. A client of
+//! [`Client::open_unmapped`] refuses instead; each of its calls makes three system calls more.
+//!
 //! Reads version 1 of the format (its first four bytes are `TTS1`). Needs Linux on a little-endian 64-bit machine.
 #![warn(missing_docs)]
 
@@ -24,10 +27,10 @@ use std::ffi::{c_int, c_long, c_void};
 use std::fmt;
 use std::fs::{self, File, OpenOptions};
 use std::os::fd::AsRawFd;
-use std::os::unix::fs::{MetadataExt, OpenOptionsExt};
+use std::os::unix::fs::{FileExt, MetadataExt, OpenOptionsExt};
 use std::path::Path;
 use std::ptr;
-use std::sync::atomic::{AtomicU64, Ordering};
+use std::sync::atomic::{fence, AtomicU64, Ordering};
 
 /// The greatest time and the greatest clock reading, in nanoseconds.
 pub const MAX_TIME_NS: u64 = 4_000_000_000_000_000_000;
@@ -52,7 +55,7 @@ pub enum Refused {
     ClockBack,
     /// The clock gave no reading.
     ClockFailed,
-    /// The file cannot be opened or mapped.
+    /// The file cannot be opened, mapped or read.
     NoFile,
     /// Not such a file, or of another owner, writable by others, of another boot or another clock.
     OtherFile,
@@ -83,7 +86,7 @@ impl fmt::Display for Refused {
             Refused::Nothing => "the daemon has published nothing so far",
             Refused::ClockBack => "the clock is below that of the publication, or above the greatest time",
             Refused::ClockFailed => "the clock gave no reading",
-            Refused::NoFile => "the file cannot be opened or mapped",
+            Refused::NoFile => "the file cannot be opened, mapped or read",
             Refused::OtherFile => "not such a file, or of another owner, writable by others, of another boot or another clock",
             Refused::NoSlot => "no daemon wrote what stands there",
             Refused::Busy => "another publication came during each of the tries",
@@ -166,36 +169,41 @@ impl Publication {
     }
 }
 
-/// A mapped file. Any number of threads may use one client.
+/// A file of a daemon. Any number of threads may use one client.
 #[derive(Debug)]
 pub struct Client {
-    words: *const AtomicU64,
+    source: Source,
 }
 
-// SAFETY: the mapping stays until the client is dropped, and it is read by atomic loads alone.
-unsafe impl Send for Client {}
-unsafe impl Sync for Client {}
+#[derive(Debug)]
+enum Source {
+    Mapped(Words),
+    Unmapped(File),
+}
 
 impl Client {
     /// Maps the file at this path, which the user `owner` has to own. Refuses with `NoFile` and `OtherFile`.
     pub fn open(path: impl AsRef<Path>, owner: u32) -> Result<Client, Refused> {
-        let client = Client::map(&open_file(path.as_ref(), owner)?)?;
-        if client.is_right_head() {
-            Ok(client)
-        } else {
-            Err(Refused::OtherFile)
-        }
+        let words = Words::map(&open_file(path.as_ref(), owner)?)?;
+        Ok(Client { source: Source::Mapped(words) })
     }
 
-    /// The last publication. Refuses with `Nothing`, `Busy` and `NoSlot`.
+    /// Opens it as `open`, and each call reads it.
+    pub fn open_unmapped(path: impl AsRef<Path>, owner: u32) -> Result<Client, Refused> {
+        let file = open_file(path.as_ref(), owner)?;
+        Ok(Client { source: Source::Unmapped(file) })
+    }
+
+    /// The last publication. Refuses with `Nothing`, `Busy` and `NoSlot`, and with `NoFile` where the file is not mapped and
+    /// has become shorter.
     #[inline]
     pub fn read(&self) -> Result<Publication, Refused> {
         for _ in 0..TRIES {
-            let index = self.load(INDEX_WORD);
-            // The publication's count is odd where an odd number of the eight bytes of the index are odd.
-            let slot = FIRST_SLOT + SLOT_WORDS * ((index & LOWEST_BITS).count_ones() as usize & 1);
-            let word: [u64; SLOT_WORDS] = std::array::from_fn(|place| self.load(slot + place));
-            if self.load(INDEX_WORD) != index {
+            let (index, word, again) = match &self.source {
+                Source::Mapped(words) => words.copy(),
+                Source::Unmapped(file) => copy(file).ok_or(Refused::NoFile)?,
+            };
+            if again != index {
                 continue;
             }
             if index == 0 {
@@ -208,48 +216,92 @@ impl Client {
         Err(Refused::Busy)
     }
 
-    /// The time now. Refuses with `Nothing`, `Busy`, `NoSlot`, `ClockFailed` and `ClockBack`.
+    /// The time now. Refuses as `read`, and with `ClockFailed` and `ClockBack`.
     #[inline]
     pub fn now(&self) -> Result<Reading, Refused> {
         let published = self.read()?;
         // The clock is read after the publication, so it is not below that of the publication.
         published.read_at(clock_ns()?)
     }
+}
 
-    fn map(file: &File) -> Result<Client, Refused> {
+/// The index, the slot that is current at it, and the index again.
+type Copied = (u64, [u64; SLOT_WORDS], u64);
+
+/// The word at which the slot begins that is current at this index.
+#[inline]
+fn slot_of(index: u64) -> usize {
+    // The publication's count is odd where an odd number of the eight bytes of the index are odd.
+    FIRST_SLOT + SLOT_WORDS * ((index & LOWEST_BITS).count_ones() as usize & 1)
+}
+
+/// The words of a mapped file.
+#[derive(Debug)]
+struct Words(*const AtomicU64);
+
+// SAFETY: the mapping stays until the words are dropped, and it is read by atomic loads alone.
+unsafe impl Send for Words {}
+unsafe impl Sync for Words {}
+
+impl Words {
+    fn map(file: &File) -> Result<Words, Refused> {
         // SAFETY: a new mapping, for reading alone, of the bytes that the file has.
         let mapped = unsafe { mmap(ptr::null_mut(), BYTES, PROT_READ, MAP_SHARED, file.as_raw_fd(), 0) };
         if mapped as isize == -1 {
             return Err(Refused::NoFile);
         }
-        Ok(Client { words: mapped.cast() })
+        Ok(Words(mapped.cast()))
     }
 
     #[inline]
     fn load(&self, place: usize) -> u64 {
         debug_assert!(place < WORDS);
         // SAFETY: the mapping has that many words, and begins at a page.
-        unsafe { &*self.words.add(place) }.load(Ordering::Acquire)
+        unsafe { &*self.0.add(place) }.load(Ordering::Acquire)
     }
 
-    fn is_right_head(&self) -> bool {
-        let head: Vec<u8> = (0..FIRST_SLOT).flat_map(|place| self.load(place).to_le_bytes()).collect();
-        [self.load(0), self.load(1)] == HEAD && head[60..] == [0; 4] && is_same_clock(&head[24..60])
+    #[inline]
+    fn copy(&self) -> Copied {
+        let index = self.load(INDEX_WORD);
+        let slot = slot_of(index);
+        (index, std::array::from_fn(|place| self.load(slot + place)), self.load(INDEX_WORD))
     }
 }
 
-impl Drop for Client {
+impl Drop for Words {
     fn drop(&mut self) {
         // SAFETY: `map` made this mapping, and nothing borrows from it any more.
-        unsafe { munmap(self.words as *mut c_void, BYTES) };
+        unsafe { munmap(self.0 as *mut c_void, BYTES) };
     }
 }
 
+/// So many words of a file from this place on, before any that is read later. None where the file has not that many.
+fn words_at<const COUNT: usize>(file: &File, place: usize) -> Option<[u64; COUNT]> {
+    let mut bytes = [0; 8 * SLOT_WORDS];
+    let bytes = &mut bytes[..8 * COUNT];
+    file.read_exact_at(bytes, 8 * place as u64).ok()?;
+    fence(Ordering::Acquire);
+    Some(std::array::from_fn(|word| u64::from_le_bytes(std::array::from_fn(|byte| bytes[8 * word + byte]))))
+}
+
+fn copy(file: &File) -> Option<Copied> {
+    let [index] = words_at(file, INDEX_WORD)?;
+    let slot = words_at(file, slot_of(index))?;
+    let [again] = words_at(file, INDEX_WORD)?;
+    Some((index, slot, again))
+}
+
+/// The file at this path, where it is such a file.
 fn open_file(path: &Path, owner: u32) -> Result<File, Refused> {
     let file = OpenOptions::new().read(true).custom_flags(O_NOFOLLOW | O_NONBLOCK).open(path).map_err(|_| Refused::NoFile)?;
     let found = file.metadata().map_err(|_| Refused::NoFile)?;
     let is_ours = found.is_file() && found.len() == BYTES as u64 && found.uid() == owner && found.mode() & 0o022 == 0;
-    if is_ours {
+    if !is_ours {
+        return Err(Refused::OtherFile);
+    }
+    let words: [u64; FIRST_SLOT] = words_at(&file, 0).ok_or(Refused::NoFile)?;
+    let head: Vec<u8> = words.iter().flat_map(|word| word.to_le_bytes()).collect();
+    if words[..2] == HEAD && head[60..] == [0; 4] && is_same_clock(&head[24..60]) {
         Ok(file)
     } else {
         Err(Refused::OtherFile)

@@ -14,12 +14,12 @@ const FOLDER: &str = "/dev/shm/tt_bench";
 
 /// The writer of a file, and its next publication.
 #[derive(Drop)]
-struct Sharing {
-    teller: SharedTeller<FilePlace>,
+struct Sharing<'a, R> {
+    teller: SharedTeller<FilePlace<'a, R>>,
     shared: SharedSpan,
 }
 
-impl Work for Sharing {
+impl<'a, R: Files<File = File>> Work for Sharing<'a, R> {
     /// A call is a publication.
     fn batch(&mut self, calls: u32) -> u64 {
         let mut sum = 0u64;

@@ -6,23 +6,24 @@ use Rattle.tt_span.specs.Interval.{Holds}
 use Rattle.tt_judge.specs.declared.history.Commit.{Commit}
 use Rattle.tt_session.specs.Conversation.{Conversation}
 use Rattle.tt_session.specs.declared.calls.Call.{Call}
-use Rattle.tt_session.specs.declared.calls.Call.TheVariants.{Now, Begin, Pass}
-use Rattle.tt_station.specs.Station.{StationState, Allows}
+use Rattle.tt_session.specs.declared.calls.Call.TheVariants.{Now, Begin, Lease, Pass}
+use Rattle.tt_station.specs.Station.{StationState, Allows, new_station}
 use Rattle.tt_order.specs.Timed.{CallTimes, looked_of, ReadingsHold, TimedSession, IsTimed}
 use Rattle.tt_order.specs.Order.{IsSeenAtSome}
 use Rattle.tt_runs.proofs.Reading.{look-holds}
 use Rattle.tt_consistency.specs.Running.{Machine, IsRunning, clock_moments, published_by}
-use Rattle.tt_consistency.specs.Served.{LooksAt, AllLookAt, IsServedOn, IsSeenOnOneOf}
+use Rattle.tt_consistency.specs.Served.{LooksAt, LooksBy, AllLookAt, IsServedOn, IsSeenOnOneOf}
 use Rattle.tt_consistency.proofs.Holding.{publications-hold}
 
 module _ {C V : Type 0} (gives : C → Option ℕ → C → Type 0) (failed : C → ℕ) (says : V → Bool → Type 0) where
   module _ (machine : Machine) (running : IsRunning machine) where
     -- the reading of one call
-    call-holds : (before : StationState C V) (call : Call) (after : StationState C V) (allowed : Allows gives failed says before call after) (time : ℕ) → LooksAt gives machine before after time → IfOk (looked_of gives failed says before call after allowed) (λ reading. Holds reading time)
+    call-holds : (before : StationState C V) (call : Call) (after : StationState C V) (allowed : Allows gives failed says before call after) (time : ℕ) → LooksBy gives machine before call after time → IfOk (looked_of gives failed says before call after allowed) (λ reading. Holds reading time)
     call-holds before (Now answer) after allowed time at =
         look-holds gives failed before.post.watch after.post.watch before.post.clock after.post.clock allowed.looked (clock_moments machine) (published_by machine) time allowed.looks (publications-hold machine running) at.seen at.read
     call-holds before (Begin number floor answer) after allowed time at =
         look-holds gives failed before.post.watch after.post.watch before.post.clock after.post.clock allowed.looked (clock_moments machine) (published_by machine) time allowed.looks (publications-hold machine running) at.seen at.read
+    call-holds before (Lease lo hi answer) after allowed time at = tt
     call-holds before (Pass number answer) after allowed time at =
         look-holds gives failed before.post.watch after.post.watch before.post.clock after.post.clock allowed.looked (clock_moments machine) (published_by machine) time allowed.looks (publications-hold machine running) at.seen at.read
 
@@ -36,7 +37,7 @@ module _ {C V : Type 0} (gives : C → Option ℕ → C → Type 0) (failed : C 
     pub served-timed : (session : TimedSession gives failed says) → IsServedOn gives failed says machine session → IsTimed gives failed says session
     served-timed session served = record {
       in_order = served.in_order;
-      hold = calls-hold session.calls (record { post = session.post; client = session.client; book = [] }) session.after session.talked session.times served.look;
+      hold = calls-hold session.calls (new_station session.post session.client) session.after session.talked session.times served.look;
     }
 
   pub seen-timed : (machines : List Machine) (history : List Commit) → All IsRunning machines → All (IsSeenOnOneOf gives failed says machines) history → All (IsSeenAtSome gives failed says) history

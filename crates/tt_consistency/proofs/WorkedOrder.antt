@@ -18,6 +18,7 @@ use Rattle.tt_session.specs.Desk.{Queues}
 use Rattle.tt_session.specs.declared.calls.Call.TheVariants.{Begin, Pass}
 use Rattle.tt_station.specs.Station.{PostState, StationState, Allows, CommitsAt, Keeps, new_station, id_at}
 use Rattle.tt_station.specs.Fault.{number_of}
+use Rattle.tt_station.proofs.Leasing.{stamps_whole}
 use Rattle.tt_station.specs.declared.faults.StationFault.TheVariants.{FloorAboveCap}
 use Rattle.tt_node.specs.Lists.{GivesInTurn}
 use Rattle.tt_judge.specs.declared.history.Commit.{Commit}
@@ -90,7 +91,7 @@ abbrev seat_after : ℕ → SeatState
 seat_after stamp = record seat { seen = given_at stamp ∷ []; own = given_at stamp ∷ [] }
 
 abbrev begun_with : Clocks → ℕ → StationState Clocks (Unit {0})
-begun_with clock stamp = record { post = record (post clock) { seat = seat_after stamp }; client = tt; book = Queued (id_at 1) stamp ∷ [] }
+begun_with clock stamp = record { post = record (post clock) { seat = seat_after stamp }; client = tt; lease = whole; book = Queued (id_at 1) stamp ∷ [] }
 
 gives_at : (stamp : ℕ) → stamp ≤ 3000 → Gives seat (seat_after stamp) stamp 0 whole stamp
 gives_at stamp early =
@@ -119,10 +120,14 @@ begins_at clock later late early = record {
   lease = refl;
   ahead = refl;
   client = refl;
+  own = refl;
   looked = Ok (read_at clock);
   looks = looks_at clock later late early;
-  rest = subst (λ (capped : Bool). MatchBool capped (◌≡◌ {A = Result ℕ ℕ} (Ok (910 + clock)) (Err (number_of FloorAboveCap)) × Keeps (begin (Some clock ∷ later)) (begun_with later (910 + clock))) (CommitsAt (begin (Some clock ∷ later)) 1 0 (read_at clock) (Ok (910 + clock)) (begun_with later (910 + clock)))) (sym (below_cap clock))
-      (Ok (910 + clock), (λ far. omega (arith, far), gives_at (910 + clock) (omega arith), omega arith, (omega arith, omega arith)), (Ok tt, queues_at (910 + clock), refl));
+  rest = subst (λ (capped : Bool). MatchBool capped (◌≡◌ {A = Result ℕ ℕ} (Ok (910 + clock)) (Err (number_of FloorAboveCap)) × Keeps (begin (Some clock ∷ later)) (begun_with later (910 + clock))) (CommitsAt (begin (Some clock ∷ later)) 1 0 (read_at clock) (Ok (910 + clock)) (begun_with later (910 + clock)))) (sym (below_cap clock)) (
+    Ok (910 + clock),
+    stamps_whole 0 whole (read_at clock) seat (Ok (910 + clock)) (seat_after (910 + clock)) (record { ordered = omega arith; in_time = omega arith }) (λ far. omega (arith, far), gives_at (910 + clock) (omega arith), omega arith, (omega arith, omega arith)),
+    (Ok tt, queues_at (910 + clock), refl),
+  );
 }
 
 -- ---- and is released at the clock's next reading
@@ -133,10 +138,10 @@ abbrev released_with : ℕ → ℕ → StationState Clocks (Unit {0})
 released_with stamp earliest = record (begun_with [] stamp) { book = Passed (receipt stamp earliest) ∷ Queued (id_at 1) stamp ∷ [] }
 
 passes-0 : Allows GivesInTurn failed says (begun_with (Some 150 ∷ []) 1030) (Pass 1 (Ok true)) (released_with 1030 1038)
-passes-0 = record { lease = refl; ahead = refl; client = refl; looked = Ok (read_at 150); looks = looks_at 150 [] (omega arith) (omega arith); rest = (refl, refl, (refl, omega arith)) }
+passes-0 = record { lease = refl; ahead = refl; client = refl; own = refl; looked = Ok (read_at 150); looks = looks_at 150 [] (omega arith) (omega arith); rest = (refl, refl, (refl, omega arith)) }
 
 passes-1 : Allows GivesInTurn failed says (begun_with (Some 200 ∷ []) 1080) (Pass 1 (Ok true)) (released_with 1080 1088)
-passes-1 = record { lease = refl; ahead = refl; client = refl; looked = Ok (read_at 200); looks = looks_at 200 [] (omega arith) (omega arith); rest = (refl, refl, (refl, omega arith)) }
+passes-1 = record { lease = refl; ahead = refl; client = refl; own = refl; looked = Ok (read_at 200); looks = looks_at 200 [] (omega arith) (omega arith); rest = (refl, refl, (refl, omega arith)) }
 
 -- the true time is 900 more than the clock shows
 abbrev pub call_at : ℕ → CallTimes

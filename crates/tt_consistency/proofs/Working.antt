@@ -163,6 +163,7 @@ module _ {C G : Type 0} (gives : C → Option ℕ → C → Type 0) (failed : C 
       from-gate _ before answer after (λ b a does. record { book = goes-same b.book a.book does.book; session = does.works.session }) allowed
   from-call before (call.Begin number floor answer) after allowed =
       from-gate _ before answer after (λ b a does. record { book = begun-book (id_of b number) b.book does.begins.2.0 answer a.book does.begins.2.2; session = does.works.session }) allowed
+  from-call before (call.Lease lo hi answer) after allowed = absurd allowed
   from-call before (call.Pass number answer) after allowed =
       from-gate _ before answer after (λ b a does. record { book = from-passes number answer does.passes.0 b a does.passes.2; session = does.works.session }) allowed
 
@@ -200,6 +201,7 @@ module _ {C G : Type 0} (gives : C → Option ℕ → C → Type 0) (failed : C 
   stamp-call : (before : WorkerState C G) (of : Call) (after : WorkerState C G) (allowed : Allows gives failed says hears before of after) (number floor s time : ℕ) → of ≡ call.Begin number floor (Ok s) → IfSome (look_of gives failed says hears before of after allowed) (λ look. IfOk look.answer (λ reading. Holds reading time)) → time ≤ s
   stamp-call before (call.Now answer) after allowed number floor s time is holds = absurd (cc)
   stamp-call before (call.Begin n f answer) after allowed number floor s time is holds = stamp-begin before after n f s time answer allowed (answer_of n f number floor s answer is) holds
+  stamp-call before (call.Lease lo hi answer) after allowed number floor s time is holds = absurd (cc)
   stamp-call before (call.Pass n answer) after allowed number floor s time is holds = absurd (cc)
 
   queued-call : (before : WorkerState C G) (of : Call) (after : WorkerState C G) (number floor s : ℕ) → of ≡ call.Begin number floor (Ok s) → Allows gives failed says hears before of after → Contains after.book (Queued (id_of before number) s)
@@ -299,6 +301,7 @@ module _ {C G : Type 0} (gives : C → Option ℕ → C → Type 0) (failed : C 
     hold-call before (call.Now (Ok reading)) after allowed time on = hold-now (after_asking before allowed.asked) reading allowed.done time allowed.passes allowed.does on
     hold-call before (call.Now (Err number)) after allowed time on = tt
     hold-call before (call.Begin number floor answer) after allowed time on = hold-begin number floor (after_asking before allowed.asked) answer allowed.done time allowed.passes allowed.does on
+    hold-call before (call.Lease lo hi answer) after allowed time on = tt
     hold-call before (call.Pass number answer) after allowed time on = hold-pass number (after_asking before allowed.asked) answer allowed.done time allowed.passes allowed.does on
 
     hold-in : (calls : List Call) (before after : WorkerState C G) (talked : Conversation (Allows gives failed says hears) before calls after) (times : List CallTimes) → AllLookOn gives failed says hears machine before calls after talked times → (place : ℕ) (look : Look C) → look_in gives failed says hears before calls after talked place ≡ Some look

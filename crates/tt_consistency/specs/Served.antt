@@ -5,6 +5,7 @@ use Rattle.tt_judge.specs.declared.history.Commit.{Commit}
 use Rattle.tt_publish.specs.Reading.{fused_span_of}
 use Rattle.tt_session.specs.Conversation.{Conversation}
 use Rattle.tt_session.specs.declared.calls.Call.{Call}
+use Rattle.tt_session.specs.declared.calls.Call.TheVariants.{Lease}
 use Rattle.tt_station.specs.Station.{StationState, new_station, Allows}
 use Rattle.tt_order.specs.Timed.{CallTimes, AreInOrder, TimedSession}
 use Rattle.tt_order.specs.Order.{IsSeen}
@@ -16,12 +17,17 @@ pub record LooksAt {C V : Type 0} (gives : C → Option ℕ → C → Type 0) (m
   pub seen : IsPrefix (map fused_span_of after.post.watch.items) (published_by machine)
   pub read : IsReadAt gives (clock_moments machine) after.post.watch before.post.clock after.post.clock time
 
--- each call of a conversation looked at a machine's publications at the time at which it took its reading; each call has its times
+-- the same for each call that takes a reading; a lease takes none
+abbrev pub LooksBy : {C V : Type 0} → (C → Option ℕ → C → Type 0) → Machine → StationState C V → Call → StationState C V → ℕ → Type 0
+LooksBy gives machine before (Lease lo hi answer) after time = Unit {0}
+LooksBy gives machine before _ after time = LooksAt gives machine before after time
+
+-- each call of a conversation that takes a reading looked at a machine's publications at the time at which it took its reading; each call has its times
 abbrev pub AllLookAt : {C V : Type 0} (gives : C → Option ℕ → C → Type 0) (failed : C → ℕ) (says : V → Bool → Type 0) (machine : Machine) (before : StationState C V) (calls : List Call) (after : StationState C V) → Conversation (Allows gives failed says) before calls after → List CallTimes → Type 0
 AllLookAt gives failed says machine before [] after talked times = times ≡ []
 AllLookAt gives failed says machine before (call ∷ calls) after talked [] = ⊥
 AllLookAt gives failed says machine before (call ∷ calls) after talked (times ∷ later) =
-    LooksAt gives machine before talked.0 times.read × AllLookAt gives failed says machine talked.0 calls after talked.2 later
+    LooksBy gives machine before call talked.0 times.read × AllLookAt gives failed says machine talked.0 calls after talked.2 later
 
 -- a session is served on a machine: its true times do not fall, and each of its calls looked at the machine's publications
 pub record IsServedOn {C V : Type 0} (gives : C → Option ℕ → C → Type 0) (failed : C → ℕ) (says : V → Bool → Type 0) (machine : Machine) (session : TimedSession gives failed says) : Type 0 where

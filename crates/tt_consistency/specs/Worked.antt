@@ -10,7 +10,7 @@ use Rattle.tt_stamp.specs.declared.commits.Entry.TheVariants.{Passed}
 use Rattle.tt_stamp.specs.declared.commits.Receipt.{Receipt}
 use Rattle.tt_session.specs.Conversation.{Conversation}
 use Rattle.tt_session.specs.declared.calls.Call.{Call}
-use Rattle.tt_session.specs.declared.calls.Call.TheVariants.{Now, Begin, Pass}
+use Rattle.tt_session.specs.declared.calls.Call.TheVariants.{Now, Begin, Lease, Pass}
 use Rattle.tt_node.specs.Working.{WorkerState, DoesWhere, Reads, Commits, Releases, Allows, after_asking}
 use Rattle.tt_order.specs.Timed.{CallTimes, AreInOrder, times_at}
 use Rattle.tt_order.specs.Order.{IsSeen}
@@ -42,6 +42,7 @@ abbrev pub look_of : {C G : Type 0} (gives : C → Option ℕ → C → Type 0) 
 look_of gives failed says hears before (Now (Ok reading)) after allowed = look_of_now gives failed (after_asking before allowed.asked) reading allowed.done allowed.passes allowed.does
 look_of gives failed says hears before (Now (Err number)) after allowed = None
 look_of gives failed says hears before (Begin number floor answer) after allowed = look_of_begin gives failed number floor (after_asking before allowed.asked) answer allowed.done allowed.passes allowed.does
+look_of gives failed says hears before (Lease lo hi answer) after allowed = None
 look_of gives failed says hears before (Pass number answer) after allowed = look_of_pass gives failed number (after_asking before allowed.asked) answer allowed.done allowed.passes allowed.does
 
 -- the session of a worker: its calls as it promises them, from one state to another, and their true times

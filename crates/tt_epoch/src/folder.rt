@@ -4,16 +4,18 @@ use crate::faults::EpochFault;
 use crate::stores::{ReadFault, Store, WriteFault};
 use crate::text::{epoch_of, epoch_text};
 use std::alloc::Global;
-use std::fs::{self, DirBuilder, File, Files, OpenFile, OpenOptions};
+use std::fs::{self, DirBuilder, File, Files, OpenFile, OpenOptions, TryLockError};
 use std::io::{self, ErrorKind, Read, Write};
-use std::os::unix::fs::{DirBuilderExt, OpenOptionsExt};
+use std::os::unix::fs::DirBuilderExt;
+use tt_files::{create_new, lock_at, open_regular};
 
 /// The greatest length of an epoch file, in bytes.
 const MAX_LEN: usize = 32;
 
 /// A folder with the file `epoch`, its draft `epoch.new`, and the file `lock`. The lock is held as long as the store
-/// lives, so no other process takes an epoch from this folder. Nothing is claimed of what the calls of the operating
-/// system do.
+/// lives, so no other process takes an epoch from this folder. `epoch` and `lock` are opened only where they are regular
+/// files, so a FIFO there is refused and never waited for. `epoch.new` is made anew each time. Nothing is claimed of what
+/// the calls of the operating system do.
 #[derive(Drop)]
 pub struct FolderStore<'a, R> {
     rt: &'a R,
@@ -27,13 +29,14 @@ impl<'a, R: Files<File = File>> FolderStore<'a, R> {
     /// The store in this folder. A missing folder is made, for its owner alone (mode 0700); its files have mode 0600.
     ///
     /// Refuses with 1 `Memory` where it is out of memory, with 1812 `WriteFailed` where the folder or the lock file
-    /// can't be made, and with 1815 `Locked` where another process holds the folder. No epoch was read or taken then.
+    /// can't be made or `lock` is not a regular file, and with 1815 `Locked` where another process holds the folder. No
+    /// epoch was read or taken then.
     pub fn open(rt: &'a R, alloc: Global, folder: &'a str) -> Result<Self, EpochFault> {
         let path = path_in(alloc, folder, "epoch")?;
         let draft = path_in(alloc, folder, "epoch.new")?;
         let lock_path = path_in(alloc, folder, "lock")?;
         make_folder(rt, folder)?;
-        let lock = lock_at(rt, lock_path.as_str())?;
+        let lock = locked_at(rt, lock_path.as_str())?;
         Ok(FolderStore {
             rt,
             folder,
@@ -45,7 +48,7 @@ impl<'a, R: Files<File = File>> FolderStore<'a, R> {
 
     /// The number in the file. None if there is no file.
     fn load(&self) -> Result<Option<u64>, ReadFault> {
-        match File::open(self.rt, self.path.as_str()) {
+        match open_regular(self.rt, self.path.as_str(), &reading()) {
             Ok(mut file) => number_in(&mut file),
             Err(error) => {
                 if error.kind() == ErrorKind::NotFound {
@@ -59,21 +62,29 @@ impl<'a, R: Files<File = File>> FolderStore<'a, R> {
 
     /// Writes the draft.
     fn save(&self, number: u64) -> io::Result<()> {
-        let mut file = OpenOptions::new()
-            .write(true)
-            .create(true)
-            .truncate(true)
-            .mode(0o600)
-            .open(self.rt, self.draft.as_str())?;
+        let mut file = create_new(self.rt, self.draft.as_str(), 0o600)?;
         let text = epoch_text(number);
         file.write_all(text.as_str().as_bytes())
     }
 
-    /// Syncs the file or folder at this path.
-    fn sync(&self, path: &str) -> io::Result<()> {
-        let file = File::open(self.rt, path)?;
+    /// Syncs the draft.
+    fn fix_draft(&self) -> io::Result<()> {
+        let file = open_regular(self.rt, self.draft.as_str(), &reading())?;
         file.sync_all()
     }
+
+    /// Syncs the folder.
+    fn fix_folder(&self) -> io::Result<()> {
+        let file = File::open(self.rt, self.folder)?;
+        file.sync_all()
+    }
+}
+
+/// How a file is opened that is read and not made.
+fn reading() -> OpenOptions {
+    let mut how = OpenOptions::new();
+    how.read(true);
+    how
 }
 
 /// The path of a file in the folder.
@@ -96,19 +107,11 @@ fn make_folder<R: Files>(rt: &R, folder: &str) -> Result<(), EpochFault> {
 }
 
 /// The lock file at this path, locked as long as it is open.
-fn lock_at<R: Files<File = File>>(rt: &R, path: &str) -> Result<File, EpochFault> {
-    let Ok(file) = OpenOptions::new()
-        .write(true)
-        .create(true)
-        .mode(0o600)
-        .open(rt, path)
-    else {
-        return Err(EpochFault::WriteFailed);
-    };
-    match file.try_lock() {
-        Ok(()) => Ok(file),
-        Err(fs::TryLockError::WouldBlock) => Err(EpochFault::Locked),
-        Err(fs::TryLockError::Error(_)) => Err(EpochFault::WriteFailed),
+fn locked_at<R: Files<File = File>>(rt: &R, path: &str) -> Result<File, EpochFault> {
+    match lock_at(rt, path, 0o600) {
+        Ok(file) => Ok(file),
+        Err(TryLockError::WouldBlock) => Err(EpochFault::Locked),
+        Err(TryLockError::Error(_)) => Err(EpochFault::WriteFailed),
     }
 }
 
@@ -151,7 +154,7 @@ impl<'a, R: Files<File = File>> Store for FolderStore<'a, R> {
     }
 
     fn sync_draft(&mut self) -> Result<(), WriteFault> {
-        answer_of(self.sync(self.draft.as_str()))
+        answer_of(self.fix_draft())
     }
 
     fn install(&mut self) -> Result<(), WriteFault> {
@@ -159,6 +162,6 @@ impl<'a, R: Files<File = File>> Store for FolderStore<'a, R> {
     }
 
     fn sync_folder(&mut self) -> Result<(), WriteFault> {
-        answer_of(self.sync(self.folder))
+        answer_of(self.fix_folder())
     }
 }

@@ -9,7 +9,7 @@ use Rattle.tt_session.specs.declared.requests.Request.TheVariants as asks
 use Rattle.tt_session.specs.declared.replies.LineReply.{LineReply}
 use Rattle.tt_session.specs.declared.replies.LineReply.TheVariants as says
 
--- the numbers of the reply are in range: a reading is an interval of times, a commit's number and its stamp fit a line, and a refusal has a
+-- the numbers of the reply are in range: a reading is an interval of times, a commit's number, its stamp and the ends of a lease fit a line, and a refusal has a
 -- number below 2^16
 abbrev pub IsReply : LineReply → Type 0
 IsReply (says.Now reading) = IsInterval reading
@@ -17,6 +17,7 @@ IsReply says.Yes = Unit {0}
 IsReply says.No = Unit {0}
 IsReply (says.Committed number stamp) = IsNumber number × IsNumber stamp
 IsReply (says.Waiting number stamp) = IsNumber number × IsNumber stamp
+IsReply (says.Leased lo hi) = IsNumber lo × IsNumber hi
 IsReply (says.Refused number) = number < 2 ^ 16
 
 -- the reply is of the kind that the request asks for, and for a commit it names that commit

@@ -86,8 +86,10 @@ pub(crate) fn connect_masters<'a, R: Net + SystemClock>(
             .map_err(|_| NodeFault::Memory)?;
     }
     let wait = Duration::from_millis(ROUND_WAIT);
+    // Nobody wakes the daemon: it ends with its last round.
+    let (daemon, _waker) = RoundLink::new(rt, alloc, daemon, addresses, wait).map_err(fault_of)?;
     Ok(Links {
-        daemon: RoundLink::new(rt, daemon, addresses, wait).map_err(fault_of)?,
+        daemon,
         masters: links,
     })
 }

@@ -1,3 +1,4 @@
+pub mod Handing
 pub mod Failing
 pub mod Leading
 pub mod Listing

@@ -1,6 +1,8 @@
 pub mod Fault
 pub mod Link
 pub mod Datagrams
+pub mod Awaiting
+pub mod RoundLinks
 pub mod Counting
 pub mod Fusing
 pub mod Course

@@ -1,44 +1,75 @@
-//! Links over UDP.
+//! A socket for packets, and a link over it for a master.
 
 ghost use Rattle.std.specs.Prelude.{◌≡◌, ◌≤◌, length};
 ghost use Rattle.tt_stream.specs.Counts.{HasFailed};
-ghost use Rattle.tt_node.specs.Datagrams.{FitsPacket};
+ghost use Rattle.tt_node.specs.Datagrams.{FitsPacket, look_of as look_of_code};
 
+use crate::awaiting::Fate;
 use crate::faults::LinkFault;
 use crate::links::{Link, PACKET_LEN};
-use std::io::{self, ErrorKind};
 use std::net::{SocketAddr, UdpSocket};
-use std::thread;
-use std::time::{Clock as SystemClock, Duration};
 
-/// The most packets from unknown addresses that a call of `receive` skips each time it looks for a packet.
+/// The most packets from unknown addresses that a call of `receive` of a [`UdpLink`] skips.
 pub const MAX_STRANGERS: u32 = 64;
 
-/// The most packets that a [`RoundLink`] drops when a round begins.
-pub const MAX_DROPPED: u32 = 1024;
-
-/// How long a [`RoundLink`] sleeps before it looks for a packet again, in microseconds.
-const PAUSE: u64 = 50;
-
-/// What one look for a packet gave.
-#[derive(Clone, Copy)]
-enum Look {
-    /// A packet from this peer, of this length.
-    Came(u8, usize),
-    /// No packet from a peer.
+/// What one read of a socket gave.
+#[derive(Clone, Copy, Debug, PartialEq, Eq)]
+pub(crate) enum Look {
+    /// A packet of this length, from this peer or from an unknown address.
+    Came(Option<u8>, usize),
+    /// No packet, but one may be there: a signal ended the call, or it told of an earlier packet that was not delivered.
+    Again,
+    /// No packet is there.
     Nothing,
     /// The socket failed.
     Failed,
 }
 
+/// What a read of a socket gave that ended with this error of the system, if it has a number. Nothing is there for 11
+/// (it would block) and 110 (the wait ended). Something may be there after a signal, 4, and after an error that tells of
+/// a packet that was sent before: not permitted, 1 and 13, or an answer of the network to it, 64, 71, 90, 92, 95, 100,
+/// 101, 104, 111, 112 and 113. After any other error the socket is useless.
+fn look_of(code: Option<i32>) -> Look
+    ensures value { result ≡ look_of_code code }
+    ensures fits { FitsPacket result }
+{
+    match code {
+        Some(11 | 110) => Look::Nothing,
+        Some(1 | 4 | 13 | 64 | 71 | 90 | 92 | 95 | 100 | 101 | 104 | 111 | 112 | 113) => {
+            Look::Again
+        }
+        _ => Look::Failed,
+    }
+}
+
 /// A socket, and the addresses of its peers. Peer `i` has the address at place `i`.
 #[derive(Drop)]
-struct Peers {
+pub(crate) struct Peers {
     socket: UdpSocket,
     addresses: Vec<SocketAddr>,
 }
 
 impl Peers {
+    /// The peers with these addresses. Only the first 256 of them have a number.
+    pub(crate) fn new(socket: UdpSocket, addresses: Vec<SocketAddr>) -> Peers {
+        Peers { socket, addresses }
+    }
+
+    /// The socket.
+    pub(crate) fn socket(&self) -> &UdpSocket {
+        &self.socket
+    }
+
+    /// The same peers are reached over this socket from now on. Answers the socket before.
+    pub(crate) fn replace(&mut self, socket: UdpSocket) -> UdpSocket {
+        std::mem::replace(&mut self.socket, socket)
+    }
+
+    /// The address of the peer, if it has one.
+    pub(crate) fn address(&self, peer: u8) -> Option<SocketAddr> {
+        self.addresses.get(usize::from(peer)).copied()
+    }
+
     /// The peer with this address, if one has it.
     fn peer_at(&self, address: SocketAddr) -> Option<u8> {
         for (place, peer) in self.addresses.iter().enumerate() {
@@ -49,57 +80,41 @@ impl Peers {
         None
     }
 
-    /// Sends the bytes to the peer. Answers yes if they were sent, or if they were lost because the socket had no room.
-    fn send(&self, peer: u8, bytes: &[u8]) -> bool {
-        let Some(address) = self.addresses.get(usize::from(peer)) else {
-            return false;
-        };
-        match self.socket.send_to(bytes, *address) {
-            Ok(_) => true,
-            Err(error) => error.kind() == ErrorKind::WouldBlock,
+    /// Sends the bytes to the address.
+    pub(crate) fn send(&self, address: SocketAddr, bytes: &[u8]) -> Fate {
+        match self.socket.send_to(bytes, address) {
+            Ok(_) => Fate::Went,
+            Err(error) => Fate::of(error.raw_os_error()),
         }
     }
 
-    /// Looks for the next packet from a peer, and skips packets from unknown addresses.
-    fn look(&self, buffer: &mut [u8; PACKET_LEN]) -> Look
+    /// Reads the next packet.
+    pub(crate) fn look(&self, buffer: &mut [u8; PACKET_LEN]) -> Look
         ensures whole { length buffer.new ≡ 64 }
         ensures fits { FitsPacket result }
     {
         let mut bytes = [0; PACKET_LEN];
+        let answer = self.socket.recv_from(&mut bytes);
+        *buffer = bytes;
+        match answer {
+            Ok((length, address)) => Look::Came(self.peer_at(address), length.min(PACKET_LEN)),
+            Err(error) => look_of(error.raw_os_error()),
+        }
+    }
+
+    /// Reads packets until one comes from a peer or none is there, at most [`MAX_STRANGERS`].
+    fn look_for_peer(&self, buffer: &mut [u8; PACKET_LEN]) -> Look
+        ensures whole { length buffer.new ≡ 64 }
+        ensures fits { FitsPacket result }
+    {
         for _ in 0..MAX_STRANGERS {
-            let answer = self.socket.recv_from(&mut bytes);
-            *buffer = bytes;
-            match answer {
-                Ok((length, address)) => {
-                    if let Some(peer) = self.peer_at(address) {
-                        return Look::Came(peer, length.min(PACKET_LEN));
-                    }
-                }
-                Err(error) => return look_of(error.kind()),
+            match self.look(buffer) {
+                Look::Came(None, _) => {}
+                look => return look,
             }
         }
         *buffer = [0; PACKET_LEN];
         Look::Nothing
-    }
-
-    /// Drops the packets that wait in a non-blocking socket.
-    fn empty(&self) {
-        let mut bytes = [0; PACKET_LEN];
-        for _ in 0..MAX_DROPPED {
-            if self.socket.recv_from(&mut bytes).is_err() {
-                return;
-            }
-        }
-    }
-}
-
-/// What a look gave if it ended with this kind of error. If its wait ended, or a signal ended it, nothing came.
-fn look_of(kind: ErrorKind) -> Look
-    ensures fits { FitsPacket result }
-{
-    match kind {
-        ErrorKind::WouldBlock | ErrorKind::TimedOut | ErrorKind::Interrupted => Look::Nothing,
-        _ => Look::Failed,
     }
 }
 
@@ -110,7 +125,11 @@ fn look_of(kind: ErrorKind) -> Look
 /// nothing came. The link skips a packet from any other address and waits for the next one, up to [`MAX_STRANGERS`]
 /// times in one call.
 ///
-/// Nothing is claimed about what the socket delivers. If a call answers a fault, it has counted a failure.
+/// A packet that cannot be sent to the address of a peer is lost, and no fault: a fault says that the peer has no
+/// address, or that the socket is useless. Nothing is claimed about what the socket delivers. If a call answers a fault,
+/// it has counted a failure.
+///
+/// [`RoundLink`]: crate::RoundLink
 #[derive(Drop)]
 pub struct UdpLink {
     peers: Peers,
@@ -121,10 +140,7 @@ impl UdpLink {
     /// The link over this socket to these peers. Only the first 256 of them have a number.
     pub fn new(socket: UdpSocket, peers: Vec<SocketAddr>) -> UdpLink {
         UdpLink {
-            peers: Peers {
-                socket,
-                addresses: peers,
-            },
+            peers: Peers::new(socket, peers),
             failures: 0,
         }
     }
@@ -144,150 +160,19 @@ impl Link for UdpLink {
     ghost failed = { λ link. link.failures };
 
     fn send(&mut self, peer: u8, bytes: &[u8]) -> Result<(), LinkFault> {
-        if self.peers.send(peer, bytes) {
-            Ok(())
-        } else {
-            Err(self.fault())
+        let Some(address) = self.peers.address(peer) else {
+            return Err(self.fault());
+        };
+        match self.peers.send(address, bytes) {
+            Fate::Went | Fate::Lost => Ok(()),
+            Fate::Broke => Err(self.fault()),
         }
     }
 
     fn receive(&mut self, buffer: &mut [u8; PACKET_LEN]) -> Result<Option<(u8, usize)>, LinkFault> {
-        match self.peers.look(buffer) {
-            Look::Came(peer, length) => Ok(Some((peer, length))),
-            Look::Nothing => Ok(None),
-            Look::Failed => Err(self.fault()),
-        }
-    }
-
-    fn failures(&self) -> u64 {
-        self.failures
-    }
-}
-
-/// A link over UDP for the rounds of a daemon. It knows its peers by their addresses, as [`UdpLink`] does.
-///
-/// A round begins with the first packet that is sent after a `receive`. Then the link drops the packets that still wait
-/// in the socket, at most [`MAX_DROPPED`]. So an answer that came too late takes no turn of a later round.
-///
-/// `receive` waits only while a packet is awaited. A packet is awaited from a peer if one was sent to it in this round,
-/// and none has come from it since. All waits of a round share one time, the `wait` of [`RoundLink::new`]. The link
-/// sleeps for 50 microseconds at a time. It skips packets from other addresses, up to [`MAX_STRANGERS`] after each
-/// sleep.
-///
-/// Nothing is claimed about what the socket delivers, or about what is dropped. If a call answers a fault, it has
-/// counted a failure.
-#[derive(Drop)]
-pub struct RoundLink<'a, R> {
-    rt: &'a R,
-    peers: Peers,
-    failures: u64,
-    /// The most sleeps of a round.
-    sleeps: u32,
-    /// The sleeps that are left to this round.
-    left: u32,
-    /// Whether the last call was to send a packet.
-    sending: bool,
-    /// For each peer, whether a packet is awaited from it.
-    awaited: [bool; 256],
-}
-
-impl<'a, R: SystemClock> RoundLink<'a, R> {
-    /// The link over this socket to these peers. Only the first 256 of them have a number. All waits of a round
-    /// together are as long as `wait`. The call makes the socket non-blocking, and refuses with the error of this step
-    /// if it fails.
-    pub fn new(
-        rt: &'a R,
-        socket: UdpSocket,
-        peers: Vec<SocketAddr>,
-        wait: Duration,
-    ) -> io::Result<RoundLink<'a, R>> {
-        socket.set_nonblocking(true)?;
-        Ok(RoundLink {
-            rt,
-            peers: Peers {
-                socket,
-                addresses: peers,
-            },
-            failures: 0,
-            sleeps: u32::try_from(wait.as_micros() / u128::from(PAUSE)).unwrap_or(u32::MAX),
-            left: 0,
-            sending: false,
-            awaited: [false; 256],
-        })
-    }
-
-    /// Counts a failure.
-    fn fault(&mut self) -> LinkFault
-        ensures rose { HasFailed self.old.failures self.new.failures }
-    {
-        self.failures = self.failures.saturating_add(1);
-        LinkFault::Failed
-    }
-
-    /// Begins a round.
-    fn begin(&mut self)
-        ensures same { self.new.failures ≡ self.old.failures }
-    {
-        self.peers.empty();
-        self.left = self.sleeps;
-        self.sending = true;
-        self.awaited = [false; 256];
-    }
-
-    /// Whether a packet is awaited from any peer.
-    fn awaits(&self) -> bool {
-        self.awaited.iter().any(|awaited| *awaited)
-    }
-
-    /// Looks for a packet until one comes, none is awaited, or no sleep is left. Answers the last look, and how many
-    /// sleeps are left.
-    fn wait_for(&self, buffer: &mut [u8; PACKET_LEN]) -> (Look, u32)
-        ensures whole { length buffer.new ≡ 64 }
-        ensures fits { FitsPacket result.0 }
-    {
-        let mut left = self.left;
-        for _ in 0..self.left {
-            match self.peers.look(buffer) {
-                Look::Nothing => {}
-                look => return (look, left),
-            }
-            if !self.awaits() {
-                return (Look::Nothing, left);
-            }
-            left = left.saturating_sub(1);
-            thread::sleep(self.rt, Duration::from_micros(PAUSE));
-        }
-        (self.peers.look(buffer), left)
-    }
-}
-
-impl<'a, R: SystemClock> Link for RoundLink<'a, R> {
-    ghost does = { λ _ _ _ _. Unit {0} };
-
-    ghost failed = { λ link. link.failures };
-
-    fn send(&mut self, peer: u8, bytes: &[u8]) -> Result<(), LinkFault> {
-        if !self.sending {
-            self.begin();
-        }
-        if self.peers.send(peer, bytes) {
-            self.awaited[usize::from(peer)] = true;
-            Ok(())
-        } else {
-            Err(self.fault())
-        }
-    }
-
-    fn receive(&mut self, buffer: &mut [u8; PACKET_LEN]) -> Result<Option<(u8, usize)>, LinkFault> {
-        self.sending = false;
-        let (look, left) = self.wait_for(buffer);
-        self.left = left;
-        match look {
-            Look::Came(peer, length) => {
-                self.awaited[usize::from(peer)] = false;
-                Ok(Some((peer, length)))
-            }
-            Look::Nothing => Ok(None),
+        match self.peers.look_for_peer(buffer) {
+            Look::Came(Some(peer), length) => Ok(Some((peer, length))),
+            Look::Came(None, _) | Look::Again | Look::Nothing => Ok(None),
             Look::Failed => Err(self.fault()),
         }
     }

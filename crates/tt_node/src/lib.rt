@@ -26,6 +26,7 @@
 //! - `faults`: why a call refuses.
 #![tactic(auto)]
 
+mod awaiting;
 mod datagrams;
 mod faults;
 mod gates;
@@ -33,17 +34,20 @@ mod links;
 mod masters;
 mod nodes;
 mod paces;
+mod round_links;
 mod rounds;
 mod tallies;
 mod workers;
 
-pub use datagrams::{MAX_DROPPED, MAX_STRANGERS, RoundLink, UdpLink};
+pub use awaiting::{TURNS_PER_PEER, turn_laws};
+pub use datagrams::{MAX_STRANGERS, UdpLink};
 pub use faults::{LinkFault, NodeFault};
 pub use gates::{Gate, OpenGate};
 pub use links::{Link, PACKET_LEN};
 pub use masters::master_rounds;
 pub use nodes::{Clocks, Limits, NodeEnd, WorkerEnd, run_node};
 pub use paces::{CountedPace, Pace};
+pub use round_links::{MAX_DROPPED, RoundLink};
 pub use rounds::{Rounds, course_laws, daemon_rounds, daemon_while};
 pub use tallies::{RefusedFusions, RefusedPackets, Tally};
 pub use workers::{MAX_PAUSE, MAX_TURNS, Worker};

@@ -1,5 +1,5 @@
 -- What one call of a station says: of its answer, of its book and of its seat.
-use Rattle.std.proofs.Common.{◌≡◌, ℕ, ◌+◌, ◌≤◌, nat_lt, if◌then◌else◌, List, [], ◌∷◌, ◌++◌, Bool, true, false, Option, Some, None, Result, Ok, Err, refl, sym, ap, ◌∙◌, subst, arith, append_assoc}
+use Rattle.std.proofs.Common.{◌≡◌, ℕ, ◌+◌, ◌≤◌, max, min, nat_lt, if◌then◌else◌, List, [], ◌∷◌, ◌++◌, Bool, true, false, Option, Some, None, Result, Ok, Err, refl, sym, ap, ◌∙◌, subst, arith, append_assoc}
 use Rattle.std.specs.Prelude.{IfOk, MatchBool, MatchOption, IsOkUnless}
 use Rattle.tt_span.specs.Interval.{Interval, Holds}
 use Rattle.tt_publish.specs.declared.faults.ReadFault.{ReadFault}
@@ -19,7 +19,7 @@ use Rattle.tt_session.specs.Desk.{Queues, AnswersQueued}
 use Rattle.tt_session.specs.declared.calls.Call.{Call}
 use Rattle.tt_session.specs.declared.calls.Call.TheVariants as call
 use Rattle.tt_station.specs.Fault.{number_of}
-use Rattle.tt_station.specs.Station.{StationState, Allows, AnswersReading, AnswersReceipt, BeginsAt, CommitsAt, PassesAt, QueuesStamped, Keeps as KeepsAll, id_at, book_before}
+use Rattle.tt_station.specs.Station.{StationState, StampsIn, SetsLease, common, lease_of, Allows, AnswersReading, AnswersReceipt, BeginsAt, CommitsAt, PassesAt, QueuesStamped, Keeps as KeepsAll, id_at, book_before}
 use Rattle.tt_station.specs.declared.faults.StationFault.TheVariants.{FloorAboveCap, ClientLeft}
 use Rattle.tt_order.specs.Timed.{looked_of}
 use Rattle.tt_order.proofs.Books.{Keeps, keeps-same, keeps-page, keeps-queued, keeps-release, waits-no_receipt}
@@ -61,23 +61,38 @@ goes_on-stamps floor lease reading old new (Err stamp.LeaseOver) stamps =
 goes_on-stamps floor lease reading old new (Err stamp.Seats) stamps = absurd stamps
 goes_on-stamps floor lease reading old new (Err stamp.Memory) stamps = absurd stamps
 
+-- the same for a stamp in two leases
+goes_on-in : (floor : ℕ) (a b reading : Interval) (old new : SeatState) (stamped : Result ℕ StampFault) (over : Bool)
+    → MatchBool over ((stamped ≡ Err stamp.LeaseOver) × (new ≡ old)) (Stamps floor (common a b) reading old stamped new) → GoesOn old new
+goes_on-in floor a b reading old new stamped true says = goes_on-same old new says.1
+goes_on-in floor a b reading old new stamped false says = goes_on-stamps floor (common a b) reading old new stamped says
+
+-- a stamp that was given in two leases was given in what they have in common
+given_in_both : (floor : ℕ) (a b reading : Interval) (old new : SeatState) (t : ℕ) (over : Bool)
+    → MatchBool over (◌≡◌ {A = Result ℕ StampFault} (Ok t) (Err stamp.LeaseOver) × (new ≡ old)) (Stamps floor (common a b) reading old (Ok t) new) → Stamps floor (common a b) reading old (Ok t) new
+given_in_both floor a b reading old new t true says = absurd (let is = says.0 in cc)
+given_in_both floor a b reading old new t false says = says
+
 -- a commit that began: it was given this stamp by its reading, and queued with it
 pub record Began {C V : Type 0} (before after : StationState C V) (number floor stamp : ℕ) (reading : Interval) : Type 0 where
-  pub gave : Gives before.post.seat after.post.seat reading.hi floor before.post.lease stamp
+  pub gave : Gives before.post.seat after.post.seat reading.hi floor (lease_of before) stamp
   pub late : reading.hi ≤ stamp
+  pub inside : Holds (lease_of before) stamp
   pub book : after.book ≡ Queued (id_at number) stamp ∷ book_before before.book
 
 module _ {C V : Type 0} (before after : StationState C V) (number floor : ℕ) where
   -- ---- where a commit began
   module _ (s : ℕ) (reading : Interval) where
-    began_queued : (t : ℕ) → Gives before.post.seat after.post.seat reading.hi floor before.post.lease t → reading.hi ≤ t → (queued : Result (Unit {0}) BookFault) → Queues (book_before before.book) (id_at number) t queued after.book → AnswersQueued t (Ok s) queued → Began before after number floor s reading
-    began_queued t gave late (Err fault) queues answers = absurd (cc)
-    began_queued t gave late (Ok done) queues answers =
+    began_queued : (t : ℕ) → Gives before.post.seat after.post.seat reading.hi floor (lease_of before) t → reading.hi ≤ t → Holds (lease_of before) t → (queued : Result (Unit {0}) BookFault) → Queues (book_before before.book) (id_at number) t queued after.book → AnswersQueued t (Ok s) queued → Began before after number floor s reading
+    began_queued t gave late inside (Err fault) queues answers = absurd (cc)
+    began_queued t gave late inside (Ok done) queues answers =
         let same : t ≡ s = cc in
-        subst (λ (n : ℕ). Began before after number floor n reading) same (record { gave = gave; late = late; book = queues.ok })
+        subst (λ (n : ℕ). Began before after number floor n reading) same (record { gave = gave; late = late; inside = inside; book = queues.ok })
 
-    began_stamped : (stamped : Result ℕ StampFault) → Stamps floor before.post.lease reading before.post.seat stamped after.post.seat → QueuesStamped before.book number (Ok s) after.book stamped → Began before after number floor s reading
-    began_stamped (Ok t) stamps queues = began_queued t stamps.1 stamps.2 queues.0 queues.1 queues.2
+    began_stamped : (stamped : Result ℕ StampFault) → StampsIn before.lease before.post.lease floor reading before.post.seat stamped after.post.seat → QueuesStamped before.book number (Ok s) after.book stamped → Began before after number floor s reading
+    began_stamped (Ok t) stamps queues =
+        let both = given_in_both floor before.lease before.post.lease reading before.post.seat after.post.seat t (nat_lt (min before.lease.hi before.post.lease.hi) (max before.lease.lo before.post.lease.lo)) stamps in
+        began_queued t both.1 both.2 both.3 queues.0 queues.1 queues.2
     began_stamped (Err fault) stamps queues = absurd (let is = queues.0 in cc)
 
     began_capped : (capped : Bool) → MatchBool capped (◌≡◌ {A = Result ℕ ℕ} (Ok s) (Err (number_of FloorAboveCap)) × KeepsAll before after) (CommitsAt before number floor reading (Ok s) after) → Began before after number floor s reading
@@ -85,7 +100,7 @@ module _ {C V : Type 0} (before after : StationState C V) (number floor : ℕ) w
     began_capped false says = began_stamped says.0 says.1 says.2
 
   pub began-at : (s : ℕ) (looked : Result Interval ReadFault) → BeginsAt before number floor (Ok s) after looked → (reading : Interval) × (looked ≡ Ok reading) × Began before after number floor s reading
-  began-at s (Ok reading) says = (reading, refl, began_capped s reading (nat_lt (reading.hi + before.post.ahead) floor) says)
+  began-at s (Ok reading) says = (reading, refl, began_capped s reading (nat_lt (reading.hi + before.post.ahead) (max floor before.lease.lo)) says)
   began-at s (Err fault) says = absurd (let is = says.0 in cc)
 
   -- ---- what a begin leaves of book and seat, whatever it answers
@@ -104,16 +119,17 @@ module _ {C V : Type 0} (before after : StationState C V) (number floor : ℕ) w
     keeps_reading reading false says = keeps_stamped says.0 says.2
 
     pub keeps-begin : (looked : Result Interval ReadFault) → BeginsAt before number floor answer after looked → Keeps before.book after.book time
-    keeps-begin (Ok reading) says = keeps_reading reading (nat_lt (reading.hi + before.post.ahead) floor) says
+    keeps-begin (Ok reading) says = keeps_reading reading (nat_lt (reading.hi + before.post.ahead) (max floor before.lease.lo)) says
     keeps-begin (Err fault) says = keeps-same before.book after.book time legal says.1.book
 
   module _ (answer : Result ℕ ℕ) where
     seat_reading : (reading : Interval) (capped : Bool) → MatchBool capped ((answer ≡ Err (number_of FloorAboveCap)) × KeepsAll before after) (CommitsAt before number floor reading answer after) → GoesOn before.post.seat after.post.seat
     seat_reading reading true says = goes_on-same before.post.seat after.post.seat says.1.seat
-    seat_reading reading false says = goes_on-stamps floor before.post.lease reading before.post.seat after.post.seat says.0 says.1
+    seat_reading reading false says =
+        goes_on-in floor before.lease before.post.lease reading before.post.seat after.post.seat says.0 (nat_lt (min before.lease.hi before.post.lease.hi) (max before.lease.lo before.post.lease.lo)) says.1
 
     pub seat-begin : (looked : Result Interval ReadFault) → BeginsAt before number floor answer after looked → GoesOn before.post.seat after.post.seat
-    seat-begin (Ok reading) says = seat_reading reading (nat_lt (reading.hi + before.post.ahead) floor) says
+    seat-begin (Ok reading) says = seat_reading reading (nat_lt (reading.hi + before.post.ahead) (max floor before.lease.lo)) says
     seat-begin (Err fault) says = goes_on-same before.post.seat after.post.seat says.1.seat
 
 module _ {C V : Type 0} (says : V → Bool → Type 0) (before after : StationState C V) where
@@ -154,6 +170,8 @@ module _ {C V : Type 0} (gives : C → Option ℕ → C → Type 0) (failed : C 
       keeps-same before.book after.book time legal (keeps_now says before after answer allowed.looked allowed.rest).book
   keeps-call (call.Begin number floor answer) allowed time legal holds =
       keeps-begin before after number floor answer time legal allowed.looked allowed.rest
+  keeps-call (call.Lease lo hi answer) allowed time legal holds =
+      keeps-same before.book after.book time legal (ap (λ (s : StationState C V). s.book) allowed.set)
   keeps-call (call.Pass number answer) allowed time legal holds =
       keeps_pass says before after number answer time legal allowed.looked holds allowed.rest
 
@@ -162,6 +180,8 @@ module _ {C V : Type 0} (gives : C → Option ℕ → C → Type 0) (failed : C 
       goes_on-same before.post.seat after.post.seat (keeps_now says before after answer allowed.looked allowed.rest).seat
   seat-call (call.Begin number floor answer) allowed =
       seat-begin before after number floor answer allowed.looked allowed.rest
+  seat-call (call.Lease lo hi answer) allowed =
+      goes_on-same before.post.seat after.post.seat (ap (λ (s : StationState C V). s.post.seat) allowed.set)
   seat-call (call.Pass number answer) allowed = seat_pass says before after number answer allowed.looked allowed.rest
 
   pub begin-call : (of : Call) (number floor s : ℕ) → of ≡ call.Begin number floor (Ok s) → Allows gives failed says before of after → (reading : Interval) × Began before after number floor s reading
@@ -189,4 +209,5 @@ module _ {C V : Type 0} (gives : C → Option ℕ → C → Type 0) (failed : C 
   stamp-call (call.Now answer) allowed number floor s time is holds = absurd (cc)
   stamp-call (call.Begin n f answer) allowed number floor s time is holds =
       stamp_at n f s time allowed.looked holds (subst (λ (a : Result ℕ ℕ). BeginsAt before n f a after allowed.looked) (answer_of n f number floor s answer is) allowed.rest)
+  stamp-call (call.Lease lo hi answer) allowed number floor s time is holds = absurd (cc)
   stamp-call (call.Pass n answer) allowed number floor s time is holds = absurd (cc)

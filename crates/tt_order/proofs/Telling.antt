@@ -9,13 +9,13 @@ use Rattle.std.proofs.lemmas.Bool.{false≢true}
 use Rattle.std.proofs.lemmas.Option.{slice_get_within, none-some}
 use Rattle.tt_span.specs.Interval.{Interval}
 use Rattle.tt_publish.specs.Reading.{HasPassed, IsToCome}
-use Rattle.tt_session.specs.Answers.{AnswersLines, AnswersLine, AnswersSpelled, Commits, CommitsBy, Begins, BeginsWith, Releases, Passes, Refuses, Says, SaysOf, is_yes, release_reply}
+use Rattle.tt_session.specs.Answers.{AnswersLines, AnswersLine, AnswersSpelled, Commits, CommitsBy, Begins, BeginsWith, Releases, Passes, Refuses, Says, SaysOf, Leases, SetsLease, leased_reply, is_yes, release_reply}
 use Rattle.tt_session.specs.declared.begun.Begun.{Begun}
 use Rattle.tt_session.specs.declared.calls.Call.{Call}
 use Rattle.tt_session.specs.declared.calls.Call.TheVariants as call
-use Rattle.tt_session.specs.declared.faults.LineFault.TheVariants.{OtherWaits}
+use Rattle.tt_session.specs.declared.faults.LineFault.TheVariants.{BadLine, OtherWaits}
 use Rattle.tt_session.specs.declared.replies.LineReply.{LineReply}
-use Rattle.tt_session.specs.declared.replies.LineReply.TheVariants.{Now, Yes, No, Committed, Waiting, Refused}
+use Rattle.tt_session.specs.declared.replies.LineReply.TheVariants.{Now, Yes, No, Committed, Waiting, Leased, Refused}
 use Rattle.tt_session.specs.declared.requests.Request.{Request}
 use Rattle.tt_session.specs.declared.requests.Request.TheVariants as request
 use Rattle.tt_order.specs.Order.{BeginsAt, IsCommitted}
@@ -100,6 +100,7 @@ other_says P No says number stamp is = cc
 other_says P (Now reading) says number stamp is = absurd says
 other_says P (Committed n s) says number stamp is = absurd says
 other_says P (Waiting n s) says number stamp is = absurd says
+other_says P (Leased lo hi) says number stamp is = absurd says
 other_says P (Refused n) says number stamp is = absurd says
 
 -- ---- release steps
@@ -176,6 +177,17 @@ tells_reads : (Of : Interval → LineReply → Type 0) → ((reading : Interval)
 tells_reads Of other past last knows calls reply after same (Ok reading) says = tells_same past calls reply last after knows (other reading reply says) same
 tells_reads Of other past last knows calls reply after same (Err fault) says = tells_same past calls reply last after knows (other_refused reply fault says) same
 
+other_leased : (reply : LineReply) (lo hi : ℕ) (answer : Result (Unit {0}) ℕ) → reply ≡ leased_reply lo hi answer → IsOther reply
+other_leased reply lo hi (Ok done) is number stamp too = cc
+other_leased reply lo hi (Err fault) is number stamp too = other_refused reply fault is number stamp too
+
+tells_leases : (lo hi : ℕ) (past : List Call) (last : Option Begun) → Knows past last → (calls : List Call) (reply : LineReply) (after : Option Begun) → Leases lo hi last calls reply after → Tells (past ++ calls) reply after
+tells_leases lo hi past last knows calls reply after says =
+    ⊎_elim
+    (λ (none : Refuses BadLine last calls reply after). tells_same past calls reply last after knows (other_refused reply _ none.says) none.same)
+    (λ (sets : SetsLease lo hi last calls reply after). tells_same past calls reply last after knows (other_leased reply lo hi sets.answer sets.says) sets.same)
+    says
+
 tells_answers : (waits : ℕ) (past : List Call) (last : Option Begun) → Knows past last → (asked : Option Request) (calls : List Call) (reply : LineReply) (after : Option Begun) → AnswersSpelled waits last asked calls reply after → Tells (past ++ calls) reply after
 tells_answers waits past last knows None calls reply after says =
     tells_same past calls reply last after knows (other_refused reply _ says.says) says.same
@@ -187,6 +199,8 @@ tells_answers waits past last knows (Some (request.Before t)) calls reply after 
     tells_reads (λ reading r. Says (IsToCome reading t) r) (λ reading r is. other_says (IsToCome reading t) r is) past last knows calls reply after says.same says.answer says.says
 tells_answers waits past last knows (Some (request.Commit number floor)) calls reply after says =
     tells_commits waits number floor past last knows calls reply after says
+tells_answers waits past last knows (Some (request.Lease lo hi)) calls reply after says =
+    tells_leases lo hi past last knows calls reply after says
 
 tells_line : (waits : ℕ) (past : List Call) (last : Option Begun) → Knows past last → (line : List ℕ) (calls : List Call) (reply : LineReply) (after : Option Begun) → AnswersLine waits last line calls reply after → Tells (past ++ calls) reply after
 tells_line waits past last knows line calls reply after says =

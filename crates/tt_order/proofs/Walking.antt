@@ -6,7 +6,7 @@ use Rattle.tt_stamp.specs.declared.commits.Entry.{Entry}
 use Rattle.tt_session.specs.Conversation.{Conversation}
 use Rattle.tt_session.specs.declared.calls.Call.{Call}
 use Rattle.tt_session.specs.declared.calls.Call.TheVariants as call
-use Rattle.tt_station.specs.Station.{StationState, Allows, id_at, book_before}
+use Rattle.tt_station.specs.Station.{StationState, Allows, new_station, id_at, book_before}
 use Rattle.tt_judge.specs.declared.history.Commit.{Commit}
 use Rattle.tt_order.specs.Timed.{CallTimes, AreInOrder, ReadingsHold, times_at, TimedSession, IsTimed}
 use Rattle.tt_order.specs.Order.{BeginsAt, ReleasesAt, IsCommitted, IsSeen, IsWithin}
@@ -80,11 +80,11 @@ module _ {C V : Type 0} (gives : C → Option ℕ → C → Type 0) (failed : C 
   -- ---- of a timed session
   pub session-begun : (session : TimedSession gives failed says) (place number stamp : ℕ) → IsTimed gives failed says session → BeginsAt session.calls place number stamp → (times_at session.times place).read ≤ stamp
   session-begun session place number stamp timed begins =
-      begun session.calls (record { post = session.post; client = session.client; book = [] }) session.after session.talked session.times timed.hold place number stamp begins
+      begun session.calls (new_station session.post session.client) session.after session.talked session.times timed.hold place number stamp begins
 
   pub session-released : (session : TimedSession gives failed says) (number stamp begun released : ℕ) → IsTimed gives failed says session → IsCommitted session.calls number stamp begun released → stamp < (times_at session.times released).read
   session-released session number stamp place later timed committed =
-      released session.calls (record { post = session.post; client = session.client; book = [] }) session.after session.talked 0 session.times timed.in_order timed.hold tt number stamp place later committed.begins committed.releases committed.later
+      released session.calls (new_station session.post session.client) session.after session.talked 0 session.times timed.in_order timed.hold tt number stamp place later committed.begins committed.releases committed.later
 
   pub session-within : (session : TimedSession gives failed says) (commit : Commit) → IsTimed gives failed says session → IsSeen session.calls session.times commit → IsWithin commit
   session-within session commit timed seen =

@@ -17,6 +17,7 @@ use Rattle.tt_session.specs.Desk.{Queues}
 use Rattle.tt_session.specs.declared.calls.Call.TheVariants.{Begin, Pass}
 use Rattle.tt_station.specs.Station.{PostState, StationState, Allows, CommitsAt, Keeps, new_station, id_at}
 use Rattle.tt_station.specs.Fault.{number_of}
+use Rattle.tt_station.proofs.Leasing.{stamps_whole}
 use Rattle.tt_station.specs.declared.faults.StationFault.TheVariants.{FloorAboveCap}
 use Rattle.tt_order.specs.Timed.{TimedSession, IsTimed, times_at}
 use Rattle.tt_order.specs.Order.{BeginsAt, IsCommitted}
@@ -82,7 +83,7 @@ abbrev seat_after : ℕ → SeatState
 seat_after stamp = record seat { seen = given_at stamp ∷ []; own = given_at stamp ∷ [] }
 
 abbrev begun_with : ℕ → StationState (Unit {0}) (Unit {0})
-begun_with stamp = record { post = record post { seat = seat_after stamp }; client = tt; book = Queued (id_at 1) stamp ∷ [] }
+begun_with stamp = record { post = record post { seat = seat_after stamp }; client = tt; lease = whole; book = Queued (id_at 1) stamp ∷ [] }
 
 gives_at : (stamp : ℕ) → stamp ≤ 3000 → Gives seat (seat_after stamp) stamp 0 whole stamp
 gives_at stamp early =
@@ -111,10 +112,14 @@ begins_at clock early = record {
   lease = refl;
   ahead = refl;
   client = refl;
+  own = refl;
   looked = Ok (read_at clock);
   looks = looks_at clock early;
-  rest = subst (λ (capped : Bool). MatchBool capped (◌≡◌ {A = Result ℕ ℕ} (Ok (1008 + clock)) (Err (number_of FloorAboveCap)) × Keeps begin (begun_with (1008 + clock))) (CommitsAt begin 1 0 (read_at clock) (Ok (1008 + clock)) (begun_with (1008 + clock)))) (sym (below_cap clock))
-      (Ok (1008 + clock), (λ far. omega (arith, far), gives_at (1008 + clock) (omega arith), omega arith, (omega arith, omega arith)), (Ok tt, queues_at (1008 + clock), refl));
+  rest = subst (λ (capped : Bool). MatchBool capped (◌≡◌ {A = Result ℕ ℕ} (Ok (1008 + clock)) (Err (number_of FloorAboveCap)) × Keeps begin (begun_with (1008 + clock))) (CommitsAt begin 1 0 (read_at clock) (Ok (1008 + clock)) (begun_with (1008 + clock)))) (sym (below_cap clock)) (
+    Ok (1008 + clock),
+    stamps_whole 0 whole (read_at clock) seat (Ok (1008 + clock)) (seat_after (1008 + clock)) (record { ordered = omega arith; in_time = omega arith }) (λ far. omega (arith, far), gives_at (1008 + clock) (omega arith), omega arith, (omega arith, omega arith)),
+    (Ok tt, queues_at (1008 + clock), refl),
+  );
 }
 
 -- ---- machine 0: its commit begins when its clock shows 10, and is released when it shows 30
@@ -129,6 +134,7 @@ passes = record {
   lease = refl;
   ahead = refl;
   client = refl;
+  own = refl;
   looked = Ok (read_at 30);
   looks = looks_at 30 (omega arith);
   rest = (refl, refl, (refl, omega arith));

@@ -2,7 +2,7 @@
 use Rattle.std.specs.Prelude.{◌≡◌, ℕ, ◌<◌, ◌≤◌, List, true, Bool, Option, Some, Ok, slice_get}
 use Rattle.tt_judge.specs.declared.history.Commit.{Commit}
 use Rattle.tt_session.specs.declared.calls.Call.{Call}
-use Rattle.tt_session.specs.declared.calls.Call.TheVariants.{Begin, Pass}
+use Rattle.tt_session.specs.declared.calls.Call.TheVariants.{Begin, Lease, Pass}
 use Rattle.tt_stamp.specs.Stamping.{SeatState, IsLegalRun, Continues, is_in}
 use Rattle.tt_stamp.specs.declared.stampings.Stamping.{Stamping}
 use Rattle.tt_order.specs.Timed.{CallTimes, times_at, TimedSession, IsTimed}
@@ -10,6 +10,14 @@ use Rattle.tt_order.specs.Timed.{CallTimes, times_at, TimedSession, IsTimed}
 -- the call at this place began the commit with this number, and answered this stamp
 abbrev pub BeginsAt : List Call → ℕ → ℕ → ℕ → Type 0
 BeginsAt calls place number stamp = (floor : ℕ) × (slice_get calls place ≡ Some (Begin number floor (Ok stamp)))
+
+-- the call at this place set the lease of its session to these ends
+abbrev pub LeasesAt : List Call → ℕ → ℕ → ℕ → Type 0
+LeasesAt calls place lo hi = slice_get calls place ≡ Some (Lease lo hi (Ok tt))
+
+-- no call between these two places set a lease
+abbrev pub NoLeaseBetween : List Call → ℕ → ℕ → Type 0
+NoLeaseBetween calls place later = (between lo hi : ℕ) → place < between → between < later → LeasesAt calls between lo hi → ⊥
 
 -- the call at this place answered that the commit with this number is released
 abbrev pub ReleasesAt : List Call → ℕ → ℕ → Type 0

@@ -1,10 +1,11 @@
 -- A session of a station, with the true times of its calls, in nanoseconds.
-use Rattle.std.specs.Prelude.{◌≡◌, ℕ, ◌≤◌, List, [], ◌∷◌, Bool, Option, Result, IfOk, slice_index_or}
+use Rattle.std.specs.Prelude.{◌≡◌, ℕ, ◌≤◌, List, [], ◌∷◌, Bool, Option, Result, Err, IfOk, slice_index_or}
 use Rattle.tt_span.specs.Interval.{Interval, Holds}
 use Rattle.tt_publish.specs.declared.faults.ReadFault.{ReadFault}
+use Rattle.tt_publish.specs.declared.faults.ReadFault.TheVariants.{Nothing}
 use Rattle.tt_session.specs.Conversation.{Conversation}
 use Rattle.tt_session.specs.declared.calls.Call.{Call}
-use Rattle.tt_session.specs.declared.calls.Call.TheVariants.{Now, Begin, Pass}
+use Rattle.tt_session.specs.declared.calls.Call.TheVariants.{Now, Begin, Lease, Pass}
 use Rattle.tt_session.specs.declared.serving.Served.{Served}
 use Rattle.tt_station.specs.Station.{PostState, StationState, new_station, Allows, ServesSession, BreaksSession}
 
@@ -23,10 +24,11 @@ abbrev pub AreInOrder : ℕ → List CallTimes → Type 0
 AreInOrder from [] = Unit {0}
 AreInOrder from (times ∷ later) = (from ≤ times.came) × (times.came ≤ times.read) × (times.read ≤ times.answered) × AreInOrder times.answered later
 
--- the reading that an allowed call took, or why it took none
+-- the reading that an allowed call took, or why it took none; a lease takes none, as where nothing was published
 abbrev pub looked_of : {C V : Type 0} (gives : C → Option ℕ → C → Type 0) (failed : C → ℕ) (says : V → Bool → Type 0) (before : StationState C V) (call : Call) (after : StationState C V) → Allows gives failed says before call after → Result Interval ReadFault
 looked_of gives failed says before (Now answer) after allowed = allowed.looked
 looked_of gives failed says before (Begin number floor answer) after allowed = allowed.looked
+looked_of gives failed says before (Lease lo hi answer) after allowed = Err Nothing
 looked_of gives failed says before (Pass number answer) after allowed = allowed.looked
 
 -- each reading that the calls of a conversation took holds the true time at which it was taken; each call has its times

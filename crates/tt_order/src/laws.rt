@@ -1,6 +1,7 @@
-//! The laws of sessions, of their replies, of the order of their commits, and of the stamps of one sequencer.
+//! The laws of sessions, of their leases and replies, of the order of their commits, and of the stamps of one sequencer.
 
 ghost use Rattle.std.specs.Prelude.{◌≡◌, ℕ, ◌<◌, ◌≤◌, List, ◌∷◌, ◌++◌, Option, None, All};
+ghost use Rattle.tt_span.specs.Interval.{Holds};
 ghost use Rattle.tt_judge.specs.Consistency.{IsConsistent};
 ghost use Rattle.tt_judge.specs.declared.history.Commit.{Commit};
 ghost use Rattle.tt_session.specs.Answers.{AnswersLines};
@@ -11,7 +12,7 @@ ghost use Rattle.tt_session.specs.declared.serving.Served.{Served};
 ghost use Rattle.tt_stamp.specs.Stamping.{Continues};
 ghost use Rattle.tt_station.specs.Station.{PostState, ServesSession, BreaksSession};
 ghost use Rattle.tt_order.specs.Timed.{CallTimes, TimedSession, IsTimed, times_at, served_at, broken_at};
-ghost use Rattle.tt_order.specs.Order.{BeginsAt, ReleasesAt, IsCommitted, IsSeen, IsSeenAtSome, IsWithin, ShareSequencer};
+ghost use Rattle.tt_order.specs.Order.{BeginsAt, ReleasesAt, LeasesAt, NoLeaseBetween, IsCommitted, IsSeen, IsSeenAtSome, IsWithin, ShareSequencer};
 ghost use Rattle.tt_order.specs.Told.{IsTold};
 
 use tt_publish::Clock;
@@ -54,6 +55,19 @@ pub fn session_laws<C: Clock, V: Presence>()
         (times : List CallTimes) (commit : Commit) →
         let session = broken_at C.gives C.failed V.says waits left left' taken taken' client post post' that times in
         IsTimed C.gives C.failed V.says session → IsSeen session.calls session.times commit → IsWithin commit }
+{}
+
+/// Laws of the leases of a session. Nothing is assumed about readings and times.
+pub fn lease_laws<C: Clock, V: Presence>()
+    // If a call set the lease of the session, then each stamp after it lies in this lease, as long as no other lease is
+    // set.
+    ensures leased { (session : TimedSession C.gives C.failed V.says) (place lo hi later number stamp : ℕ) →
+        LeasesAt session.calls place lo hi → BeginsAt session.calls later number stamp → place < later →
+        NoLeaseBetween session.calls place later → Holds (record { lo = lo; hi = hi }) stamp }
+
+    // Each stamp of a session lies in the lease of the machine, whatever lease the session sets.
+    ensures machine { (session : TimedSession C.gives C.failed V.says) (place number stamp : ℕ) →
+        BeginsAt session.calls place number stamp → Holds session.post.lease stamp }
 {}
 
 /// Laws of the replies of a session.

@@ -3,14 +3,14 @@ use Rattle.std.specs.Prelude.{ℕ}
 use Rattle.tt_epoch.specs.Fault.{number_of as epoch_number_of}
 use Rattle.tt_publish.specs.Fault.{publish_number_of}
 use Rattle.tt_server.specs.declared.faults.ServerFault.{ServerFault}
-use Rattle.tt_server.specs.declared.faults.ServerFault.TheVariants.{CannotListen, CannotPoll, CannotListenSocket, TooFewWorkers, Epoch, Publish, NoThread, Memory}
+use Rattle.tt_server.specs.declared.faults.ServerFault.TheVariants.{CannotListen, CannotPoll, CannotListenSocket, NotSocket, Epoch, Publish, NoThread, Memory}
 
 -- the number of each refusal
 abbrev pub number_of : ServerFault → ℕ
 number_of CannotListen = 1807
 number_of CannotPoll = 1808
 number_of CannotListenSocket = 1809
-number_of TooFewWorkers = 1810
+number_of NotSocket = 1819
 number_of (Epoch fault) = epoch_number_of fault
 number_of (Publish fault) = publish_number_of fault
 number_of NoThread = 1816

@@ -1,8 +1,6 @@
 pub mod Fault
 pub mod Tally
 pub mod Share
-pub mod Log
 pub mod Mode
 pub mod Round
 pub mod Outline
-pub mod Session

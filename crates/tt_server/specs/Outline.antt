@@ -1,5 +1,5 @@
 -- What a machine with these settings would do, as text.
-use Rattle.std.specs.Prelude.{codes, ℕ, ◌+◌, ◌*◌, List, [], ◌∷◌, ◌++◌, Option, Some, None}
+use Rattle.std.specs.Prelude.{codes, ℕ, ◌+◌, ◌*◌, List, [], ◌∷◌, ◌++◌, Option, Some, None, is_some, Bool, true, false}
 use Rattle.std.specs.List.{flat_map}
 use Rattle.std.specs.Fmt.{decimal}
 use Rattle.tt_span.specs.Drift.{widening}
@@ -31,9 +31,11 @@ path_line word None = []
 abbrev pub growth_of : Pauses → ℕ → ℕ
 growth_of pauses drift = 2 * widening drift (period_of pauses)
 
--- the threads of so many workers, the daemon's, and the one that waits for the end of standard input
-abbrev pub threads_of : ℕ → ℕ
-threads_of workers = workers + 2
+-- the threads of so many workers, and of the daemon, the acceptor, the log, the status where there is one, and the end of
+-- standard input
+abbrev pub threads_of : ℕ → Bool → ℕ
+threads_of workers true = workers + 5
+threads_of workers false = workers + 4
 
 -- an estimate of the memory, in bytes
 abbrev pub memory_of : ℕ → ℕ
@@ -55,10 +57,10 @@ config_text c =
     ++ line_of (codes "drift") (c.drift ∷ [])
 
 -- how its readings grow, its threads, and its memory
-unfoldable pub sums_text : Pauses → Configuration → List ℕ
-sums_text p c =
+unfoldable pub sums_text : Pauses → Configuration → Bool → List ℕ
+sums_text p c has_status =
     line_of (codes "growth") (growth_of p c.drift ∷ [])
-    ++ line_of (codes "threads") (threads_of c.workers ∷ [])
+    ++ line_of (codes "threads") (threads_of c.workers has_status ∷ [])
     ++ line_of (codes "memory") (memory_of c.workers ∷ [])
 
 -- the lease
@@ -71,7 +73,7 @@ numbers_text s =
     config_text s.config
     ++ pauses_text s.pauses
     ++ lease_text s.lease
-    ++ sums_text s.pauses s.config
+    ++ sums_text s.pauses s.config (is_some s.status)
 
 -- its files
 unfoldable pub files_text : Meaning → List ℕ

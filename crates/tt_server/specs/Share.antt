@@ -1,10 +1,13 @@
 -- What is shared with the other processes of the machine.
-use Rattle.std.specs.Prelude.{ℕ, ◌+◌, ◌-◌, ◌*◌, ◌^◌, min}
+use Rattle.std.specs.Prelude.{ℕ, ◌+◌, ◌-◌, ◌*◌, ◌^◌, min, max, nat_le, Bool, true, false, Option, Some, None}
 use Rattle.tt_span.specs.Time.{max_time}
 use Rattle.tt_daemon.specs.Publication.{Publication}
 use Rattle.tt_publish.specs.Reading.{fused_span_of}
 use Rattle.tt_settings.specs.declared.plans.Pauses.{Pauses}
 use Rattle.tt_shared.specs.declared.slots.SharedSpan.{SharedSpan}
+use Rattle.tt_status.specs.declared.lines.Event.{Event}
+use Rattle.tt_status.specs.declared.lines.Event.TheVariants.{SharingEnded, SharingResumed}
+use Rattle.tt_server.specs.declared.sharing.Break.{Break}
 
 -- how long it is from one publication to the next at most, where the round between them waits as long as it may
 abbrev pub period_of : Pauses → ℕ
@@ -18,3 +21,28 @@ fresh_until clock period = min (clock + 3 * period) (2 ^ 64 - 1)
 abbrev pub shared_of : Publication → ℕ → ℕ → Pauses → ℕ → SharedSpan
 shared_of p epoch number pauses drift =
     record { fused = fused_span_of p; valid_until = fresh_until p.clock (period_of pauses); epoch = epoch; number = number; drift = drift }
+
+-- the pause before the file is tried again: a round's at first, then twice the last one, and at most thirty seconds
+abbrev pub retry_after : ℕ → ℕ → ℕ
+retry_after last poll = min (max (2 * last) poll) 30000000000
+
+-- the file is written unless it failed, and tried again once the pause after that is over
+abbrev pub is_due : Option Break → ℕ → Bool
+is_due (Some broken) now = nat_le broken.again now
+is_due None now = true
+
+-- the break after a try that failed with the pause before it
+abbrev pub break_with : ℕ → ℕ → Break
+break_with pause now = record { pause = pause; again = min (now + pause) (2 ^ 64 - 1) }
+
+-- the break after a try that failed
+abbrev pub break_after : Option Break → ℕ → ℕ → Break
+break_after (Some broken) poll now = break_with (retry_after broken.pause poll) now
+break_after None poll now = break_with (retry_after 0 poll) now
+
+-- that it ended is logged once, and that it goes on again once
+abbrev pub told_of : Bool → Option ℕ → Option Event
+told_of true (Some number) = None
+told_of false (Some number) = Some (SharingEnded number)
+told_of true None = Some SharingResumed
+told_of false None = None

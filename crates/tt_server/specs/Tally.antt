@@ -49,6 +49,11 @@ event_of (Failed node.ClockFailed) published = Some ClockBack
 event_of (Failed (node.Publish publishing.ClockBack)) published = Some ClockBack
 event_of (Failed fault) published = Some (RoundFailed (node_number_of fault))
 
+-- the round ended because its link failed
+abbrev pub has_link_failed : Outcome → Bool
+has_link_failed (Failed node.LinkFailed) = true
+has_link_failed outcome = false
+
 -- what the status shows of a publication
 abbrev pub shown_of : Publication → ℕ → Shown
 shown_of p suspects = record { clock = p.clock; width = p.span.hi - p.span.lo; suspects = suspects }
@@ -66,7 +71,7 @@ one_if false = 0
 -- the numbers of a status
 abbrev pub status_with : ℕ → ℕ → ℕ → Tally → Shown → Bool → Work → ℕ → Status
 status_with epoch sources known t shown sharing work now =
-    record { epoch = epoch; width = shown.width; age = now - shown.clock; sources = sources; known = known; suspects = shown.suspects; rounds = t.rounds; published = t.published; refused_answers = t.refused_answers; no_point = t.no_point; too_few = t.too_few; sharing = one_if sharing; sessions = work.sessions; lines = work.lines; refused_lines = work.refused_lines }
+    record { epoch = epoch; width = shown.width; age = now - shown.clock; sources = sources; known = known; suspects = shown.suspects; rounds = t.rounds; published = t.published; refused_answers = t.refused_answers; no_point = t.no_point; too_few = t.too_few; sharing = one_if sharing; sessions = work.sessions; lines = work.lines; refused_lines = work.refused_lines; unsent = work.unsent; waiting = work.waiting; left_out = work.left_out }
 
 abbrev pub status_of : ℕ → ℕ → ℕ → Tally → Option Shown → Bool → Work → ℕ → Status
 status_of epoch sources known t shown sharing work now = status_with epoch sources known t (shown_or_none shown now) sharing work now

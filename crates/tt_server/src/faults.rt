@@ -7,8 +7,7 @@ use thiserror::Error;
 use tt_epoch::EpochFault;
 use tt_publish::PublishFault;
 
-/// Why a machine does not serve. Each fault comes before the first client is served. Only before `NoThread` may the
-/// workers that were started have served some.
+/// Why a machine does not serve. Each fault comes before the first client is served.
 #[derive(Clone, Copy, Debug, PartialEq, Eq, Error)]
 pub enum ServerFault {
     #[error("the address can't be listened at")]
@@ -17,8 +16,8 @@ pub enum ServerFault {
     CannotPoll,
     #[error("the Unix socket can't be listened at")]
     CannotListenSocket,
-    #[error("a machine with a Unix socket has two workers at least")]
-    TooFewWorkers,
+    #[error("what is at the path of the Unix socket is not a socket")]
+    NotSocket,
     #[error("no epoch: {0}")]
     Epoch(EpochFault),
     #[error("nothing can be published: {0}")]
@@ -30,9 +29,8 @@ pub enum ServerFault {
 }
 
 impl ServerFault {
-    /// The number of the fault: 1807 `CannotListen`, 1808 `CannotPoll`, 1809 `CannotListenSocket`,
-    /// 1810 `TooFewWorkers`, the number of the inner fault for `Epoch` (1811 to 1815, 1) and `Publish`,
-    /// 1816 `NoThread`, 1 `Memory`.
+    /// The number of the fault: 1807 `CannotListen`, 1808 `CannotPoll`, 1809 `CannotListenSocket`, 1819 `NotSocket`, the
+    /// number of the inner fault for `Epoch` (1811 to 1815, 1) and `Publish`, 1816 `NoThread`, 1 `Memory`.
     pub fn number(&self) -> u16
         ensures value { result ≡ number_of self.now }
     {
@@ -40,7 +38,7 @@ impl ServerFault {
             ServerFault::CannotListen => 1807,
             ServerFault::CannotPoll => 1808,
             ServerFault::CannotListenSocket => 1809,
-            ServerFault::TooFewWorkers => 1810,
+            ServerFault::NotSocket => 1819,
             ServerFault::Epoch(fault) => fault.number(),
             ServerFault::Publish(fault) => fault.number(),
             ServerFault::NoThread => 1816,

@@ -1,16 +1,15 @@
 //! What the threads of a machine share.
 
-use crate::clients::Counts;
-use crate::doors::Door;
-use crate::logs::{Limits, write_event};
 use crate::tallies::Work;
+use mio::Waker;
 use std::alloc::Global;
-use std::io::Eprint;
-use std::sync::atomic::{AtomicBool, Ordering};
-use std::sync::{Mutex, Wait};
+use std::sync::Wait;
+use std::sync::atomic::Ordering;
 use std::thread::Parker;
-use std::time::Clock as SystemClock;
+use std::time::{Clock as SystemClock, Duration};
+use tt_connections::{Counts, Doors};
 use tt_daemon::Config;
+use tt_report::Reporter;
 use tt_settings::Pauses;
 use tt_span::Span;
 use tt_status::Event;
@@ -27,42 +26,57 @@ pub(crate) struct Life {
 
 /// What the threads of a machine share, besides the runtime handle.
 #[derive(Drop)]
-pub(crate) struct Hall {
+pub(crate) struct Hall<'a> {
     pub(crate) life: Life,
-    pub(crate) door: Door,
-    pub(crate) side_door: Option<Door>,
-    pub(crate) ended: AtomicBool,
+    pub(crate) doors: &'a Doors,
     pub(crate) counts: Counts,
+    /// Writes the log and the status, in a thread of its own.
+    pub(crate) reporter: Reporter,
     /// Makes the pauses of the daemon. The end of the machine wakes it.
-    pub(crate) pause: Parker,
-    pub(crate) limits: Mutex<Limits>,
+    pause: Parker,
+    /// Ends the wait of the daemon's link.
+    link: Waker,
 }
 
-impl Hall {
-    /// The hall of a machine whose clients connect here.
-    pub(crate) fn new(life: Life, door: Door, side_door: Option<Door>) -> Hall {
+impl<'a> Hall<'a> {
+    /// The hall of a machine whose clients connect at these doors. `link` ends the waits of its daemon's link.
+    pub(crate) fn new(life: Life, doors: &'a Doors, reporter: Reporter, link: Waker) -> Hall<'a> {
         Hall {
             life,
-            door,
-            side_door,
-            ended: AtomicBool::new(false),
+            doors,
             counts: Counts::new(),
+            reporter,
             pause: Parker::new(),
-            limits: Mutex::new(Limits::new()),
+            link,
         }
     }
 
     /// Whether the machine has to end.
     pub(crate) fn has_ended(&self) -> bool {
-        self.ended.load(Ordering::SeqCst)
+        self.doors.ended.load(Ordering::SeqCst)
     }
 
-    /// What the sessions have done so far.
-    pub(crate) fn work(&self) -> Work {
+    /// Ends the machine: wakes the acceptor, the workers that wait for a client, and the daemon, also within a round.
+    pub(crate) fn end<R: Wait>(&self, rt: &R) {
+        self.doors.end(rt);
+        let _ = self.link.wake();
+        self.pause.unpark();
+    }
+
+    /// A pause of the daemon, of `pause` nanoseconds. The end of the machine ends it.
+    pub(crate) fn rest<R: Wait + SystemClock>(&self, rt: &R, pause: u64) {
+        self.pause.park_timeout(rt, Duration::from_nanos(pause));
+    }
+
+    /// What the sessions have done so far, what waits, and what was left out. `unsent` packets could not be sent so far.
+    pub(crate) fn work(&self, unsent: u64) -> Work {
         Work {
             sessions: self.counts.sessions.load(Ordering::SeqCst),
             lines: self.counts.lines.load(Ordering::SeqCst),
             refused_lines: self.counts.refused.load(Ordering::SeqCst),
+            unsent,
+            waiting: self.doors.waiting(),
+            left_out: self.reporter.left_out(),
         }
     }
 }
@@ -71,7 +85,7 @@ impl Hall {
 pub(crate) struct Shared<'a, R> {
     pub(crate) rt: &'a R,
     pub(crate) alloc: Global,
-    pub(crate) hall: &'a Hall,
+    pub(crate) hall: &'a Hall<'a>,
 }
 
 impl<'a, R> Clone for Shared<'a, R> {
@@ -86,15 +100,7 @@ impl<'a, R> Clone for Shared<'a, R> {
 
 impl<'a, R> Copy for Shared<'a, R> {}
 
-/// Logs an event, unless a line of its kind was logged less than ten seconds before.
-pub(crate) fn say<R: Wait + SystemClock + Eprint>(shared: Shared<'_, R>, event: Event) {
-    let (rt, hall) = (shared.rt, shared.hall);
-    let now = match rt.monotonic() {
-        Ok(elapsed) => u64::try_from(elapsed.as_nanos()).unwrap_or(u64::MAX),
-        Err(_) => 0,
-    };
-    let admitted = hall.limits.lock(rt).admit(event, now);
-    if let Some(left_out) = admitted {
-        write_event(rt, shared.alloc, event, left_out);
-    }
+/// Hands an event to the reporter, which logs it. It does not wait.
+pub(crate) fn say<R: Wait + SystemClock>(shared: Shared<'_, R>, event: Event) {
+    shared.hall.reporter.log(shared.rt, event);
 }

@@ -5,7 +5,7 @@ ghost use Rattle.std.specs.Prelude.{◌≡◌};
 use tt_node::{Link, LinkFault, PACKET_LEN};
 
 /// How many peers are remembered: as many as a machine can have sources.
-const PEERS: usize = 16;
+pub(crate) const PEERS: usize = 16;
 
 /// A link that remembers the peers that sent a packet since the last call of `forget`.
 #[derive(Drop)]
@@ -21,6 +21,16 @@ impl<L> HearingLink<L> {
             link,
             heard: [false; PEERS],
         }
+    }
+
+    /// The link within.
+    pub(crate) fn inner(&self) -> &L {
+        &self.link
+    }
+
+    /// The link within, to change it.
+    pub(crate) fn inner_mut(&mut self) -> &mut L {
+        &mut self.link
     }
 
     /// Whether a packet came from this peer.

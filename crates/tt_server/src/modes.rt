@@ -6,7 +6,6 @@ ghost use Rattle.tt_server.specs.Mode.{IsTight};
 use crate::halls::{Shared, say};
 use std::alloc::Global;
 use std::fs::Files;
-use std::io::Eprint;
 use std::os::unix::fs::PermissionsExt;
 use std::sync::Wait;
 use std::time::Clock as SystemClock;
@@ -60,7 +59,7 @@ impl Loose {
     }
 
     /// Logs one line for each of them.
-    pub(crate) fn say_in<R: Wait + SystemClock + Eprint>(self, shared: Shared<'_, R>) {
+    pub(crate) fn say_in<R: Wait + SystemClock>(self, shared: Shared<'_, R>) {
         if self.state {
             say(shared, Event::StateLoose);
         }

@@ -65,13 +65,14 @@ fn growth_of(pauses: &Pauses, drift: Drift) -> u64
     2 * drift.widen(period_of(pauses))
 }
 
-/// The most threads of a machine with `workers` workers: the threads of the workers, the thread of the daemon, and one
+/// The most threads of a machine with `workers` workers: those of the workers, the thread of the daemon, the one that
+/// accepts connections, the one that writes the log, the one that writes the status if there is a status file, and one
 /// that waits for the end of standard input.
-fn threads_of(workers: u64) -> u64
+fn threads_of(workers: u64, has_status: bool) -> u64
     requires { workers ≤ 32 }
-    ensures { result ≡ threads_of workers }
+    ensures { result ≡ threads_of workers has_status }
 {
-    workers + 2
+    if has_status { workers + 5 } else { workers + 4 }
 }
 
 /// The most memory that a machine with `workers` workers takes, in bytes, as far as was observed.
@@ -105,13 +106,18 @@ fn push_config(text: &mut String, config: &Config) -> Result<(), AllocError>
 
 /// Adds the lines that are computed from the settings: how readings grow, the threads, and the memory.
 #[tactic(auto, unfolding(crate::specs::Outline::sums_text))]
-fn push_sums(text: &mut String, pauses: &Pauses, config: &Config) -> Result<(), AllocError>
-    ensures { OnOk result (string_bytes text.new ≡ string_bytes text.old ++ sums_text pauses.now config.now) }
+fn push_sums(
+    text: &mut String,
+    pauses: &Pauses,
+    config: &Config,
+    has_status: bool,
+) -> Result<(), AllocError>
+    ensures { OnOk result (string_bytes text.new ≡ string_bytes text.old ++ sums_text pauses.now config.now has_status) }
 {
     let growth = growth_of(pauses, config.drift());
     let workers = config.workers() as u64;
     push_line(text, "growth", &[growth])?;
-    push_line(text, "threads", &[threads_of(workers)])?;
+    push_line(text, "threads", &[threads_of(workers, has_status)])?;
     push_line(text, "memory", &[memory_of(workers)])
 }
 
@@ -133,7 +139,7 @@ fn push_numbers(text: &mut String, settings: &Settings) -> Result<(), AllocError
     push_config(text, &config)?;
     push_pauses(text, &pauses)?;
     push_lease(text, &settings.lease())?;
-    push_sums(text, &pauses, &config)
+    push_sums(text, &pauses, &config, settings.status().is_some())
 }
 
 /// Adds the lines of the files of a machine.

@@ -1,130 +1,73 @@
-//! The daemon: one round after the other, and what is logged, written and shared after each.
+//! The daemon: one round after the other, and what is logged, shown and shared after each.
 
 ghost use Rattle.std.specs.Prelude.{◌≡◌};
-ghost use Rattle.tt_server.specs.Round.{turns_of, first_pause_of, waits_on};
 
-use crate::clocks::MachineClock;
 use crate::halls::{Shared, say};
-use crate::links::HearingLink;
+use crate::links::{HearingLink, PEERS};
+use crate::paces::{pause_of, renewal_after, turns_of, waits_on};
 use crate::shares::{ended_at, shared_of};
-use crate::statuses::StatusFile;
-use crate::tallies::{Outcome, Shown, Tally, event_of, refused_answers, shown_of, status_of};
+use crate::sharing::Share;
+use crate::tallies::{
+    Outcome, Shown, Tally, event_of, has_link_failed, refused_answers, shown_of, status_of,
+};
 use std::fs::{File, Files};
-use std::io::Eprint;
+use std::net::{Ipv4Addr, Net, UdpSocket};
 use std::sync::Wait;
-use std::time::{Clock as SystemClock, Duration};
+use std::time::Clock as SystemClock;
+use tt_connections::MachineClock;
 use tt_daemon::{Daemon, Fused};
 use tt_fuse::suspects;
-use tt_node::{Link, daemon_rounds};
+use tt_node::{RoundLink, daemon_rounds};
 use tt_publish::{Clock, Teller};
-use tt_shared::{FilePlace, SharedSpan, SharedTeller};
 use tt_status::Event;
 
-/// The longest time that clients wait for the first publication, in nanoseconds: two seconds.
-const FIRST: u64 = 2_000_000_000;
-
-/// The longest pause before the first publication, in nanoseconds.
-const FIRST_PAUSE: u64 = 100_000_000;
+/// The number of the fault of a link that failed.
+const LINK_FAILED: u64 = 1501;
 
 /// The state of the daemon's thread.
 #[derive(Drop)]
-pub(crate) struct Desk<L> {
+pub(crate) struct Desk<'a, R> {
     daemon: Daemon,
-    link: HearingLink<L>,
+    link: HearingLink<RoundLink<'a, R>>,
     tally: Tally,
     shown: Option<Shown>,
-    share: Share,
-    status: Option<StatusFile>,
+    share: Share<'a, R>,
+    /// The pause before the socket is made anew, in nanoseconds; 0 if it is not.
+    renewal: u64,
+    /// For each source, how many packets to it could not be sent so far.
+    unsent: [u64; PEERS],
 }
 
-impl<L> Desk<L> {
+impl<'a, R> Desk<'a, R> {
     /// The state of the daemon's thread at its start.
-    pub(crate) fn new(
-        daemon: Daemon,
-        link: L,
-        teller: Option<SharedTeller<FilePlace>>,
-        status: Option<StatusFile>,
-    ) -> Desk<L> {
+    pub(crate) fn new(daemon: Daemon, link: RoundLink<'a, R>, share: Share<'a, R>) -> Desk<'a, R> {
         Desk {
             daemon,
             link: HearingLink::new(link),
             tally: Tally::new(),
             shown: None,
-            share: Share { teller, last: None },
-            status,
+            share,
+            renewal: 0,
+            unsent: [0; PEERS],
         }
     }
-}
 
-/// The writer of the shared file, as long as it can be written, and the last publication in the file.
-#[derive(Drop)]
-struct Share {
-    teller: Option<SharedTeller<FilePlace>>,
-    last: Option<SharedSpan>,
-}
-
-impl Share {
-    /// Writes a publication into the shared file. If the file can't be written, the sharing ends, and it answers the
-    /// number of the fault.
-    fn put(&mut self, span: SharedSpan) -> Option<u16> {
-        let Some(teller) = self.teller.as_mut() else {
-            return None;
-        };
-        match teller.publish(&span) {
-            Ok(()) => {
-                self.last = Some(span);
-                None
-            }
-            Err(fault) => {
-                self.teller = None;
-                Some(fault.number())
-            }
+    /// How many packets could not be sent so far, to all sources together.
+    fn unsent_total(&self) -> u64 {
+        let mut total = 0_u64;
+        for count in &self.unsent {
+            total = total.saturating_add(*count);
         }
-    }
-}
-
-/// The number of turns of a round with `sources` sources. It is more than one for each source, so that unexpected
-/// packets do not take the turns that answers need.
-fn turns_of(sources: usize) -> u32
-    ensures { result ≡ turns_of sources }
-{
-    match u32::try_from(sources) {
-        Ok(sources) => sources.saturating_mul(4),
-        Err(_) => u32::MAX,
-    }
-}
-
-/// The pause before the first publication, in nanoseconds: at most a tenth of a second.
-fn first_pause_of(poll: u64) -> u64
-    ensures { result ≡ first_pause_of poll }
-{
-    poll.min(FIRST_PAUSE)
-}
-
-/// Whether clients still wait for the first publication when the clock shows `now`, in nanoseconds.
-fn waits_on(tally: &Tally, began: u64, now: u64) -> bool
-    ensures { result ≡ waits_on tally.now began now }
-{
-    tally.published == 0 && now.saturating_sub(began) < FIRST
-}
-
-/// Shares a publication.
-fn put<R: Wait + SystemClock + Eprint>(shared: Shared<'_, R>, into: &mut Share, span: SharedSpan) {
-    if let Some(number) = into.put(span) {
-        say(
-            shared,
-            Event::SharingEnded {
-                number: u64::from(number),
-            },
-        );
+        total
     }
 }
 
 /// Tells of a publication: logs its suspects, keeps what the status shows of it, and shares it.
-fn tell<R: Wait + SystemClock + Eprint, L>(
+fn tell<R: Wait + SystemClock + Files<File = File>>(
     shared: Shared<'_, R>,
-    desk: &mut Desk<L>,
+    desk: &mut Desk<'_, R>,
     fused: &Fused,
+    now: u64,
 ) -> Outcome {
     let hall = shared.hall;
     let against = suspects(fused.spans(), &fused.span());
@@ -142,7 +85,7 @@ fn tell<R: Wait + SystemClock + Eprint, L>(
     let number = desk.tally.published.saturating_add(1);
     let drift = life.config.drift();
     let span = shared_of(fused, life.epoch, number, &life.pauses, drift);
-    put(shared, &mut desk.share, span);
+    desk.share.put(shared, span, now);
     Outcome::Published { width: shown.width }
 }
 
@@ -150,9 +93,9 @@ fn tell<R: Wait + SystemClock + Eprint, L>(
 ///
 /// The daemon and the clock are still as they were when the round fused. So the fusion that is made here again is the
 /// one that was published, or it is refused for the same reason.
-fn round<R: Wait + SystemClock + Eprint, L: Link>(
+fn round<R: Wait + SystemClock + Files<File = File>>(
     shared: Shared<'_, R>,
-    desk: &mut Desk<L>,
+    desk: &mut Desk<'_, R>,
     clock: &mut MachineClock<'_, R>,
     teller: &mut Teller,
 ) -> (Outcome, u64) {
@@ -169,7 +112,7 @@ fn round<R: Wait + SystemClock + Eprint, L: Link>(
     match did {
         Ok(did) => {
             let outcome = match desk.daemon.fuse(clock.last()) {
-                Ok(fused) => tell(shared, desk, &fused),
+                Ok(fused) => tell(shared, desk, &fused, clock.last()),
                 Err(fault) => Outcome::Refused(fault),
             };
             (outcome, refused_answers(&did))
@@ -178,11 +121,27 @@ fn round<R: Wait + SystemClock + Eprint, L: Link>(
     }
 }
 
-/// Logs a round: its outcome if the log has a line for it, the answers that were refused in it, and the sources that
-/// were silent.
-fn report<R: Wait + SystemClock + Eprint, L>(
+/// Logs the sources that were silent in a round, and those to which a packet could not be sent.
+fn report_sources<R: Wait + SystemClock>(shared: Shared<'_, R>, desk: &mut Desk<'_, R>) {
+    for source in 0..desk.daemon.config().sources().min(PEERS) {
+        let number = source as u64;
+        if !desk.link.heard(source) {
+            say(shared, Event::SourceSilent { source: number });
+        }
+        let unsent = desk.link.inner().unsent(source as u8);
+        if unsent > desk.unsent[source] {
+            say(shared, Event::SourceUnsent { source: number });
+        }
+        desk.unsent[source] = unsent;
+    }
+    desk.link.forget();
+}
+
+/// Logs a round: its outcome if the log has a line for it, the answers that were refused in it, and what became of its
+/// sources.
+fn report<R: Wait + SystemClock>(
     shared: Shared<'_, R>,
-    desk: &mut Desk<L>,
+    desk: &mut Desk<'_, R>,
     outcome: &Outcome,
     refused: u64,
 ) {
@@ -192,105 +151,102 @@ fn report<R: Wait + SystemClock + Eprint, L>(
     if refused > 0 {
         say(shared, Event::AnswersRefused { count: refused });
     }
-    for source in 0..desk.daemon.config().sources() {
-        if !desk.link.heard(source) {
-            say(
-                shared,
-                Event::SourceSilent {
-                    source: source as u64,
-                },
-            );
-        }
-    }
-    desk.link.forget();
+    report_sources(shared, desk);
 }
 
-/// Writes the status file, if there is one.
-fn show<R: Wait + SystemClock + Eprint + Files<File = File>, L>(
+/// Hands the status to the reporter.
+fn show<R: Wait + SystemClock + Files<File = File>>(
     shared: Shared<'_, R>,
-    desk: &Desk<L>,
+    desk: &Desk<'_, R>,
     clock: &mut MachineClock<'_, R>,
 ) {
-    let Some(file) = &desk.status else {
-        return;
-    };
+    let hall = shared.hall;
     let now = clock.read().unwrap_or(clock.last());
     let status = status_of(
-        shared.hall.life.epoch,
+        hall.life.epoch,
         desk.daemon.config().sources() as u64,
         desk.daemon.known() as u64,
         &desk.tally,
         desk.shown,
-        desk.share.teller.is_some(),
-        &shared.hall.work(),
+        desk.share.is_written(),
+        &hall.work(desk.unsent_total()),
         now,
     );
-    if file.write(shared.rt, shared.alloc, &status).is_err() {
-        say(shared, Event::StatusUnwritten);
-    }
+    hall.reporter.show(shared.rt, status);
 }
 
-/// Makes one round and does all that follows it, except the pause.
-fn go_round<R: Wait + SystemClock + Eprint + Files<File = File>, L: Link>(
+/// Makes one round and does all that follows it, except the pause. After the first publication clients are served.
+fn go_round<R: Wait + SystemClock + Files<File = File>>(
     shared: Shared<'_, R>,
-    desk: &mut Desk<L>,
+    desk: &mut Desk<'_, R>,
     clock: &mut MachineClock<'_, R>,
     teller: &mut Teller,
 ) {
+    let hall = shared.hall;
+    hall.reporter
+        .busy(clock.read().unwrap_or(clock.last()).max(1));
     let (outcome, refused) = round(shared, desk, clock, teller);
+    hall.reporter.idle();
     report(shared, desk, &outcome, refused);
+    let before = desk.tally.published;
     desk.tally = desk.tally.after(&outcome, refused);
+    if before == 0 && desk.tally.published > 0 {
+        hall.doors.open();
+    }
+    desk.renewal = renewal_after(has_link_failed(&outcome), desk.renewal);
     show(shared, desk, clock);
 }
 
-/// When the machine ends, shares that the last publication is no longer fresh.
-fn end<R: Wait + SystemClock + Eprint>(
-    shared: Shared<'_, R>,
-    share: &mut Share,
-    clock: &mut MachineClock<'_, R>,
-) {
-    let Some(last) = share.last else {
+/// Makes the socket of the polls anew after it failed. If this fails too, the old one is kept, and the next round tells.
+fn renew<R: Wait + SystemClock + Net>(shared: Shared<'_, R>, desk: &mut Desk<'_, R>) {
+    let Ok(socket) = UdpSocket::bind(shared.rt, (Ipv4Addr::LOCALHOST, 0)) else {
         return;
     };
-    let now = clock.read().unwrap_or(clock.last());
-    put(shared, share, ended_at(&last, now));
-}
-
-/// Makes rounds until something is published, for at most two seconds. Clients are not served before that.
-pub(crate) fn run_first<R: Wait + SystemClock + Eprint + Files<File = File>, L: Link>(
-    shared: Shared<'_, R>,
-    desk: &mut Desk<L>,
-    clock: &mut MachineClock<'_, R>,
-    teller: &mut Teller,
-) {
-    let (rt, hall) = (shared.rt, shared.hall);
-    let pause = Duration::from_nanos(first_pause_of(hall.life.pauses.poll));
-    let began = clock.read().unwrap_or(0);
-    for _ in 0..u32::MAX {
-        go_round(shared, desk, clock, teller);
-        if !waits_on(&desk.tally, began, clock.last()) {
-            return;
-        }
-        hall.pause.park_timeout(rt, pause);
+    if desk.link.inner_mut().renew(socket).is_ok() {
+        say(
+            shared,
+            Event::SocketRenewed {
+                number: LINK_FAILED,
+                pause: desk.renewal,
+            },
+        );
     }
 }
 
-/// Makes the rounds of the daemon until the machine ends, each after a pause.
-pub(crate) fn run_daemon<R: Wait + SystemClock + Eprint + Files<File = File>, L: Link>(
+/// When the machine ends, shares that the last publication is no longer fresh.
+fn end<R: Wait + SystemClock + Files<File = File>>(
     shared: Shared<'_, R>,
-    desk: &mut Desk<L>,
+    desk: &mut Desk<'_, R>,
+    clock: &mut MachineClock<'_, R>,
+) {
+    let Some(last) = desk.share.last() else {
+        return;
+    };
+    let now = clock.read().unwrap_or(clock.last());
+    desk.share.put(shared, ended_at(&last, now), now);
+}
+
+/// Makes the rounds of the daemon until the machine ends, each before a pause. After a round in which the socket failed,
+/// it is made anew after the pause.
+pub(crate) fn run_daemon<R: Wait + SystemClock + Files<File = File> + Net>(
+    shared: Shared<'_, R>,
+    desk: &mut Desk<'_, R>,
     clock: &mut MachineClock<'_, R>,
     teller: &mut Teller,
 ) {
     let (rt, hall) = (shared.rt, shared.hall);
-    let pause = Duration::from_nanos(hall.life.pauses.poll);
+    let began = clock.read().unwrap_or(0);
     for _ in rt.forever() {
-        hall.pause.park_timeout(rt, pause);
+        go_round(shared, desk, clock, teller);
+        let waits = waits_on(&desk.tally, began, clock.last());
+        hall.rest(rt, pause_of(desk.renewal, waits, hall.life.pauses.poll));
         if hall.has_ended() {
-            end(shared, &mut desk.share, clock);
+            end(shared, desk, clock);
             return;
         }
-        go_round(shared, desk, clock, teller);
+        if desk.renewal > 0 {
+            renew(shared, desk);
+        }
     }
     unreachable!()
 }

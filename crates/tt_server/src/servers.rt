@@ -3,35 +3,34 @@
 ghost use Rattle.std.specs.Prelude.{◌≡◌, ◌<◌, ◌≤◌, ◌+◌, IfErr};
 ghost use Rattle.tt_server.specs.Round.{side_workers_of};
 
-use crate::clocks::MachineClock;
-use crate::doors::Door;
 use crate::faults::ServerFault;
 use crate::halls::{Hall, Life, Shared, say};
 use crate::modes::Loose;
-use crate::rounds::{Desk, run_daemon, run_first};
-use crate::shares::folder_and_name;
-use crate::statuses::StatusFile;
+use crate::rounds::{Desk, run_daemon};
+use crate::starts::{
+    desk_of, front_of, link_to, publications_of, reporter_of, side_of, sights_of, watch_all,
+};
 use crate::workers::{Place, places_of, start_worker};
+use mio::Waker;
 use std::alloc::Global;
-use std::fs::{self, File, Files};
+use std::fs::{File, Files};
 use std::io::{Eprint, Input, Read};
-use std::net::{IpAddr, Ipv4Addr, Net, SocketAddr, TcpListener, TcpStream, UdpSocket};
+use std::net::{Net, TcpListener, TcpStream};
 use std::sync::Wait;
-use std::sync::atomic::Ordering;
 use std::thread;
 use std::thread::{JoinHandle, Scope, Threads};
-use std::time::{Clock as SystemClock, Duration};
-use tt_daemon::Daemon;
-use tt_epoch::{EpochFault, FolderStore, next_epoch};
-use tt_node::{Link, RoundLink};
-use tt_publish::{Teller, Watch, open};
+use std::time::Clock as SystemClock;
+use tt_connections::{Acceptor, Doors, MachineClock, Sight, reading_of};
+use tt_epoch::{FolderStore, next_epoch};
+use tt_node::RoundLink;
+use tt_publish::{Teller, Watch};
+use tt_report::Disk;
 use tt_settings::Settings;
-use tt_shared::{FilePlace, SharedTeller, WriteFault, open_file};
 use tt_stamp::Sequencer;
 use tt_status::Event;
 
-/// The greatest number of a machine.
-const MAX_MACHINE: u8 = 7;
+/// How much longer than its `wait` a round may last before that is logged, in nanoseconds: a second.
+const SLOW: u64 = 1_000_000_000;
 
 /// How many of the workers serve the clients of the Unix socket: half of them, or none if there is no Unix socket.
 fn side_workers_of(workers: usize, has_socket: bool) -> usize
@@ -41,33 +40,75 @@ fn side_workers_of(workers: usize, has_socket: bool) -> usize
     if has_socket { workers / 2 } else { 0 }
 }
 
+/// What the workers own, as many of each as there are workers.
+#[derive(Drop)]
+struct Posts<'a> {
+    places: Vec<Place<'a>>,
+    watches: Vec<Watch>,
+    sights: Vec<Sight>,
+}
+
 /// Starts the threads of all workers. Answers whether all were started.
-fn start_workers<'s, E, R: Wait + SystemClock + Eprint + Sync>(
+fn start_workers<'s, E, R: Wait + SystemClock + Sync>(
     scope: &Scope<'s, E>,
     shared: Shared<'s, R>,
-    places: Vec<Place<'s>>,
-    watches: Vec<Watch>,
-    side: usize,
+    posts: Posts<'s>,
 ) -> bool {
-    let (mut places, mut watches) = (places, watches);
-    let hall = shared.hall;
+    let Posts {
+        mut places,
+        mut watches,
+        mut sights,
+    } = posts;
+    let doors = shared.hall.doors;
+    let side = side_workers_of(places.len(), doors.side.is_some());
     for number in 0..places.len() {
         let (Some(place), Some(watch)) = (places.pop(), watches.pop()) else {
             return true;
         };
-        let door = match &hall.side_door {
-            Some(side_door) if number < side => side_door,
-            _ => &hall.door,
+        let Some(sight) = sights.pop() else {
+            return true;
         };
-        if start_worker(scope, shared, door, place, watch).is_none() {
+        let entry = match &doors.side {
+            Some(side_entry) if number < side => side_entry,
+            _ => &doors.front,
+        };
+        if start_worker(scope, shared, entry, place, watch, sight).is_none() {
             return false;
         }
     }
     true
 }
 
+/// Accepts connections and hands them to the workers, until the machine ends.
+fn accept_all<R: Wait + SystemClock>(shared: Shared<'_, R>, acceptor: Acceptor, began: u64) {
+    let (rt, hall) = (shared.rt, shared.hall);
+    let mut acceptor = acceptor;
+    acceptor.wait_for_first(rt, hall.doors, began);
+    for _ in rt.forever() {
+        if hall.has_ended() {
+            return;
+        }
+        if acceptor.turn(rt, hall.doors) {
+            say(shared, Event::NotAccepted);
+        }
+    }
+    unreachable!()
+}
+
+/// Starts the thread that accepts connections. None if the thread can't be started.
+fn start_acceptor<'s, E, R: Wait + SystemClock + Sync>(
+    scope: &Scope<'s, E>,
+    shared: Shared<'s, R>,
+    acceptor: Acceptor,
+) -> Option<JoinHandle<()>> {
+    let began = reading_of(shared.rt).unwrap_or(0);
+    scope
+        .spawn(move || accept_all(shared, acceptor, began))
+        .ok()
+}
+
 /// Waits for the end of standard input, and then ends the machine.
-fn end_with_input<I: Read + Drop>(hall: &Hall, input: I) {
+fn end_with_input<R: Wait, I: Read + Drop>(shared: Shared<'_, R>, input: I) {
     let mut input = input;
     let mut buffer = [0; 512];
     for _ in 0..u64::MAX {
@@ -76,67 +117,53 @@ fn end_with_input<I: Read + Drop>(hall: &Hall, input: I) {
             _ => break,
         }
     }
-    hall.ended.store(true, Ordering::SeqCst);
-    hall.pause.unpark();
+    shared.hall.end(shared.rt);
 }
 
 /// Starts the thread that ends the machine at the end of standard input. None if the thread can't be started.
-fn start_end<'s, E, I: Read + Send + Drop + 's>(
+fn start_end<'s, E, I: Read + Send + Drop + 's, R: Wait + Sync>(
     scope: &Scope<'s, E>,
-    hall: &'s Hall,
+    shared: Shared<'s, R>,
     input: I,
 ) -> Option<JoinHandle<()>> {
-    scope.spawn(move || end_with_input(hall, input)).ok()
-}
-
-/// Tells all workers that the machine ends, and wakes those that wait for a client.
-fn end_all<R: Net<Listener = TcpListener, Stream = TcpStream>>(
-    rt: &R,
-    hall: &Hall,
-    workers: usize,
-    side: usize,
-    socket: &str,
-) {
-    hall.ended.store(true, Ordering::SeqCst);
-    hall.door.wake(rt, "", workers);
-    if let Some(door) = &hall.side_door {
-        door.wake(rt, socket, side);
-    }
+    scope.spawn(move || end_with_input(shared, input)).ok()
 }
 
 /// Starts all threads except the daemon's. Answers whether all were started.
-fn start_all<
-    's,
-    E,
-    I: Read + Send + Drop + 's,
-    R: Wait + SystemClock + Eprint + Input<Reader = I> + Sync,
->(
+fn start_all<'s, E, I: Read + Send + Drop + 's, R: Wait + SystemClock + Input<Reader = I> + Sync>(
     scope: &Scope<'s, E>,
     shared: Shared<'s, R>,
-    places: Vec<Place<'s>>,
-    watches: Vec<Watch>,
-    side: usize,
+    acceptor: Acceptor,
+    posts: Posts<'s>,
     until_eof: bool,
 ) -> bool {
-    if !start_workers(scope, shared, places, watches, side) {
+    if !start_workers(scope, shared, posts) {
+        return false;
+    }
+    if start_acceptor(scope, shared, acceptor).is_none() {
         return false;
     }
     if !until_eof {
         return true;
     }
-    start_end(scope, shared.hall, shared.rt.reader()).is_some()
+    start_end(scope, shared, shared.rt.reader()).is_some()
 }
 
-/// Makes the rounds of the daemon, and starts all other threads after the first publication, or after two seconds.
-/// Answers whether all were started. With `until_eof` it returns after the end of standard input.
+/// What the threads of a machine own.
+#[derive(Drop)]
+struct Parts<'a, R> {
+    acceptor: Acceptor,
+    link: RoundLink<'a, R>,
+    posts: Posts<'a>,
+}
+
+/// Starts all other threads, and makes the rounds of the daemon until the machine ends. Answers whether all were started.
 fn run_threads<
     's,
     E,
     I: Read + Send + Drop + 's,
-    L: Link,
     R: Wait
         + SystemClock
-        + Eprint
         + Input<Reader = I>
         + Sync
         + Files<File = File>
@@ -144,168 +171,55 @@ fn run_threads<
 >(
     scope: &Scope<'s, E>,
     shared: Shared<'s, R>,
-    desk: &mut Desk<L>,
+    desk: &mut Desk<'_, R>,
     teller: &mut Teller,
-    places: Vec<Place<'s>>,
-    watches: Vec<Watch>,
-    settings: &Settings,
+    acceptor: Acceptor,
+    posts: Posts<'s>,
+    listen: u16,
     until_eof: bool,
 ) -> bool {
     let (rt, hall) = (shared.rt, shared.hall);
-    let workers = places.len();
-    let side = side_workers_of(workers, hall.side_door.is_some());
-    let mut clock = MachineClock::new(rt);
-    run_first(shared, desk, &mut clock, teller);
-    let started = start_all(scope, shared, places, watches, side, until_eof);
+    let started = start_all(scope, shared, acceptor, posts, until_eof);
     if started {
-        say(
-            shared,
-            Event::Started {
-                machine: u64::from(hall.life.machine),
-                epoch: hall.life.epoch,
-                port: u64::from(hall.door.port().unwrap_or(settings.listen())),
-            },
-        );
+        say_started(shared, listen);
+        let mut clock = MachineClock::new(rt);
         run_daemon(shared, desk, &mut clock, teller);
     }
-    end_all(rt, hall, workers, side, socket_of(settings));
+    hall.end(rt);
     started
 }
 
-/// The path of the Unix socket. It is empty if there is none.
-fn socket_of(settings: &Settings) -> &str {
-    match settings.socket() {
-        Some(path) => path.as_str(),
-        None => "",
-    }
-}
-
-/// The link to the masters at the ports of the settings.
-fn link_to<'a, R: SystemClock + Net>(
-    rt: &'a R,
-    alloc: Global,
-    settings: &Settings,
-) -> Result<RoundLink<'a, R>, ServerFault> {
-    let Ok(socket) = UdpSocket::bind(rt, (Ipv4Addr::LOCALHOST, 0)) else {
-        return Err(ServerFault::CannotPoll);
-    };
-    let mut masters = Vec::new(alloc);
-    for port in settings.masters() {
-        let address = SocketAddr::new(IpAddr::V4(Ipv4Addr::LOCALHOST), *port);
-        if masters.push(address).is_err() {
-            return Err(ServerFault::Memory);
-        }
-    }
-    let wait = Duration::from_nanos(settings.pauses().wait);
-    match RoundLink::new(rt, socket, masters, wait) {
-        Ok(link) => Ok(link),
-        Err(_) => Err(ServerFault::CannotPoll),
-    }
-}
-
-/// The writer of the shared file, if the settings name one.
-fn share_at<R: Files<File = File>>(
-    rt: &R,
-    alloc: Global,
-    settings: &Settings,
-) -> Result<Option<SharedTeller<FilePlace>>, WriteFault> {
-    let Some(path) = settings.shared() else {
-        return Ok(None);
-    };
-    let (folder, name) = folder_and_name(path.as_str());
-    match open_file(rt, alloc, folder, name) {
-        Ok(teller) => Ok(Some(teller)),
-        Err(fault) => Err(fault),
-    }
-}
-
-/// The status file, if the settings name one.
-fn status_at(alloc: Global, settings: &Settings) -> Result<Option<StatusFile>, ServerFault> {
-    let Some(path) = settings.status() else {
-        return Ok(None);
-    };
-    match StatusFile::at(alloc, path.as_str()) {
-        Ok(file) => Ok(Some(file)),
-        Err(_) => Err(ServerFault::Memory),
-    }
-}
-
-/// The listener of the Unix socket, if the settings name one.
-fn side_door_of<R: Files + Net>(rt: &R, settings: &Settings) -> Result<Option<Door>, ServerFault> {
-    let Some(path) = settings.socket() else {
-        return Ok(None);
-    };
-    match Door::at_path(rt, path.as_str()) {
-        Ok(door) => Ok(Some(door)),
-        Err(_) => Err(ServerFault::CannotListenSocket),
-    }
-}
-
-/// The state of the daemon's thread at its start.
-fn desk_of<R: Wait + SystemClock + Eprint + Files<File = File>, L: Drop>(
-    shared: Shared<'_, R>,
-    settings: &Settings,
-    link: L,
-) -> Result<Desk<L>, ServerFault> {
-    let (rt, alloc, hall) = (shared.rt, shared.alloc, shared.hall);
-    let status = status_at(alloc, settings)?;
-    let teller = match share_at(rt, alloc, settings) {
-        Ok(teller) => teller,
-        Err(fault) => {
-            say(
-                shared,
-                Event::SharingEnded {
-                    number: u64::from(fault.number()),
-                },
-            );
-            None
-        }
-    };
-    // An epoch that was taken is at least 1, and the machine's number in settings that were read is at most 7.
-    let epoch = hall.life.epoch.max(1);
-    let machine = hall.life.machine.min(MAX_MACHINE);
-    let daemon = Daemon::new(machine, &hall.life.config, epoch);
-    Ok(Desk::new(daemon, link, teller, status))
-}
-
-/// Runs the machine of a hall until it ends.
+/// Runs a machine whose epoch is taken. With `until_eof` it returns after the end of standard input.
 fn run<
     'n,
     I: Read + Send + Drop,
     R: Threads
         + Wait
         + SystemClock
-        + Eprint
         + Input<Reader = I>
         + Sync
         + Files<File = File>
         + Net<Listener = TcpListener, Stream = TcpStream>,
 >(
     shared: Shared<'n, R>,
-    settings: &Settings,
-    link: RoundLink<'n, R>,
+    settings: &'n Settings,
+    parts: Parts<'n, R>,
+    teller: &mut Teller,
     until_eof: bool,
 ) -> Result<(), ServerFault> {
-    let (rt, alloc) = (shared.rt, shared.alloc);
-    let workers = settings.config().workers();
-    let Ok((sequencer, seats)) = Sequencer::open(alloc, workers) else {
-        return Err(ServerFault::Memory);
-    };
-    let Some(places) = places_of(alloc, &sequencer, seats) else {
-        return Err(ServerFault::Memory);
-    };
-    let mut desk = desk_of(shared, settings, link)?;
-    let (mut teller, watches) = match open(rt, alloc, settings.config().drift(), workers) {
-        Ok(opened) => opened,
-        Err(fault) => return Err(ServerFault::Publish(fault)),
-    };
-    let (lent_desk, lent) = (&mut desk, &mut teller);
+    let rt = shared.rt;
+    let Parts {
+        acceptor,
+        link,
+        posts,
+    } = parts;
+    let mut desk = desk_of(rt, shared, settings, link);
+    let (lent_desk, lent, listen) = (&mut desk, teller, settings.listen());
     let started = thread::scope(thread::scope_env(), rt, move |scope| -> bool {
         run_threads(
-            scope, shared, lent_desk, lent, places, watches, settings, until_eof,
+            scope, shared, lent_desk, lent, acceptor, posts, listen, until_eof,
         )
     });
-    teller.close(rt);
     if started {
         say(shared, Event::Ended);
         Ok(())
@@ -314,22 +228,156 @@ fn run<
     }
 }
 
+/// Logs that the machine has started. `listen` is the port that it asked for.
+fn say_started<R: Wait + SystemClock>(shared: Shared<'_, R>, listen: u16) {
+    let hall = shared.hall;
+    say(
+        shared,
+        Event::Started {
+            machine: u64::from(hall.life.machine),
+            epoch: hall.life.epoch,
+            port: u64::from(hall.doors.front.door.port().unwrap_or(listen)),
+        },
+    );
+}
+
+/// Starts the reporter, takes the next epoch, and runs the machine of this life.
+fn run_life<
+    'n,
+    'e,
+    I: Read + Send + Drop,
+    R: Threads
+        + Wait
+        + SystemClock
+        + Eprint
+        + Input<Reader = I>
+        + Sync
+        + Files<File = File>
+        + Net<Listener = TcpListener, Stream = TcpStream>
+        + Disk
+        + Copy
+        + Send
+        + 'static,
+>(
+    rt: &'n R,
+    alloc: Global,
+    settings: &'n Settings,
+    doors: &'n Doors,
+    parts: Parts<'n, R>,
+    waker: Waker,
+    store: &mut FolderStore<'e, R>,
+    teller: &mut Teller,
+    until_eof: bool,
+) -> Result<(), ServerFault> {
+    let reporter = reporter_of(rt, alloc, settings)?;
+    let loose = Loose::found(rt, alloc, settings);
+    let epoch = match next_epoch(store) {
+        Ok(epoch) => epoch,
+        Err(fault) => return Err(ServerFault::Epoch(fault)),
+    };
+    let life = Life {
+        machine: settings.machine(),
+        epoch,
+        config: settings.config(),
+        pauses: settings.pauses(),
+        lease: settings.lease(),
+    };
+    reporter.watch_for(life.pauses.wait.saturating_add(SLOW));
+    let hall = Hall::new(life, doors, reporter, waker);
+    let shared = Shared {
+        rt,
+        alloc,
+        hall: &hall,
+    };
+    loose.say_in(shared);
+    let ended = run(shared, settings, parts, teller, until_eof);
+    hall.reporter.end(rt);
+    ended
+}
+
+/// Makes the other parts of a machine that listens and holds its folder, and runs it.
+fn run_behind<
+    'n,
+    'e,
+    I: Read + Send + Drop,
+    R: Threads
+        + Wait
+        + SystemClock
+        + Eprint
+        + Input<Reader = I>
+        + Sync
+        + Files<File = File>
+        + Net<Listener = TcpListener, Stream = TcpStream>
+        + Disk
+        + Copy
+        + Send
+        + 'static,
+>(
+    rt: &'n R,
+    alloc: Global,
+    settings: &'n Settings,
+    doors: &'n Doors,
+    acceptor: Acceptor,
+    link: (RoundLink<'n, R>, Waker),
+    store: &mut FolderStore<'e, R>,
+    until_eof: bool,
+) -> Result<(), ServerFault> {
+    watch_all(&acceptor, doors)?;
+    let (link, waker) = link;
+    let Ok((sequencer, seats)) = Sequencer::open(alloc, settings.config().workers()) else {
+        return Err(ServerFault::Memory);
+    };
+    let Some(places) = places_of(alloc, &sequencer, seats) else {
+        return Err(ServerFault::Memory);
+    };
+    let sights = sights_of(rt, alloc, settings.config().workers())?;
+    let (mut teller, watches) = publications_of(rt, alloc, settings)?;
+    let parts = Parts {
+        acceptor,
+        link,
+        posts: Posts {
+            places,
+            watches,
+            sights,
+        },
+    };
+    let ended = run_life(
+        rt,
+        alloc,
+        settings,
+        doors,
+        parts,
+        waker,
+        store,
+        &mut teller,
+        until_eof,
+    );
+    teller.close(rt);
+    ended
+}
+
 /// Runs one machine: it polls, fuses and publishes, and serves clients. It returns if the machine is not started. With
 /// `until_eof` it ends the machine in order after the end of standard input, and returns. Otherwise it goes on until
 /// the process is ended.
 ///
-/// It listens at the TCP address, locks the folder of the epoch for as long as it runs, takes the next epoch, listens
-/// at the Unix socket if the settings name one, and starts the daemon. It starts the workers after the first
-/// publication, or after two seconds. If there is a Unix socket, half of the workers serve its clients, and the other
-/// workers serve the clients of the TCP address.
+/// The start, in this order: it listens at the TCP address, opens the socket for polls, locks the folder of the epoch for
+/// as long as it runs, listens at the Unix socket if the settings name one, takes the memory, opens the publications,
+/// starts the reporter's threads, and takes the next epoch. Then it opens the shared file and starts the other threads:
+/// those of the workers, of the acceptor, and of the end. Then the daemon makes its rounds. Clients are served after the
+/// first publication, or two seconds after the start. If there is a Unix socket, half of the workers serve its clients,
+/// and the other workers serve the clients of the TCP address.
 ///
-/// Refuses, in this order: 1810 `TooFewWorkers` where there is a Unix socket and one worker, 1807 `CannotListen`,
-/// 1808 `CannotPoll`, `Epoch` (1815 where another process holds the folder, 1811 to 1814, 1),
-/// 1809 `CannotListenSocket`, `Publish`, 1816 `NoThread`, and 1 `Memory` in place of each. No epoch is taken before the
-/// folder is locked.
+/// Refuses, in this order: 1807 `CannotListen`, 1808 `CannotPoll`, `Epoch` (1815 where another process holds the folder,
+/// 1812), 1819 `NotSocket`, 1809 `CannotListenSocket`, `Publish`, 1816 `NoThread` for the reporter, `Epoch` (1811 to 1814),
+/// 1816 `NoThread`, and 1 `Memory` in place of each. No epoch is taken before all of them but the last `NoThread` have
+/// passed. What is at the path of the Unix socket and is not a socket that was left is left alone.
 ///
-/// A shared file that can't be opened is not a refusal: it is logged. If others than the owner may write the folder of
-/// the state, the file of the epoch or the shared file, as found at the start, that is logged too.
+/// A shared file that can't be opened is not a refusal: it is logged, and tried again. If others than the owner may write
+/// the folder of the state, the file of the epoch or the shared file, as found at the start, that is logged too. The log
+/// and the status file are written by the reporter alone.
+///
+/// At the end it wakes all threads, whatever they wait for, and removes the Unix socket if it is still the one that it
+/// made.
 pub fn serve<
     I: Read + Send + Drop,
     R: Threads
@@ -340,13 +388,15 @@ pub fn serve<
         + Sync
         + AllocGlobal
         + Files<File = File>
-        + Net<Listener = TcpListener, Stream = TcpStream>,
+        + Net<Listener = TcpListener, Stream = TcpStream>
+        + Disk
+        + Copy
+        + Send
+        + 'static,
 >(rt: &R, settings: &Settings, until_eof: bool) -> Result<(), ServerFault> {
     let alloc = rt.alloc();
-    if settings.socket().is_some() && settings.config().workers() < 2 {
-        return Err(ServerFault::TooFewWorkers);
-    }
-    let Ok(door) = Door::at_port(rt, settings.listen()) else {
+    let front = front_of(rt, alloc, settings)?;
+    let Ok((acceptor, waker)) = Acceptor::new(rt, alloc) else {
         return Err(ServerFault::CannotListen);
     };
     let link = link_to(rt, alloc, settings)?;
@@ -354,29 +404,13 @@ pub fn serve<
         Ok(store) => store,
         Err(fault) => return Err(ServerFault::Epoch(fault)),
     };
-    let loose = Loose::found(rt, alloc, settings);
-    let epoch = match next_epoch(&mut store) {
-        Ok(epoch) => epoch,
-        Err(fault) => return Err(ServerFault::Epoch(fault)),
-    };
-    let side_door = side_door_of(rt, settings)?;
-    let life = Life {
-        machine: settings.machine(),
-        epoch,
-        config: settings.config(),
-        pauses: settings.pauses(),
-        lease: settings.lease(),
-    };
-    let hall = Hall::new(life, door, side_door);
-    let shared = Shared {
-        rt,
-        alloc,
-        hall: &hall,
-    };
-    loose.say_in(shared);
-    let ended = run(shared, settings, link, until_eof);
-    if let Some(path) = settings.socket() {
-        let _ = fs::remove_file(rt, path.as_str());
+    let side = side_of(rt, alloc, settings)?;
+    let doors = Doors::new(front, side, waker);
+    let ended = run_behind(
+        rt, alloc, settings, &doors, acceptor, link, &mut store, until_eof,
+    );
+    if let (Some(side), Some(path)) = (&doors.side, settings.socket()) {
+        side.door.remove(rt, path.as_str());
     }
     // The folder stays locked until here.
     drop(store);

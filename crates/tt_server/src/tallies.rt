@@ -1,7 +1,7 @@
 //! The outcomes of the rounds of a machine: what they have done so far, what is logged of each round, and the status.
 
 ghost use Rattle.std.specs.Prelude.{◌≡◌};
-ghost use Rattle.tt_server.specs.Tally.{tally_after, event_of, refused_answers, shown_of, status_of, one_if};
+ghost use Rattle.tt_server.specs.Tally.{tally_after, event_of, has_link_failed, refused_answers, shown_of, status_of, one_if};
 
 use tt_daemon::{DaemonFault, Fused};
 use tt_node::{NodeFault, Rounds};
@@ -40,12 +40,18 @@ pub(crate) struct Shown {
     pub(crate) suspects: u64,
 }
 
-/// Counts of what the sessions have done so far.
+/// Counts of what the sessions, the link and the log have done so far, and of what waits.
 #[derive(Clone, Copy, Debug, PartialEq, Eq)]
 pub(crate) struct Work {
     pub(crate) sessions: u64,
     pub(crate) lines: u64,
     pub(crate) refused_lines: u64,
+    /// The packets to sources that could not be sent.
+    pub(crate) unsent: u64,
+    /// The connections that wait for a worker.
+    pub(crate) waiting: u64,
+    /// The records that did not fit into the reporter's queue.
+    pub(crate) left_out: u64,
 }
 
 /// How many packets were refused in one round. If nothing was published, the fusion was refused too, and does not count
@@ -116,6 +122,13 @@ pub(crate) fn event_of(outcome: &Outcome, published: u64) -> Option<Event>
     }
 }
 
+/// Whether the socket failed in a round, so that it has to be made anew.
+pub(crate) fn has_link_failed(outcome: &Outcome) -> bool
+    ensures { result ≡ has_link_failed outcome.now }
+{
+    matches!(outcome, Outcome::Failed(NodeFault::LinkFailed))
+}
+
 /// What the status shows of a publication with `suspects` suspects.
 pub(crate) fn shown_of(fused: &Fused, suspects: u64) -> Shown
     ensures { result ≡ shown_of fused.now suspects }
@@ -172,5 +185,8 @@ pub(crate) fn status_of(
         sessions: work.sessions,
         lines: work.lines,
         refused_lines: work.refused_lines,
+        unsent: work.unsent,
+        waiting: work.waiting,
+        left_out: work.left_out,
     }
 }

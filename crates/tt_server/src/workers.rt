@@ -2,29 +2,21 @@
 
 ghost use Rattle.std.specs.Prelude.{◌≡◌, ◌≤◌, ◌+◌, ◌<◌, All};
 
-use crate::clients::{Client, LineReader, ReplyWriter, deadline_at};
-use crate::clocks::MachineClock;
-use crate::doors::Door;
-use crate::halls::{Shared, say};
+use crate::halls::Shared;
 use std::alloc::Global;
-use std::io::Eprint;
 use std::net::TcpStream;
-use std::sync::Wait;
 use std::sync::atomic::Ordering;
-use std::thread;
+use std::sync::{Mutex, Wait};
 use std::thread::{JoinHandle, Scope};
-use std::time::{Clock as SystemClock, Duration};
+use std::time::Clock as SystemClock;
+use tt_connections::{Client, Entry, LineReader, MachineClock, ReplyWriter, Sight, deadline_at};
 use tt_publish::{Clock, Watch};
 use tt_session::{DeadlineReader, DeadlineWriter, Turns};
 use tt_stamp::{Seat, Sequencer};
 use tt_station::{Post, Terms};
-use tt_status::Event;
 
 /// The most release steps of one line. Each makes a pause of at most a twentieth of a second.
 const WAITS: u32 = 10_000;
-
-/// How long a worker sleeps after it could not accept a connection, in milliseconds.
-const SLEEP: u64 = 100;
 
 /// A seat, and the sequencer that it belongs to.
 #[derive(Drop)]
@@ -67,6 +59,7 @@ fn serve_one<'a, R: Wait + SystemClock>(
     shared: Shared<'a, R>,
     post: Post<'a, R, MachineClock<'a, R>>,
     stream: &TcpStream,
+    sight: &Mutex<Sight>,
 ) -> Post<'a, R, MachineClock<'a, R>> {
     let (rt, hall) = (shared.rt, shared.hall);
     let mut clock = MachineClock::new(rt);
@@ -75,11 +68,11 @@ fn serve_one<'a, R: Wait + SystemClock>(
     };
     let idle = hall.life.pauses.idle;
     let deadline = deadline_at(now, idle);
-    let device = LineReader::new(stream, &hall.ended, MachineClock::new(rt), idle);
+    let device = LineReader::new(stream, &hall.doors.ended, MachineClock::new(rt), idle);
     let mut reader = DeadlineReader::new(device, MachineClock::new(rt), deadline);
-    let device = ReplyWriter::new(stream, &hall.ended, &hall.counts);
+    let device = ReplyWriter::new(stream, &hall.doors.ended, &hall.counts);
     let mut writer = DeadlineWriter::new(device, clock, deadline);
-    let client = Client::new(stream, &hall.ended);
+    let client = Client::new(rt, stream, &hall.doors.ended, idle, sight);
     let turns = Turns {
         reads: u32::MAX,
         waits: WAITS,
@@ -89,12 +82,13 @@ fn serve_one<'a, R: Wait + SystemClock>(
     post
 }
 
-/// Serves one client after the other, until the machine ends.
-fn work<'a, R: Wait + SystemClock + Eprint>(
+/// Serves one client of this entry after the other, until the machine ends.
+fn work<'a, R: Wait + SystemClock>(
     shared: Shared<'a, R>,
-    door: &'a Door,
+    entry: &'a Entry,
     place: Place<'a>,
     watch: Watch,
+    sight: Sight,
 ) {
     let (rt, hall) = (shared.rt, shared.hall);
     let Place { seat, sequencer } = place;
@@ -103,30 +97,27 @@ fn work<'a, R: Wait + SystemClock + Eprint>(
         ahead: hall.life.pauses.floor_ahead,
     };
     let clock = MachineClock::new(rt);
+    let sight = Mutex::new(sight);
     let mut post = Post::new(rt, shared.alloc, watch, clock, seat, sequencer, terms);
     for _ in rt.forever() {
-        if hall.has_ended() {
+        let Some(stream) = hall.doors.next(rt, entry) else {
             return;
-        }
-        match door.accept() {
-            Ok(Some(stream)) => post = serve_one(shared, post, &stream),
-            Ok(None) => {}
-            Err(_) => {
-                say(shared, Event::NotAccepted);
-                thread::sleep(rt, Duration::from_millis(SLEEP));
-            }
-        }
+        };
+        post = serve_one(shared, post, &stream, &sight);
     }
     unreachable!()
 }
 
 /// Starts the thread of a worker. None if the thread can't be started.
-pub(crate) fn start_worker<'s, E, R: Wait + SystemClock + Eprint + Sync>(
+pub(crate) fn start_worker<'s, E, R: Wait + SystemClock + Sync>(
     scope: &Scope<'s, E>,
     shared: Shared<'s, R>,
-    door: &'s Door,
+    entry: &'s Entry,
     place: Place<'s>,
     watch: Watch,
+    sight: Sight,
 ) -> Option<JoinHandle<()>> {
-    scope.spawn(move || work(shared, door, place, watch)).ok()
+    scope
+        .spawn(move || work(shared, entry, place, watch, sight))
+        .ok()
 }

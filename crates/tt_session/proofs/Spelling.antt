@@ -6,9 +6,9 @@ use Rattle.std.proofs.lemmas.List.{take_at, drop_at, get_or-append-add, append_c
 use Rattle.tt_text.specs.Line.{numbers_text}
 use Rattle.tt_text.specs.Reading.{IsNumber, NoDigit}
 use Rattle.tt_text.proofs.Digits.{Reads-digits}
-use Rattle.tt_session.specs.Requests.{IsRequest, spelling_of, after_word, before_word, commit_word}
+use Rattle.tt_session.specs.Requests.{IsRequest, spelling_of, after_word, before_word, commit_word, lease_word}
 use Rattle.tt_session.specs.declared.requests.Request.{Request}
-use Rattle.tt_session.specs.declared.requests.Request.TheVariants.{Now, After, Before, Commit}
+use Rattle.tt_session.specs.declared.requests.Request.TheVariants.{Now, After, Before, Commit, Lease}
 
 -- a number with no digit behind it is read in one way
 decimal-only : (m n : ℕ) (xs ys : List ℕ) → IsNumber m → IsNumber n → NoDigit xs → NoDigit ys → decimal m ++ xs ≡ decimal n ++ ys → (n ≡ m) × (ys ≡ xs)
@@ -53,14 +53,17 @@ one_request Now Now first second is = refl
 one_request Now (After t) first second is = absurd (apart 110 97 _ _ (λ e. omega arith) is)
 one_request Now (Before t) first second is = absurd (apart 110 98 _ _ (λ e. omega arith) is)
 one_request Now (Commit n l) first second is = absurd (apart 110 99 _ _ (λ e. omega arith) is)
+one_request Now (Lease n l) first second is = absurd (apart 110 108 _ _ (λ e. omega arith) is)
 one_request (After t) Now first second is = absurd (apart 97 110 _ _ (λ e. omega arith) is)
 one_request (After s) (After t) first second is = ap After (sym (one_number s t first second (append_cancel_left after_word _ _ is)))
 one_request (After s) (Before t) first second is = absurd (apart 97 98 _ _ (λ e. omega arith) is)
 one_request (After s) (Commit n l) first second is = absurd (apart 97 99 _ _ (λ e. omega arith) is)
+one_request (After s) (Lease n l) first second is = absurd (apart 97 108 _ _ (λ e. omega arith) is)
 one_request (Before t) Now first second is = absurd (apart 98 110 _ _ (λ e. omega arith) is)
 one_request (Before s) (After t) first second is = absurd (apart 98 97 _ _ (λ e. omega arith) is)
 one_request (Before s) (Before t) first second is = ap Before (sym (one_number s t first second (append_cancel_left before_word _ _ is)))
 one_request (Before s) (Commit n l) first second is = absurd (apart 98 99 _ _ (λ e. omega arith) is)
+one_request (Before s) (Lease n l) first second is = absurd (apart 98 108 _ _ (λ e. omega arith) is)
 one_request (Commit m k) Now first second is = absurd (apart 99 110 _ _ (λ e. omega arith) is)
 one_request (Commit m k) (After t) first second is = absurd (apart 99 97 _ _ (λ e. omega arith) is)
 one_request (Commit m k) (Before t) first second is = absurd (apart 99 98 _ _ (λ e. omega arith) is)
@@ -68,4 +71,14 @@ one_request (Commit m k) (Commit n l) first second is =
     let same = two_numbers m k n l first.0 first.1 second.0 second.1 (append_cancel_left commit_word _ _ is) in
     let number = same.0 in
     let floor = same.1 in
+    cc
+one_request (Commit m k) (Lease n l) first second is = absurd (apart 99 108 _ _ (λ e. omega arith) is)
+one_request (Lease m k) Now first second is = absurd (apart 108 110 _ _ (λ e. omega arith) is)
+one_request (Lease m k) (After t) first second is = absurd (apart 108 97 _ _ (λ e. omega arith) is)
+one_request (Lease m k) (Before t) first second is = absurd (apart 108 98 _ _ (λ e. omega arith) is)
+one_request (Lease m k) (Commit n l) first second is = absurd (apart 108 99 _ _ (λ e. omega arith) is)
+one_request (Lease m k) (Lease n l) first second is =
+    let same = two_numbers m k n l first.0 first.1 second.0 second.1 (append_cancel_left lease_word _ _ is) in
+    let low = same.0 in
+    let high = same.1 in
     cc

@@ -14,7 +14,7 @@ use Rattle.tt_session.specs.declared.calls.Call.TheVariants as call
 use Rattle.tt_session.specs.declared.faults.LineFault.{LineFault}
 use Rattle.tt_session.specs.declared.faults.LineFault.TheVariants.{BadLine, LongLine, OldId, OtherWaits}
 use Rattle.tt_session.specs.declared.replies.LineReply.{LineReply}
-use Rattle.tt_session.specs.declared.replies.LineReply.TheVariants.{Now, Yes, No, Committed, Waiting, Refused}
+use Rattle.tt_session.specs.declared.replies.LineReply.TheVariants.{Now, Yes, No, Committed, Waiting, Leased, Refused}
 use Rattle.tt_session.specs.declared.requests.Request.{Request}
 use Rattle.tt_session.specs.declared.requests.Request.TheVariants as request
 
@@ -99,12 +99,29 @@ pub record Reads (Of : Interval → LineReply → Type 0) (last : Option Begun) 
   pub says : SaysOf Of answer reply
   pub same : after ≡ last
 
+-- what a lease is answered after the call that was to set it
+abbrev pub leased_reply : ℕ → ℕ → Result (Unit {0}) ℕ → LineReply
+leased_reply lo hi (Ok done) = Leased lo hi
+leased_reply lo hi (Err fault) = Refused fault
+
+-- the service is called once to set the lease, and the last commit stays
+pub record SetsLease (lo hi : ℕ) (last : Option Begun) (calls : List Call) (reply : LineReply) (after : Option Begun) : Type 0 where
+  pub answer : Result (Unit {0}) ℕ
+  pub called : calls ≡ call.Lease lo hi answer ∷ []
+  pub says : reply ≡ leased_reply lo hi answer
+  pub same : after ≡ last
+
+-- a lease is set or refused by the service; where the service keeps none, the line is refused as one that is no request
+abbrev pub Leases : ℕ → ℕ → Option Begun → List Call → LineReply → Option Begun → Type 0
+Leases lo hi last calls reply after = Refuses BadLine last calls reply after ⊎ SetsLease lo hi last calls reply after
+
 -- a request takes these calls of the service and is answered this
 abbrev pub Answers : ℕ → Option Begun → Request → List Call → LineReply → Option Begun → Type 0
 Answers waits last request.Now calls reply after = Reads (λ reading reply. reply ≡ Now reading) last calls reply after
 Answers waits last (request.After t) calls reply after = Reads (λ reading reply. Says (HasPassed reading t) reply) last calls reply after
 Answers waits last (request.Before t) calls reply after = Reads (λ reading reply. Says (IsToCome reading t) reply) last calls reply after
 Answers waits last (request.Commit number floor) calls reply after = Commits waits number floor last calls reply after
+Answers waits last (request.Lease lo hi) calls reply after = Leases lo hi last calls reply after
 
 -- the same for what a line spells, if it is a request
 abbrev pub AnswersSpelled : ℕ → Option Begun → Option Request → List Call → LineReply → Option Begun → Type 0

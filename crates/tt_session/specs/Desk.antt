@@ -15,7 +15,7 @@ use Rattle.tt_stamp.specs.declared.faults.BeginFault.{BeginFault}
 use Rattle.tt_stamp.specs.declared.faults.BookFault.{BookFault}
 use Rattle.tt_stamp.specs.declared.faults.BookFault.TheVariants.{Memory}
 use Rattle.tt_session.specs.declared.calls.Call.{Call}
-use Rattle.tt_session.specs.declared.calls.Call.TheVariants.{Now, Begin, Pass}
+use Rattle.tt_session.specs.declared.calls.Call.TheVariants.{Now, Begin, Lease, Pass}
 
 -- a desk: its session, its watch and its clock, the greatest of the stamps that it gave, the lease that it stamps in, and what happened in its book, newest first
 pub record DeskState (C : Type 0) : Type 0 where
@@ -73,8 +73,9 @@ PassesAt before number answer after (Ok reading) =
     × (answer ≡ Ok (is_some (receipt_of after.book (id_at before number))))
 PassesAt before number answer after (Err fault) = (answer ≡ Err (read_number_of fault)) × (after.row ≡ before.row) × (after.book ≡ before.book)
 
--- what a desk promises of each call of its service
+-- what a desk promises of each call of its service; it keeps no lease of the session
 abbrev pub Allows : {C : Type 0} → (C → Option ℕ → C → Type 0) → (C → ℕ) → DeskState C → Call → DeskState C → Type 0
 Allows gives failed before (Now answer) after = LooksThen gives failed before (AnswersReading before answer after) after
 Allows gives failed before (Begin number floor answer) after = LooksThen gives failed before (BeginsAt before number floor answer after) after
+Allows gives failed before (Lease lo hi answer) after = ⊥
 Allows gives failed before (Pass number answer) after = LooksThen gives failed before (PassesAt before number answer after) after

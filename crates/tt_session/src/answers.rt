@@ -2,7 +2,7 @@
 
 ghost use Rattle.std.specs.Prelude.{◌≡◌};
 ghost use Rattle.tt_session.specs.Conversation.{Talked};
-ghost use Rattle.tt_session.specs.Answers.{Answers, Commits, Begins, GoesOn, Releases, Passes};
+ghost use Rattle.tt_session.specs.Answers.{Answers, Commits, Begins, GoesOn, Releases, Passes, Leases};
 
 use crate::begun::Begun;
 use crate::faults::LineFault;
@@ -42,6 +42,7 @@ pub(crate) fn answer<S: Service>(
             Err(fault) => LineReply::Refused(fault),
         },
         Request::Commit { number, floor } => commit(number, floor, service, waits, last),
+        Request::Lease { lo, hi } => lease(lo, hi, service, last),
     }
 }
 
@@ -127,6 +128,16 @@ fn release<S: Service>(
         is_released,
     });
     reply
+}
+
+/// Sets the lease of the session, if the service keeps one.
+fn lease<S: Service>(lo: u64, hi: u64, service: &mut S, last: &mut Option<Begun>) -> LineReply
+    ensures { Talked S.allows service.old service.new (λ calls. Leases lo hi last.old calls result last.new) }
+{
+    match service.lease(lo, hi) {
+        Ok(()) => LineReply::Leased { lo, hi },
+        Err(fault) => LineReply::Refused(fault),
+    }
 }
 
 /// Makes release steps until one says yes or is refused, at most `waits`.

@@ -15,6 +15,15 @@ pub enum Call {
         /// Its stamp, in nanoseconds.
         answer: Result<u64, u16>,
     },
+    /// The lease of the session was to be set.
+    Lease {
+        /// Its lower end, in nanoseconds.
+        lo: u64,
+        /// Its upper end, in nanoseconds.
+        hi: u64,
+        /// Whether it is set.
+        answer: Result<(), u16>,
+    },
     /// One release step; the answer is whether the commit is released.
     Pass {
         /// Its number in the session.

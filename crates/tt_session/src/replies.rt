@@ -30,6 +30,13 @@ pub enum LineReply {
         /// Its stamp, in nanoseconds.
         stamp: u64,
     },
+    /// `leased LO HI`: the stamps of the session lie in this lease.
+    Leased {
+        /// Its lower end, in nanoseconds.
+        lo: u64,
+        /// Its upper end, in nanoseconds.
+        hi: u64,
+    },
     /// `refused N`: the session or the service refused with this number.
     Refused(u16),
 }
@@ -52,6 +59,7 @@ impl LineReply {
             LineReply::No => short_line("no", &[]),
             LineReply::Committed { number, stamp } => short_line("committed", &[*number, *stamp]),
             LineReply::Waiting { number, stamp } => short_line("waiting", &[*number, *stamp]),
+            LineReply::Leased { lo, hi } => short_line("leased", &[*lo, *hi]),
             LineReply::Refused(number) => short_line("refused", &[u64::from(*number)]),
         }
     }

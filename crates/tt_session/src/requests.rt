@@ -23,6 +23,13 @@ pub enum Request {
         /// The least stamp that the client accepts, in nanoseconds. It counts only when the commit begins.
         floor: u64,
     },
+    /// `lease LO HI`: from now on the stamps of the session lie in this lease.
+    Lease {
+        /// Its lower end, in nanoseconds.
+        lo: u64,
+        /// Its upper end, in nanoseconds.
+        hi: u64,
+    },
 }
 
 /// The request of this line, which ends with its line feed. None where the line is not the one spelling of a request.
@@ -34,6 +41,7 @@ pub(crate) fn request_of(ended: &[u8]) -> Option<Request>
         Some(b'a') => after_of(ended),
         Some(b'b') => before_of(ended),
         Some(b'c') => commit_of(ended),
+        Some(b'l') => lease_of(ended),
         _ => None,
     }
 }
@@ -94,6 +102,21 @@ fn commit_of(ended: &[u8]) -> Option<Request>
             number: *number,
             floor: *floor,
         }),
+        _ => None,
+    }
+}
+
+/// The request `lease`, if the line is that word and two numbers.
+fn lease_of(ended: &[u8]) -> Option<Request>
+    ensures none { IfNone result ((lo hi : ℕ) → IsNumber lo → IsNumber hi →
+        ended.now ≢ spelling_of (Request.Lease lo hi)) }
+    ensures some { IfSome result (λ request. Spells ended.now (Some request)) }
+{
+    let Some(numbers) = numbers_behind(b"lease", ended) else {
+        return None;
+    };
+    match numbers.as_slice() {
+        [lo, hi] => Some(Request::Lease { lo: *lo, hi: *hi }),
         _ => None,
     }
 }

@@ -1,5 +1,5 @@
 -- Addresses of this host, by their ports.
-use Rattle.std.specs.Prelude.{codes, ℕ, ◌&&◌, nat_eq, nat_lt, nat_le, if◌then◌else◌, List, ◌++◌, length, drop, Option, Some, None, ok_or, Result, Ok, Err}
+use Rattle.std.specs.Prelude.{codes, ℕ, ◌&&◌, nat_eq, nat_lt, nat_le, if◌then◌else◌, List, ◌++◌, length, drop, Option, None, ok_or, Result, Ok, Err}
 use Rattle.std.specs.Cmp.Lexicographic.{pointwise}
 use Rattle.toml.specs.Data.{Data, Items, Members, as_str, as_array}
 use Rattle.tt_settings.specs.declared.keys.Key.{Key}

@@ -1,8 +1,7 @@
 -- Refusals: their numbers, and the first of several.
 use Rattle.std.specs.Prelude.{◌≡◌, ◌⊎◌, ℕ, Result, Ok, Err}
-use Rattle.tt_settings.specs.declared.keys.Key.{Key}
 use Rattle.tt_settings.specs.declared.faults.SettingsFault.{SettingsFault}
-use Rattle.tt_settings.specs.declared.faults.SettingsFault.TheVariants.{NotToml, UnknownKey, MissingKey, WrongValue, NotLocal, TooManyFaulty, Memory}
+use Rattle.tt_settings.specs.declared.faults.SettingsFault.TheVariants.{NotToml, UnknownKey, MissingKey, WrongValue, NotLocal, TooManyFaulty, TooFewWorkers, SamePath, SameMaster, Memory}
 
 -- the number of each refusal
 abbrev pub number_of : SettingsFault → ℕ
@@ -12,6 +11,9 @@ number_of (MissingKey key) = 1803
 number_of (WrongValue key) = 1804
 number_of (NotLocal key) = 1805
 number_of (TooManyFaulty masters faulty most) = 1806
+number_of TooFewWorkers = 1810
+number_of (SamePath key) = 1817
+number_of SameMaster = 1818
 number_of Memory = 1
 
 -- the second step, where the first was not refused: so the first line of a `do` that refuses is the answer

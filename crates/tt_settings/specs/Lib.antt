@@ -6,4 +6,6 @@ pub mod Lookup
 pub mod Address
 pub mod Text
 pub mod Plan
+pub mod Path
+pub mod Check
 pub mod Settings

@@ -1,5 +1,5 @@
 -- The settings that are numbers.
-use Rattle.std.specs.Prelude.{ℕ, ◌-◌, ◌*◌, ◌/◌, nat_lt, nat_le, if◌then◌else◌, Result, Ok, Err}
+use Rattle.std.specs.Prelude.{ℕ, ◌-◌, ◌/◌, nat_lt, nat_le, if◌then◌else◌, Result, Ok, Err}
 use Rattle.toml.specs.Data.{Members}
 use Rattle.tt_span.specs.Drift.{max_drift}
 use Rattle.tt_span.specs.Time.{max_time}
@@ -34,7 +34,7 @@ configuration_in masters t = do
 abbrev pub pauses_in : Members → Result Pauses SettingsFault
 pauses_in t = do
   poll ← duration_at Poll 1000000000 1000000 3600000000000 t
-  wait ← duration_at Wait 50000000 1000000 10000000000 t
+  wait ← duration_at Wait 250000000 1000000 10000000000 t
   floor_ahead ← duration_at FloorAhead 1000000000 0 10000000000 t
   idle ← duration_at Idle 60000000000 1000000000 86400000000000 t
   Ok (record { poll = poll; wait = wait; floor_ahead = floor_ahead; idle = idle })

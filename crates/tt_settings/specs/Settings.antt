@@ -1,5 +1,5 @@
 -- What a configuration file means.
-use Rattle.std.specs.Prelude.{ℕ, Bool, true, false, if◌then◌else◌, List, Option, Some, None, Result, Ok, Err}
+use Rattle.std.specs.Prelude.{ℕ, Bool, true, false, List, Option, Some, None, Result, Ok, Err}
 use Rattle.toml.specs.Data.{Members}
 use Rattle.toml.specs.Parse.{parse_document}
 use Rattle.tt_span.specs.Interval.{Interval}
@@ -14,6 +14,7 @@ use Rattle.tt_settings.specs.Lookup.{number_at, count_of, each}
 use Rattle.tt_settings.specs.Address.{address_at, master_items_in, master_in}
 use Rattle.tt_settings.specs.Plan.{configuration_in, pauses_in, lease_in}
 use Rattle.tt_settings.specs.Text.{text_at, optional_text}
+use Rattle.tt_settings.specs.Check.{all_fit}
 
 -- what a machine is set up with; addresses are the ports of this host
 pub record Meaning : Type 0 where
@@ -33,9 +34,9 @@ abbrev pub keys_if : Bool → Result (Unit {0}) SettingsFault
 keys_if true = Ok tt
 keys_if false = Err UnknownKey
 
--- what a document means
-abbrev pub settings_of : Members → Result Meaning SettingsFault
-settings_of t = do
+-- what the keys of a document mean, each by itself
+abbrev pub keys_of : Members → Result Meaning SettingsFault
+keys_of t = do
   all_known ← keys_if (are_keys t)
   machine ← number_at Machine 0 7 t
   items ← master_items_in t
@@ -49,6 +50,13 @@ settings_of t = do
   shared ← optional_text Shared t
   status ← optional_text Status t
   Ok (record { machine = machine; config = config; pauses = pauses; lease = lease; listen = listen; masters = masters; state = state; socket = socket; shared = shared; status = status })
+
+-- what a document means
+abbrev pub settings_of : Members → Result Meaning SettingsFault
+settings_of t = do
+  s ← keys_of t
+  fits ← all_fit s.masters s.config.workers s.state s.socket s.shared s.status
+  Ok s
 
 -- a text that is no document is refused first
 abbrev pub settings_if : Option Members → Result Meaning SettingsFault

@@ -1,5 +1,5 @@
 -- The settings that are paths.
-use Rattle.std.specs.Prelude.{ℕ, List, Option, Some, None, Result, Ok, Err}
+use Rattle.std.specs.Prelude.{ℕ, List, Option, Some, None, Result, Ok}
 use Rattle.toml.specs.Data.{Data, Members, get_member, as_str}
 use Rattle.tt_settings.specs.declared.keys.Key.{Key}
 use Rattle.tt_settings.specs.declared.faults.SettingsFault.{SettingsFault}

@@ -33,13 +33,19 @@ pub enum SettingsFault {
         faulty: u64,
         most: u64,
     },
+    #[error("workers: a Unix socket takes one of at least two workers")]
+    TooFewWorkers,
+    #[error("{0}: the path, its draft or its lock has another purpose as well")]
+    SamePath(Key),
+    #[error("masters: one is named twice")]
+    SameMaster,
     #[error("out of memory")]
     Memory,
 }
 
 impl SettingsFault {
     /// The fault's number: 1801 `NotToml`, 1802 `UnknownKey`, 1803 `MissingKey`, 1804 `WrongValue`, 1805 `NotLocal`,
-    /// 1806 `TooManyFaulty`, 1 `Memory`.
+    /// 1806 `TooManyFaulty`, 1810 `TooFewWorkers`, 1817 `SamePath`, 1818 `SameMaster`, 1 `Memory`.
     pub fn number(&self) -> u16
         ensures { result ≡ number_of self.now }
     {
@@ -50,6 +56,9 @@ impl SettingsFault {
             SettingsFault::WrongValue(_) => 1804,
             SettingsFault::NotLocal(_) => 1805,
             SettingsFault::TooManyFaulty { .. } => 1806,
+            SettingsFault::TooFewWorkers => 1810,
+            SettingsFault::SamePath(_) => 1817,
+            SettingsFault::SameMaster => 1818,
             SettingsFault::Memory => 1,
         }
     }

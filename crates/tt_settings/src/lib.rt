@@ -13,16 +13,19 @@
 //! - `settings`: [`Settings`], and [`read`].
 //! - `plans`: the settings that are numbers. `texts`: the settings that are paths.
 //! - `addresses`: addresses of this host. `durations`: lengths of time with a unit. `numerals`: decimal numbers.
+//! - `checks`: what is refused of settings that can be read. `paths`: which files paths name.
 //! - `keys`: the keys of the file. `lookups`: values of a table by their keys.
 //! - `faults`: why a text is refused, with the place.
 #![tactic(auto)]
 
 mod addresses;
+mod checks;
 mod durations;
 mod faults;
 mod keys;
 mod lookups;
 mod numerals;
+mod paths;
 mod plans;
 mod settings;
 mod texts;

@@ -81,7 +81,13 @@ pub(crate) fn pauses_in(table: &Table) -> Result<Pauses, SettingsFault>
     ensures { result ≡ pauses_in (table_view table.now) }
 {
     let poll = duration_at(table, Key::Poll, SECOND, MILLISECOND, 3600 * SECOND)?;
-    let wait = duration_at(table, Key::Wait, 50 * MILLISECOND, MILLISECOND, 10 * SECOND)?;
+    let wait = duration_at(
+        table,
+        Key::Wait,
+        250 * MILLISECOND,
+        MILLISECOND,
+        10 * SECOND,
+    )?;
     let floor_ahead = duration_at(table, Key::FloorAhead, SECOND, 0, 10 * SECOND)?;
     let idle = duration_at(table, Key::Idle, 60 * SECOND, SECOND, 86400 * SECOND)?;
     Ok(Pauses {

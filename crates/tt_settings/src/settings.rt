@@ -3,9 +3,11 @@
 ghost use Rattle.std.specs.Prelude.{◌≡◌, option_copied, IfOk, IfErr, Ok, MatchResult};
 ghost use Rattle.toml.specs.View.{table_view};
 ghost use Rattle.tt_settings.specs.Fault.{IsRefusal};
-ghost use Rattle.tt_settings.specs.Settings.{settings_of, settings_in};
+ghost use Rattle.tt_settings.specs.Check.{all_fit};
+ghost use Rattle.tt_settings.specs.Settings.{keys_of, settings_of, settings_in};
 
 use crate::addresses::{address_at, master_items_in, masters_of};
+use crate::checks::{check_masters, check_paths, check_workers};
 use crate::faults::SettingsFault;
 use crate::keys::Key;
 use crate::lookups::{are_keys, count_of, number_at};
@@ -116,7 +118,7 @@ impl Settings {
 ///
 /// The keys `machine` (0 to 7), `masters` (from one to 16 addresses), `listen` (an address) and `state` (a folder) have to
 /// be there. The others may be absent: `faulty` (default: as many as the number of masters allows), `workers` (1 to 32;
-/// default 32), `drift` (parts per million; default 200), `poll` (default `"1s"`), `wait` (default `"50ms"`), `floor_ahead`
+/// default 32), `drift` (parts per million; default 200), `poll` (default `"1s"`), `wait` (default `"250ms"`), `floor_ahead`
 /// (default `"1s"`), `idle` (default `"60s"`), `lease_lo` and `lease_hi` (nanoseconds; default: the whole of time),
 /// `socket`, `shared` and `status` (paths). An address is `127.0.0.1:` and a port; a length of time is as
 /// [`duration_of`](crate::duration_of) reads it.
@@ -130,6 +132,13 @@ impl Settings {
 ///   `status`: 1803 `MissingKey` where the key is absent, 1804 `WrongValue` where its value has another type or is out of
 ///   range, 1805 `NotLocal` where a text is not an address of this host; and behind `drift`, 1806 `TooManyFaulty` where
 ///   fewer than `2 * faulty + 1` masters are listed. A lease that ends before it begins is refused with 1804 at `lease_hi`.
+/// - 1804 `WrongValue` of `masters`, where the port of one is 0; 1818 `SameMaster`, where one is named twice.
+/// - 1810 `TooFewWorkers`: there is a Unix socket, and one worker.
+/// - Of `state`, `socket`, `shared` and `status`, in this order: 1804 `WrongValue` where the path is empty, and 1817
+///   `SamePath` where it has a file in common with one before it. The files of a path are itself, its draft `.new` and
+///   its lock `.lock`; those of `state` are the folder, and `epoch`, `epoch.new` and `lock` in it. Paths are compared by
+///   their texts, without doubled slashes, slashes at the end, and names that are a dot alone; a `..` or a link is not
+///   followed.
 ///
 /// In place of each of these it may refuse with 1 `Memory`, if it is out of memory.
 pub fn read(alloc: Global, text: &str) -> Result<Settings, SettingsFault>
@@ -146,6 +155,32 @@ pub fn read(alloc: Global, text: &str) -> Result<Settings, SettingsFault>
 /// The settings of a document.
 fn settings_of(alloc: Global, table: &Table) -> Result<Settings, SettingsFault>
     ensures { let defined = settings_of (table_view table.now) in
+        MatchResult result (λ settings. defined ≡ Ok settings) (IsRefusal defined) }
+{
+    let settings = keys_of(alloc, table)?;
+    check(alloc, &settings)?;
+    Ok(settings)
+}
+
+/// Refuses settings of which the masters, the workers or the paths do not fit.
+fn check(alloc: Global, settings: &Settings) -> Result<(), SettingsFault>
+    ensures { let defined = all_fit settings.now.masters settings.now.config.workers settings.now.state settings.now.socket settings.now.shared settings.now.status in
+        MatchResult result (λ done. defined ≡ Ok done) (IsRefusal defined) }
+{
+    check_masters(settings.masters())?;
+    check_workers(settings.config().workers(), settings.socket())?;
+    check_paths(
+        alloc,
+        settings.state(),
+        settings.socket(),
+        settings.shared(),
+        settings.status(),
+    )
+}
+
+/// The settings that the keys of a document give, each by itself.
+fn keys_of(alloc: Global, table: &Table) -> Result<Settings, SettingsFault>
+    ensures { let defined = keys_of (table_view table.now) in
         MatchResult result (λ settings. defined ≡ Ok settings) (IsRefusal defined) }
 {
     if !are_keys(table) {

@@ -7,3 +7,4 @@ pub mod Writing
 pub mod Seeing
 pub mod Memory
 pub mod Looking
+pub mod Holding

@@ -4,33 +4,62 @@ ghost use Rattle.std.specs.Prelude.{◌≡◌, ◌⊎◌, false, IfOk, IfErr};
 
 use crate::faults::{PlaceFault, SharedFault, WriteFault};
 use crate::heads::{BOOT_LEN, FILE_LEN, HEAD_LEN, decode_head, encode_head};
+use crate::holding::{Adoption, Held, Seen, adoption_of, still_there};
 use crate::places::{Place, ReadPlace};
 use crate::readers::SharedReader;
 use crate::teller::SharedTeller;
 use std::alloc::{AllocError, Global};
-use std::fs::{self, DirBuilder, File, Files, OpenFile, OpenOptions};
-use std::io::{self, Read};
-use std::os::unix::fs::{DirBuilderExt, FileExt, OpenOptionsExt};
+use std::fs::{self, DirBuilder, File, Files, OpenFile, OpenOptions, TryLockError};
+use std::io::{self, Error, ErrorKind, Read};
+use std::os::unix::fs::{DirBuilderExt, FileExt};
+use tt_files::{Facts, create_new, facts_of, is_same_file, link_facts_at, lock_at, open_regular};
 
 /// Where Linux names the boot of the machine.
 const BOOT_PATH: &str = "/proc/sys/kernel/random/boot_id";
 
-/// A file of the operating system, open for writing, and its lock, which is held as long as this lives. Nothing is
-/// claimed of what the file keeps.
+/// A file of the operating system, open for writing, and its lock, which is held as long as this lives. Before each
+/// write it looks at both paths and at the length of the file: where a path does not show the file that is open, since it
+/// was removed or replaced, or where the file was cut short, the write fails and writes nothing. Nothing is claimed of
+/// what the file keeps.
 #[derive(Drop)]
-pub struct FilePlace {
+pub struct FilePlace<'a, R> {
+    rt: &'a R,
+    paths: Paths,
+    held: Held,
     file: File,
     lock: File,
     failures: u64,
 }
 
-impl Place for FilePlace {
+impl<'a, R: Files<File = File>> FilePlace<'a, R> {
+    /// Whether both paths show the files that are open.
+    fn is_there(&self) -> bool {
+        let Ok(lock) = link_facts_at(self.rt, self.paths.lock.as_str()) else {
+            return false;
+        };
+        let Ok(file) = link_facts_at(self.rt, self.paths.file.as_str()) else {
+            return false;
+        };
+        still_there(&self.held, &Seen { lock, file })
+    }
+
+    /// Whether the file has its whole length.
+    fn is_whole(&self) -> bool {
+        match self.file.metadata() {
+            Ok(metadata) => metadata.len() == FILE_LEN as u64,
+            Err(_) => false,
+        }
+    }
+}
+
+impl<'a, R: Files<File = File>> Place for FilePlace<'a, R> {
     ghost does = { λ _ _ _ _. Unit {0} };
 
     ghost failed = { λ place. place.failures };
 
     fn write_all_at(&mut self, offset: u64, bytes: &[u8]) -> Result<(), PlaceFault> {
-        if FileExt::write_all_at(&self.file, bytes, offset).is_err() {
+        let may_write = self.is_there() && self.is_whole();
+        if !may_write || FileExt::write_all_at(&self.file, bytes, offset).is_err() {
             self.failures = self.failures.saturating_add(1);
             return Err(PlaceFault::Failed);
         }
@@ -61,68 +90,96 @@ fn index_of_file(file: &File, boot: &[u8; BOOT_LEN]) -> Option<[u8; 8]> {
     decode_head(&head, boot).ok()
 }
 
-/// The file that is there, if it is one of this boot.
-fn found_at<R: Files<File = File>>(rt: &R, path: &str, boot: &[u8; BOOT_LEN]) -> Option<File> {
-    let file = OpenOptions::new()
-        .read(true)
-        .write(true)
-        .open(rt, path)
-        .ok()?;
-    index_of_file(&file, boot)?;
-    Some(file)
-}
-
-/// Makes an empty file under another name, and renames it when it is whole and synced.
-fn made_at<R: Files<File = File>>(
+/// Opens the file that was found, if it is a shared file of this boot. None where a new one is to take its place.
+fn adopted_at<R: Files<File = File>>(
     rt: &R,
     path: &str,
-    draft: &str,
+    found: &Facts,
+    boot: &[u8; BOOT_LEN],
+) -> io::Result<Option<File>> {
+    let mut how = OpenOptions::new();
+    how.read(true).write(true);
+    let file = match open_regular(rt, path, &how) {
+        Ok(file) => file,
+        Err(error) => {
+            if error.kind() == ErrorKind::PermissionDenied {
+                return Ok(None);
+            }
+            return Err(error);
+        }
+    };
+    if is_same_file(found, &facts_of(&file)?) && index_of_file(&file, boot).is_some() {
+        Ok(Some(file))
+    } else {
+        Ok(None)
+    }
+}
+
+/// The file that is there, if a writer of this owner may go on in it. None where a new one may take its place.
+fn found_at<R: Files<File = File>>(
+    rt: &R,
+    path: &str,
+    owner: u32,
+    boot: &[u8; BOOT_LEN],
+) -> io::Result<Option<File>> {
+    let found = link_facts_at(rt, path)?;
+    match (adoption_of(found, owner), found) {
+        (Adoption::Adopt, Some(facts)) => adopted_at(rt, path, &facts, boot),
+        (Adoption::Refuse, _) => Err(Error::from(ErrorKind::InvalidInput)),
+        _ => Ok(None),
+    }
+}
+
+/// Makes the draft, which is empty, a file without publications, syncs it and renames it.
+fn install<R: Files<File = File>>(
+    rt: &R,
+    paths: &Paths,
+    draft: File,
     boot: &[u8; BOOT_LEN],
 ) -> io::Result<File> {
     let mut bytes = [0; FILE_LEN];
     bytes[..HEAD_LEN].copy_from_slice(&encode_head(&[0; 8], boot));
-    let file = OpenOptions::new()
-        .read(true)
-        .write(true)
-        .create(true)
-        .truncate(true)
-        .mode(0o644)
-        .open(rt, draft)?;
-    FileExt::write_all_at(&file, &bytes, 0)?;
-    file.sync_all()?;
-    fs::rename(rt, draft, path)?;
-    Ok(file)
+    FileExt::write_all_at(&draft, &bytes, 0)?;
+    draft.sync_all()?;
+    fs::rename(rt, paths.draft.as_str(), paths.file.as_str())?;
+    Ok(draft)
 }
 
-/// The file that is there, or a new one.
-fn file_at<R: Files<File = File>>(
+/// The file that is there, or the draft in its place. Who owns the draft, which was just made, has to own what is there.
+fn chosen_at<R: Files<File = File>>(
     rt: &R,
-    path: &str,
-    draft: &str,
+    paths: &Paths,
+    draft: File,
     boot: &[u8; BOOT_LEN],
 ) -> io::Result<File> {
-    match found_at(rt, path, boot) {
+    let owner = facts_of(&draft)?.owner;
+    match found_at(rt, paths.file.as_str(), owner, boot)? {
         Some(file) => Ok(file),
-        None => made_at(rt, path, draft, boot),
+        None => install(rt, paths, draft, boot),
     }
 }
 
+/// The file that is there, or a new one. No draft is left.
+fn file_at<R: Files<File = File>>(
+    rt: &R,
+    paths: &Paths,
+    boot: &[u8; BOOT_LEN],
+) -> io::Result<File> {
+    let draft = create_new(rt, paths.draft.as_str(), 0o644)?;
+    let chosen = chosen_at(rt, paths, draft, boot);
+    // Where the draft took the place of the file, nothing is left to remove.
+    let _ = fs::remove_file(rt, paths.draft.as_str());
+    chosen
+}
+
 /// The lock file at this path, locked as long as it is open.
-fn lock_at<R: Files<File = File>>(rt: &R, path: &str) -> Result<File, WriteFault>
+fn locked_at<R: Files<File = File>>(rt: &R, path: &str) -> Result<File, WriteFault>
     ensures refused { IfErr result (λ fault. (fault ≡ WriteFault.Locked) ⊎ (fault ≡ WriteFault.CannotOpen)) }
 {
-    let Ok(lock) = OpenOptions::new()
-        .write(true)
-        .create(true)
-        .mode(0o644)
-        .open(rt, path)
-    else {
-        return Err(WriteFault::CannotOpen);
-    };
-    match lock.try_lock() {
-        Ok(()) => Ok(lock),
-        Err(fs::TryLockError::WouldBlock) => Err(WriteFault::Locked),
-        Err(fs::TryLockError::Error(_)) => Err(WriteFault::CannotOpen),
+    match lock_at(rt, path, 0o600) {
+        Ok(lock) => Ok(lock),
+        Err(TryLockError::WouldBlock) => Err(WriteFault::Locked),
+        Err(TryLockError::Error(_)) => Err(WriteFault::CannotOpen),
     }
 }
 
@@ -151,19 +208,44 @@ fn paths_in(alloc: Global, folder: &str, name: &str) -> Result<Paths, AllocError
     })
 }
 
+/// The place of these open files, if both paths show them.
+fn place_of<'a, R: Files<File = File>>(
+    rt: &'a R,
+    paths: Paths,
+    file: File,
+    lock: File,
+) -> Option<FilePlace<'a, R>> {
+    let held = Held {
+        lock: facts_of(&lock).ok()?,
+        file: facts_of(&file).ok()?,
+    };
+    let place = FilePlace {
+        rt,
+        paths,
+        held,
+        file,
+        lock,
+        failures: 0,
+    };
+    if place.is_there() { Some(place) } else { None }
+}
+
 /// Opens the file `name` in this folder for writing. A missing folder is made (mode 0755). The writer locks `name.lock`
-/// as long as it lives. A shared file of this boot stays as it is, and publications go on behind its last one, so
-/// readers that have mapped it go on. Otherwise a new file (mode 0644) is made as `name.new`, synced, and renamed.
+/// (mode 0600) as long as it lives. A shared file of this boot stays as it is, and publications go on behind its last
+/// one, so readers that have mapped it go on: if it is a regular file without another name, is owned by whom a new file is
+/// owned by, and may be written by nobody else. Otherwise a new file (mode 0644) is made as `name.new`, synced, and renamed
+/// in the place of a file or symlink.
 ///
 /// Refuses with 1707 `Locked` where another process writes the file, and with 1701 `CannotOpen` where the folder, the
-/// lock, the name of the boot or the file can't be opened, read or made, or where it is out of memory. A file that was
-/// there is then as it was.
-pub fn open_file<R: Files<File = File>>(
-    rt: &R,
+/// lock, the name of the boot or the file can't be opened, read or made, where it is out of memory, or where a FIFO, a
+/// device, a socket or a folder is at the path of the file or of the lock: that is left alone, and never waited for.
+/// Nothing stays open or locked then. It may be called again at any time.
+pub fn open_file<'a, R: Files<File = File>>(
+    rt: &'a R,
     alloc: Global,
     folder: &str,
     name: &str,
-) -> Result<SharedTeller<FilePlace>, WriteFault>
+) -> Result<SharedTeller<FilePlace<'a, R>>, WriteFault>
     ensures whole { IfOk result (λ teller. teller.broken ≡ false) }
     ensures refused { IfErr result (λ fault. (fault ≡ WriteFault.Locked) ⊎ (fault ≡ WriteFault.CannotOpen)) }
 {
@@ -173,25 +255,24 @@ pub fn open_file<R: Files<File = File>>(
     if make_folder(rt, folder).is_err() {
         return Err(WriteFault::CannotOpen);
     }
-    let lock = lock_at(rt, paths.lock.as_str())?;
+    let lock = locked_at(rt, paths.lock.as_str())?;
     let Ok(boot) = boot_name(rt) else {
         return Err(WriteFault::CannotOpen);
     };
-    let Ok(file) = file_at(rt, paths.file.as_str(), paths.draft.as_str(), &boot) else {
+    let Ok(file) = file_at(rt, &paths, &boot) else {
         return Err(WriteFault::CannotOpen);
     };
     let Some(index) = index_of_file(&file, &boot) else {
         return Err(WriteFault::CannotOpen);
     };
-    let place = FilePlace {
-        file,
-        lock,
-        failures: 0,
-    };
-    Ok(SharedTeller::resume(place, &index))
+    match place_of(rt, paths, file, lock) {
+        Some(place) => Ok(SharedTeller::resume(place, &index)),
+        None => Err(WriteFault::CannotOpen),
+    }
 }
 
-/// A file of the operating system, open for reading. Nothing is claimed of what it shows.
+/// A file of the operating system, open for reading. It is read by calls and never mapped, so a file that is truncated
+/// meanwhile makes a look fail, and ends no process. Nothing is claimed of what the file shows.
 #[derive(Drop)]
 pub struct FileView {
     file: File,
@@ -213,9 +294,24 @@ impl ReadPlace for FileView {
     }
 }
 
+/// Why there is no view where the opening failed with an error of this kind: what is there is not a regular file, or it
+/// can't be opened.
+fn fault_of(kind: ErrorKind) -> SharedFault
+    ensures refused { (result ≡ SharedFault.CannotOpen) ⊎ (result ≡ SharedFault.BadFile) }
+{
+    match kind {
+        ErrorKind::InvalidInput => SharedFault::BadFile,
+        _ => SharedFault::CannotOpen,
+    }
+}
+
 /// Opens the file at this path for reading. The reader goes on if the writer dies and another one goes on. If the file
-/// was made anew, it has to be opened again. Refuses with 1701 `CannotOpen` where the file or the name of the boot
-/// can't be opened or read, and with 1702 `BadFile` where it is not a shared file of this boot.
+/// was made anew, it has to be opened again. If it was truncated, a reading is refused with 1701 `CannotOpen`, or with 801
+/// or 1703 where it was made longer again.
+///
+/// Refuses with 1701 `CannotOpen` where the file or the name of the boot can't be opened or read; and with 1702 `BadFile`
+/// where it is not a shared file of this boot, or not of its 192 bytes. A FIFO, a device, a socket or a folder is refused
+/// so without being opened.
 pub fn open_view<R: Files<File = File>>(
     rt: &R,
     path: &str,
@@ -225,8 +321,11 @@ pub fn open_view<R: Files<File = File>>(
     let Ok(boot) = boot_name(rt) else {
         return Err(SharedFault::CannotOpen);
     };
-    let Ok(file) = File::open(rt, path) else {
-        return Err(SharedFault::CannotOpen);
+    let mut how = OpenOptions::new();
+    how.read(true);
+    let file = match open_regular(rt, path, &how) {
+        Ok(file) => file,
+        Err(error) => return Err(fault_of(error.kind())),
     };
     if index_of_file(&file, &boot).is_none() {
         return Err(SharedFault::BadFile);

@@ -44,6 +44,7 @@
 //! - `readers`: the reader, which copies a slot between two looks at the index.
 //! - `memory`: a file in memory, for tests, which fails at the write that it is told to.
 //! - `files`: files of the operating system: how a writer opens or makes one, and how a reader opens it.
+//! - `holding`: what a writer does with what it finds at its paths.
 //! - `teller`: the writer, and the two writes of a publication in their order.
 //! - `laws`: why readers need no lock.
 //! - `faults`: why calls are refused.
@@ -52,6 +53,7 @@
 mod faults;
 mod files;
 mod heads;
+mod holding;
 mod indexes;
 mod laws;
 mod memory;
@@ -63,6 +65,7 @@ mod teller;
 pub use faults::{PlaceFault, SharedFault, WriteFault};
 pub use files::{FilePlace, FileView, open_file, open_view};
 pub use heads::{BOOT_LEN, FILE_LEN, HEAD_LEN, decode_head, encode_head};
+pub use holding::{Adoption, Held, Seen, adoption_of, may_be_adopted, still_there};
 pub use indexes::{count_of, index_laws, index_of, turn_of};
 pub use laws::{copy_laws, crash_laws};
 pub use memory::{MemoryPlace, memory_laws};

@@ -1,2 +1,3 @@
 mod Receipts
 mod Serving
+pub mod Leasing

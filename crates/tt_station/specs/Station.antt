@@ -1,6 +1,9 @@
 -- The service of one session: each call is calls of the worker's watch and seat, and of the session's book, one after the other.
-use Rattle.std.specs.Prelude.{◌≡◌, ℕ, ◌+◌, ◌<◌, nat_lt, List, [], Bool, true, false, if◌then◌else◌, MatchBool, Option, Some, None, Result, Ok, Err}
-use Rattle.tt_span.specs.Interval.{Interval}
+use Rattle.std.specs.Prelude.{◌≡◌, ℕ, ◌+◌, ◌<◌, max, min, nat_lt, List, [], Bool, true, false, if◌then◌else◌, MatchBool, Option, Some, None, Result, Ok, Err}
+use Rattle.tt_span.specs.Time.{max_time}
+use Rattle.tt_span.specs.Interval.{Interval, whole}
+use Rattle.tt_span.specs.Fault.{number_of as span_number_of}
+use Rattle.tt_span.specs.declared.spans.SpanFault.TheVariants.{Backwards, PastMax}
 use Rattle.tt_publish.specs.Fault.{read_number_of}
 use Rattle.tt_publish.specs.Known.{WatchState}
 use Rattle.tt_publish.specs.Looks.{Looks}
@@ -13,11 +16,12 @@ use Rattle.tt_stamp.specs.declared.commits.Id.{Id}
 use Rattle.tt_stamp.specs.declared.commits.Entry.{Entry}
 use Rattle.tt_stamp.specs.declared.commits.Receipt.{Receipt}
 use Rattle.tt_stamp.specs.declared.faults.StampFault.{StampFault}
+use Rattle.tt_stamp.specs.declared.faults.StampFault.TheVariants.{LeaseOver}
 use Rattle.tt_stamp.specs.declared.faults.BookFault.{BookFault}
 use Rattle.tt_session.specs.Desk.{Queues, AnswersQueued}
 use Rattle.tt_session.specs.Session.{Serves, Breaks}
 use Rattle.tt_session.specs.declared.calls.Call.{Call}
-use Rattle.tt_session.specs.declared.calls.Call.TheVariants.{Now, Begin, Pass}
+use Rattle.tt_session.specs.declared.calls.Call.TheVariants.{Now, Begin, Lease, Pass}
 use Rattle.tt_session.specs.declared.serving.Served.{Served}
 use Rattle.tt_station.specs.Fault.{number_of}
 use Rattle.tt_station.specs.declared.faults.StationFault.TheVariants.{FloorAboveCap, ClientLeft}
@@ -30,15 +34,16 @@ pub record PostState (C : Type 0) : Type 0 where
   pub lease : Interval
   pub ahead : ℕ
 
--- a session: its worker's post, its client, and what happened in its book, newest first
+-- a session: its worker's post, its client, the lease that the client set, and what happened in its book, newest first
 pub record StationState (C V : Type 0) : Type 0 where
   pub post : PostState C
   pub client : V
+  pub lease : Interval
   pub book : List Entry
 
--- a session at its beginning: nothing has happened in its book
+-- a session at its beginning: nothing has happened in its book, and its lease is the whole of time
 abbrev pub new_station : {C V : Type 0} → PostState C → V → StationState C V
-new_station post client = record { post = post; client = client; book = [] }
+new_station post client = record { post = post; client = client; lease = whole; book = [] }
 
 -- the id of the session's commit with this number
 abbrev pub id_at : ℕ → Id
@@ -52,11 +57,38 @@ page_if _ book = book
 abbrev pub book_before : List Entry → List Entry
 book_before book = page_if (waiting_of book) book
 
--- a call that begins with a reading, and then does this with it; the client and the terms stay
+-- what lies in both of two leases; where nothing does, its ends are not in order
+abbrev pub common : Interval → Interval → Interval
+common a b = record { lo = max a.lo b.lo; hi = min a.hi b.hi }
+
+-- the lease that stamps of a session lie in: what its own lease and that of the machine have in common
+abbrev pub lease_of : {C V : Type 0} → StationState C V → Interval
+lease_of station = common station.lease station.post.lease
+
+-- one stamp of a seat, for this floor, in what two leases have in common; where that is nothing, the lease is over, and the seat stays
+abbrev pub StampsIn : Interval → Interval → ℕ → Interval → SeatState → Result ℕ StampFault → SeatState → Type 0
+StampsIn a b floor reading old answer new =
+    MatchBool (nat_lt (min a.hi b.hi) (max a.lo b.lo)) ((answer ≡ Err LeaseOver) × (new ≡ old)) (Stamps floor (common a b) reading old answer new)
+
+-- the answer to a lease with these ends: the first reason why they are those of no interval of time, if there is one
+abbrev pub lease_answer : ℕ → ℕ → Result (Unit {0}) ℕ
+lease_answer lo hi = if nat_lt hi lo then Err (span_number_of Backwards) else (if nat_lt max_time hi then Err (span_number_of PastMax) else Ok tt)
+
+-- the lease after that: the old one where the ends are those of no interval of time
+abbrev pub lease_set : ℕ → ℕ → Interval → Interval
+lease_set lo hi old = if nat_lt hi lo then old else (if nat_lt max_time hi then old else record { lo = lo; hi = hi })
+
+-- the lease of a session is set to these ends, or refused; nothing else is done
+pub record SetsLease {C V : Type 0} (lo hi : ℕ) (before : StationState C V) (answer : Result (Unit {0}) ℕ) (after : StationState C V) : Type 0 where
+  pub says : answer ≡ lease_answer lo hi
+  pub set : after ≡ record before { lease = lease_set lo hi before.lease }
+
+-- a call that begins with a reading, and then does this with it; the client, the terms and the lease stay
 pub record LooksThen {C V : Type 0} (gives : C → Option ℕ → C → Type 0) (failed : C → ℕ) (before : StationState C V) (Then : Result Interval ReadFault → Type 0) (after : StationState C V) : Type 0 where
   pub lease : after.post.lease ≡ before.post.lease
   pub ahead : after.post.ahead ≡ before.post.ahead
   pub client : after.client ≡ before.client
+  pub own : after.lease ≡ before.lease
   pub looked : Result Interval ReadFault
   pub looks : Looks gives failed before.post.watch before.post.clock looked after.post.watch after.post.clock
   pub rest : Then looked
@@ -80,13 +112,13 @@ QueuesStamped before number answer after (Err fault) = (answer ≡ Err (stamp_nu
 -- a commit whose reading was taken is stamped and queued
 abbrev pub CommitsAt : {C V : Type 0} → StationState C V → ℕ → ℕ → Interval → Result ℕ ℕ → StationState C V → Type 0
 CommitsAt before number floor reading answer after =
-    (stamped : Result ℕ StampFault) × Stamps floor before.post.lease reading before.post.seat stamped after.post.seat
+    (stamped : Result ℕ StampFault) × StampsIn before.lease before.post.lease floor reading before.post.seat stamped after.post.seat
     × QueuesStamped before.book number answer after.book stamped
 
--- a floor further ahead of the latest than the terms allow is refused
+-- a floor, or a start of the session's lease, further ahead of the latest than the terms allow is refused
 abbrev pub BeginsAt : {C V : Type 0} → StationState C V → ℕ → ℕ → Result ℕ ℕ → StationState C V → Result Interval ReadFault → Type 0
 BeginsAt before number floor answer after (Ok reading) =
-    MatchBool (nat_lt (reading.hi + before.post.ahead) floor) ((answer ≡ Err (number_of FloorAboveCap)) × Keeps before after) (CommitsAt before number floor reading answer after)
+    MatchBool (nat_lt (reading.hi + before.post.ahead) (max floor before.lease.lo)) ((answer ≡ Err (number_of FloorAboveCap)) × Keeps before after) (CommitsAt before number floor reading answer after)
 BeginsAt before number floor answer after (Err fault) = (answer ≡ Err (read_number_of fault)) × Keeps before after
 
 -- the answer to whether a commit is released: yes where it has a receipt, on which its stamp is below the earliest of a reading; where it has none, no, or a refusal because the client has left
@@ -105,6 +137,7 @@ PassesAt says before number answer after (Err fault) = (answer ≡ Err (read_num
 abbrev pub Allows : {C V : Type 0} → (C → Option ℕ → C → Type 0) → (C → ℕ) → (V → Bool → Type 0) → StationState C V → Call → StationState C V → Type 0
 Allows gives failed says before (Now answer) after = LooksThen gives failed before (AnswersReading before answer after) after
 Allows gives failed says before (Begin number floor answer) after = LooksThen gives failed before (BeginsAt before number floor answer after) after
+Allows gives failed says before (Lease lo hi answer) after = SetsLease lo hi before answer after
 Allows gives failed says before (Pass number answer) after = LooksThen gives failed before (PassesAt says before number answer after) after
 
 -- bytes were read and a text was written, as a session with a station that was new at its beginning; the worker went from one post to the other

@@ -4,8 +4,7 @@ ghost use Rattle.std.specs.Prelude.{◌≡◌, ◌≢◌, ◌+◌, nat_lt, Err, 
 ghost use Rattle.std.specs.Io.KnownBytes.{IsAtEnd};
 ghost use Rattle.tt_publish.specs.Looks.{Looks};
 ghost use Rattle.tt_session.specs.declared.serving.Served.{Served};
-ghost use Rattle.tt_stamp.specs.Steps.{Stamps};
-ghost use Rattle.tt_station.specs.Station.{ServesSession, BreaksSession};
+ghost use Rattle.tt_station.specs.Station.{ServesSession, BreaksSession, StampsIn};
 
 use crate::clients::Presence;
 use crate::stations::Station;
@@ -29,7 +28,7 @@ const MARGIN: u64 = 1_000;
 /// The settings by which commits are stamped.
 #[derive(Clone, Copy, Debug, PartialEq, Eq)]
 pub struct Terms {
-    /// The lease, in which stamps lie.
+    /// The lease of the machine, in which stamps lie.
     pub lease: Span,
     /// How far a floor may lie ahead of the latest of a reading, in nanoseconds. The rule of stamps has a bound too,
     /// [`tt_stamp::MAX_AHEAD`]: the lower of both counts.
@@ -132,13 +131,25 @@ impl<'a, R: Wait, C: Clock> Post<'a, R, C> {
         floor.saturating_sub(reading.latest()) > self.terms.ahead
     }
 
-    /// One [`Sequencer::stamp`] in the lease.
-    pub(crate) fn stamp(&mut self, reading: &Reading, floor: u64) -> Result<u64, StampFault>
-        ensures stamps { Stamps floor self.old.lease reading.now self.old.seat result self.new.seat }
+    /// One [`Sequencer::stamp`] in what this lease and that of the machine have in common. Where that is nothing, the
+    /// lease is over, and the sequencer is not asked.
+    pub(crate) fn stamp(
+        &mut self,
+        reading: &Reading,
+        floor: u64,
+        lease: &Span,
+    ) -> Result<u64, StampFault>
+        ensures stamps { StampsIn lease.now self.old.lease floor reading.now self.old.seat result self.new.seat }
         ensures same { self.new ≡ record self.old { seat = self.new.seat } }
     {
-        self.sequencer
-            .stamp(self.rt, &mut self.seat, reading, floor, &self.terms.lease)
+        let lo = lease.lo().max(self.terms.lease.lo());
+        let hi = lease.hi().min(self.terms.lease.hi());
+        match Span::new(lo, hi) {
+            Ok(both) => self
+                .sequencer
+                .stamp(self.rt, &mut self.seat, reading, floor, &both),
+            Err(_) => Err(StampFault::LeaseOver),
+        }
     }
 
     /// Waits until a reading is past the stamp, or for the longest pause.

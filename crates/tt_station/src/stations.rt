@@ -1,8 +1,9 @@
 //! The service of one session.
 
-ghost use Rattle.std.specs.Prelude.{◌≡◌, ◌<◌, [], None, IfSome};
+ghost use Rattle.std.specs.Prelude.{◌≡◌, ◌<◌, ◌⊎◌, [], None, Err, IfSome};
+ghost use Rattle.tt_span.specs.Interval.{whole};
 ghost use Rattle.tt_stamp.specs.History.{waiting_of, release_of, with_receipts, receipt_of};
-ghost use Rattle.tt_station.specs.Station.{Allows, AnswersReceipt, CommitsAt, book_before, id_at};
+ghost use Rattle.tt_station.specs.Station.{Allows, AnswersReceipt, CommitsAt, SetsLease, book_before, id_at};
 
 use crate::clients::Presence;
 use crate::faults::StationFault;
@@ -12,10 +13,11 @@ use std::marker::Model;
 use std::sync::Wait;
 use tt_publish::{Clock, Reading};
 use tt_session::Service;
+use tt_span::Span;
 use tt_stamp::{Book, Id, Receipt};
 
-/// The service of one session: the post of its worker, its client, and a book of its own. In contracts it is these
-/// three.
+/// The service of one session: the post of its worker, its client, a lease and a book of its own. In contracts it is
+/// these four.
 ///
 /// If no commit of the session is pending, the next one is queued into an empty book. At most one commit of a session
 /// is pending, so its book has two entries at most, however long it goes on.
@@ -24,6 +26,8 @@ pub struct Station<'a, 'c, R, C, V> {
     post: Post<'a, R, C>,
     alloc: Global,
     client: &'c V,
+    /// Stamps lie in this lease and in that of the machine. It is the whole of time until the client sets one.
+    lease: Span,
     book: Book,
     /// The stamp of the commit that was begun last, in nanoseconds.
     stamp: u64,
@@ -34,18 +38,19 @@ impl<'a, 'c, R, C, V> Model for Station<'a, 'c, R, C, V> {
 
     ghost Value = { StationState C V };
 
-    ghost view = { λ s. record { post = s.post; client = s.client.now; book = s.book } };
+    ghost view = { λ s. record { post = s.post; client = s.client.now; lease = s.lease; book = s.book } };
 }
 
 impl<'a, 'c, R: Wait, C: Clock, V: Presence> Station<'a, 'c, R, C, V> {
     /// The service of this client at the beginning of its session.
     pub fn open(post: Post<'a, R, C>, alloc: Global, client: &'c V) -> Self
-        ensures opened { result ≡ record { post = post.entry; client = client.now; book = [] } }
+        ensures opened { result ≡ record { post = post.entry; client = client.now; lease = whole; book = [] } }
     {
         Station {
             post,
             alloc,
             client,
+            lease: Span::whole(),
             book: Book::new(alloc),
             stamp: 0,
         }
@@ -73,7 +78,7 @@ impl<'a, 'c, R: Wait, C: Clock, V: Presence> Station<'a, 'c, R, C, V> {
         ensures commits { CommitsAt self.old number floor reading.now result self.new }
         ensures same { self.new ≡ record self.old { post = record self.old.post { seat = self.new.post.seat }; book = self.new.book } }
     {
-        let stamp = match self.post.stamp(reading, floor) {
+        let stamp = match self.post.stamp(reading, floor, &self.lease) {
             Ok(stamp) => stamp,
             Err(fault) => return Err(fault.number()),
         };
@@ -126,21 +131,36 @@ impl<'a, 'c, R: Wait, C: Clock, V: Presence> Service for Station<'a, 'c, R, C, V
 
     /// One [`Watch::now`](tt_publish::Watch::now), then one [`Sequencer::stamp`](tt_stamp::Sequencer::stamp) by this
     /// reading, in the lease, then one [`Book::queue`] of the commit with this number, under the stamp. Answers the
-    /// stamp, in nanoseconds.
+    /// stamp, in nanoseconds. The lease is what the leases of the session and of the machine have in common.
     ///
-    /// Refuses, in this order: 801, 803, 802 if there is no reading, 1821 if the floor lies further ahead of the latest
-    /// of the reading than the terms allow, 902, 901, 903 if there is no stamp, 1001, 1002, 1003, 1 if the commit is
-    /// not queued: then the stamp is lost. After any other refusal the seat has given no stamp, and the book is as it
-    /// was.
+    /// Refuses, in this order: 801, 803, 802 if there is no reading, 1821 if the floor, or the lower end of the
+    /// session's lease, lies further ahead of the latest of the reading than the terms allow, 903 if the two leases have
+    /// nothing in common, 902, 901, 903 if there is no stamp, 1001, 1002, 1003, 1 if the commit is not queued: then the
+    /// stamp is lost. After any other refusal the seat has given no stamp, and the book is as it was.
     fn begin(&mut self, number: u64, floor: u64) -> Result<u64, u16> {
         let reading = match self.post.read() {
             Ok(reading) => reading,
             Err(fault) => return Err(fault.number()),
         };
-        if self.post.is_above_cap(&reading, floor) {
+        if self.post.is_above_cap(&reading, floor.max(self.lease.lo())) {
             return Err(StationFault::FloorAboveCap.number());
         }
         self.commit(number, floor, &reading)
+    }
+
+    /// Sets the lease of the session, by its ends in nanoseconds. Refuses as [`Span::new`] does, and the lease stays:
+    /// 101, 102.
+    fn lease(&mut self, lo: u64, hi: u64) -> Result<(), u16>
+        ensures sets { SetsLease lo hi self.old result self.new }
+        ensures allowed { ((result ≡ Err 1101) × (self.new ≡ self.old)) ⊎ SetsLease lo hi self.old result self.new }
+    {
+        match Span::new(lo, hi) {
+            Ok(lease) => {
+                self.lease = lease;
+                Ok(())
+            }
+            Err(fault) => Err(fault.number()),
+        }
     }
 
     /// One [`Watch::now`](tt_publish::Watch::now), then one [`Book::release`] by this reading. Answers whether the

@@ -2,7 +2,7 @@
 use Rattle.std.specs.Prelude.{codes, ℕ, nat_lt, if◌then◌else◌, List, [], ◌∷◌, ◌++◌}
 use Rattle.std.specs.Fmt.{decimal}
 use Rattle.tt_status.specs.declared.lines.Event.{Event}
-use Rattle.tt_status.specs.declared.lines.Event.TheVariants.{Started, FirstPublication, SourceSilent, SourceSuspect, FusionRefused, ClockBack, AnswersRefused, RoundFailed, SharingEnded, StatusUnwritten, NotAccepted, StateLoose, EpochLoose, SharedLoose, Ended, MasterStarted, MasterFailed}
+use Rattle.tt_status.specs.declared.lines.Event.TheVariants.{Started, FirstPublication, SourceSilent, SourceSuspect, FusionRefused, ClockBack, AnswersRefused, RoundFailed, SharingEnded, SharingResumed, StatusUnwritten, NotAccepted, StateLoose, EpochLoose, SharedLoose, Ended, MasterStarted, MasterFailed, SocketRenewed, PublicationSlow, SourceUnsent}
 
 -- a name and the decimal digits of its number
 abbrev pub field : List ℕ → ℕ → List ℕ
@@ -19,6 +19,7 @@ name_of ClockBack = codes "level=warn event=clock_back"
 name_of (AnswersRefused count) = codes "level=warn event=answers_refused"
 name_of (RoundFailed number) = codes "level=warn event=round_failed"
 name_of (SharingEnded number) = codes "level=warn event=sharing_ended"
+name_of SharingResumed = codes "level=info event=sharing_resumed"
 name_of StatusUnwritten = codes "level=warn event=status_unwritten"
 name_of NotAccepted = codes "level=warn event=not_accepted"
 name_of StateLoose = codes "level=warn event=state_loose"
@@ -27,6 +28,9 @@ name_of SharedLoose = codes "level=warn event=shared_loose"
 name_of Ended = codes "level=info event=ended"
 name_of (MasterStarted source port) = codes "level=info event=master_started"
 name_of (MasterFailed number) = codes "level=warn event=master_failed"
+name_of (SocketRenewed number pause) = codes "level=warn event=socket_renewed"
+name_of (PublicationSlow nanoseconds) = codes "level=warn event=publication_slow"
+name_of (SourceUnsent source) = codes "level=warn event=source_unsent"
 
 -- its numbers, each behind its name
 abbrev pub numbers_of : Event → List ℕ
@@ -40,6 +44,9 @@ numbers_of (RoundFailed number) = field (codes " number=") number
 numbers_of (SharingEnded number) = field (codes " number=") number
 numbers_of (MasterStarted source port) = field (codes " source=") source ++ field (codes " port=") port
 numbers_of (MasterFailed number) = field (codes " number=") number
+numbers_of (SocketRenewed number pause) = field (codes " number=") number ++ field (codes " pause=") pause
+numbers_of (PublicationSlow nanoseconds) = field (codes " nanoseconds=") nanoseconds
+numbers_of (SourceUnsent source) = field (codes " source=") source
 numbers_of _ = []
 
 -- how many of its kind were left out before it, where some were

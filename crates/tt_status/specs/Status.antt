@@ -26,6 +26,9 @@ rows_of s =
     (codes "truetime_sessions_total", s.sessions) ∷
     (codes "truetime_lines_total", s.lines) ∷
     (codes "truetime_lines_refused_total", s.refused_lines) ∷
+    (codes "truetime_packets_unsent_total", s.unsent) ∷
+    (codes "truetime_connections_waiting", s.waiting) ∷
+    (codes "truetime_records_left_out_total", s.left_out) ∷
     []
 
 -- the text of a status: a line for each number

@@ -26,6 +26,8 @@ pub enum Event {
     RoundFailed { number: u64 },
     /// The shared file is no longer written, because of the fault of this number.
     SharingEnded { number: u64 },
+    /// The shared file is written again.
+    SharingResumed,
     /// The status file was not written.
     StatusUnwritten,
     /// A connection was not accepted.
@@ -42,6 +44,12 @@ pub enum Event {
     MasterStarted { source: u64, port: u64 },
     /// A master's link or reference failed, with this number: 1501 or 304.
     MasterFailed { number: u64 },
+    /// The socket for polls failed with this number, and is made anew after this pause in nanoseconds.
+    SocketRenewed { number: u64, pause: u64 },
+    /// A publication has lasted this long so far, in nanoseconds: a reader has not left its reading.
+    PublicationSlow { nanoseconds: u64 },
+    /// A packet to this source could not be sent.
+    SourceUnsent { source: u64 },
 }
 
 impl Event {
@@ -59,6 +67,7 @@ impl Event {
             Event::AnswersRefused { .. } => "level=warn event=answers_refused",
             Event::RoundFailed { .. } => "level=warn event=round_failed",
             Event::SharingEnded { .. } => "level=warn event=sharing_ended",
+            Event::SharingResumed => "level=info event=sharing_resumed",
             Event::StatusUnwritten => "level=warn event=status_unwritten",
             Event::NotAccepted => "level=warn event=not_accepted",
             Event::StateLoose => "level=warn event=state_loose",
@@ -67,6 +76,9 @@ impl Event {
             Event::Ended => "level=info event=ended",
             Event::MasterStarted { .. } => "level=info event=master_started",
             Event::MasterFailed { .. } => "level=warn event=master_failed",
+            Event::SocketRenewed { .. } => "level=warn event=socket_renewed",
+            Event::PublicationSlow { .. } => "level=warn event=publication_slow",
+            Event::SourceUnsent { .. } => "level=warn event=source_unsent",
         }
     }
 }
@@ -127,7 +139,14 @@ fn push_numbers(text: &mut String, event: Event) -> Result<(), AllocError>
         Event::AnswersRefused { count } => push_field(text, " count=", count),
         Event::RoundFailed { number } => push_field(text, " number=", number),
         Event::SharingEnded { number } => push_field(text, " number=", number),
+        Event::SocketRenewed { number, pause } => {
+            push_field(text, " number=", number)?;
+            push_field(text, " pause=", pause)
+        }
+        Event::PublicationSlow { nanoseconds } => push_field(text, " nanoseconds=", nanoseconds),
+        Event::SourceUnsent { source } => push_field(text, " source=", source),
         Event::ClockBack
+        | Event::SharingResumed
         | Event::StatusUnwritten
         | Event::NotAccepted
         | Event::StateLoose

@@ -40,6 +40,12 @@ pub struct Status {
     pub lines: u64,
     /// How many of them were answered `refused`.
     pub refused_lines: u64,
+    /// How many packets to sources could not be sent.
+    pub unsent: u64,
+    /// How many connections wait for a worker.
+    pub waiting: u64,
+    /// How many lines of the log and how many statuses were left out because no place was free for them.
+    pub left_out: u64,
 }
 
 /// Adds the status to a text, in the format that Prometheus collects (its text format, version 0.0.4): one line for each
@@ -71,6 +77,9 @@ pub fn push_status(text: &mut String, status: &Status) -> Result<(), AllocError>
             ("truetime_sessions_total", status.sessions),
             ("truetime_lines_total", status.lines),
             ("truetime_lines_refused_total", status.refused_lines),
+            ("truetime_packets_unsent_total", status.unsent),
+            ("truetime_connections_waiting", status.waiting),
+            ("truetime_records_left_out_total", status.left_out),
         ],
     )
 }

@@ -16,6 +16,7 @@ use std::rt::Env;
 use std::sync::Wait;
 use std::thread::Threads;
 use std::time::Clock;
+use tt_report::Disk;
 use tt_stream::{ByteReader, ByteWriter};
 use ttd_cli::{mistake_text, usage_text};
 use ttd_commands::{Ended, Fault, Status, answer_live, explain, give};
@@ -86,7 +87,11 @@ pub(crate) fn service_from<
         + Eprint
         + Input<Reader = S>
         + Files<File = File>
-        + Net<Listener = TcpListener, Stream = TcpStream>,
+        + Net<Listener = TcpListener, Stream = TcpStream>
+        + Disk
+        + Copy
+        + Send
+        + 'static,
     R: ByteReader,
     W: ByteWriter,
 >(rt: &H, words: &[String], input: &mut R, output: &mut W) -> Option<ttd_services::Status> {

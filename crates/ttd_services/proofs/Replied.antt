@@ -1,10 +1,10 @@
--- Lines of a word and two numbers.
+-- Lines of a word and one or two numbers.
 use Rattle.std.proofs.Common.{◌≡◌, ◌∙◌, ℕ, List, [], ◌∷◌, length, sym, ap, subst, arith, slice_index_or}
 use Rattle.std.proofs.lemmas.List.Elements.{All-cons, All-nil}
 use Rattle.std.specs.Prelude.{codes}
 use Rattle.tt_text.specs.Line.{line_of}
 use Rattle.tt_text.specs.Reading.{AreNumbers, IsLineOf, IsNumber}
-use Rattle.ttd_services.specs.Replies.{BeginsWith, IsPending}
+use Rattle.ttd_services.specs.Replies.{BeginsWith, IsOnly, IsPending}
 
 pub AreNumbers-two : (m n : ℕ) → IsNumber m → IsNumber n → AreNumbers (m ∷ n ∷ [])
 AreNumbers-two m n first second = (omega arith, All-cons IsNumber m (n ∷ []) first (All-cons IsNumber n [] second (All-nil IsNumber)))
@@ -21,6 +21,20 @@ two_of word line items (a ∷ b ∷ []) read same two =
       only = λ m n p q e. ap (λ (xs : List ℕ). slice_index_or xs 0 m) (here.only (m ∷ n ∷ []) (AreNumbers-two m n p q) e);
     }
 two_of word line items _ read same two = absurd (omega (arith, two))
+
+pub AreNumbers-one : (n : ℕ) → IsNumber n → AreNumbers (n ∷ [])
+AreNumbers-one n only = (omega arith, All-cons IsNumber n [] only (All-nil IsNumber))
+
+-- a line of the word and the one number that stands in a list
+pub only_of : (word line items now : List ℕ) → IsLineOf word line items → now ≡ items → length now ≡ 1 → IsOnly word line (slice_index_or now 0 0)
+only_of word line items (a ∷ []) read same one =
+    let here = subst (λ (xs : List ℕ). IsLineOf word line xs) (sym same) read in
+    record {
+      is_number = here.fits.1 0 0 (omega arith);
+      is = here.is;
+      only = λ n p e. ap (λ (xs : List ℕ). slice_index_or xs 0 n) (here.only (n ∷ []) (AreNumbers-one n p) e);
+    }
+only_of word line items _ read same one = absurd (omega (arith, one))
 
 -- a commit's line and the reply that names the same number
 pub pending_by : (line reply : List ℕ) (asked named : ℕ) → BeginsWith (codes "commit") line asked → BeginsWith (codes "waiting") reply named → named ≡ asked

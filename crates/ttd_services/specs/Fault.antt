@@ -10,7 +10,7 @@ use Rattle.tt_settings.specs.declared.faults.SettingsFault.TheVariants as settin
 use Rattle.ttd_services.specs.declared.faults.ServiceFault.{ServiceFault}
 use Rattle.ttd_services.specs.declared.faults.ServiceFault.TheVariants.{BadWords, NotLocal, BadFile, ReadFailed, LinkFailed, Settings, Shared, Server, Memory}
 use Rattle.ttd_services.specs.declared.faults.Status.{Status}
-use Rattle.ttd_services.specs.declared.faults.Status.TheVariants.{Fine, Memory as NoMemory, Bad, Device}
+use Rattle.ttd_services.specs.declared.faults.Status.TheVariants.{Fine, Memory as NoMemory, Bad, Device, Pending}
 
 -- The number of each refusal.
 abbrev pub number_of : ServiceFault → ℕ
@@ -58,6 +58,7 @@ code_of Fine = 0
 code_of NoMemory = 1
 code_of Bad = 2
 code_of Device = 4
+code_of Pending = 5
 
 -- The second step, where the first was not refused: so the first line of a `do` that refuses is the answer.
 infixl 10 ◌>>=◌

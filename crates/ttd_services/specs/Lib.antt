@@ -4,3 +4,7 @@ pub mod Fault
 pub mod Answer
 pub mod Replies
 pub mod Clocks
+pub mod Standard
+pub mod Packets
+pub mod Asking
+pub mod Sentence

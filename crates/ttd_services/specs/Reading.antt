@@ -1,7 +1,7 @@
 -- What words ask for.
-use Rattle.std.specs.Prelude.{◌≡◌, ◌⊎◌, ◌&&◌, ℕ, Bool, true, false, List, [], ◌∷◌, ◌++◌, length, drop, Option, Some, None, ok_or, Result, Ok, Err, IsOk, MatchResult, if◌then◌else◌, nat_eq, nat_le, codes, string_bytes, option_and_then, option_map, not}
+use Rattle.std.specs.Prelude.{◌≡◌, ◌⊎◌, ◌&&◌, ◌||◌, ℕ, Bool, true, false, List, [], ◌∷◌, ◌++◌, length, drop, Option, Some, None, ok_or, Result, Ok, Err, IsOk, MatchResult, if◌then◌else◌, nat_eq, nat_le, codes, string_bytes, option_and_then, option_map, not}
 use Rattle.std.specs.Cmp.Lexicographic.{pointwise}
-use Rattle.std.specs.List.{join_by}
+use Rattle.std.specs.List.{join_by, list_any}
 use Rattle.std.specs.Option.{option_map_or}
 use Rattle.std.specs.Str.{bytes_eq}
 use Rattle.clap.specs.Walk.{Row, Text, all_of, first_of}
@@ -19,23 +19,35 @@ use Rattle.ttd_services.specs.declared.faults.ServiceFault.{ServiceFault}
 use Rattle.ttd_services.specs.declared.faults.ServiceFault.TheVariants.{BadWords, NotLocal, Memory}
 use Rattle.ttd_services.specs.declared.words.Offset.{Offset}
 use Rattle.ttd_services.specs.declared.words.Offset.TheVariants.{Later, Earlier}
+use Rattle.ttd_services.specs.declared.words.Peer.{Peer}
+use Rattle.ttd_services.specs.declared.words.Peer.TheVariants as peer
 use Rattle.ttd_services.specs.declared.words.Service.{Service}
 use Rattle.ttd_services.specs.declared.words.Service.TheVariants as service
 use Rattle.ttd_services.specs.declared.words.Asked.{Asked}
 use Rattle.ttd_services.specs.declared.words.Asked.TheVariants.{Run, Help}
 
+-- Where a machine is asked, by its text.
+pub data Place : Type 0 where
+  AtPort : ℕ → Place
+  AtPath : Text → Place
+
+-- Where a machine is asked.
+abbrev pub place_of : Peer → Place
+place_of (peer.Port port) = AtPort port
+place_of (peer.Path path) = AtPath path.now
+
 -- What a service is to do, without its memory.
 pub data Meaning : Type 0 where
   Master : ℕ → ℕ → ℕ → Offset → List Act → Meaning
   Serve : Text → Bool → Bool → Meaning
-  Ask : ℕ → Option Text → ℕ → Meaning
+  Ask : Place → Option Text → ℕ → Meaning
   Read : Text → Meaning
 
 -- What a service is to do.
 abbrev pub meaning_of : Service → Meaning
 meaning_of (service.Master source port uncertainty offset acts) = Master source port uncertainty offset acts.items
 meaning_of (service.Serve file check until_eof) = Serve file.now check until_eof
-meaning_of (service.Ask port line retry) = Ask port (option_map string_bytes line) retry
+meaning_of (service.Ask peer line retry) = Ask (place_of peer) (option_map string_bytes line) retry
 meaning_of (service.Read file) = Read file.now
 
 -- A number of at most `most`, where there is one.
@@ -56,6 +68,25 @@ abbrev pub port_at : Text → List Row → Result ℕ ServiceFault
 port_at id rows = do
   text ← text_at id rows
   ok_or (port_of text) NotLocal
+
+-- A byte is in a text.
+abbrev pub has_byte : ℕ → Text → Bool
+has_byte byte text = list_any (λ other. nat_eq other byte) text
+
+-- Where a text without a slash says that a machine is asked: at its port, where it is an address of this host.
+abbrev pub place_by : Text → Option ℕ → Result Place ServiceFault
+place_by text (Some port) = Ok (AtPort port)
+place_by text None = if nat_eq (length text) 0 || has_byte 58 text then Err NotLocal else Ok (AtPath text)
+
+-- Where a text says that a machine is asked.
+abbrev pub place_in : Text → Result Place ServiceFault
+place_in text = if has_byte 47 text then Ok (AtPath text) else place_by text (port_of text)
+
+-- Where the machine that was given is asked.
+abbrev pub place_at : Text → List Row → Result Place ServiceFault
+place_at id rows = do
+  text ← text_at id rows
+  place_in text
 
 -- Whether a flag was given.
 abbrev pub flag_at : Text → List Row → Bool
@@ -125,9 +156,9 @@ serve_of rows = do
 -- The command `ask` by what was found.
 abbrev pub ask_of : List Row → Result Meaning ServiceFault
 ask_of rows = do
-  port ← port_at (codes "address") rows
+  place ← place_at (codes "address") rows
   retry ← number_to (codes "retry") 9999 rows
-  Ok (Ask port (line_at (all_of (codes "words") rows)) retry)
+  Ok (Ask place (line_at (all_of (codes "words") rows)) retry)
 
 -- The command `read` by what was found.
 abbrev pub read_of : List Row → Result Meaning ServiceFault

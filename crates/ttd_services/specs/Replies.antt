@@ -29,3 +29,13 @@ pub record BeginsWith (word line : List ℕ) (first : ℕ) : Type 0 where
 -- The line is not the word and two numbers.
 abbrev pub HasNoTwo : List ℕ → List ℕ → Type 0
 HasNoTwo word line = (m n : ℕ) → IsNumber m → IsNumber n → line ≡ line_of word (m ∷ n ∷ []) → ⊥
+
+-- The line is the word and this number, and no other.
+pub record IsOnly (word line : List ℕ) (number : ℕ) : Type 0 where
+  pub is_number : IsNumber number
+  pub is : line ≡ line_of word (number ∷ [])
+  pub only : (n : ℕ) → IsNumber n → line ≡ line_of word (n ∷ []) → n ≡ number
+
+-- The line is not the word and one number.
+abbrev pub HasNoOne : List ℕ → List ℕ → Type 0
+HasNoOne word line = (n : ℕ) → IsNumber n → line ≡ line_of word (n ∷ []) → ⊥

@@ -1,13 +1,22 @@
 //! The service `ask`.
 
-use crate::faults::ServiceFault;
+ghost use Rattle.std.specs.Prelude.{◌≡◌};
+ghost use Rattle.ttd_services.specs.Asking.{ending_of, worse};
+
+use crate::exchanges::{Reply, exchange};
+use crate::faults::{ServiceFault, Status};
 use crate::lines::{Line, end, keep, read_line};
 use crate::output::{Stop, write};
-use crate::replies::{Meaning, meaning_of};
-use std::net::{Ipv4Addr, Net, TcpStream};
+use crate::replies::{Meaning, meaning_of, refusal_in};
+use crate::sentences::sentence_of;
+use crate::words::Peer;
+use std::io::{self, Eprint};
+use std::net::{Ipv4Addr, Net, SocketAddr, TcpStream};
+use std::os::fd::OwnedFd;
+use std::os::unix::net::UnixStream;
 use std::thread;
 use std::time::{Clock as SystemClock, Duration};
-use tt_stream::{ByteReader, ByteWriter, Counted, DeviceFault, write_all};
+use tt_stream::{ByteReader, ByteWriter};
 
 /// The most times that a line may be sent again while nothing is published.
 pub(crate) const MOST_RETRY: u64 = 9999;
@@ -15,104 +24,153 @@ pub(crate) const MOST_RETRY: u64 = 9999;
 /// The most times that one line is sent.
 const MAX_ASKS: u32 = 10_000;
 
-/// How long it waits for a reply, in seconds. This is longer than a machine delays the reply to a commit.
-const REPLY_WAIT: u64 = 30;
+/// How long it waits for a connection, and for room to send a line, in seconds.
+const LINK_WAIT: u64 = 30;
 
 /// How long it waits before it sends a line again while nothing is published, in milliseconds.
 const PAUSE: u64 = 100;
 
-/// Sends lines to the machine at this port of 127.0.0.1: the lines of `text`, or the lines of the input if there is no
-/// text. It writes each reply as soon as it comes.
+/// Sends lines to the machine at this address or Unix socket: the lines of `text`, or the lines of the input if there
+/// is no text. It writes each reply as soon as it comes. Standard error says what a reply `refused N` means.
 ///
-/// Refuses with 1501 `LinkFailed` where there is no connection, the connection failed, or no reply came in 30 seconds;
-/// and with 1604 `ReadFailed` where the input failed.
-pub(crate) fn ask<H: SystemClock + Net<Stream = TcpStream>, I: ByteReader, O: ByteWriter>(
+/// Refuses with 1501 `LinkFailed` where there is no connection, the connection failed, or no reply of at most 128 bytes
+/// came in 30 seconds; and with 1604 `ReadFailed` where the input failed. Where a reply is `refused N`, the program ends
+/// with status 2; else, where a reply is still `waiting`, with status 5.
+pub(crate) fn ask<H: SystemClock + Eprint + Net<Stream = TcpStream>, I: ByteReader, O: ByteWriter>(
     rt: &H,
-    port: u16,
+    peer: Peer<'_>,
     text: Option<&str>,
     retry: u64,
     input: &mut I,
     output: &mut O,
 ) -> Result<(), Stop> {
-    let Ok(stream) = TcpStream::connect(rt, (Ipv4Addr::LOCALHOST, port)) else {
+    let Ok(mut stream) = connect(rt, peer) else {
         return Err(Stop::Refused(ServiceFault::LinkFailed));
     };
-    let wait = Some(Duration::from_secs(REPLY_WAIT));
-    if stream.set_nodelay(true).is_err() || stream.set_read_timeout(wait).is_err() {
-        return Err(Stop::Refused(ServiceFault::LinkFailed));
-    }
-    let mut connection = Counted::new(stream);
-    match text {
-        Some(text) => ask_text(rt, &mut connection, text, retry, output),
-        None => ask_input(rt, &mut connection, input, retry, output),
+    let ended = match text {
+        Some(text) => ask_text(rt, &mut stream, text, retry, output)?,
+        None => ask_input(rt, &mut stream, input, retry, output)?,
+    };
+    match ended {
+        Status::Fine => Ok(()),
+        other => Err(Stop::Told(other)),
     }
 }
 
-/// Sends the lines of a text.
-fn ask_text<H: SystemClock, S: ByteReader + ByteWriter, O: ByteWriter>(
+/// A connection to the machine there.
+fn connect<H: Net<Stream = TcpStream>>(rt: &H, peer: Peer<'_>) -> io::Result<TcpStream> {
+    let wait = Duration::from_secs(LINK_WAIT);
+    let stream = match peer {
+        Peer::Port(port) => {
+            let address = SocketAddr::from((Ipv4Addr::LOCALHOST, port));
+            let stream = TcpStream::connect_timeout(rt, &address, wait)?;
+            stream.set_nodelay(true)?;
+            stream
+        }
+        // The stream is used as a TCP stream, but only with calls that work on any stream socket.
+        Peer::Path(path) => TcpStream::from(OwnedFd::from(UnixStream::connect(rt, path)?)),
+    };
+    stream.set_write_timeout(Some(wait))?;
+    Ok(stream)
+}
+
+/// Sends the lines of a text. Answers how the program ends.
+fn ask_text<H: SystemClock + Eprint, O: ByteWriter>(
     rt: &H,
-    connection: &mut S,
+    stream: &mut TcpStream,
     text: &str,
     retry: u64,
     output: &mut O,
-) -> Result<(), Stop> {
+) -> Result<Status, Stop> {
+    let mut ended = Status::Fine;
     for part in text.split('\n') {
         let mut line = Line::new();
         for byte in part.as_bytes() {
             keep(&mut line, *byte);
         }
         end(&mut line);
-        ask_line(rt, connection, &line, retry, output)?;
+        ended = worse(ended, ask_line(rt, stream, &line, retry, output)?);
     }
-    Ok(())
+    Ok(ended)
 }
 
-/// Sends the lines of the input.
-fn ask_input<H: SystemClock, S: ByteReader + ByteWriter, I: ByteReader, O: ByteWriter>(
+/// Sends the lines of the input. Answers how the program ends.
+fn ask_input<H: SystemClock + Eprint, I: ByteReader, O: ByteWriter>(
     rt: &H,
-    connection: &mut S,
+    stream: &mut TcpStream,
     input: &mut I,
     retry: u64,
     output: &mut O,
-) -> Result<(), Stop> {
+) -> Result<Status, Stop> {
+    let mut ended = Status::Fine;
     for _ in 0..u64::MAX {
         let Ok(read) = read_line(input) else {
             return Err(Stop::Refused(ServiceFault::ReadFailed));
         };
         let Some(mut line) = read else {
-            return Ok(());
+            break;
         };
         end(&mut line);
-        ask_line(rt, connection, &line, retry, output)?;
+        ended = worse(ended, ask_line(rt, stream, &line, retry, output)?);
     }
-    Ok(())
+    Ok(ended)
 }
 
-/// Sends one line, and writes its last reply.
-fn ask_line<H: SystemClock, S: ByteReader + ByteWriter, O: ByteWriter>(
+/// Of how the program ends after two lines, that which counts: a refused line before one that waits.
+fn worse(one: Status, other: Status) -> Status
+    ensures { result ≡ worse one other }
+{
+    match one {
+        Status::Fine => other,
+        Status::Pending if other == Status::Bad => other,
+        _ => one,
+    }
+}
+
+/// How the program ends after this last reply to a line.
+fn ending_of(meaning: Meaning, refusal: Option<u64>) -> Status
+    ensures { result ≡ ending_of meaning refusal }
+{
+    match (refusal, meaning) {
+        (Some(_), _) => Status::Bad,
+        (None, Meaning::Pending) => Status::Pending,
+        (None, _) => Status::Fine,
+    }
+}
+
+/// Sends one line, and writes its last reply. Answers how the program ends after it.
+fn ask_line<H: SystemClock + Eprint, O: ByteWriter>(
     rt: &H,
-    connection: &mut S,
+    stream: &mut TcpStream,
     line: &[u8],
     retry: u64,
     output: &mut O,
-) -> Result<(), Stop> {
-    match last_reply(rt, connection, line, retry) {
-        Ok(reply) => write(output, &reply).map_err(|_| Stop::Unwritten),
-        Err(DeviceFault) => Err(Stop::Refused(ServiceFault::LinkFailed)),
+) -> Result<Status, Stop> {
+    let Ok(reply) = last_reply(rt, stream, line, retry) else {
+        return Err(Stop::Refused(ServiceFault::LinkFailed));
+    };
+    let refusal = refusal_in(&reply);
+    if let Some(number) = refusal {
+        let sentence = sentence_of(number);
+        let _ = eprint!(rt; "ttd: refused {number}: {sentence}\n");
     }
+    if write(output, &reply).is_err() {
+        return Err(Stop::Unwritten);
+    }
+    Ok(ending_of(meaning_of(line, &reply), refusal))
 }
 
 /// Sends a line, and reads its reply. It sends the line again as long as the reply is the `waiting` of a commit, and at
 /// most `retry` times while nothing is published, but at most [`MAX_ASKS`] times in all. Answers the last reply.
-fn last_reply<H: SystemClock, S: ByteReader + ByteWriter>(
+fn last_reply<H: SystemClock>(
     rt: &H,
-    connection: &mut S,
+    stream: &mut TcpStream,
     line: &[u8],
     retry: u64,
-) -> Result<Line, DeviceFault> {
+) -> io::Result<Reply> {
     let mut left = retry;
     for _ in 1..MAX_ASKS {
-        let reply = exchange(connection, line)?;
+        let reply = exchange(rt, stream, line)?;
         match meaning_of(line, &reply) {
             Meaning::Final => return Ok(reply),
             Meaning::Pending => {}
@@ -125,18 +183,5 @@ fn last_reply<H: SystemClock, S: ByteReader + ByteWriter>(
             }
         }
     }
-    exchange(connection, line)
-}
-
-/// Sends a line, and reads the reply with its line feed.
-fn exchange<S: ByteReader + ByteWriter>(
-    connection: &mut S,
-    line: &[u8],
-) -> Result<Line, DeviceFault> {
-    write_all(connection, line)?;
-    connection.flush()?;
-    match read_line(connection)? {
-        Some(reply) if reply.last() == Some(&b'\n') => Ok(reply),
-        _ => Err(DeviceFault),
-    }
+    exchange(rt, stream, line)
 }

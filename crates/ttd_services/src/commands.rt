@@ -190,8 +190,8 @@ fn ask_command<'a>(alloc: Global) -> Result<Command<'a>, AllocError>
     let with_address = bare.arg(place(
         alloc,
         "address",
-        "ADDRESS",
-        "Where the machine listens: 127.0.0.1:PORT",
+        "ADDRESS|PATH",
+        "Where the machine listens: 127.0.0.1:PORT, or its Unix socket",
     ))?;
     let with_words = with_address.arg(line_words(alloc))?;
     with_words.arg(retry_option(alloc))

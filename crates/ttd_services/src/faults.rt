@@ -19,10 +19,13 @@ pub enum Status {
     Fine,
     /// Out of memory (`refused 1`): 1.
     Memory,
-    /// The arguments, a file or a configuration were rejected, and the refusal was written: 2.
+    /// The arguments, a file or a configuration were rejected, or a machine refused a line, and the refusal was
+    /// written: 2.
     Bad,
     /// A device failed: a file, a connection, a clock, standard input or standard output: 4.
     Device,
+    /// A commit is pending after all tries: 5.
+    Pending,
 }
 
 impl Status {
@@ -35,6 +38,7 @@ impl Status {
             Status::Memory => 1,
             Status::Bad => 2,
             Status::Device => 4,
+            Status::Pending => 5,
         }
     }
 }

@@ -4,8 +4,8 @@
 pub(crate) const ABOUT_MASTER: &str = "\
 Answers polls of TTP1 and TTP2 over UDP with the time of this computer's real-time clock, moved by
 --offset, and its uncertainty both ways, until it is ended. Only senders on this host are answered.
-It writes one line to standard error when it begins, and one when a poll can't be answered, at most
-one in ten seconds. Nothing is read from standard input.
+It writes one line to standard error when it begins, and one when its socket or its clock fails, at
+most one in ten seconds. An answer that can't be sent is lost. Nothing is read from standard input.
 
 Acts, for tests: honest (which it is without --act), silent, garbage, repeat, 'ahead N' and
 'behind N', N in nanoseconds.
@@ -29,29 +29,37 @@ Example:
 
 Refused:
   1601          invalid arguments
-  1604          the file can't be read; the status is 4
+  1604          the file is not a regular one, or can't be read; the status is 4
   1603          the file is too long or not UTF-8
   1801 to 1806  the configuration: standard error says why
-  1807 to 1816  the server does not start: its sockets, workers, epoch or threads; the status is 4
-                for 1807 to 1809, 1811 and 1812";
+  1810          the configuration: a Unix socket, and one worker
+  1817, 1818    the configuration: a path with two purposes, a master that is named twice
+  1807 to 1816  the server does not start: its sockets, epoch or threads; the status is 4 for 1807
+                to 1809, 1811 and 1812
+  1819          what is at the path of the Unix socket is not a socket";
 
 /// What `ask` does.
 pub(crate) const ABOUT_ASK: &str = "\
 Sends the words as one line, and prints the reply to it; without words, each line of standard input
 in turn. The lines are now, after T, before T and commit ID FLOOR.
 
+A machine is named by its address, 127.0.0.1: and a port, or by the path of its Unix socket: a text
+with a slash, or without a colon.
+
 A line is sent again while the reply to a commit is `waiting`, and, at most --retry times, while it
 is `refused 801`: nothing is published yet; at most 10000 times in all. The last reply is printed.
 
-The status is 0 whatever the replies are, also a reply `refused N`, and 4 where the connection
-fails, or no reply comes in 30 seconds.
+The status is 2 where a reply is `refused N`; standard error says what N means. Else it is 5 where a
+last reply is still `waiting`. It is 4 where the connection fails, where no whole reply of at most
+128 bytes comes in 30 seconds, and where a reply cannot be printed.
 
-Example:
+Examples:
   ttd ask 127.0.0.1:7101 commit 1 0
+  ttd ask /run/truetime/socket now
 
 Refused:
   1601  invalid arguments
-  1805  the address is not 127.0.0.1: and a port
+  1805  the text has a colon and no slash, and is not 127.0.0.1: and a port
   1501  the connection can't be had, or failed; the status is 4
   1604  reading standard input failed; the status is 4";
 

@@ -21,14 +21,16 @@
 //!   the arguments ask for.
 //! - `clocks`: this computer's clocks. `links`: the link of a master to the senders of polls. `masters`: the service
 //!   `master`.
-//! - `replies`: what the reply to a line means. `lines`: lines from a device. `asking`: the service `ask`.
-//! - `reading`: the service `read`. `serving`: the service `serve`.
+//! - `replies`: what the reply to a line means. `sentences`: what the number of a refusal means. `lines`: lines from a
+//!   device. `exchanges`: one line to a machine, and its reply. `asking`: the service `ask`.
+//! - `reading`: the service `read`. `serving`: the service `serve`. `standard`: the descriptors 0 to 2.
 //! - `faults`: refusals, and how the program ends. `output`: what is written. `program`: [`run`].
 #![tactic(auto)]
 
 mod asking;
 mod clocks;
 mod commands;
+mod exchanges;
 mod faults;
 mod help;
 mod lines;
@@ -39,10 +41,12 @@ mod output;
 mod program;
 mod reading;
 mod replies;
+mod sentences;
 mod serving;
+mod standard;
 pub mod words;
 
 pub use faults::{ServiceFault, Status};
 pub use program::{names_service, run};
 pub use replies::{Meaning, meaning_of};
-pub use words::{Asked, Offset, Service, help_text, mistake_text, read_words};
+pub use words::{Asked, Offset, Peer, Service, help_text, mistake_text, read_words};

@@ -6,11 +6,11 @@ ghost use Rattle.clap.specs.Words.{found_of, rows_of};
 ghost use Rattle.ttd_cli.specs.Reading.{number_at};
 ghost use Rattle.tt_span.specs.Time.{max_time};
 ghost use Rattle.tt_settings.specs.Numeral.{number_of as number_in};
-ghost use Rattle.ttd_services.specs.Reading.{act_of, acts_at, acts_in, flag_at, line_at, number_to, offset_at, offset_by, offset_in, port_at, text_at, time_behind};
+ghost use Rattle.ttd_services.specs.Reading.{act_of, acts_at, acts_in, flag_at, line_at, number_to, offset_at, offset_by, offset_in, place_at, place_in, place_of, port_at, text_at, time_behind};
 ghost use Rattle.tt_script.specs.Acts.{act_in as act_in_script};
 
 use crate::faults::ServiceFault;
-use crate::words::Offset;
+use crate::words::{Offset, Peer};
 use clap::ArgMatches;
 use std::alloc::Global;
 use tt_master::Act;
@@ -54,6 +54,32 @@ pub(crate) fn port_at(matches: &ArgMatches<'_>, id: &str) -> Result<u16, Service
         Some(port) => Ok(port),
         None => Err(ServiceFault::NotLocal),
     }
+}
+
+/// The machine that a text names: by a path if it has a `/`, else by its address of this host, else by a path if it has
+/// no `:` and is not empty.
+fn peer_in(text: &str) -> Result<Peer<'_>, ServiceFault>
+    ensures { let defined = place_in text.now in
+        MatchResult result (λ peer. defined ≡ Ok (place_of peer)) (λ fault. defined ≡ Err fault) }
+{
+    if text.as_bytes().contains(&b'/') {
+        return Ok(Peer::Path(text));
+    }
+    if let Some(port) = port_of(text) {
+        return Ok(Peer::Port(port));
+    }
+    if text.is_empty() || text.as_bytes().contains(&b':') {
+        return Err(ServiceFault::NotLocal);
+    }
+    Ok(Peer::Path(text))
+}
+
+/// The machine that was given.
+pub(crate) fn peer_at<'a>(matches: &ArgMatches<'a>, id: &str) -> Result<Peer<'a>, ServiceFault>
+    ensures { let defined = place_at id.now (rows_of (found_of matches.now)) in
+        MatchResult result (λ peer. defined ≡ Ok (place_of peer)) (λ fault. defined ≡ Err fault) }
+{
+    peer_in(text_at(matches, id)?)
 }
 
 /// Whether a flag was given.

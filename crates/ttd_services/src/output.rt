@@ -17,6 +17,8 @@ pub(crate) enum Stop {
     Refused(ServiceFault),
     /// The output failed.
     Unwritten,
+    /// All was written, and the program ends so.
+    Told(Status),
 }
 
 impl From<ServiceFault> for Stop {

@@ -12,6 +12,7 @@ use crate::masters::{MasterPlan, serve_polls};
 use crate::output::{Stop, refuse, write};
 use crate::reading::read;
 use crate::serving::run_server;
+use crate::standard::fill_standard;
 use crate::words::{Asked, Service, help_text, mistake_text, read_words};
 use std::fs::{File, Files};
 use std::io::{Eprint, Input, Read};
@@ -19,6 +20,7 @@ use std::net::{Net, TcpListener, TcpStream};
 use std::sync::Wait;
 use std::thread::Threads;
 use std::time::Clock;
+use tt_report::Disk;
 use tt_stream::{ByteReader, ByteWriter};
 
 /// The message for arguments that clap takes, but in which an offset or an act is invalid.
@@ -65,7 +67,11 @@ pub fn run<
         + Eprint
         + Input<Reader = S>
         + Files<File = File>
-        + Net<Listener = TcpListener, Stream = TcpStream>,
+        + Net<Listener = TcpListener, Stream = TcpStream>
+        + Disk
+        + Copy
+        + Send
+        + 'static,
     I: ByteReader,
     O: ByteWriter,
 >(rt: &H, words: &[&str], input: &mut I, output: &mut O) -> Status
@@ -83,6 +89,7 @@ pub fn run<
             let _ = eprint!(rt; "ttd: refused 1605: writing failed\n");
             Status::Device
         }
+        Err(Stop::Told(status)) => status,
     }
 }
 
@@ -97,7 +104,11 @@ fn answer<
         + Eprint
         + Input<Reader = S>
         + Files<File = File>
-        + Net<Listener = TcpListener, Stream = TcpStream>,
+        + Net<Listener = TcpListener, Stream = TcpStream>
+        + Disk
+        + Copy
+        + Send
+        + 'static,
     I: ByteReader,
     O: ByteWriter,
 >(rt: &H, words: &[&str], input: &mut I, output: &mut O) -> Result<(), Stop>
@@ -110,7 +121,10 @@ fn answer<
             let text = help_text(rt.alloc(), words)?;
             write(output, text.as_str().as_bytes()).map_err(|_| Stop::Unwritten)
         }
-        Asked::Run(service) => serve(rt, &service, input, output),
+        Asked::Run(service) => {
+            fill_standard(rt)?;
+            serve(rt, &service, input, output)
+        }
     }
 }
 
@@ -125,7 +139,11 @@ fn serve<
         + Eprint
         + Input<Reader = S>
         + Files<File = File>
-        + Net<Listener = TcpListener, Stream = TcpStream>,
+        + Net<Listener = TcpListener, Stream = TcpStream>
+        + Disk
+        + Copy
+        + Send
+        + 'static,
     I: ByteReader,
     O: ByteWriter,
 >(rt: &H, service: &Service<'_>, input: &mut I, output: &mut O) -> Result<(), Stop> {
@@ -152,12 +170,12 @@ fn serve<
             check,
             until_eof,
         } => run_server(rt, file, *check, *until_eof, output),
-        Service::Ask { port, line, retry } => {
+        Service::Ask { peer, line, retry } => {
             let text = match line {
                 Some(line) => Some(line.as_str()),
                 None => None,
             };
-            ask(rt, *port, text, *retry, input, output)
+            ask(rt, *peer, text, *retry, input, output)
         }
         Service::Read { file } => read(rt, file, output),
     }

@@ -1,7 +1,7 @@
 //! What the reply to a line means for the sender of the line.
 
-ghost use Rattle.std.specs.Prelude.{◌≡◌, ◌↔◌, IsTrue, MatchOption};
-ghost use Rattle.ttd_services.specs.Replies.{BeginsWith, HasNoTwo, IsPending, nothing_yet};
+ghost use Rattle.std.specs.Prelude.{◌≡◌, ◌↔◌, IsTrue, MatchOption, codes};
+ghost use Rattle.ttd_services.specs.Replies.{BeginsWith, HasNoOne, HasNoTwo, IsOnly, IsPending, nothing_yet};
 
 use tt_text::numbers_behind;
 
@@ -56,6 +56,26 @@ fn first_of_two(word: &[u8], line: &[u8]) -> Option<u64>
     };
     match numbers.as_slice() {
         [first, _second] => Some(*first),
+        _ => None,
+    }
+}
+
+/// The number of a reply that is `refused N`, with its line feed.
+pub(crate) fn refusal_in(reply: &[u8]) -> Option<u64>
+    ensures { MatchOption result (HasNoOne (codes "refused") reply.now) (IsOnly (codes "refused") reply.now) }
+{
+    only_number(b"refused", reply)
+}
+
+/// The number of a line, if the line is this word and one number.
+fn only_number(word: &[u8], line: &[u8]) -> Option<u64>
+    ensures { MatchOption result (HasNoOne word.now line.now) (IsOnly word.now line.now) }
+{
+    let Some(numbers) = numbers_behind(word, line) else {
+        return None;
+    };
+    match numbers.as_slice() {
+        [only] => Some(*only),
         _ => None,
     }
 }

@@ -3,13 +3,15 @@
 use crate::faults::ServiceFault;
 use crate::output::{Stop, write};
 use std::alloc::Global;
-use std::fs::{File, Files};
+use std::fs::{File, Files, OpenOptions};
 use std::io::{Eprint, Input, Read};
 use std::net::{Net, TcpListener, TcpStream};
 use std::str;
 use std::sync::Wait;
 use std::thread::Threads;
 use std::time::Clock;
+use tt_files::open_regular;
+use tt_report::Disk;
 use tt_server::{ServerFault, outline, serve};
 use tt_settings::{Settings, SettingsFault};
 use tt_stream::{ByteWriter, Counted, ReadFault, read_to_end};
@@ -17,13 +19,15 @@ use tt_stream::{ByteWriter, Counted, ReadFault, read_to_end};
 /// The most bytes of a configuration: 1 MiB.
 const MOST_FILE: usize = 1_048_576;
 
-/// The bytes of a file.
+/// The bytes of a regular file. Anything else at the path is refused unopened.
 fn bytes_of<H: Files<File = File>>(
     rt: &H,
     alloc: Global,
     path: &str,
 ) -> Result<Vec<u8>, ServiceFault> {
-    let Ok(file) = File::open(rt, path) else {
+    let mut how = OpenOptions::new();
+    how.read(true);
+    let Ok(file) = open_regular(rt, path, &how) else {
         return Err(ServiceFault::ReadFailed);
     };
     let mut reader = Counted::new(file);
@@ -57,8 +61,9 @@ fn settings_of<H: Files<File = File> + Eprint>(
 
 /// Runs the machine of a configuration until it is ended. With `check` it only writes what the machine would do.
 ///
-/// Refuses with 1604 `ReadFailed` where the file can't be read, with 1603 `BadFile` where it is longer than 1 MiB or is
-/// not UTF-8, with 1801 to 1806 where the configuration is refused, and with what ended the server.
+/// Refuses with 1604 `ReadFailed` where the file is not a regular one or can't be read, with 1603 `BadFile` where it is
+/// longer than 1 MiB or is not UTF-8, with 1801 to 1806, 1810, 1817 or 1818 where the configuration is refused, and with
+/// what ended the server.
 pub(crate) fn run_server<
     S: Read + Send + Drop,
     H: AllocGlobal
@@ -69,7 +74,11 @@ pub(crate) fn run_server<
         + Eprint
         + Input<Reader = S>
         + Files<File = File>
-        + Net<Listener = TcpListener, Stream = TcpStream>,
+        + Net<Listener = TcpListener, Stream = TcpStream>
+        + Disk
+        + Copy
+        + Send
+        + 'static,
     O: ByteWriter,
 >(rt: &H, file: &str, check: bool, until_eof: bool, output: &mut O) -> Result<(), Stop> {
     let settings = settings_of(rt, rt.alloc(), file)?;

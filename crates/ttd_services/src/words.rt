@@ -10,7 +10,7 @@ ghost use Rattle.ttd_services.specs.Reading.{AreForHelp, AreMistaken, AreTaken, 
 use crate::asking::MOST_RETRY;
 use crate::commands::services_command;
 use crate::faults::ServiceFault;
-use crate::options::{acts_at, flag_at, line_at, number_to, offset_at, port_at, text_at};
+use crate::options::{acts_at, flag_at, line_at, number_to, offset_at, peer_at, port_at, text_at};
 use clap::error::ErrorKind;
 use clap::{ArgMatches, Error};
 use std::alloc::{AllocError, Global};
@@ -25,6 +25,15 @@ pub enum Offset {
     Later(u64),
     /// It shows this much less than this computer's clock.
     Earlier(u64),
+}
+
+/// Where a machine is asked.
+#[derive(Clone, Copy, Debug, PartialEq, Eq)]
+pub enum Peer<'a> {
+    /// At this port of 127.0.0.1.
+    Port(u16),
+    /// At the Unix socket with this path.
+    Path(&'a str),
 }
 
 /// A service, with its options.
@@ -54,8 +63,8 @@ pub enum Service<'a> {
     },
     /// `ask`: asks a machine.
     Ask {
-        /// The port of 127.0.0.1 where the machine listens.
-        port: u16,
+        /// Where the machine listens.
+        peer: Peer<'a>,
         /// The words of the line, with one space between two words. None if there are no words.
         line: Option<String>,
         /// The most times that a line is sent again while nothing is published, at most 9999.
@@ -111,10 +120,10 @@ fn serve_asked<'a>(matches: &ArgMatches<'a>) -> Result<Service<'a>, ServiceFault
 fn ask_asked<'a>(alloc: Global, matches: &ArgMatches<'a>) -> Result<Service<'a>, ServiceFault>
     ensures { IsMeant (ask_of (rows_of (found_of matches.now))) result }
 {
-    let port = port_at(matches, "address")?;
+    let peer = peer_at(matches, "address")?;
     let retry = number_to(matches, "retry", MOST_RETRY)?;
     let line = line_at(alloc, matches, "words")?;
-    Ok(Service::Ask { port, line, retry })
+    Ok(Service::Ask { peer, line, retry })
 }
 
 /// The service `read` with its file.
@@ -150,7 +159,8 @@ fn parsed<'a>(alloc: Global, words: &'a [&'a str]) -> Result<ArgMatches<'a>, Err
 ///
 /// A number is read as `u64` reads it: decimal digits, with one `+` in front or none; leading zeros are allowed. An
 /// offset is decimal digits without leading zeros, behind a `+`, a `-` or nothing. An act is as in a script. An address
-/// is `127.0.0.1:` and a port.
+/// is `127.0.0.1:` and a port. Where `ask` is given a text with a `/`, or one that has no `:` and is not empty, that is
+/// the path of a Unix socket.
 ///
 /// Rejects with 1601 `BadWords` arguments that the command line does not take, and an invalid offset or act; with
 /// 1805 `NotLocal` another address; and with 1 `Memory` where an allocation failed.

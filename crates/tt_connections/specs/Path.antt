@@ -1,0 +1,20 @@
+-- What is done at the path of a Unix socket.
+use Rattle.std.specs.Prelude.{Bool, true, false, ◌&&◌, nat_eq, Result, Ok, Err, Option, Some, None}
+use Rattle.tt_connections.specs.declared.doors.DoorFault.{DoorFault}
+use Rattle.tt_connections.specs.declared.doors.DoorFault.TheVariants as fault
+use Rattle.tt_connections.specs.declared.doors.Found.{Found}
+use Rattle.tt_connections.specs.declared.doors.Found.TheVariants.{Nothing, Left, Listened, Other}
+use Rattle.tt_connections.specs.declared.doors.Identity.{Identity}
+
+-- a socket that was left is removed, nothing needs nothing, and all else stays and refuses
+abbrev pub plan_of : Found → Result Bool DoorFault
+plan_of Nothing = Ok false
+plan_of Left = Ok true
+plan_of Listened = Err fault.Failed
+plan_of Other = Err fault.NotSocket
+
+-- both are known, and are one file
+abbrev pub is_same : Option Identity → Option Identity → Bool
+is_same (Some bound) (Some seen) = nat_eq bound.device seen.device && nat_eq bound.inode seen.inode
+is_same (Some bound) None = false
+is_same None seen = false

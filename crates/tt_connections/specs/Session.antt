@@ -1,0 +1,22 @@
+-- How long a session may go on, and when its client has left.
+use Rattle.std.specs.Prelude.{ℕ, ◌+◌, ◌-◌, ◌/◌, ◌^◌, min, nat_lt, if◌then◌else◌, Bool, true, false}
+use Rattle.tt_session.specs.declared.deadlines.Deadline.{Deadline}
+use Rattle.tt_connections.specs.declared.sights.Seen.{Seen}
+use Rattle.tt_connections.specs.declared.sights.Seen.TheVariants.{Open, Closed, Broken}
+
+-- a day, and as many looks of a fifth of a second as there are in the time that a client may be silent, and one
+abbrev pub deadline_at : ℕ → ℕ → Deadline
+deadline_at now idle = record { at = min (now + 86400000000000) (2 ^ 64 - 1); tries = min (idle / 200000000 + 1) (2 ^ 32 - 1) }
+
+-- what is seen of a connection after an event: what was seen once stays, and a break counts more than a close
+abbrev pub seen_after : Seen → Bool → Bool → Seen
+seen_after Broken is_broken is_closed = Broken
+seen_after before true is_closed = Broken
+seen_after Closed false is_closed = Closed
+seen_after Open false is_closed = if is_closed then Closed else Open
+
+-- a client has left once its connection is broken, or once it closed its side longer ago than it may be silent
+abbrev pub is_gone : Seen → ℕ → ℕ → ℕ → Bool
+is_gone Open since idle now = false
+is_gone Closed since idle now = nat_lt (since + idle) now
+is_gone Broken since idle now = true

@@ -1,0 +1,234 @@
+//! The thread that accepts the connections of a machine, and hands them to its workers.
+
+ghost use Rattle.std.specs.Prelude.{◌≡◌};
+ghost use Rattle.tt_connections.specs.Waiting.{hands_over, left_of, pause_of};
+
+use crate::clocks::reading_of;
+use crate::doors::{Came, Door};
+use crate::queues::{MAX_WAITING, Queue};
+use mio::unix::SourceFd;
+use mio::{Events, Interest, Poll, Token, Waker};
+use std::alloc::{AllocError, Global};
+use std::net::{Net, TcpStream};
+use std::sync::Wait;
+use std::sync::atomic::{AtomicBool, Ordering};
+use std::time::{Clock as SystemClock, Duration};
+use std::{io, thread};
+
+/// How long clients wait for the first publication, in nanoseconds: two seconds.
+const FIRST: u64 = 2_000_000_000;
+
+/// How long the acceptor waits after the system refused a connection, in nanoseconds.
+const AGAIN: u64 = 100_000_000;
+
+/// The token of the acceptor's waker.
+const WAKER: Token = Token(0);
+
+/// The token of both listeners. After each wait the acceptor looks at both, so it need not tell them apart.
+const LISTENER: Token = Token(1);
+
+/// How many events one wait reports.
+const EVENTS: usize = 4;
+
+/// What the acceptor found at one door.
+#[derive(Clone, Copy, Debug, PartialEq, Eq)]
+pub(crate) enum Turn {
+    /// No more connections wait to be accepted.
+    Empty,
+    /// The queue is full: the worker that makes room wakes the acceptor.
+    Full,
+    /// More connections may wait to be accepted.
+    More,
+    /// The system refused to accept a connection.
+    Failed,
+}
+
+/// For how long clients still wait for the first publication when the clock shows `now`, in nanoseconds. They wait until
+/// two seconds after the clock reading `began`.
+fn left_of(began: u64, now: u64) -> u64
+    ensures value { result ≡ left_of began now }
+{
+    FIRST.saturating_sub(now.saturating_sub(began))
+}
+
+/// Whether connections are handed to workers when the clock shows `now`: once something is published, and in any case two
+/// seconds after the clock reading `began`.
+fn hands_over(published: bool, began: u64, now: u64) -> bool
+    ensures value { result ≡ hands_over published began now }
+{
+    published || !(now.saturating_sub(began) < FIRST)
+}
+
+/// How long the acceptor waits after its two doors gave this, in nanoseconds. None if it waits until something comes.
+fn pause_of(front: Turn, side: Turn) -> Option<u64>
+    ensures value { result ≡ pause_of front side }
+{
+    match (front, side) {
+        (Turn::More, _) | (_, Turn::More) => Some(0),
+        (Turn::Failed, _) | (_, Turn::Failed) => Some(AGAIN),
+        _ => None,
+    }
+}
+
+/// A door, and the connections that came at it and wait.
+#[derive(Drop)]
+pub struct Entry {
+    pub door: Door,
+    pub queue: Queue,
+}
+
+impl Entry {
+    /// A door at which no connection waits. Refuses if it is out of memory.
+    pub fn new(alloc: Global, door: Door) -> Result<Entry, AllocError> {
+        let queue = Queue::new(alloc)?;
+        Ok(Entry { door, queue })
+    }
+
+    /// Accepts the connections that have come, as long as the queue has room.
+    fn accept_all<R: Wait>(&self, rt: &R) -> Turn {
+        for _ in 0..MAX_WAITING {
+            if !self.queue.has_room() {
+                return Turn::Full;
+            }
+            match self.door.accept() {
+                Came::Client(connection) => self.queue.put(rt, connection),
+                Came::Nobody => {}
+                Came::Nothing => return Turn::Empty,
+                Came::Failed => return Turn::Failed,
+            }
+        }
+        Turn::More
+    }
+}
+
+/// The doors of a machine, and whether it ends. All its threads share them.
+#[derive(Drop)]
+pub struct Doors {
+    /// The TCP address.
+    pub front: Entry,
+    /// The Unix socket, if there is one.
+    pub side: Option<Entry>,
+    /// Whether the machine has to end.
+    pub ended: AtomicBool,
+    published: AtomicBool,
+    waker: Waker,
+}
+
+impl Doors {
+    /// The doors of a machine that has published nothing so far. `waker` ends a wait of their acceptor.
+    pub fn new(front: Entry, side: Option<Entry>, waker: Waker) -> Doors {
+        Doors {
+            front,
+            side,
+            ended: AtomicBool::new(false),
+            published: AtomicBool::new(false),
+            waker,
+        }
+    }
+
+    /// How many connections wait for a worker.
+    pub fn waiting(&self) -> u64 {
+        let side = match &self.side {
+            Some(side) => side.queue.waiting() as u64,
+            None => 0,
+        };
+        side.saturating_add(self.front.queue.waiting() as u64)
+    }
+
+    /// Says that something is published, so that connections are handed over from now on. It does not wait.
+    pub fn open(&self) {
+        self.published.store(true, Ordering::SeqCst);
+        let _ = self.waker.wake();
+    }
+
+    /// Ends the machine: the acceptor and all workers that wait end their waits. It needs no descriptor and no path.
+    pub fn end<R: Wait>(&self, rt: &R) {
+        self.ended.store(true, Ordering::SeqCst);
+        let _ = self.waker.wake();
+        self.front.queue.wake_all(rt);
+        if let Some(side) = &self.side {
+            side.queue.wake_all(rt);
+        }
+    }
+
+    /// Waits for a connection at this entry, and takes the one that came first. None if the machine ends.
+    pub fn next<R: Wait>(&self, rt: &R, entry: &Entry) -> Option<TcpStream> {
+        let (connection, was_full) = entry.queue.take(rt, &self.ended)?;
+        if was_full {
+            let _ = self.waker.wake();
+        }
+        Some(connection)
+    }
+}
+
+/// What the thread that accepts connections waits with.
+#[derive(Drop)]
+pub struct Acceptor {
+    poll: Poll,
+    events: Events,
+    /// How long the next wait is at most, in nanoseconds. None if it ends only when something comes.
+    pause: Option<u64>,
+}
+
+impl Acceptor {
+    /// An acceptor that waits for nothing so far but its waker. Refuses with the error of the system, also if it is out of
+    /// memory.
+    pub fn new<R: Net>(rt: &R, alloc: Global) -> io::Result<(Acceptor, Waker)> {
+        let poll = Poll::new(rt)?;
+        let waker = Waker::new(poll.registry(), WAKER)?;
+        let events = Events::with_capacity(alloc, EVENTS)?;
+        let acceptor = Acceptor {
+            poll,
+            events,
+            pause: Some(0),
+        };
+        Ok((acceptor, waker))
+    }
+
+    /// Has the acceptor wait for connections at this door too.
+    pub fn watch(&self, door: &Door) -> io::Result<()> {
+        let descriptor = door.descriptor();
+        self.poll
+            .registry()
+            .register(&mut SourceFd(&descriptor), LISTENER, Interest::READABLE)
+    }
+
+    /// Waits for at most `most` nanoseconds; if there is none, until something comes. If the system refuses to wait, it
+    /// sleeps for a tenth of a second.
+    fn wait<R: SystemClock>(&mut self, rt: &R, most: Option<u64>) {
+        let most = match most {
+            Some(most) => Some(Duration::from_nanos(most)),
+            None => None,
+        };
+        if self.poll.poll(&mut self.events, most).is_err() {
+            thread::sleep(rt, Duration::from_nanos(AGAIN));
+        }
+    }
+
+    /// Waits until connections are handed over: until something is published, or two seconds have passed since the clock
+    /// reading `began`. If the clock can't be read, it does not wait.
+    pub fn wait_for_first<R: Wait + SystemClock>(&mut self, rt: &R, doors: &Doors, began: u64) {
+        for _ in rt.forever() {
+            let now = reading_of(rt).unwrap_or(u64::MAX);
+            let published = doors.published.load(Ordering::SeqCst);
+            if doors.ended.load(Ordering::SeqCst) || hands_over(published, began, now) {
+                return;
+            }
+            self.wait(rt, Some(left_of(began, now)));
+        }
+        unreachable!()
+    }
+
+    /// Waits for connections, and accepts those that have come at both doors. Answers whether the system refused to accept
+    /// one; then the next wait is a tenth of a second.
+    pub fn turn<R: Wait + SystemClock>(&mut self, rt: &R, doors: &Doors) -> bool {
+        self.wait(rt, self.pause);
+        let front = doors.front.accept_all(rt);
+        let side = match &doors.side {
+            Some(side) => side.accept_all(rt),
+            None => Turn::Empty,
+        };
+        self.pause = pause_of(front, side);
+        front == Turn::Failed || side == Turn::Failed
+    }
+}

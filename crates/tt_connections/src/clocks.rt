@@ -1,0 +1,80 @@
+//! The clock of a machine.
+
+ghost use Rattle.std.specs.Prelude.{◌≡◌, ◌≤◌, IfSome};
+ghost use Rattle.std.specs.Duration.{as_nanos};
+ghost use Rattle.tt_span.specs.Time.{max_time};
+
+use std::time::{Clock as SystemClock, Duration};
+use tt_publish::{Clock, ClockFault};
+use tt_span::MAX_TIME;
+
+/// A duration in nanoseconds. None if it is above [`MAX_TIME`].
+fn nanos_of(elapsed: Duration) -> Option<u64>
+    ensures shown { IfSome result (λ time. (time ≡ as_nanos elapsed) × (time ≤ max_time)) }
+{
+    let Ok(time) = u64::try_from(elapsed.as_nanos()) else {
+        return None;
+    };
+    if time <= MAX_TIME { Some(time) } else { None }
+}
+
+/// The host's raw monotonic clock now, in nanoseconds. None if it can't be read, or shows a time above [`MAX_TIME`].
+pub fn reading_of<R: SystemClock>(rt: &R) -> Option<u64>
+    ensures in_time { IfSome result (λ time. time ≤ max_time) }
+{
+    match rt.monotonic() {
+        Ok(elapsed) => nanos_of(elapsed),
+        Err(_) => None,
+    }
+}
+
+/// The raw monotonic clock of the host, in nanoseconds since an arbitrary start. The daemon, the workers and the
+/// readers of a shared file use it. A read fails if the system's clock can't be read, or if it shows a time above
+/// [`MAX_TIME`].
+///
+/// Nothing is claimed of what the system's clock shows.
+#[derive(Drop)]
+pub struct MachineClock<'a, R> {
+    rt: &'a R,
+    failures: u64,
+    last: u64,
+}
+
+impl<'a, R: SystemClock> MachineClock<'a, R> {
+    /// The clock of this machine.
+    pub fn new(rt: &'a R) -> Self {
+        MachineClock {
+            rt,
+            failures: 0,
+            last: 0,
+        }
+    }
+
+    /// The last time that it showed, in nanoseconds; 0 before the first reading.
+    pub fn last(&self) -> u64
+        ensures value { result ≡ self.now.last }
+    {
+        self.last
+    }
+}
+
+impl<'a, R: SystemClock> Clock for MachineClock<'a, R> {
+    ghost use Rattle.std.specs.Prelude.{◌≡◌, IfSome};
+
+    ghost gives = { λ _ reading after. IfSome reading (λ time. after.last ≡ time) };
+
+    ghost failed = { λ clock. clock.failures };
+
+    fn read(&mut self) -> Result<u64, ClockFault> {
+        if let Some(time) = reading_of(self.rt) {
+            self.last = time;
+            return Ok(time);
+        }
+        self.failures = self.failures.saturating_add(1);
+        Err(ClockFault::Failed)
+    }
+
+    fn failures(&self) -> u64 {
+        self.failures
+    }
+}

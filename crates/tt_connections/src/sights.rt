@@ -1,0 +1,182 @@
+//! Whether the client of a session has left.
+
+ghost use Rattle.std.specs.Prelude.{◌≡◌};
+ghost use Rattle.tt_connections.specs.Session.{seen_after, is_gone};
+
+use crate::clients::is_over;
+use crate::clocks::reading_of;
+use mio::unix::SourceFd;
+use mio::{Events, Interest, Poll, Token};
+use std::alloc::Global;
+use std::io;
+use std::net::{Net, TcpStream};
+use std::os::fd::AsRawFd;
+use std::sync::atomic::{AtomicBool, Ordering};
+use std::sync::{Mutex, Wait};
+use std::time::{Clock as SystemClock, Duration};
+use tt_station::Presence;
+
+/// How many events one look reports.
+const EVENTS: usize = 2;
+
+/// What is seen of a connection.
+#[derive(Clone, Copy, Debug, PartialEq, Eq)]
+pub(crate) enum Seen {
+    /// The client may send more.
+    Open,
+    /// The client sends no more, but may still read.
+    Closed,
+    /// Nothing more can be sent or received.
+    Broken,
+}
+
+/// What is seen of a connection after an event that says that it is broken, or that the client has closed its side. What
+/// was seen once stays.
+fn seen_after(before: Seen, is_broken: bool, is_closed: bool) -> Seen
+    ensures value { result ≡ seen_after before is_broken is_closed }
+{
+    match before {
+        Seen::Broken => Seen::Broken,
+        _ if is_broken => Seen::Broken,
+        Seen::Closed => Seen::Closed,
+        Seen::Open => { if is_closed { Seen::Closed } else { Seen::Open } }
+    }
+}
+
+/// Whether a client has left when the clock shows `now`: its connection is broken, or it has closed its side, first seen
+/// at the clock reading `since`, more than `idle` ago. All are in nanoseconds.
+fn is_gone(seen: Seen, since: u64, idle: u64, now: u64) -> bool
+    ensures value { result ≡ is_gone seen since idle now }
+{
+    match seen {
+        Seen::Open => false,
+        Seen::Closed => is_over(since, idle, now),
+        Seen::Broken => true,
+    }
+}
+
+/// What a worker looks at its connections with, and what it has seen of the current one.
+#[derive(Drop)]
+pub struct Sight {
+    poll: Poll,
+    events: Events,
+    /// Whether the connection is registered.
+    registered: bool,
+    seen: Seen,
+    /// The clock reading at which it was first seen that the client has closed its side. None before that.
+    since: Option<u64>,
+}
+
+impl Sight {
+    /// What a worker looks with that has served no session. Refuses with the error of the system, also if it is out of
+    /// memory.
+    pub fn new<R: Net>(rt: &R, alloc: Global) -> io::Result<Sight> {
+        let poll = Poll::new(rt)?;
+        let events = Events::with_capacity(alloc, EVENTS)?;
+        Ok(Sight {
+            poll,
+            events,
+            registered: false,
+            seen: Seen::Open,
+            since: None,
+        })
+    }
+
+    /// Forgets the connection before.
+    fn begin(&mut self) {
+        self.registered = false;
+        self.seen = Seen::Open;
+        self.since = None;
+    }
+
+    /// Registers the connection, if it is not. If the system refuses, it is tried again at the next look.
+    fn register(&mut self, stream: &TcpStream) {
+        if !self.registered {
+            let descriptor = stream.as_raw_fd();
+            let answer = self
+                .poll
+                .registry()
+                .register(&mut SourceFd(&descriptor), Token(0), Interest::READABLE);
+            self.registered = answer.is_ok();
+        }
+    }
+
+    /// What is seen of the connection by now. It takes no byte, and does not wait.
+    fn look(&mut self, stream: &TcpStream) -> Seen {
+        self.register(stream);
+        let mut seen = self.seen;
+        if self
+            .poll
+            .poll(&mut self.events, Some(Duration::from_nanos(0)))
+            .is_ok()
+        {
+            for event in self.events.iter() {
+                let is_broken = event.is_error() || event.is_write_closed();
+                seen = seen_after(seen, is_broken, event.is_read_closed());
+            }
+        }
+        self.seen = seen;
+        seen
+    }
+
+    /// Whether the client of this connection has left when the clock shows `now`.
+    fn has_left(&mut self, stream: &TcpStream, idle: u64, now: u64) -> bool {
+        let seen = self.look(stream);
+        if seen == Seen::Closed && self.since.is_none() {
+            self.since = Some(now);
+        }
+        is_gone(seen, self.since.unwrap_or(now), idle, now)
+    }
+}
+
+/// The client of a connection, and whether it is still there.
+///
+/// It has left if its connection is broken. A client that has closed its side gets the replies to the lines that it sent,
+/// and has left once that was seen longer than `idle` ago. Both are seen also if bytes of it are unread. A TCP client that
+/// has closed both sides looks like one that has closed its own until a reply is written to it. At the end of the machine
+/// all clients have left.
+#[derive(Drop)]
+pub struct Client<'a, R> {
+    rt: &'a R,
+    stream: &'a TcpStream,
+    ended: &'a AtomicBool,
+    /// How long a client that has closed its side is still there, in nanoseconds.
+    idle: u64,
+    sight: &'a Mutex<Sight>,
+}
+
+impl<'a, R: Wait + SystemClock> Client<'a, R> {
+    /// The client of this connection, which its worker looks at with `sight`.
+    pub fn new(
+        rt: &'a R,
+        stream: &'a TcpStream,
+        ended: &'a AtomicBool,
+        idle: u64,
+        sight: &'a Mutex<Sight>,
+    ) -> Self {
+        sight.lock(rt).begin();
+        Client {
+            rt,
+            stream,
+            ended,
+            idle,
+            sight,
+        }
+    }
+}
+
+impl<'a, R: Wait + SystemClock> Presence for Client<'a, R> {
+    ghost says = { λ _ _. Unit {0} };
+
+    fn has_left(&self) -> bool {
+        if self.ended.load(Ordering::SeqCst) {
+            return true;
+        }
+        let Some(now) = reading_of(self.rt) else {
+            return true;
+        };
+        self.sight
+            .lock(self.rt)
+            .has_left(self.stream, self.idle, now)
+    }
+}

@@ -1,0 +1,4 @@
+pub mod Log
+pub mod Left
+pub mod Watch
+pub mod Fault

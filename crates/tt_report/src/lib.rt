@@ -1,0 +1,47 @@
+//! The log and the status file of a running machine or master, written by threads of their own.
+//!
+//! A machine's threads never wait for standard error or for a file system. They hand what is to be written to a
+//! [`Reporter`] and go on:
+//!
+//! ```text
+//! let reporter = Reporter::start(rt, alloc, Some("/run/truetime/status"))?;   // two threads, which are never joined
+//! reporter.watch_for(1_000_000_000);
+//! reporter.log(rt, event);             // a line of the log
+//! reporter.show(rt, status);           // the newest status
+//! reporter.busy(clock);                // a round begins to publish at this clock reading ..
+//! reporter.idle();                     // .. and has published
+//! reporter.end(rt);                    // waits until all of it is written, for at most 200 ms
+//! ```
+//!
+//! Standard error and the status file have a thread each, so that a pipe that is full keeps no status away, and a file
+//! system that hangs keeps no line away. Lines wait in a queue of [`CAPACITY`] places, and one place holds the newest
+//! status. What finds no place is left out and counted: [`Reporter::left_out`] has the count of all, and the next line
+//! of a kind says how many lines of its kind were left out before it. A line of a kind follows the one before it after
+//! ten seconds at the earliest.
+//!
+//! Lines of one thread are written in the order in which that thread logged them. Lines of several threads come in the
+//! order in which they found their places.
+//!
+//! - `reporters`: [`Reporter`]. `records`: what its threads share with those that log. `writers`: its threads.
+//! - `limits`: which lines are logged, and how many were left out. `watches`: when a publication is slow.
+//! - `lanes`: the queues. `files`: the status file, and [`Disk`]. `clocks`: readings of the system's clocks. `faults`: why there is no reporter.
+//!
+//! The functions over values are proved: the kinds of lines and their limits, the counts of lines that were left out,
+//! and when a publication is slow. Nothing is claimed of the threads, of what a queue holds, and of what the system
+//! writes.
+#![tactic(auto)]
+
+mod clocks;
+mod faults;
+mod files;
+mod lanes;
+mod limits;
+mod records;
+mod reporters;
+mod watches;
+mod writers;
+
+pub use faults::ReporterFault;
+pub use files::Disk;
+pub use records::CAPACITY;
+pub use reporters::Reporter;

@@ -1,0 +1,125 @@
+//! Which lines are logged, and how many were left out.
+
+ghost use Rattle.std.specs.Prelude.{◌≡◌, ◌<◌, ◌∷◌, List, [], ℕ};
+ghost use Rattle.tt_report.specs.Log.{kind_of};
+ghost use Rattle.tt_report.specs.Left.{Happened, KindStandsFor, StandsFor, of_kind, answer_of};
+ghost use Rattle.tt_report.specs.Left.Happened.{asked, settled};
+
+use tt_status::{Event, Limit};
+
+/// The number of kinds of lines.
+const KINDS: usize = 80;
+
+/// The kind of the lines that say that source 0 is silent. The kinds of the other sources follow.
+const SILENT: usize = 32;
+
+/// The kind of the lines that say that source 0 is a suspect. The kinds of the other sources follow.
+const SUSPECT: usize = 48;
+
+/// The kind of the lines that say that a packet to source 0 could not be sent. The kinds of the other sources follow.
+const UNSENT: usize = 64;
+
+/// The kind of an event. At most one line of each kind is logged in ten seconds. A fusion that is refused because more
+/// than f sources are faulty has a kind of its own, and each source has kinds of its own.
+fn kind_of(event: Event) -> usize
+    ensures value { result ≡ kind_of event }
+    ensures in_range { result < 80 }
+{
+    match event {
+        Event::Started { .. } => 0,
+        Event::FirstPublication { .. } => 1,
+        Event::Ended => 2,
+        Event::ClockBack => 3,
+        Event::FusionRefused { number } => { if number == 504 { 4 } else { 5 } }
+        Event::AnswersRefused { .. } => 6,
+        Event::RoundFailed { .. } => 7,
+        Event::SharingEnded { .. } => 8,
+        Event::StatusUnwritten => 9,
+        Event::NotAccepted => 10,
+        Event::MasterStarted { .. } => 11,
+        Event::MasterFailed { .. } => 12,
+        Event::StateLoose => 13,
+        Event::EpochLoose => 14,
+        Event::SharedLoose => 15,
+        Event::SocketRenewed { .. } => 16,
+        Event::SharingResumed => 17,
+        Event::PublicationSlow { .. } => 18,
+        Event::SourceSilent { source } => SILENT + source.min(15) as usize,
+        Event::SourceSuspect { source } => SUSPECT + source.min(15) as usize,
+        Event::SourceUnsent { source } => UNSENT + source.min(15) as usize,
+    }
+}
+
+/// What is kept of one kind of line: its limit, and how many lines found no place, with those that they would have told
+/// of, since a line of the kind found one.
+#[derive(Clone, Copy, Debug, PartialEq, Eq)]
+struct Kind {
+    limit: Limit,
+    missed: u64,
+}
+
+impl Kind {
+    /// No line was logged so far.
+    fn new() -> Kind
+        ensures nothing { KindStandsFor [] result }
+    {
+        Kind {
+            limit: Limit::new(),
+            missed: 0,
+        }
+    }
+
+    /// Whether a line of this kind is handed over at this reading of one clock, and how many it says were left out.
+    fn admit(&mut self, now: u64) -> Option<u64>
+        ensures says { (past : List Happened) → KindStandsFor past self.old → result ≡ answer_of past now }
+        ensures stands { (past : List Happened) → KindStandsFor past self.old → KindStandsFor (asked now ∷ past) self.new }
+    {
+        let left_out = self.limit.admit(now)?;
+        let told = left_out.saturating_add(self.missed);
+        self.missed = 0;
+        Some(told)
+    }
+
+    /// A line that said `told` were left out found a place if it `fits`. If not, it and those are told of later.
+    fn settle(&mut self, told: u64, fits: bool)
+        ensures stands { (past : List Happened) → KindStandsFor past self.old → KindStandsFor (settled told fits ∷ past) self.new }
+    {
+        if !fits {
+            self.missed = self.missed.saturating_add(told).saturating_add(1);
+        }
+    }
+}
+
+/// The limit of each kind of line.
+#[derive(Drop)]
+pub(crate) struct Limits {
+    kinds: [Kind; KINDS],
+}
+
+impl Limits {
+    /// The limits when no line was logged so far.
+    pub(crate) fn new() -> Limits
+        ensures nothing { StandsFor [] result }
+    {
+        Limits {
+            kinds: [Kind::new(); KINDS],
+        }
+    }
+
+    /// Whether the line of an event is handed over when the clock shows `now`, in nanoseconds. `Some` says that it is,
+    /// and how many lines of its kind were left out before. `None` says that it is left out.
+    pub(crate) fn admit(&mut self, event: Event, now: u64) -> Option<u64>
+        ensures says { (past : List (ℕ × Happened)) → StandsFor past self.old → result ≡ answer_of (of_kind (kind_of event) past) now }
+        ensures stands { (past : List (ℕ × Happened)) → StandsFor past self.old → StandsFor ((kind_of event, asked now) ∷ past) self.new }
+    {
+        self.kinds[kind_of(event)].admit(now)
+    }
+
+    /// A line that was handed over and says that `told` were left out found a place if it `fits`. If not, the next line
+    /// of its kind says `told` and one more.
+    pub(crate) fn settle(&mut self, event: Event, told: u64, fits: bool)
+        ensures stands { (past : List (ℕ × Happened)) → StandsFor past self.old → StandsFor ((kind_of event, settled told fits) ∷ past) self.new }
+    {
+        self.kinds[kind_of(event)].settle(told, fits)
+    }
+}

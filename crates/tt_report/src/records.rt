@@ -1,0 +1,103 @@
+//! What the reporter's threads share with the threads that log.
+
+use crate::clocks::{clock_of, time_of};
+use crate::lanes::Lane;
+use crate::limits::Limits;
+use std::alloc::{AllocError, Global};
+use std::sync::atomic::{AtomicU64, Ordering};
+use std::sync::{Mutex, Wait};
+use std::time::Clock as SystemClock;
+use tt_status::{Event, Status};
+
+/// How many lines may wait to be written.
+pub const CAPACITY: usize = 256;
+
+/// A line of the log, with its time in nanoseconds since 1970, and how many of its kind were left out before it.
+#[derive(Clone, Copy, Debug, PartialEq, Eq)]
+pub(crate) struct Line {
+    pub(crate) time: u64,
+    pub(crate) event: Event,
+    pub(crate) left_out: u64,
+}
+
+/// The records that wait to be written, and what is kept of those that were handed over.
+#[derive(Drop)]
+pub(crate) struct Records {
+    pub(crate) lines: Lane<Line>,
+    /// One place, for the newest status.
+    pub(crate) statuses: Lane<Status>,
+    /// The clock reading at which the publication began that is made now, in nanoseconds; 0 for none.
+    pub(crate) since: AtomicU64,
+    /// How long a publication may last, in nanoseconds.
+    pub(crate) most: AtomicU64,
+    limits: Mutex<Limits>,
+    /// How many records wait, or are being written.
+    unwritten: AtomicU64,
+    /// How many records found no place.
+    left_out: AtomicU64,
+}
+
+impl Records {
+    /// No record was handed over so far.
+    pub(crate) fn new(alloc: Global) -> Result<Records, AllocError> {
+        Ok(Records {
+            lines: Lane::new(alloc, CAPACITY)?,
+            statuses: Lane::new(alloc, 1)?,
+            since: AtomicU64::new(0),
+            most: AtomicU64::new(u64::MAX),
+            limits: Mutex::new(Limits::new()),
+            unwritten: AtomicU64::new(0),
+            left_out: AtomicU64::new(0),
+        })
+    }
+
+    /// Hands over the line of an event, unless one of its kind was handed over less than ten seconds before, or no place
+    /// is free. It writes nothing itself.
+    pub(crate) fn log<R: Wait + SystemClock>(&self, rt: &R, event: Event) {
+        let now = clock_of(rt);
+        let admitted = self.limits.lock(rt).admit(event, now);
+        let Some(left_out) = admitted else {
+            return;
+        };
+        let line = Line {
+            time: time_of(rt),
+            event,
+            left_out,
+        };
+        self.unwritten.fetch_add(1, Ordering::SeqCst);
+        let fits = self.lines.push(rt, line);
+        self.limits.lock(rt).settle(event, left_out, fits);
+        if !fits {
+            self.leave_out();
+        }
+    }
+
+    /// Hands over a status. One that still waits gives its place to it, and is left out. It writes nothing itself.
+    pub(crate) fn show<R: Wait>(&self, rt: &R, status: Status) {
+        self.unwritten.fetch_add(1, Ordering::SeqCst);
+        if !self.statuses.push_newest(rt, status) {
+            self.leave_out();
+        }
+    }
+
+    /// Counts a record that was handed over and found no place.
+    fn leave_out(&self) {
+        self.left_out.fetch_add(1, Ordering::SeqCst);
+        self.unwritten.fetch_sub(1, Ordering::SeqCst);
+    }
+
+    /// Counts a record that was written, or was lost on its way.
+    pub(crate) fn written(&self) {
+        self.unwritten.fetch_sub(1, Ordering::SeqCst);
+    }
+
+    /// Whether no record waits and none is being written.
+    pub(crate) fn all_written(&self) -> bool {
+        self.unwritten.load(Ordering::SeqCst) == 0
+    }
+
+    /// How many records found no place, so far.
+    pub(crate) fn left_out(&self) -> u64 {
+        self.left_out.load(Ordering::SeqCst)
+    }
+}

@@ -1,0 +1,130 @@
+//! The reporter of a process.
+
+use crate::clocks::clock_of;
+use crate::faults::ReporterFault;
+use crate::files::{Disk, StatusFile};
+use crate::records::Records;
+use crate::writers::{write_lines, write_statuses};
+use std::alloc::{AllocError, Global};
+use std::io::Eprint;
+use std::sync::atomic::Ordering;
+use std::sync::{Arc, Wait};
+use std::thread::{self, Threads};
+use std::time::{Clock as SystemClock, Duration};
+use tt_status::{Event, Status};
+
+/// For how long [`Reporter::end`] waits at most, in nanoseconds: 190 ms, so that with its last sleep it is at most
+/// 200 ms.
+const END: u64 = 190_000_000;
+
+/// How often [`Reporter::end`] looks at most.
+const LOOKS: u32 = 200;
+
+/// The pause between two looks, in milliseconds.
+const PAUSE: u64 = 2;
+
+/// Writes the log and the status file by threads of its own. No call of it waits for what they write to, and only
+/// [`Reporter::end`] waits for them, for a bounded time. Threads use it by reference.
+#[derive(Drop)]
+pub struct Reporter {
+    records: Arc<Records, Global>,
+    has_file: bool,
+}
+
+impl Reporter {
+    /// A reporter that writes lines to standard error and, if there is one, the status to the file at this path. Its
+    /// threads run until the process ends, and are never joined.
+    ///
+    /// Refuses with 1816 `NoThread` if a thread can't be started, and with 1 `Memory`.
+    pub fn start<R>(rt: &R, alloc: Global, status: Option<&str>) -> Result<Reporter, ReporterFault>
+    where
+        R: Threads + Wait + SystemClock + Eprint + Disk + Copy + Send + 'static,
+    {
+        let rt = *rt;
+        let file = match status {
+            Some(path) => Some(StatusFile::at(alloc, path)?),
+            None => None,
+        };
+        let has_file = file.is_some();
+        let records = shared_records(alloc)?;
+        let theirs = Arc::try_clone(&records)?;
+        if thread::spawn(&rt, move || write_lines(&rt, alloc, &theirs)).is_err() {
+            return Err(ReporterFault::NoThread);
+        }
+        if let Some(file) = file {
+            let theirs = Arc::try_clone(&records)?;
+            if thread::spawn(&rt, move || write_statuses(&rt, alloc, &theirs, &file)).is_err() {
+                return Err(ReporterFault::NoThread);
+            }
+        }
+        Ok(Reporter { records, has_file })
+    }
+
+    /// Another handle of this reporter, for a thread that owns what it uses.
+    pub fn try_clone(&self) -> Result<Reporter, AllocError> {
+        Ok(Reporter {
+            records: Arc::try_clone(&self.records)?,
+            has_file: self.has_file,
+        })
+    }
+
+    /// Hands over the line of an event, with the time of the real-time clock, unless a line of its kind was handed over
+    /// less than ten seconds before, or no place is free. It writes nothing itself and never waits for standard error.
+    pub fn log<R: Wait + SystemClock>(&self, rt: &R, event: Event) {
+        self.records.log(rt, event)
+    }
+
+    /// Hands over the newest status, if there is a status file. A status that still waits gives its place to it. It
+    /// writes nothing itself and never waits for the file.
+    pub fn show<R: Wait>(&self, rt: &R, status: Status) {
+        if self.has_file {
+            self.records.show(rt, status)
+        }
+    }
+
+    /// From now on a publication that lasts longer than this, in nanoseconds, is logged once, within a second after
+    /// that. Before this call none is.
+    pub fn watch_for(&self, most: u64) {
+        self.records.most.store(most, Ordering::SeqCst)
+    }
+
+    /// A publication begins, at this reading of the monotonic clock in nanoseconds, not 0.
+    pub fn busy(&self, since: u64) {
+        self.records.since.store(since, Ordering::SeqCst)
+    }
+
+    /// The publication was made.
+    pub fn idle(&self) {
+        self.records.since.store(0, Ordering::SeqCst)
+    }
+
+    /// How many lines and statuses found no place so far. They are lost.
+    pub fn left_out(&self) -> u64 {
+        self.records.left_out()
+    }
+
+    /// Waits until all that was handed over is written, for at most 200 ms, and says whether it is. Lines and statuses
+    /// that standard error or the file refused count as written.
+    pub fn end<R: Wait + SystemClock>(&self, rt: &R) -> bool {
+        let began = clock_of(rt);
+        for _ in 0..LOOKS {
+            if self.records.all_written() || clock_of(rt).saturating_sub(began) >= END {
+                break;
+            }
+            thread::sleep(rt, Duration::from_millis(PAUSE));
+        }
+        self.records.all_written()
+    }
+}
+
+/// Records that threads share.
+fn shared_records(alloc: Global) -> Result<Arc<Records, Global>, AllocError> {
+    let records = Arc::new(alloc, Records::new(alloc)?)?;
+    Ok(records)
+}
+
+impl From<AllocError> for ReporterFault {
+    fn from(_error: AllocError) -> ReporterFault {
+        ReporterFault::Memory
+    }
+}

@@ -1,0 +1,64 @@
+//! The threads of a reporter: one for standard error, and one for the status file.
+
+use crate::clocks::clock_of;
+use crate::files::{Disk, StatusFile};
+use crate::records::{Line, Records};
+use crate::watches::Watch;
+use std::alloc::Global;
+use std::io::Eprint;
+use std::sync::Wait;
+use std::sync::atomic::Ordering;
+use std::time::Clock as SystemClock;
+use tt_status::{Event, push_event};
+
+/// Writes lines to standard error as they come, and looks at least once a second whether a publication is slow.
+pub(crate) fn write_lines<R: Wait + SystemClock + Eprint>(
+    rt: &R,
+    alloc: Global,
+    records: &Records,
+) {
+    let mut watch = Watch::new();
+    for _ in rt.forever() {
+        look(rt, records, &mut watch);
+        if let Some(line) = records.lines.take(rt) {
+            write_line(rt, alloc, &line);
+            records.written();
+        }
+    }
+    unreachable!()
+}
+
+/// Logs a publication that is slow, once.
+fn look<R: Wait + SystemClock>(rt: &R, records: &Records, watch: &mut Watch) {
+    let since = records.since.load(Ordering::SeqCst);
+    let most = records.most.load(Ordering::SeqCst);
+    if let Some(nanoseconds) = watch.look(since, most, clock_of(rt)) {
+        records.log(rt, Event::PublicationSlow { nanoseconds });
+    }
+}
+
+/// Writes a line to standard error. If it is out of memory, or standard error fails, the line is lost.
+fn write_line<R: Eprint>(rt: &R, alloc: Global, line: &Line) {
+    let mut text = String::new(alloc);
+    if push_event(&mut text, line.time, line.event, line.left_out).is_ok() {
+        let _ = eprint!(rt; "{text}");
+    }
+}
+
+/// Writes the newest status to its file as they come. It logs where one was not written.
+pub(crate) fn write_statuses<R: Wait + SystemClock + Disk>(
+    rt: &R,
+    alloc: Global,
+    records: &Records,
+    file: &StatusFile,
+) {
+    for _ in rt.forever() {
+        if let Some(status) = records.statuses.take(rt) {
+            if file.write(rt, alloc, &status).is_err() {
+                records.log(rt, Event::StatusUnwritten);
+            }
+            records.written();
+        }
+    }
+    unreachable!()
+}

@@ -1,0 +1,291 @@
+"""Scenarios of tools/faults: the end and the start of a machine, its clients, and the command `ask`."""
+import contextlib
+import os
+import socket
+import subprocess
+import time
+
+from running import free_port, truetime
+from trouble import SECOND, Answerer, full_listener, reset, scenario
+
+# The end.
+
+def waiting_node(trial):
+    """A machine whose workers wait for clients, at both doors."""
+    node = trial.running_node(trial.masters(3))
+    for address in (node.address, node.path("socket")):
+        with truetime.Session(address, 2) as session:
+            session.now()
+    time.sleep(0.3)
+    return node
+
+
+@scenario()
+def end_plain(trial):
+    node = waiting_node(trial)
+    yield from node.ends()
+    if not node.said("ended"):
+        yield "the log does not say ended"
+
+
+@scenario()
+def end_with_socket_removed(trial):
+    node = waiting_node(trial)
+    os.remove(node.path("socket"))
+    yield from node.ends()
+
+
+@scenario()
+def end_with_no_descriptor_left(trial):
+    node = trial.running_node(trial.masters(3))
+    with contextlib.ExitStack() as doors:
+        for _ in range(2):
+            doors.enter_context(truetime.Session(node.address, 2)).now()
+        node.allow_no_more_descriptors()
+        for _ in range(3):
+            doors.enter_context(socket.create_connection(node.address, 2))
+        before = node.processor_ns()
+        yield from node.goes_on()
+        if (spent := node.processor_ns() - before) > SECOND // 5:
+            yield f"{spent // 1_000_000} ms of processor time in a second"
+        yield from node.ends()
+
+
+@scenario()
+def end_with_a_foreign_listener(trial):
+    """It stands at the path of the socket, which was removed, with a full backlog; and it stays."""
+    node = waiting_node(trial)
+    os.remove(node.path("socket"))
+    with full_listener(node.path("socket")):
+        yield from node.ends()
+        if not os.path.exists(node.path("socket")):
+            yield "the foreign socket is gone"
+
+
+def far_floor(address):
+    with truetime.Session(address, 2) as session:
+        return session.now().latest_ns + 9 * SECOND
+
+
+@scenario()
+def end_with_all_workers_busy(trial):
+    """Commits wait for a far floor, others are idle, and more clients wait for a worker."""
+    node = trial.running_node(trial.masters(3), workers=8, floor_ahead="10s")
+    floor = far_floor(node.address)
+    with contextlib.ExitStack() as doors:
+        for number in range(4):
+            one = doors.enter_context(socket.create_connection(node.address, 2))
+            one.sendall(f"commit 1 {floor}\n".encode() if number % 2 else b"")
+            other = doors.enter_context(socket.socket(socket.AF_UNIX))
+            other.connect(node.path("socket"))
+            other.sendall(f"commit 1 {floor}\n".encode() if number % 2 else b"no")
+        for _ in range(6):
+            doors.enter_context(socket.create_connection(node.address, 2)).sendall(b"now\n")
+        time.sleep(0.3)
+        yield from node.ends()
+
+
+@scenario()
+def end_with_dead_masters(trial):
+    """With a long wait, before and after clients are served."""
+    for name, seconds in (("A", 0.3), ("B", 2.6)):
+        node = trial.node([f"127.0.0.1:{free_port(socket.SOCK_DGRAM)}"], name, wait="5s")
+        node.run()
+        time.sleep(seconds)
+        for fault in node.ends():
+            yield f"{seconds} seconds after the start: {fault}"
+
+
+# The start.
+
+@scenario(quiet=True)
+def start_with_dead_masters(trial):
+    """Clients get 801 two seconds after the start, however long `wait` is."""
+    node = trial.node([f"127.0.0.1:{free_port(socket.SOCK_DGRAM)}"], wait="5s")
+    node.run()
+    for where in (node.address, node.path("socket")):
+        try:
+            while node.running.poll() is None:
+                with contextlib.suppress(ConnectionRefusedError, FileNotFoundError), truetime.Session(where, 15) as session:
+                    said = session.ask("now")
+                    break
+                time.sleep(0.01)
+            took = time.monotonic() - node.began
+        except OSError as fault:
+            said, took = str(fault), 15
+        if said != "refused 801" or not 2 <= took <= 2.6:
+            yield f"{said!r} {took:.1f} seconds after the start"
+    trial.notes.append(f"801 came {took:.2f} seconds after the start")
+    yield from node.ends()
+
+
+# Clients.
+
+def next_is_served(trial, address, seconds, what):
+    """The next client has its answer within these seconds."""
+    began = time.monotonic()
+    try:
+        with truetime.Session(address, 12) as session:
+            session.now()
+    except (OSError, truetime.Refused) as fault:
+        yield f"{what}: {fault}"
+        return
+    took = time.monotonic() - began
+    trial.notes.append(f"{what}: the next one was served {took:.3f} seconds later")
+    if took > seconds:
+        yield f"{what}: the next one was served {took:.2f} seconds later"
+
+
+@scenario(quiet=True)
+def broken_connection_with_bytes_unread(trial):
+    """The client of the one worker has a commit that waits and more lines behind it, and breaks off."""
+    node = trial.running_node(trial.masters(3), workers=1, socket=None, floor_ahead="10s")
+    floor = far_floor(node.address)
+    door = socket.create_connection(node.address, 2)
+    door.sendall(f"commit 1 {floor}\n".encode() + b"now\n" * 5000)
+    time.sleep(0.3)
+    reset(door)
+    yield from next_is_served(trial, node.address, 0.2, "after a reset")
+    yield from node.ends()
+
+
+@scenario(quiet=True)
+def gone_from_the_unix_socket_with_bytes_unread(trial):
+    """As many clients as there are workers have commits that wait and more lines behind them, and are gone: nobody can have their replies."""
+    node = trial.running_node(trial.masters(3), workers=2, floor_ahead="10s")
+    floor = far_floor(node.address)
+    doors = [socket.socket(socket.AF_UNIX) for _ in range(2)]
+    for door in doors:
+        door.connect(node.path("socket"))
+        door.sendall(f"commit 1 {floor}\n".encode() + b"now\n" * 5000)
+    time.sleep(0.3)
+    for door in doors:
+        door.close()
+    yield from next_is_served(trial, node.path("socket"), 0.2, "after they were closed")
+    yield from node.ends()
+
+
+@scenario()
+def two_lines_and_a_closed_side(trial):
+    """A client that closes its sending side has the replies to its lines, over TCP and the Unix socket."""
+    node = trial.running_node(trial.masters(3))
+    for address in (node.address, node.path("socket")):
+        family = socket.AF_UNIX if isinstance(address, str) else socket.AF_INET
+        for _ in range(20):
+            with socket.socket(family) as door:
+                door.settimeout(2)
+                door.connect(address)
+                door.sendall(b"now\ncommit 1 0\nnow\n")
+                door.shutdown(socket.SHUT_WR)
+                replies = door.makefile("rb").read().splitlines()
+            if [reply.split()[0] for reply in replies] not in ([b"now", b"committed", b"now"], [b"now", b"waiting", b"now"]):
+                yield f"the replies are {replies}"
+                break
+    yield from node.ends()
+
+
+@scenario(quiet=True)
+def commit_of_a_half_closed_client(trial):
+    """It lasts at most `idle`, also where many lines come behind it."""
+    for name, behind in (("A", b""), ("B", b"now\n" * 5000)):
+        node = trial.running_node(trial.masters(3), name, workers=1, socket=None, floor_ahead="10s", idle="1s")
+        floor = far_floor(node.address)
+        with socket.create_connection(node.address, 2) as door:
+            door.sendall(f"commit 1 {floor}\n".encode() + behind)
+            door.shutdown(socket.SHUT_WR)
+            yield from next_is_served(trial, node.address, 2, f"with {len(behind)} bytes behind it")
+        yield from node.ends()
+
+
+@scenario()
+def waiting_in_turn(trial):
+    """Clients that wait for a worker are counted, and served in the order in which they came."""
+    node = trial.running_node(trial.masters(3), workers=2, socket=None)
+    with contextlib.ExitStack() as doors:
+        sessions = [doors.enter_context(truetime.Session(node.address, 2)) for _ in range(2)]
+        for session in sessions:
+            session.now()
+        waiting = []
+        for _ in range(5):
+            waiting.append(doors.enter_context(socket.create_connection(node.address, 2)))
+            waiting[-1].sendall(b"now\n")
+            time.sleep(0.02)
+        yield from node.comes_to("connections_waiting", 5, 1)
+        sessions[0].close()
+        for number, door in enumerate(waiting):
+            door.settimeout(0.5)
+            if not door.recv(100).startswith(b"now "):
+                yield f"client {number} has no reply in its turn"
+            door.close()
+    yield from node.comes_to("connections_waiting", 0, 1)
+    yield from node.ends()
+
+
+# The command `ask`.
+
+def ask_of(trial, act, *words, **how):
+    """What `ask` makes of a service that does this with a line, and how long it took."""
+    service, began = trial.keep(Answerer(act)), time.monotonic()
+    return *trial.command("ask", service.address, *words, **how), time.monotonic() - began
+
+
+def drip(door, _):
+    for _ in range(60):
+        door.sendall(b"n")
+        time.sleep(1)
+
+
+@scenario(long=True)
+def ask_of_a_slow_service(trial):
+    """A reply that comes a byte a second is given up after 30 seconds in all."""
+    status, said, _, took = ask_of(trial, drip, "now", timeout=45)
+    if status != 4 or not 25 <= took <= 35:
+        yield f"status {status} after {took:.1f} seconds, {said!r}"
+
+
+@scenario()
+def ask_of_a_service_without_an_end(trial):
+    """10,000 bytes without a line feed are no reply."""
+    status, said, _, took = ask_of(trial, lambda door, _: door.sendall(b"n" * 10_000), "now")
+    if status != 4 or took > 1:
+        yield f"status {status} after {took:.1f} seconds, {said[:40]!r}"
+
+
+@scenario()
+def ask_that_cannot_print(trial):
+    """Its standard output is closed, or full."""
+    service = trial.keep(Answerer(lambda door, _: door.sendall(b"now 5 15\n")))
+    for redirection in (">&-", ">/dev/full"):
+        ran = subprocess.run(["sh", "-c", f'exec "$@" {redirection}', "sh", trial.program, "ask", service.address, "now"], timeout=10,
+                             stdin=subprocess.DEVNULL, stderr=subprocess.PIPE, check=False)
+        if ran.returncode != 4:
+            yield f"status {ran.returncode} with {redirection}"
+
+
+@scenario()
+def ask_that_is_refused(trial):
+    """The reply is printed, a sentence is on standard error, and the status is 2."""
+    for number in (801, 903, 1101, 1821):
+        status, said, error, _ = ask_of(trial, lambda door, _, number=number: door.sendall(b"refused %d\n" % number), "now", "--retry", "1")
+        if status != 2 or said != f"refused {number}\n" or not error.startswith(f"ttd: refused {number}: "):
+            yield f"status {status}, {said!r} and {error!r}"
+
+
+@scenario(long=True)
+def ask_that_waits(trial):
+    """A commit that is never released has status 5 after all tries."""
+    status, said, _, _ = ask_of(trial, lambda door, _: door.sendall(b"waiting 1 200\n"), "commit", "1", "0", timeout=45)
+    if status != 5 or said != "waiting 1 200\n":
+        yield f"status {status}, {said!r}"
+
+
+@scenario()
+def ask_at_a_unix_socket(trial):
+    node = trial.running_node(trial.masters(3))
+    for words, wanted in ((["now"], "now "), (["commit", "1", "0"], "committed 1 ")):
+        status, said, _ = trial.command("ask", node.path("socket"), *words)
+        if status != 0 or not said.startswith(wanted):
+            yield f"status {status}, {said!r}"
+    status, said, _ = trial.command("ask", os.path.join(trial.room, "nobody"), "now")
+    if (status, said) != (4, "refused 1501\n"):
+        yield f"where no socket is: status {status}, {said!r}"

@@ -1,0 +1,417 @@
+"""Scenarios of tools/faults: standard error, the status, drafts and locks, settings, and the shared file."""
+import json
+import os
+import shutil
+import socket
+import time
+from concurrent.futures import ThreadPoolExecutor
+
+import trouble
+from running import free_port
+from trouble import as_nobody, full_listener, full_pipe, hold_lock, read, scenario, write
+
+# Log and status.
+
+def says_much(trial, **settings):
+    """A machine whose log has lines to write from the first round on."""
+    return trial.node([*trial.masters(3), f"127.0.0.1:{free_port(socket.SOCK_DGRAM)}"], **settings)
+
+
+@scenario()
+def full_pipe_as_standard_error(trial):
+    node = says_much(trial)
+    reading, writing = full_pipe()
+    node.run(stderr=writing)
+    os.close(writing)
+    yield from node.serves()
+    os.close(reading)
+
+
+@scenario()
+def broken_pipe_as_standard_error(trial):
+    node = says_much(trial)
+    reading, writing = os.pipe()
+    os.close(reading)
+    node.run(stderr=writing)
+    os.close(writing)
+    yield from node.serves()
+
+
+@scenario()
+def standard_error_is_closed(trial):
+    node = says_much(trial)
+    node.run(["sh", "-c", 'exec "$@" 2>&-', "sh"])
+    yield from node.serves()
+
+
+@scenario()
+def all_standard_descriptors_are_closed(trial):
+    """Nothing of the log may go to the files and sockets that are opened next."""
+    masters = trial.fakes(*[trouble.honest] * 3, trouble.silent)
+    node = trial.node(masters)
+    node.words.remove("--until-eof")
+    node.run(["sh", "-c", 'exec "$@" 0<&- 1>&- 2>&-', "sh"])
+    yield from node.publishes_within(2)
+    yield from node.goes_on()
+    yield from node.answers()
+    for name in ("state/lock", "shared.lock"):
+        if content := read(node.path(name)):
+            yield f"in {name} stands {content[:80]!r}"
+    if strange := [packet for master in masters for packet in master.strange]:
+        yield f"a master got {strange[0][:80]!r}"
+    kinds = [os.readlink(f"/proc/{node.running.pid}/fd/{number}") for number in range(3)]
+    if kinds != ["/dev/null"] * 3:
+        yield f"descriptors 0 to 2 are {kinds}"
+
+
+@scenario()
+def fifo_as_status(trial):
+    node = trial.node(trial.masters(3))
+    os.mkfifo(node.path("status"))
+    node.run()
+    yield from node.serves()
+
+
+@scenario()
+def fifo_as_draft_of_status(trial):
+    node = trial.node(trial.masters(3))
+    os.mkfifo(node.path("status.new"))
+    node.run()
+    yield from node.publishes_within(2)
+    yield from node.comes_to("sharing", 1, 3)
+    yield from node.serves()
+
+
+@scenario()
+def folder_as_draft_of_status(trial):
+    """The status cannot be written, and the log says so."""
+    node = trial.node(trial.masters(3))
+    os.makedirs(node.path("status.new/kept"))
+    node.run()
+    yield from node.serves()
+    if not node.said("status_unwritten"):
+        yield "the log does not say status_unwritten"
+
+
+@scenario()
+def no_folder_for_status(trial):
+    """It is removed and made again: lines of the log, and then a status as before."""
+    node = trial.node(trial.masters(3), status=os.path.join(trial.room, "kept/status"))
+    os.mkdir(os.path.join(trial.room, "kept"))
+    node.run()
+    yield from node.publishes_within(2)
+    shutil.rmtree(os.path.join(trial.room, "kept"))
+    yield from node.goes_on()
+    if not node.said("status_unwritten"):
+        yield "the log does not say status_unwritten"
+    os.mkdir(os.path.join(trial.room, "kept"))
+    time.sleep(1)
+    if not os.path.exists(os.path.join(trial.room, "kept/status")):
+        yield "no status though its folder is there again"
+    yield from node.ends()
+
+
+# Files.
+
+DRAFTS = "status.new", "shared.new", "state/epoch.new"
+
+
+def link_all(node, folder, names):
+    """Puts a symlink at each of these names; the places that they name."""
+    places = {name: os.path.join(folder, name.replace("/", "-")) for name in names}
+    for name, place in places.items():
+        os.symlink(place, node.path(name))
+    return places
+
+
+@scenario()
+def symlinks_at_drafts(trial):
+    """What they name is neither written nor made."""
+    masters = trial.masters(3)
+    for name, is_there in (("A", True), ("B", False)):
+        node, victims = trial.node(masters, name), os.path.join(trial.room, f"victims-{name}")
+        os.mkdir(victims)
+        places = link_all(node, victims, DRAFTS)
+        for place in places.values() if is_there else ():
+            write(place, b"keep\n")
+        node.run()
+        yield from node.serves()
+        for name, place in places.items():
+            if is_there and read(place) != b"keep\n":
+                yield f"what the symlink at {name} names was written"
+            if not is_there and os.path.exists(place):
+                yield f"what the symlink at {name} names was made"
+
+
+@scenario()
+def symlinks_at_locks(trial):
+    """It may run or refuse, but leaves alone what they name."""
+    for name, is_there in (("A", True), ("B", False)):
+        node, victims = trial.node([f"127.0.0.1:{free_port(socket.SOCK_DGRAM)}"], name), os.path.join(trial.room, f"victims-{name}")
+        os.mkdir(victims)
+        places = link_all(node, victims, ("state/lock", "shared.lock"))
+        for place in places.values() if is_there else ():
+            write(place, b"keep\n")
+        status, _, _ = trial.command("serve", node.path("node.toml"), "--until-eof")
+        if status is None:
+            yield "it does not end"
+        for name, place in places.items():
+            if os.path.exists(place) != is_there or is_there and read(place) != b"keep\n":
+                yield f"what the symlink at {name} names was {'written' if is_there else 'made'}"
+
+
+FIFOS = "state/epoch", "state/lock", "state/epoch.new", "shared", "shared.new", "shared.lock", "status", "status.new", "socket"
+
+
+def refuses_or_serves(node):
+    if node.running.poll() is None:
+        return [*node.answers(), *node.ends()]
+    is_refusal = node.running.returncode in (2, 4) and "refused" in node.end_of_log()
+    return [] if is_refusal else [f"status {node.running.returncode}"]
+
+
+@scenario()
+def fifos_at_every_file(trial):
+    """It runs or refuses, and waits for none of them. All of these machines run at once."""
+    masters, nodes = trial.masters(3), {}
+    for number, name in enumerate(FIFOS):
+        nodes[name] = node = trial.node(masters, f"{number}")
+        os.mkfifo(node.path(name))
+        node.run()
+    time.sleep(2)
+    with ThreadPoolExecutor(len(nodes)) as threads:
+        for name, faults in zip(nodes, threads.map(refuses_or_serves, nodes.values())):
+            for fault in faults:
+                yield f"a FIFO at {name}: {fault}"
+
+
+@scenario()
+def fifo_as_file(trial):
+    fifo = os.path.join(trial.room, "fifo")
+    os.mkfifo(fifo)
+    for words in (["serve", fifo], ["serve", "--check", fifo], ["read", fifo]):
+        began = time.monotonic()
+        status, said, _ = trial.command(*words, timeout=3)
+        if status not in (2, 4) or not said.startswith("refused") or time.monotonic() - began > 1:
+            yield f"{words[0]} of a FIFO: status {status}, {said!r}"
+
+
+def refused_by_start(trial, node, number, statuses):
+    """A start refuses with this number, within a second, and takes no epoch."""
+    began = time.monotonic()
+    status, said, _ = trial.command("serve", node.path("node.toml"), "--until-eof", timeout=5, cwd=node.folder)
+    if status not in statuses or said != f"refused {number}\n" or time.monotonic() - began > 1.5:
+        yield f"status {status} and {said!r}, and {number} is wanted"
+    if os.path.exists(node.path("state/epoch")):
+        yield "an epoch was taken"
+
+
+@scenario()
+def file_at_socket(trial):
+    node = trial.node(trial.masters(1))
+    write(node.path("socket"), b"keep\n")
+    yield from refused_by_start(trial, node, 1819, (2, 4))
+    if not os.path.exists(node.path("socket")) or read(node.path("socket")) != b"keep\n":
+        yield "the file at socket is gone"
+
+
+@scenario()
+def stale_socket(trial):
+    """One that a killed machine left is taken over."""
+    node = trial.running_node(trial.masters(1))
+    node.again()
+    yield from node.answers(node.path("socket"))
+    yield from node.ends()
+
+
+@scenario()
+def full_backlog_at_socket(trial):
+    """A foreign listener is not waited for, and stays."""
+    node = trial.node(trial.masters(1))
+    with full_listener(node.path("socket")):
+        yield from refused_by_start(trial, node, 1809, (4,))
+        if not os.path.exists(node.path("socket")):
+            yield "the foreign socket is gone"
+
+
+@scenario()
+def address_in_use(trial):
+    node = trial.node(trial.masters(1))
+    with socket.create_server(node.address):
+        yield from refused_by_start(trial, node, 1807, (4,))
+
+
+# Settings that are refused, and by which number. HERE is the machine's folder.
+REFUSED = [
+    ({"socket": "HERE/state/epoch"}, 1817), ({"socket": "HERE/state/lock"}, 1817), ({"status": "HERE/state/epoch"}, 1817),
+    ({"shared": "HERE/state/epoch"}, 1817), ({"status": "HERE/shared"}, 1817), ({"socket": "HERE/shared"}, 1817),
+    ({"status": "HERE/socket"}, 1817), ({"socket": "HERE/state"}, 1817),
+    ({"socket": ""}, 1804), ({"shared": ""}, 1804), ({"status": ""}, 1804), ({"state": ""}, 1804),
+    ({"masters": ["127.0.0.1:5701", "127.0.0.1:5702", "127.0.0.1:5701"]}, 1818),
+    ({"masters": ["127.0.0.1:5701", "127.0.0.1:0", "127.0.0.1:5702"]}, 1804),
+    ({"workers": 1}, 1810),
+]
+
+
+def settings_are_refused(trial, number, settings, refusal):
+    name, what = f"{number}", json.dumps(settings)
+    settings = {key: value.replace("HERE", os.path.join(trial.room, name)) if isinstance(value, str) else value for key, value in settings.items()}
+    node = trial.node(settings.pop("masters", ["127.0.0.1:5701"]), name, **settings)
+    status, said, _ = trial.command("serve", "--check", node.path("node.toml"))
+    if (status, said) != (2, f"refused {refusal}\n"):
+        yield f"--check with {what}: status {status}, {said[:20]!r}, and {refusal} is wanted"
+    for fault in refused_by_start(trial, node, refusal, (2,)):
+        yield f"a start with {what}: {fault}"
+
+
+@scenario()
+def settings_that_are_refused(trial):
+    """By --check and by the start."""
+    with ThreadPoolExecutor(len(REFUSED)) as threads:
+        for faults in threads.map(lambda case: list(settings_are_refused(trial, case[0], *case[1])), enumerate(REFUSED)):
+            yield from faults
+
+
+# The shared file.
+
+def is_read(trial, node):
+    """`ttd read` has a fresh reading, and the status says that the file is written."""
+    status, said, error = trial.command("read", node.path("shared"))
+    if status != 0 or not said.startswith("now ") or "stale" in error:
+        yield f"read: status {status}, {said!r} {error!r}"
+    yield from node.comes_to("sharing", 1, 1)
+
+
+def comes_back(trial, node, seconds=5):
+    """The file is written anew within these seconds."""
+    end = time.monotonic() + seconds
+    while (faults := list(is_read(trial, node))) and time.monotonic() < end:
+        time.sleep(0.1)
+    yield from faults
+    yield from [] if faults else node.goes_on()
+
+
+@scenario()
+def shared_file_is_removed(trial):
+    node = trial.running_node(trial.masters(3))
+    os.remove(node.path("shared"))
+    yield from comes_back(trial, node)
+    yield from node.ends()
+
+
+@scenario()
+def shared_file_is_replaced(trial):
+    """By a file that is none, and that stays as it is where it was moved away."""
+    node = trial.running_node(trial.masters(3))
+    foreign = os.path.join(trial.room, "foreign")
+    write(foreign, b"x" * 192)
+    os.link(foreign, os.path.join(trial.room, "kept"))
+    os.rename(foreign, node.path("shared"))
+    yield from comes_back(trial, node)
+    if read(os.path.join(trial.room, "kept")) != b"x" * 192:
+        yield "the foreign file was written"
+    yield from node.ends()
+
+
+@scenario()
+def shared_file_is_shortened(trial):
+    node = trial.running_node(trial.masters(3))
+    os.truncate(node.path("shared"), 0)
+    yield from comes_back(trial, node)
+    yield from node.answers()
+    yield from node.ends()
+
+
+@scenario()
+def shared_folder_comes_later(trial):
+    """A file stands where its folder should be, and goes away."""
+    place = os.path.join(trial.room, "place")
+    write(place, b"")
+    node = trial.node(trial.masters(3), shared=os.path.join(place, "shared"))
+    node.run()
+    node.wait_until_ready()
+    yield from node.comes_to("sharing", 0, 1)
+    os.remove(place)
+    yield from node.comes_to("sharing", 1, 6)
+    yield from node.answers()
+    yield from node.ends()
+
+
+@scenario()
+def shared_lock_is_taken_by_another(trial):
+    """Its lock file is removed, and a second machine writes the same file: just one of them may."""
+    masters = trial.masters(3)
+    first = trial.running_node(masters, "A")
+    os.remove(first.path("shared.lock"))
+    second = trial.running_node(masters, "B", shared=first.path("shared"))
+    time.sleep(1)
+    sharing = [(node.status_or_none() or {}).get("truetime_sharing") for node in (first, second)]
+    if sorted(sharing, key=str) != [0, 1]:
+        yield f"sharing is {sharing}"
+    with first.client() as client:
+        numbers = []
+        for _ in range(20):
+            numbers.append(client.read().number)
+            time.sleep(0.05)
+    if numbers != sorted(numbers):
+        yield f"publications of both are in the file: {numbers}"
+    for node in (first, second):
+        yield from node.answers()
+        yield from node.ends()
+
+
+@scenario()
+def shared_lock_is_removed(trial):
+    """It goes on, and a second machine may not write the file beside it."""
+    masters = trial.masters(3)
+    first = trial.running_node(masters, "A")
+    os.remove(first.path("shared.lock"))
+    time.sleep(1)
+    yield from comes_back(trial, first)
+    second = trial.running_node(masters, "B", shared=first.path("shared"))
+    yield from second.comes_to("sharing", 0, 1)
+    yield from first.comes_to("sharing", 1, 1)
+
+
+@scenario(root=True)
+def locks_held_by_another_user(trial):
+    """Who may only read cannot hold a lock, so a new start shares."""
+    node = trial.running_node(trial.masters(3))
+    node.kill()
+    with as_nobody():
+        held = {name: hold_lock(node.path(name)) for name in ("shared.lock", "state/lock", "shared")}
+    node.run()
+    node.wait_until_ready()
+    if free := [name for name in ("shared.lock", "state/lock") if held[name] is not None]:
+        yield f"another user holds {' and '.join(free)}"
+    yield from is_read(trial, node)
+    yield from node.ends()
+    for number in held.values():
+        if number is not None:
+            os.close(number)
+
+
+@scenario(root=True)
+def shared_file_prepared_by_another(trial):
+    """It is not taken for the machine's own."""
+    folder = os.path.join(trial.room, "open")
+    os.mkdir(folder)
+    os.chmod(folder, 0o777)
+    path = os.path.join(folder, "shared")
+    with open("/proc/sys/kernel/random/boot_id", "rb") as file:
+        content = b"TTS1\xc0\0\0\0\1\0\0\0\0\0\0\0" + bytes(8) + file.read(36) + bytes(132)
+    with as_nobody():
+        write(path, content)
+    kept = os.open(path, os.O_RDONLY)
+    node = trial.node(trial.masters(3), shared=path)
+    node.run()
+    node.wait_until_ready()
+    time.sleep(0.5)
+    if os.pread(kept, 192, 0) != content:
+        yield "the file of another user was written"
+    sharing = (node.status_or_none() or {}).get("truetime_sharing")
+    if sharing != (os.stat(path).st_uid == 0):
+        yield f"sharing is {sharing}, and the file is of user {os.stat(path).st_uid}"
+    os.close(kept)
+    yield from node.answers()
+    yield from node.ends()

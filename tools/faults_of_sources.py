@@ -1,0 +1,276 @@
+"""Scenarios of tools/faults: sources that cannot be reached, lie or flood, how long a round waits for them, and masters that are flooded."""
+import contextlib
+import signal
+import socket
+import statistics
+import subprocess
+import time
+
+import trouble
+from running import free_port
+from trouble import Network, flooded, scenario
+
+IN_NETWORK = {"root": True, "programs": ("ip", "unshare", "nsenter")}
+
+
+def start_in_network(trial, number):
+    """A network, masters in it, and a machine that is not started yet."""
+    network = trial.keep(Network())
+    masters = []
+    for source in range(number):
+        master = trial.master(source)
+        master.kill()
+        with open(master.log, "ab") as log:
+            master.running = subprocess.Popen([*network.enter, master.program, *master.words], stdin=subprocess.PIPE, stdout=log, stderr=log)
+        masters.append(master)
+    return network, masters, trial.node(masters, listen=f"127.0.0.1:{free_port(socket.SOCK_STREAM)}")
+
+
+def lives_without(node, network, lost, heard):
+    """The machine in this network does all that it should, and tells of the sources that are lost alone."""
+    node.run(network.enter)
+    yield from node.publishes_within(2)
+    yield from node.goes_on()
+    yield from node.answers(node.path("socket"))
+    yield from node.hears(*heard)
+    told = {int(fields["source"]) for event in ("source_silent", "source_unsent") for fields in node.said(event)}
+    if not told.issuperset(lost):
+        yield f"the log names {sorted(told)}, and {lost} cannot be reached"
+    if node.said("round_failed"):
+        yield "the log says round_failed"
+    yield from node.ends()
+
+
+@scenario(**IN_NETWORK)
+def no_route_to_one_of_three(trial):
+    network, masters, node = start_in_network(trial, 3)
+    network.refuse(masters[2], "unreachable")
+    yield from lives_without(node, network, [2], [0, 1])
+
+
+@scenario(**IN_NETWORK)
+def no_route_to_two_of_five(trial):
+    network, masters, node = start_in_network(trial, 5)
+    network.refuse(masters[0], "prohibit")
+    network.refuse(masters[3], "blackhole")
+    yield from lives_without(node, network, [0, 3], [1, 2, 4])
+
+
+@scenario(root=True, programs=("ip", "unshare", "nsenter", "nft"))
+def firewall_before_two_of_five(trial):
+    network, masters, node = start_in_network(trial, 5)
+    network.drop(masters[1])
+    network.drop(masters[4])
+    yield from lives_without(node, network, [1, 4], [0, 2, 3])
+
+
+@scenario(**IN_NETWORK)
+def interface_down(trial):
+    """For 1.5 seconds no packet can be sent at all. Then all goes on."""
+    network, masters, node = start_in_network(trial, 3)
+    node.run(network.enter)
+    yield from node.publishes_within(2)
+    network.do("ip", "link", "set", "lo", "down")
+    time.sleep(1.5)
+    network.do("ip", "link", "set", "lo", "up")
+    time.sleep(0.5)
+    yield from node.goes_on()
+    yield from node.ends()
+
+
+@scenario(root=True, programs=("ss",))
+def poll_socket_is_aborted(trial):
+    """The kernel ends the socket of the polls (ECONNABORTED), again and again."""
+    masters = trial.fakes(*[trouble.honest] * 3)
+    node = trial.running_node(masters)
+    for _ in range(3):
+        subprocess.run(["ss", "-K", "-u", "-a", "src", f"127.0.0.1:{masters[0].machine[1]}"], capture_output=True, check=True)
+        time.sleep(0.3)
+    yield from node.goes_on()
+    yield from node.hears(0, 1, 2)
+    yield from node.ends()
+
+
+@scenario()
+def port_closed_and_process_stopped(trial):
+    masters = trial.masters(5)
+    masters[1].kill()
+    masters[3].running.send_signal(signal.SIGSTOP)
+    node = trial.node(masters)
+    node.run()
+    yield from node.serves()
+    yield from node.hears(0, 2, 4)
+    if (told := {fields["source"] for fields in node.said("source_silent")}) != {"1", "3"}:
+        yield f"the log calls {sorted(told)} silent, and 1 and 3 are"
+
+
+def floods(trial, *acts):
+    """Sources 0 and 1 lie, and those behind them are honest and 10 ms away."""
+    masters = trial.fakes(*acts, *[trouble.honest_10ms_away] * 3)
+    node = trial.node(masters)
+    node.run()
+    yield from node.publishes_within(1)
+    yield from node.goes_on(2)
+    yield from node.hears(2, 3, 4)
+    yield from node.answers()
+    yield from node.ends()
+
+
+@scenario()
+def junk_from_two_of_five(trial):
+    """60 packets to each poll from f masters."""
+    yield from floods(trial, trouble.junk, trouble.junk_then_answer)
+
+
+@scenario()
+def empty_packets_from_two_of_five(trial):
+    """4,000 empty packets a second from one of them, and junk from the other."""
+    yield from floods(trial, trouble.empty_packets, trouble.junk)
+
+
+@scenario()
+def strangers_flood_the_machine(trial):
+    """With 10,000 empty packets and 10,000 of an answer's length a second all sources are heard. With as many as go, answers are lost
+    before the machine sees them, and it publishes and serves all the same."""
+    masters = trial.fakes(*[trouble.honest_10ms_away] * 3)
+    node = trial.running_node(masters)
+    with flooded(masters[0].machine[1], 0, 40, pause_s=0.005):
+        yield from node.goes_on(2)
+    yield from node.hears(0, 1, 2)
+    with flooded(masters[0].machine[1], 0, 40):
+        yield from node.goes_on()
+        yield from node.answers()
+    yield from node.ends()
+
+
+@scenario()
+def forged_before_true(trial):
+    """An answer that is refused does not end the wait for the true one: with f = 0 all have to be heard."""
+    masters = trial.fakes(trouble.forged_then_answer, trouble.honest, trouble.forged_then_answer)
+    node = trial.node(masters, faulty=0)
+    node.run()
+    yield from node.publishes_within(1)
+    yield from node.goes_on()
+    yield from node.hears(0, 1, 2)
+    if (status := node.status_or_none()) and status["truetime_answers_refused_total"] == 0:
+        yield "no answer was refused"
+    yield from node.ends()
+
+
+def exact(trial, wait_ms):
+    """With one source dead, a round lasts as long as `wait` says: the median of 20 is within 5 ms."""
+    masters = trial.fakes(trouble.honest, trouble.honest, trouble.silent)
+    node = trial.node(masters, wait=f"{wait_ms}ms", poll="1ms")
+    node.run()
+    end = time.monotonic() + 25 * wait_ms / 1000 * 3
+    while len(masters[2].came) < 22 and time.monotonic() < end:
+        time.sleep(0.01)
+    came = masters[2].came[1:22]
+    lengths = [1000 * (second - first) - 1 for first, second in zip(came, came[1:])]
+    if len(lengths) < 20:
+        yield f"{len(lengths)} rounds in {25 * wait_ms * 3 / 1000:.0f} seconds"
+        return
+    median = statistics.median(lengths)
+    trial.notes.append(f"a round lasts {median:.1f} ms")
+    if not abs(median - wait_ms) <= 5:
+        yield f"a round lasts {median:.1f} ms, and wait is {wait_ms}"
+
+
+@scenario(quiet=True)
+def wait_is_50_ms(trial):
+    yield from exact(trial, 50)
+
+
+@scenario(quiet=True)
+def wait_is_250_ms(trial):
+    yield from exact(trial, 250)
+
+
+@scenario(quiet=True)
+def all_have_answered(trial):
+    """Then a round ends at once, also where `wait` is long."""
+    masters = trial.fakes(*[trouble.honest] * 3)
+    node = trial.running_node(masters, wait="5s", poll="10ms")
+    before = len(masters[0].came)
+    time.sleep(1)
+    if (rounds := len(masters[0].came) - before) < 30:
+        yield f"{rounds} rounds in a second, with a pause of 10 ms"
+
+
+@scenario(quiet=True)
+def idle_cost(trial):
+    """The processor time of a machine with 16 masters, one of them dead, and of one with all alive: a poll a second, no client."""
+    masters = trial.masters(16)
+    dead = f"127.0.0.1:{free_port(socket.SOCK_DGRAM)}"
+    nodes = {"one is dead": trial.running_node([*masters[:15], dead], "A", poll="1s", wait=None, workers=None),
+             "all alive": trial.running_node(masters, "B", poll="1s", wait=None, workers=None)}
+    time.sleep(1)
+    before, seconds = {name: node.processor_ns() for name, node in nodes.items()}, 6
+    time.sleep(seconds)
+    costs = {name: (node.processor_ns() - before[name]) / seconds / 1e6 for name, node in nodes.items()}
+    trial.notes += [f"{cost:.2f} ms of processor time a second where {name}" for name, cost in costs.items()]
+    for name, cost in costs.items():
+        if cost > 1:
+            yield f"{cost:.2f} ms of processor time a second where {name}, and 1 is the most"
+
+
+# Masters.
+
+def poll_master(door, port, nonce):
+    """The seconds that an answer to an honest poll took, or nothing where none came in 0.2 seconds."""
+    began = time.monotonic()
+    door.sendto(trouble.REQUEST.pack(b"TTP2", 1, 0, 0, 0, nonce, 1), ("127.0.0.1", port))
+    while time.monotonic() < began + 0.2:
+        with contextlib.suppress(TimeoutError):
+            if door.recv(64)[8:16] == nonce.to_bytes(8, "big"):
+                return time.monotonic() - began
+    return None
+
+
+@scenario(root=True)
+def packets_from_port_0(trial):
+    """They cannot be answered, and cost nothing."""
+    master = trial.master(0)
+    port = int(master.address.split(":")[1])
+    with socket.socket(socket.AF_INET, socket.SOCK_DGRAM) as door:
+        door.settimeout(0.2)
+        while poll_master(door, port, 1) is None:
+            pass
+        request = trouble.REQUEST.pack(b"TTP2", 1, 0, 0, 0, 7, 1)
+        slow = []
+        for nonce in range(2, 12):
+            trouble.send_from_port_0(port, request, 3)
+            took = poll_master(door, port, nonce)
+            slow += [took] if took is None or took > 0.05 else []
+    if slow:
+        yield f"{len(slow)} of 10 polls behind a packet from port 0 were answered late or never"
+
+
+def flood_master(trial, size):
+    """Honest polls are answered while packets of this size come as fast as they go."""
+    master = trial.master(0)
+    port = int(master.address.split(":")[1])
+    with socket.socket(socket.AF_INET, socket.SOCK_DGRAM) as door:
+        door.settimeout(0.2)
+        while poll_master(door, port, 1) is None:
+            pass
+        with flooded(port, size, size):
+            time.sleep(0.2)
+            end, nonce, took = time.monotonic() + 2, 1, []
+            while time.monotonic() < end:
+                nonce += 1
+                took.append(poll_master(door, port, nonce))
+    answered = [one for one in took if one is not None]
+    trial.notes.append(f"{len(answered)} of {len(took)} polls answered, {1000 * statistics.median(answered or [0]):.2f} ms each")
+    if len(answered) < len(took) * 0.5 or len(answered) < 100:
+        yield f"{len(answered)} of {len(took)} polls are answered in 2 seconds"
+
+
+@scenario()
+def master_under_empty_packets(trial):
+    yield from flood_master(trial, 0)
+
+
+@scenario()
+def master_under_packets_of_64_bytes(trial):
+    yield from flood_master(trial, 64)

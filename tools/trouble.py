@@ -1,0 +1,465 @@
+"""What can go wrong round a machine of the time service: masters that lie, floods, networks, pipes and files; for the scenarios of
+tools/faults."""
+import contextlib
+import fcntl
+import multiprocessing
+import os
+import resource
+import shutil
+import socket
+import struct
+import subprocess
+import threading
+import time
+import typing
+
+from running import Fault, Machine, Service, free_port, truetime
+
+NOBODY = 65534
+POLL_S, WAIT_S = 0.1, 0.1
+SECOND = 1_000_000_000
+REQUEST, SPAN = struct.Struct(">4s4BQQ"), struct.Struct(">QQ")
+
+
+class Scenario(typing.NamedTuple):
+    """A call that gives what is wrong, one after the other, and what it wants: root, programs, much time, or that little else runs."""
+    call: typing.Callable
+    root: bool
+    programs: tuple
+    long: bool
+    quiet: bool
+
+    def left_out(self, has_time):
+        """Why it cannot run here, or nothing."""
+        if self.root and os.geteuid() != 0:
+            return "it wants root"
+        if missing := [program for program in self.programs if not shutil.which(program)]:
+            return f"it wants {' and '.join(missing)}"
+        return "it takes long" if self.long and not has_time else None
+
+
+SCENARIOS = {}
+
+
+def scenario(root=False, programs=(), long=False, quiet=False):
+    def register(call):
+        SCENARIOS[call.__name__] = Scenario(call, root, programs, long, quiet)
+        return call
+    return register
+
+
+class Trial(Service):
+    """The processes of one scenario, and what it measured."""
+
+    def __init__(self, program, room):
+        super().__init__(program, room)
+        self.notes = []
+
+    def keep(self, resource_of_it):
+        """Closes it with the scenario."""
+        return self.processes.enter_context(contextlib.closing(resource_of_it))
+
+    def masters(self, number):
+        return [self.master(source) for source in range(number)]
+
+    def fakes(self, *acts):
+        """Masters of this script, each with what it does with a poll."""
+        return [self.keep(Fake(act)) for act in acts]
+
+    def node(self, masters, name="A", **settings):
+        """A machine that is not started yet; masters are processes, fakes or addresses."""
+        settings = {"poll": f"{POLL_S * 1000:.0f}ms", "wait": f"{WAIT_S * 1000:.0f}ms", "workers": 4, **settings}
+        return self.keep(Node(self, name, 0, [getattr(master, "address", master) for master in masters], settings))
+
+    def running_node(self, masters, name="A", **settings):
+        """A machine that has published."""
+        node = self.node(masters, name, **settings)
+        node.run()
+        node.wait_until_ready()
+        return node
+
+    def command(self, *words, **how):
+        """Runs a command of the program: its status, and what it wrote to standard output and error. A status of None: it does not end."""
+        how = {"stdin": subprocess.DEVNULL, "timeout": 10, **how}
+        try:
+            ran = subprocess.run([self.program, *words], stdout=subprocess.PIPE, stderr=subprocess.PIPE, text=True, check=False, **how)
+            return ran.returncode, ran.stdout, ran.stderr
+        except subprocess.TimeoutExpired:
+            return None, "", ""
+
+
+class Node(Machine):
+    """A machine that a scenario starts in a way of its own."""
+
+    running = None
+
+    def start(self):
+        """It is started by `run`."""
+
+    def run(self, prefix=(), **how):
+        """Starts it behind these words, with these arguments of Popen."""
+        self.began = time.monotonic()
+        with open(self.log, "ab") as log:
+            how = {"stdin": subprocess.PIPE, "stdout": log, "stderr": log, **how}
+            self.running = subprocess.Popen([*prefix, self.program, *self.words], **how)
+
+    def kill(self):
+        if self.running:
+            self.running.kill()
+            self.running.wait()
+            if self.running.stdin:
+                self.running.stdin.close()
+
+    close = kill
+
+    def again(self):
+        self.kill()
+        self.run()
+        self.wait_until_ready()
+
+    # What it should do, whatever happens. Each gives what is wrong.
+
+    def number(self):
+        """The number of the last publication in the shared file."""
+        with self.client() as client:
+            return client.read().number
+
+    def goes_on(self, seconds=1.0):
+        """It publishes each round."""
+        try:
+            before, first = self.number(), self.status_or_none()
+            time.sleep(seconds)
+            made, last = self.number() - before, self.status_or_none()
+        except truetime.Refused as refused:
+            yield f"no publications: {refused}"
+            return
+        if made < seconds / (POLL_S + WAIT_S) / 2:
+            yield f"{made} publications in {seconds} seconds"
+        if first and last:
+            rounds, published = (last[f"truetime_{name}_total"] - first[f"truetime_{name}_total"] for name in ("rounds", "publications"))
+            if published < rounds - 1:
+                yield f"{published} publications in {rounds} rounds"
+
+    def publishes_within(self, seconds):
+        """It publishes soon after its start."""
+        while time.monotonic() < self.began + 10 and self.running.poll() is None:
+            with contextlib.suppress(truetime.Refused):
+                self.number()
+                took = time.monotonic() - self.began
+                if took > seconds:
+                    yield f"the first publication came after {took:.1f} seconds"
+                return
+            time.sleep(0.01)
+        yield f"nothing is published in 10 seconds: {self.end_of_log()[-200:]!r}"
+
+    def answers(self, address=None):
+        """A client has the time."""
+        try:
+            with truetime.Session(address or self.address, 2) as session:
+                session.now()
+        except (OSError, truetime.Refused) as fault:
+            yield f"no answer to a client: {fault or type(fault).__name__}"
+
+    def ends(self, seconds=1.0):
+        """It ends within a second of the end of its input."""
+        began = time.monotonic()
+        self.running.stdin.close()
+        try:
+            status = self.running.wait(seconds + 4)
+        except subprocess.TimeoutExpired:
+            yield f"no end {seconds + 4:.0f} seconds after its input"
+            return
+        if (took := time.monotonic() - began) > seconds:
+            yield f"the end took {took:.1f} seconds"
+        if status != 0:
+            yield f"it ended with status {status}"
+
+    def hears(self, *sources):
+        """The log calls none of these sources silent."""
+        silent = {int(fields["source"]) for fields in self.said("source_silent")}.intersection(sources)
+        if silent:
+            yield f"silent are {sorted(silent)}, which answer"
+
+    def serves(self):
+        """All of it, and then the end."""
+        yield from self.publishes_within(2)
+        yield from self.goes_on()
+        yield from self.answers()
+        yield from self.ends()
+
+    def status_or_none(self):
+        try:
+            return self.status() if os.path.isfile(self.path("status")) else None
+        except (OSError, ValueError):
+            return None
+
+    def comes_to(self, name, value, seconds):
+        """This number of the status comes to this value."""
+        end, seen = time.monotonic() + seconds, None
+        while time.monotonic() < end:
+            seen = (self.status_or_none() or {}).get(f"truetime_{name}")
+            if seen == value:
+                return
+            time.sleep(0.02)
+        yield f"{name} is {seen} after {seconds} seconds, and {value} is wanted"
+
+    def processor_ns(self):
+        """The processor time of all its threads."""
+        spent, tasks = 0, f"/proc/{self.running.pid}/task"
+        for task in os.listdir(tasks):
+            with open(f"{tasks}/{task}/schedstat", encoding="ascii") as file:
+                spent += int(file.read().split()[0])
+        return spent
+
+    def allow_no_more_descriptors(self):
+        number = len(os.listdir(f"/proc/{self.running.pid}/fd"))
+        resource.prlimit(self.running.pid, resource.RLIMIT_NOFILE, (number, number))
+
+
+# Masters.
+
+class Fake(threading.Thread):
+    """A master of this script: `act` says what it does with a poll. It keeps when polls came, and from where the last one."""
+
+    def __init__(self, act):
+        super().__init__(daemon=True)
+        self.door = socket.socket(socket.AF_INET, socket.SOCK_DGRAM)
+        self.door.bind(("127.0.0.1", free_port(socket.SOCK_DGRAM)))
+        self.address, self.act = "127.0.0.1:%d" % self.door.getsockname()[1], act
+        self.came, self.strange, self.machine, self.ended = [], [], None, False
+        self.start()
+
+    def close(self):
+        self.ended = True
+        with contextlib.suppress(OSError), socket.socket(socket.AF_INET, socket.SOCK_DGRAM) as door:
+            door.sendto(b"", self.door.getsockname())
+        self.join(2)
+        self.door.close()
+
+    def run(self):
+        while not self.ended:
+            packet, sender = self.door.recvfrom(2048)
+            if len(packet) != REQUEST.size or packet[:4] != b"TTP2":
+                self.strange.append(packet)
+                continue
+            self.came.append(time.monotonic())
+            self.machine = sender
+            self.act(self, packet)
+
+    def send(self, packet):
+        with contextlib.suppress(OSError):
+            self.door.sendto(packet, self.machine)
+
+    def answer(self, poll, nonce_ahead=0):
+        """The answer to a poll by this host's clock; ahead of its nonce where it is to be refused."""
+        nonce = int.from_bytes(poll[8:16], "big") + nonce_ahead
+        now = time.time_ns()
+        self.send(poll[:4] + b"\2" + poll[5:8] + nonce.to_bytes(8, "big") + poll[16:24] + SPAN.pack(now - 1_000_000, now + 1_000_000))
+
+
+def silent(*_):
+    """No answer."""
+
+
+def honest(fake, poll):
+    fake.answer(poll)
+
+
+def honest_10ms_away(fake, poll):
+    time.sleep(0.01)
+    fake.answer(poll)
+
+
+def junk(fake, _):
+    """60 packets, none of them an answer."""
+    for number in range(60):
+        fake.send(os.urandom(number % 3 * 20))
+
+
+def junk_then_answer(fake, poll):
+    junk(fake, poll)
+    fake.answer(poll)
+
+
+def forged_then_answer(fake, poll):
+    """An answer that is refused, and the true one 10 ms later."""
+    fake.answer(poll, 1)
+    time.sleep(0.01)
+    fake.answer(poll)
+
+
+def empty_packets(fake, _):
+    """From the first poll on 4,000 empty packets a second, and no answer."""
+    if len(fake.came) == 1:
+        threading.Thread(target=send_empty, args=(fake,), daemon=True).start()
+
+
+def send_empty(fake):
+    due = time.monotonic()
+    while not fake.ended:
+        for _ in range(8):
+            fake.send(b"")
+        due += 0.002
+        time.sleep(max(0, due - time.monotonic()))
+
+
+# Networks.
+
+class Network:
+    """A network namespace with a loopback of its own. No packet leaves it, and it goes with the process that holds it."""
+
+    def __init__(self):
+        self.holder = subprocess.Popen(["unshare", "--net", "sleep", "600"])
+        self.enter = ["nsenter", f"--net=/proc/{self.holder.pid}/ns/net"]
+        end, own = time.monotonic() + 2, os.readlink("/proc/self/ns/net")
+        while os.readlink(f"/proc/{self.holder.pid}/ns/net") == own and time.monotonic() < end:
+            time.sleep(0.01)
+        self.do("ip", "link", "set", "lo", "up")
+        # Rules come before the table of local addresses.
+        self.do("ip", "rule", "add", "pref", "100", "lookup", "local")
+        self.do("ip", "rule", "del", "pref", "0")
+
+    def close(self):
+        self.holder.kill()
+        self.holder.wait()
+
+    def do(self, *words):
+        ran = subprocess.run([*self.enter, *words], capture_output=True, text=True, check=False)
+        if ran.returncode != 0:
+            raise Fault(f"{' '.join(words)}: {ran.stderr.strip()}")
+
+    def refuse(self, master, kind):
+        """No packet to this master has a route: `unreachable` (ENETUNREACH), `prohibit` (EACCES) or `blackhole` (EINVAL)."""
+        self.do("ip", "rule", "add", "pref", "10", "ipproto", "udp", "dport", master.address.split(":")[1], kind)
+
+    def drop(self, master):
+        """A firewall drops each packet to this master (EPERM)."""
+        self.do("nft", "add table inet faults; add chain inet faults out { type filter hook output priority 0; }; "
+                f"add rule inet faults out udp dport {master.address.split(':')[1]} drop")
+
+
+def flood(port, size, pause_s, ended):
+    """Packets of so many bytes to a port, with a pause behind each 50 of them."""
+    with socket.socket(socket.AF_INET, socket.SOCK_DGRAM) as door:
+        door.connect(("127.0.0.1", port))
+        packet = bytes(size)
+        while not ended.is_set():
+            for _ in range(50):
+                with contextlib.suppress(OSError):
+                    door.send(packet)
+            if pause_s:
+                time.sleep(pause_s)
+
+
+@contextlib.contextmanager
+def flooded(port, *sizes, pause_s=0):
+    """While this lasts, a process for each of these sizes floods the port with packets of so many bytes."""
+    ended = multiprocessing.Event()
+    processes = [multiprocessing.Process(target=flood, args=(port, size, pause_s, ended)) for size in sizes]
+    for process in processes:
+        process.start()
+    try:
+        yield
+    finally:
+        ended.set()
+        for process in processes:
+            process.join()
+
+
+def send_from_port_0(port, packet, number):
+    """Sends a packet to a port of the loopback so many times, from UDP port 0."""
+    with socket.socket(socket.AF_INET, socket.SOCK_RAW, socket.IPPROTO_UDP) as door:
+        for _ in range(number):
+            door.sendto(struct.pack(">4H", 0, port, 8 + len(packet), 0) + packet, ("127.0.0.1", 0))
+
+
+class Answerer:
+    """A service for one client after the other, in this script: `act` has the connection and the first line."""
+
+    def __init__(self, act):
+        self.door = socket.create_server(("127.0.0.1", 0))
+        self.address = "127.0.0.1:%d" % self.door.getsockname()[1]
+        self.act = act
+        threading.Thread(target=self.run, daemon=True).start()
+
+    def run(self):
+        with contextlib.suppress(OSError):
+            while True:
+                one, _ = self.door.accept()
+                with one, one.makefile("rb") as lines, contextlib.suppress(OSError):
+                    for line in lines:
+                        self.act(one, line)
+
+    def close(self):
+        with contextlib.suppress(OSError):
+            self.door.shutdown(socket.SHUT_RDWR)
+        self.door.close()
+
+
+# Pipes and files.
+
+def full_pipe():
+    """The reading and the writing end of a pipe that takes no byte more."""
+    reading, writing = os.pipe()
+    os.set_blocking(writing, False)
+    with contextlib.suppress(BlockingIOError):
+        while True:
+            os.write(writing, bytes(512))
+    os.set_blocking(writing, True)
+    return reading, writing
+
+
+def write(path, content):
+    with open(path, "wb") as file:
+        file.write(content)
+
+
+def read(path):
+    with open(path, "rb") as file:
+        return file.read()
+
+
+@contextlib.contextmanager
+def as_nobody():
+    """As another user, where this one is root."""
+    os.setegid(NOBODY)
+    os.seteuid(NOBODY)
+    try:
+        yield
+    finally:
+        os.seteuid(0)
+        os.setegid(0)
+
+
+def hold_lock(path):
+    """Locks the file, for as long as the number is open that this gives; None where that cannot be."""
+    try:
+        number = os.open(path, os.O_RDONLY)
+    except OSError:
+        return None
+    try:
+        fcntl.flock(number, fcntl.LOCK_EX | fcntl.LOCK_NB)
+    except OSError:
+        os.close(number)
+        return None
+    return number
+
+
+def reset(door):
+    """Closes a connection so that the other side is told of a reset."""
+    door.setsockopt(socket.SOL_SOCKET, socket.SO_LINGER, struct.pack("ii", 1, 0))
+    door.close()
+
+
+@contextlib.contextmanager
+def full_listener(path):
+    """A listener at a Unix socket, which never accepts and whose backlog is full."""
+    with socket.socket(socket.AF_UNIX) as door, contextlib.ExitStack() as clients:
+        door.bind(path)
+        door.listen(0)
+        with contextlib.suppress(BlockingIOError):
+            while True:
+                client = clients.enter_context(socket.socket(socket.AF_UNIX))
+                client.setblocking(False)
+                client.connect(path)
+        yield
