@@ -1,11 +1,17 @@
 //! Certificates as values.
 
-ghost use Rattle.std.specs.Prelude.{◌≡◌, ◌≤◌, length};
+ghost use Rattle.std.specs.Prelude.{◌≡◌, ◌≤◌, [], length};
 ghost use Rattle.tt_span.specs.Sources.{max_sources};
+ghost use Rattle.tt_fuse.specs.Ends.{AreEndsOf};
+ghost use Rattle.tt_cert.specs.Canonical.{IsCanonical};
 
+use crate::certifying::name_least_sources;
 use crate::inline_lists::InlineList;
+use crate::sweeping::cut_stretches;
 use arrayvec::ArrayVec;
 use std::marker::Model;
+use tt_fuse::SortedEnds;
+use tt_span::{MAX_TIME, Span};
 
 /// A stretch of time from `from` to `to`, both in nanoseconds and both in it, and how many sources are said to meet it.
 /// The three numbers may be any: `check` judges them.
@@ -52,21 +58,34 @@ impl Certificate {
         }
     }
 
-    /// The certificate of these parts, as they are.
-    pub(crate) fn of(
-        left: InlineList<u8, 16>,
-        right: InlineList<u8, 16>,
-        below: InlineList<Stretch, 33>,
-        above: InlineList<Stretch, 33>,
-    ) -> Certificate
-        ensures { result ≡ record { left = left; right = right; below = below; above = above } }
+    /// A certificate with nothing in it.
+    pub(crate) fn empty() -> Certificate
+        ensures { result ≡ record { left = []; right = []; below = []; above = [] } }
     {
         Certificate {
-            left,
-            right,
-            below,
-            above,
+            left: InlineList::new(),
+            right: InlineList::new(),
+            below: InlineList::new(),
+            above: InlineList::new(),
         }
+    }
+
+    /// Makes this empty certificate the canonical one of the claim, by the ends of the spans. Each part is written
+    /// where it stays, since a certificate is large.
+    pub(crate) fn fill(&mut self, spans: &[Span], ends: &SortedEnds, faulty: usize, claim: &Span)
+        requires empty { self.old ≡ record { left = []; right = []; below = []; above = [] } }
+        requires few_faulty { faulty ≤ length spans.now }
+        requires few { length spans.now ≤ max_sources }
+        requires ends { AreEndsOf spans.now ends.now }
+        ensures { IsCanonical spans.now faulty claim.now self.new }
+    {
+        let need = spans.len() - faulty;
+        let lows = ends.lows();
+        let highs = ends.highs();
+        name_least_sources(&mut self.left, spans, need, claim.lo());
+        name_least_sources(&mut self.right, spans, need, claim.hi());
+        cut_stretches(&mut self.below, lows, highs, 0, claim.lo());
+        cut_stretches(&mut self.above, lows, highs, claim.hi() + 1, MAX_TIME + 1);
     }
 
     /// The numbers of the sources that are said to hold the lower end of the claim.

@@ -9,9 +9,8 @@ ghost use Rattle.tt_cert.specs.Canonical.{IsCanonical, sources_at};
 
 use crate::certificate::Certificate;
 use crate::inline_lists::InlineList;
-use crate::sweeping::cut_stretches;
 use tt_fuse::{SortedEnds, fusion_laws};
-use tt_span::{MAX_TIME, Span};
+use tt_span::Span;
 
 /// The canonical certificate of the fusion of the spans. It is valid. For each end of the claim it names the least
 /// numbers of sources that hold this end, ascending. Its stretches are cut where the span of a source begins and just
@@ -35,24 +34,19 @@ pub fn certify_by(spans: &[Span], ends: &SortedEnds, faulty: usize, claim: &Span
     ensures valid { IsCertificate spans.now faulty claim.now result }
 {
     fusion_laws();
-    let need = spans.len() - faulty;
-    let lows = ends.lows();
-    let highs = ends.highs();
-    // The parts are written where they stand, since each is large.
-    let mut left = InlineList::new();
-    let mut right = InlineList::new();
-    let mut below = InlineList::new();
-    let mut above = InlineList::new();
-    name_least_sources(&mut left, spans, need, claim.lo());
-    name_least_sources(&mut right, spans, need, claim.hi());
-    cut_stretches(&mut below, lows, highs, 0, claim.lo());
-    cut_stretches(&mut above, lows, highs, claim.hi() + 1, MAX_TIME + 1);
-    Certificate::of(left, right, below, above)
+    let mut certificate = Certificate::empty();
+    certificate.fill(spans, ends, faulty, claim);
+    certificate
 }
 
 /// Puts into `found` the `need` least numbers of the sources that hold `time`, ascending, or all of them if there are
 /// fewer.
-fn name_least_sources(found: &mut InlineList<u8, 16>, spans: &[Span], need: usize, time: u64)
+pub(crate) fn name_least_sources(
+    found: &mut InlineList<u8, 16>,
+    spans: &[Span],
+    need: usize,
+    time: u64,
+)
     requires empty { found.old ≡ [] }
     requires few { length spans.now ≤ max_sources }
     ensures { found.new ≡ take need (sources_at spans.now time) }

@@ -26,6 +26,7 @@
 //! - `counts`: how many sources can be fused.
 //! - `fusion`: `fuse`, why there may be no fusion, and laws of fusions.
 //! - `keys`: the scaled keys of a statement, and the ends that they have at a clock reading.
+//! - `network`: sorting a few ends.
 //! - `ordered`: keys in ascending order.
 //! - `scaled`: `Ends`, fusion over scaled keys.
 //! - `sorted`: the ends of spans in order.
@@ -37,6 +38,7 @@
 mod counts;
 mod fusion;
 mod keys;
+mod network;
 mod ordered;
 mod scaled;
 mod sorted;
