@@ -24,7 +24,11 @@ pub record AreEndsOfTable (table : TableState) (ends : Stated) : Type 0 where
   pub same_drift : ends.drift ≡ table.drift
   pub same_statements : (i : ℕ) → statement_of ends i ≡ (source_at table i).statement
 
--- the daemon of a machine before its first poll in the life with this epoch
+-- the daemon of a machine before its first poll in the life with this epoch, where that poll has this nonce, which is not 0
+abbrev pub resumed_daemon : ℕ → Configuration → ℕ → ℕ → DaemonState
+resumed_daemon machine config first epoch = record { config = config; table = new_table machine config.sources config.drift (first - 1) epoch }
+
+-- the daemon of a machine before its first poll in the life with this epoch, where that poll has the nonce 1
 abbrev pub new_daemon : ℕ → Configuration → ℕ → DaemonState
 new_daemon machine config epoch = record { config = config; table = new_table machine config.sources config.drift 0 epoch }
 

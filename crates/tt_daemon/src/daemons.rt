@@ -1,6 +1,6 @@
 //! The daemon of one machine.
 
-ghost use Rattle.std.specs.Prelude.{◌≡◌, ℕ, ◌-◌, ◌<◌, ◌≤◌, ◌↔◌, length, take, All, IsTrue, not, is_some, Some, None, Ok, Err, IsOk, IfOk, IfErr, OnOk, OnErr, IsErrOf, MatchResult};
+ghost use Rattle.std.specs.Prelude.{◌≡◌, ℕ, ◌+◌, ◌-◌, ◌<◌, ◌≤◌, ◌↔◌, length, take, All, IsTrue, not, is_some, Some, None, Ok, Err, IsOk, IfOk, IfErr, OnOk, OnErr, IsErrOf, MatchResult};
 ghost use Rattle.tt_span.specs.Interval.{Interval, IsInterval};
 ghost use Rattle.tt_span.specs.Sources.{max_sources};
 ghost use Rattle.tt_poll.specs.Message.{max_machine};
@@ -12,7 +12,7 @@ ghost use Rattle.tt_fuse.specs.Depth.{slow_fusion};
 ghost use Rattle.tt_fuse.specs.Stated.{IsStated, statement_of, with_statement};
 ghost use Rattle.tt_span.specs.Statement.{IsStatement};
 ghost use Rattle.tt_daemon.specs.Publication.{IsPublication};
-ghost use Rattle.tt_daemon.specs.Daemon.{IsDaemon, new_daemon, IsBack, IsForward, KnowsEnough, spans_of};
+ghost use Rattle.tt_daemon.specs.Daemon.{IsDaemon, new_daemon, resumed_daemon, IsBack, IsForward, KnowsEnough, spans_of};
 
 use crate::configs::Config;
 use crate::faults::DaemonFault;
@@ -51,14 +51,27 @@ impl Model for Daemon {
 
 impl Daemon {
     /// The daemon of machine `machine`, from 0 to 7, with this configuration. The machine is in the life `epoch`, which
-    /// is not 0. Nothing is known of its sources yet.
+    /// is not 0. Nothing is known of its sources yet. The first poll has the nonce 1.
     pub fn new(machine: u8, config: &Config, epoch: u64) -> Daemon
         requires machine_in { machine ≤ max_machine }
         requires some_epoch { 0 < epoch }
         ensures value { result ≡ new_daemon machine config.now epoch }
         ensures valid { IsDaemon result }
     {
-        let table = Table::new(machine, config.sources(), config.drift(), epoch);
+        Daemon::resume(machine, config, 1, epoch)
+    }
+
+    /// As [`Daemon::new`], but the first poll has the nonce `first`, which is not 0. Each further poll has the nonce
+    /// after the last one. So 2^64 - `first` polls can be made, and the next one is refused with 403 `NoncesUsedUp`.
+    pub fn resume(machine: u8, config: &Config, first: u64, epoch: u64) -> Daemon
+        requires machine_in { machine ≤ max_machine }
+        requires some_nonce { 0 < first }
+        requires some_epoch { 0 < epoch }
+        ensures value { result ≡ resumed_daemon machine config.now first epoch }
+        ensures first { result.table.last + 1 ≡ first }
+        ensures valid { IsDaemon result }
+    {
+        let table = Table::resume(machine, config.sources(), config.drift(), first - 1, epoch);
         prove!(table.sources() > 0);
         Daemon {
             config: *config,
@@ -67,7 +80,7 @@ impl Daemon {
         }
     }
 
-    /// The configuration that `new` was given. No call changes it.
+    /// The configuration that the daemon was made with. No call changes it.
     pub fn config(&self) -> &Config
         ensures value { result.now ≡ self.now.config }
         ensures valid { IsDaemon self.now }
@@ -75,7 +88,7 @@ impl Daemon {
         &self.config
     }
 
-    /// The last nonce that was used, 0 before the first poll.
+    /// The last nonce that was used. Before the first poll it is the number before the first nonce: 0 for a new daemon.
     pub fn last(&self) -> u64
         ensures value { result ≡ self.now.table.last }
         ensures valid { IsDaemon self.now }
