@@ -1,12 +1,12 @@
--- The two steps on the history keep its rule: one begins a chain, one adds a publication by the pen for it.
-use Rattle.std.proofs.Common.{◌≡◌, ◌≢◌, ◌⊎◌, ℕ, zero, suc, ◌<◌, ◌==◌, Bool, true, false, List, [], ◌∷◌, ◌++◌, length, refl, ap, sym, ◌∙◌, subst, arith, inl, inr, ⊎_elim, Option, None, Some, set, length-set, length-append}
-use Rattle.std.proofs.lemmas.List.{append-nil, append_assoc, get_or-set_same, get_or_past}
+-- The four steps on the history keep its rule: one begins a chain, one adds a publication by the pen for it, one raises the number of what is shown, one looks at it.
+use Rattle.std.proofs.Common.{◌≡◌, ◌≢◌, ◌⊎◌, ℕ, zero, suc, ◌+◌, ◌<◌, ◌≤◌, ◌==◌, Bool, true, false, List, [], ◌∷◌, ◌++◌, length, refl, ap, sym, ◌∙◌, subst, arith, inl, inr, ⊎_elim, Option, None, Some, set, length-set, length-append}
+use Rattle.std.proofs.lemmas.List.{append-nil, append_assoc, get_or-set_same, get_or-set_other, get_or_past, set-get_or}
 use Rattle.std.proofs.lemmas.Bool.Decides.{nat_tests}
 use mathlib.Core.List.{IsPrefix}
 use prog.Atomic.{either}
-use Rattle.logbook.specs.Pages.{Cell, cell, Nib, adds, gives, may_write, no_nib, step, Moves}
+use Rattle.logbook.specs.Pages.{Cell, cell, Nib, adds, gives, keeps, may_write, no_nib, step, Moves, Goes}
 use Rattle.tt_daemon.specs.Publication.{Publication}
-use Rattle.tt_publish.specs.History.{item_before, items_of, key_behind, key_after, pen_of, chain_from, IsUsed, UsesPens, IsKept, BeginsChain, Adds}
+use Rattle.tt_publish.specs.History.{item_before, items_of, key_behind, key_after, pen_of, chain_from, shown_of, IsUsed, UsesPens, HasNumber, IsKept, BeginsChain, Adds, FindsNumber, RaisesNumber}
 use Rattle.tt_publish.specs.declared.entries.Entry.{Entry}
 
 abbrev pub shown : List Entry → List Entry
@@ -43,6 +43,33 @@ item_none false = refl
 key_none : (b : Bool) (next key : ℕ) → key_behind b None next key ≡ key
 key_none true next key = refl
 key_none false next key = refl
+
+shown_of-append : (xs ys : List Entry) → shown_of (xs ++ ys) ≡ shown_of xs + shown_of ys
+shown_of-append [] ys = omega arith
+shown_of-append (e ∷ es) ys = omega (arith, shown_of-append es ys)
+
+-- in a longer history no fewer publications are shown
+pub shown_more : (xs ys : List Entry) → IsPrefix xs ys → shown_of xs ≤ shown_of ys
+shown_more xs ys p = let all : shown_of xs + shown_of p.0 ≡ shown_of ys = sym (shown_of-append xs p.0) ∙ ap shown_of p.1 in omega (arith, all)
+
+-- an entry that shows so many publications more
+shown_next : (xs : List Entry) (e : Entry) (n : ℕ) → e.shown ≡ n → shown_of (xs ++ e ∷ []) ≡ shown_of xs + n
+shown_next xs e n is = omega (arith, shown_of-append xs (e ∷ []), is)
+
+-- the second word is as it was where another is written, or a cell is added
+second_set : (cs : List Cell) (k : ℕ) (x : Cell) → 1 ≢ k → cell (set cs k x) 1 ≡ cell cs 1
+second_set cs k x apart = get_or-set_other cs k 1 x (0, false) apart
+
+second_more : (cs : List Cell) (x : Cell) → 1 < length cs → cell (cs ++ x ∷ []) 1 ≡ cell cs 1
+second_more [] x wide = absurd (omega arith)
+second_more (c ∷ []) x wide = absurd (omega arith)
+second_more (c ∷ d ∷ cs) x wide = refl
+
+abbrev at_home : ℕ → Cell
+at_home n = (n, true)
+
+number_more : (m n : ℕ) → m ≡ n + 0 → at_home m ≡ at_home n
+number_more m n same = ap at_home (omega (arith, same))
 
 used_set : (cs : List Cell) (k n j : ℕ) → IsUsed cs j → IsUsed (set cs k (n, true)) j
 used_set [] k n j h = h
@@ -100,21 +127,24 @@ module _ (cells : List Cell) (c k : ℕ) (away : (cell cells k).1 ≡ false) (hi
 pub begins_moves : (v : List Entry) (ask : Entry) → Moves IsKept shown moved 0 (v, (no_nib, None)) (λ n. either (n == 0) 0 n) (BeginsChain (step 0 0 0 ask) (v, (no_nib, None)))
 begins_moves v ask cells history kept pre away =
     let k : ℕ = length cells in
-    let e : Entry = record { chain = k; next = k; item = None } in
+    let e : Entry = record { chain = k; next = k; item = None; shown = 0 } in
     let past : (cell cells k).1 ≡ false = ap (λ (x : Cell). x.1) (get_or_past cells k (0, false) (omega arith)) in
     let n : ℕ = either ((cell cells 0).0 == 0) 0 (cell cells 0).0 in
     let more : List Cell = set cells 0 (n, true) ++ (0, false) ∷ [] in
     let keep : (j : ℕ) → IsUsed cells j → IsUsed more j = λ j h. used_more (set cells 0 (n, true)) (0, false) j (used_set cells 0 n j h) in
     let none = untouched cells k k past history kept.2 [] history refl refl in
-    let wide : 0 < length more = omega (arith, kept.0, length-append (set cells 0 (n, true)) ((0, false) ∷ []), length-set cells 0 (n, true)) in (
-      kept.0,
+    let room : 1 < length (set cells 0 (n, true)) = omega (arith, kept.0, length-set cells 0 (n, true)) in
+    let wide : 1 < length more = omega (arith, room, length-append (set cells 0 (n, true)) ((0, false) ∷ [])) in
+    let number : HasNumber more (history ++ e ∷ []) =
+    second_more (set cells 0 (n, true)) (0, false) room ∙ (second_set cells 0 (n, true) (λ (p : 1 ≡ 0). omega (arith, p)) ∙ (kept.3 ∙ sym (number_more _ _ (shown_next history e 0 refl)))) in (
+      omega (arith, kept.0),
       kept.1,
       (
         adds,
         e ∷ [],
         None,
         tt,
-        (wide, keep 0 kept.1, uses_more cells more history e keep (λ item is. absurd (cc is)) kept.2),
+        (wide, keep 0 kept.1, uses_more cells more history e keep (λ item is. absurd (cc is)) kept.2, number),
         inl (refl, refl),
         (
           refl,
@@ -134,9 +164,9 @@ own_key : (b : Bool) → b ≡ true → (has : Option Publication) (item : Publi
 own_key b same has item is next key = rw (same, is) refl
 
 -- whatever the history is, who has the pen knows its chain, and the publication comes next in it
-pub adds_moves : (v : List Entry) (ask : Entry) (p : Nib) (item : Publication) → ask.item ≡ Some item → p.right ≡ may_write → p.key ≡ pen_of ask.chain v
+pub adds_moves : (v : List Entry) (ask : Entry) (p : Nib) (item : Publication) → ask.item ≡ Some item → ask.shown ≡ 0 → p.right ≡ may_write → p.key ≡ pen_of ask.chain v
     → Moves IsKept shown moved 0 (v, (p, None)) (λ n. either (n == 0) 0 n) (Adds (step 0 0 0 ask) (v, (p, None)))
-adds_moves v ask p item asks right key cells history kept pre away =
+adds_moves v ask p item asks none right key cells history kept pre away =
     let c : ℕ = ask.chain in
     let n : ℕ = either ((cell cells 0).0 == 0) 0 (cell cells 0).0 in
     let turned : List Cell = set cells 0 (n, true) in
@@ -146,16 +176,19 @@ adds_moves v ask p item asks right key cells history kept pre away =
     let keep : (j : ℕ) → IsUsed cells j → IsUsed made j = λ j h. used_set turned p.key p.value j (used_set cells 0 n j h) in
     let inside : p.key < length turned = omega (arith, out.0, length-set cells 0 (n, true)) in
     let own : IsUsed made (pen_of c history) = subst (λ (j : ℕ). IsUsed made j) (sym exact.1) (ap (λ (x : Cell). x.1) (get_or-set_same turned p.key (p.value, true) (0, false) inside)) in
-    let wide : 0 < length made = omega (arith, kept.0, length-set turned p.key (p.value, true), length-set cells 0 (n, true)) in
+    let wide : 1 < length made = omega (arith, kept.0, length-set turned p.key (p.value, true), length-set cells 0 (n, true)) in
+    let apart : 1 ≢ p.key = λ (same : 1 ≡ p.key). absurd (cc (subst (λ (j : ℕ). (cell cells j).1 ≡ true) same (ap (λ (x : Cell). x.1) kept.3), out.1)) in
+    let number : HasNumber made (history ++ ask ∷ []) =
+    second_set turned p.key (p.value, true) apart ∙ (second_set cells 0 (n, true) (λ (p : 1 ≡ 0). omega (arith, p)) ∙ (kept.3 ∙ sym (number_more _ _ (shown_next history ask 0 none)))) in
     let same : (c == c) ≡ true = grind (arith, nat_tests) in (
-      kept.0,
+      omega (arith, kept.0),
       kept.1,
       (
         gives,
         ask ∷ [],
         None,
         right,
-        (wide, keep 0 kept.1, uses_more cells made history ask keep (λ i is. own) kept.2),
+        (wide, keep 0 kept.1, uses_more cells made history ask keep (λ i is. own) kept.2, number),
         inl (refl, refl),
         λ i is. (
           items_of-append c history (ask ∷ [])
@@ -165,6 +198,79 @@ adds_moves v ask p item asks right key cells history kept pre away =
       ),
     )
 
+-- whatever the history is, a look at the number finds how many publications it says are shown
+pub finds_moves : (v : List Entry) (ask : Entry) → Moves IsKept shown moved 1 (v, (no_nib, None)) (λ n. n) (FindsNumber (step 1 0 0 ask) (v, (no_nib, None)))
+finds_moves v ask cells history kept pre away =
+    let is : (cell cells 1).0 ≡ shown_of history = ap (λ (x : Cell). x.0) kept.3 in
+    let home : (cell cells 1).1 ≡ true = ap (λ (x : Cell). x.1) kept.3 in
+    let all : history ++ [] ≡ history = append-nil history in
+    let found : cell cells 1 ≡ ((cell cells 1).0, true) = kept.3 ∙ ap at_home (sym is) in
+    let same : set cells 1 ((cell cells 1).0, true) ≡ cells = ap (set cells 1) (sym found) ∙ set-get_or cells 1 (0, false) in
+    let more : IsKept cells (history ++ []) = subst (λ (h : List Entry). IsKept cells h) (sym all) kept in (
+      kept.0,
+      home,
+      (
+        keeps,
+        [],
+        None,
+        tt,
+        subst (λ (cs : List Cell). IsKept cs (history ++ [])) (sym same) more,
+        inl (refl, refl),
+        is ∙ ap shown_of (sym all),
+      ),
+    )
+
+-- the step that raises the number from `old`, whether it finds `old` or more
+raises_goes : (v : List Entry) (ask : Entry) (old : ℕ) (cells : List Cell) (history : List Entry) → old ≤ shown_of v → ask.item ≡ None → ask.shown ≡ 1 → IsKept cells history → IsPrefix v history
+    → (b : Bool) → ((cell cells 1).0 == old) ≡ b
+    → Goes IsKept shown moved 1 (v, (no_nib, None)) (λ n. either (n == old) (old + 1) n) (RaisesNumber (step 1 old (old + 1) ask) (v, (no_nib, None))) cells history
+raises_goes v ask old cells history known none one kept pre true is =
+    let here : (cell cells 1).0 ≡ old = grind (arith, nat_tests) in
+    let was : (cell cells 1).0 ≡ shown_of history = ap (λ (x : Cell). x.0) kept.3 in
+    let next = shown_next history ask 1 one in
+    let all : old + 1 ≡ shown_of (history ++ ask ∷ []) = omega (arith, here, was, next) in
+    let n : ℕ = either ((cell cells 1).0 == old) (old + 1) (cell cells 1).0 in
+    let is_next : n ≡ shown_of (history ++ ask ∷ []) = rw is all in
+    let keep : (j : ℕ) → IsUsed cells j → IsUsed (set cells 1 (n, true)) j = λ j h. used_set cells 1 n j h in
+    let wide : 1 < length (set cells 1 (n, true)) = omega (arith, kept.0, length-set cells 1 (n, true)) in
+    let number : HasNumber (set cells 1 (n, true)) (history ++ ask ∷ []) = get_or-set_same cells 1 (n, true) (0, false) kept.0 ∙ ap at_home is_next in (
+      keeps,
+      ask ∷ [],
+      None,
+      tt,
+      (wide, keep 0 kept.1, uses_more cells (set cells 1 (n, true)) history ask keep (λ item has. absurd (cc (none, has))) kept.2, number),
+      inl (refl, refl),
+      omega (arith, all),
+    )
+raises_goes v ask old cells history known none one kept pre false is =
+    let there : (cell cells 1).0 ≢ old = grind (arith, nat_tests) in
+    let was : (cell cells 1).0 ≡ shown_of history = ap (λ (x : Cell). x.0) kept.3 in
+    let seen = shown_more v history pre in
+    let all : history ++ [] ≡ history = append-nil history in
+    let n : ℕ = either ((cell cells 1).0 == old) (old + 1) (cell cells 1).0 in
+    let stays : n ≡ (cell cells 1).0 = rw is refl in
+    let found : cell cells 1 ≡ (n, true) = kept.3 ∙ ap at_home (sym (stays ∙ was)) in
+    let same : set cells 1 (n, true) ≡ cells = ap (set cells 1) (sym found) ∙ set-get_or cells 1 (0, false) in
+    let more : IsKept cells (history ++ []) = subst (λ (h : List Entry). IsKept cells h) (sym all) kept in
+    let enough : old + 1 ≤ shown_of history = grind (arith, there, was, seen, known) in (
+      keeps,
+      [],
+      None,
+      tt,
+      subst (λ (cs : List Cell). IsKept cs (history ++ [])) (sym same) more,
+      inl (refl, refl),
+      subst (λ (h : List Entry). old + 1 ≤ shown_of h) (sym all) enough,
+    )
+
+-- whatever the history is, where it was seen that `old` publications or more are shown, the step makes it more than `old`
+pub raises_moves : (v : List Entry) (ask : Entry) (old : ℕ) → old ≤ shown_of v → ask.item ≡ None → ask.shown ≡ 1
+    → Moves IsKept shown moved 1 (v, (no_nib, None)) (λ n. either (n == old) (old + 1) n) (RaisesNumber (step 1 old (old + 1) ask) (v, (no_nib, None)))
+raises_moves v ask old known none one cells history kept pre away = (
+  kept.0,
+  ap (λ (x : Cell). x.1) kept.3,
+  raises_goes v ask old cells history known none one kept pre ((cell cells 1).0 == old) refl,
+)
+
 -- at the beginning nothing was added
 pub kept_first : IsKept ((0, true) ∷ (0, true) ∷ []) []
-kept_first = (omega arith, refl, λ before after e item is has. absurd (not_empty before e after is))
+kept_first = (omega arith, refl, (λ before after e item is has. absurd (not_empty before e after is)), refl)

@@ -3,7 +3,8 @@
 //! A [`Reading`] is an interval that holds the true time, as Spanner's `TT.now()` gives it (OSDI 2012, section 3). A
 //! daemon publishes its fusions through a [`Teller`]. Many threads read the last publication, each through a [`Watch`]
 //! of its own, and age it by their clock. There is no lock: a teller shows a fusion in one atomic step, and a watch
-//! takes what is shown in one atomic step.
+//! takes what is shown in one atomic step. Before that the watch looks at the number of the last publication, and if it
+//! has seen that one, it takes nothing.
 //!
 //! ```text
 //! let fused = Fused::make(2_000, &[Span::new(1_003, 1_020)?], 0)?;
@@ -24,7 +25,7 @@
 //! - `readings`: `Reading`, and how a fusion is read at a clock reading (`FusedSpan`, `ReadAt`).
 //! - `entries`: the entries of the history. `publications`: what is known of the publications, in the history that all
 //!   threads share.
-//! - `shows`: how the publications are shown to many watches.
+//! - `numbers`: how many publications are shown. `shows`: how the publications are shown to many watches.
 //! - `teller`: `open`, `Teller` and `Told`. `watch`: `Watch`.
 //!
 //! The calls that only read, `tell`, `learn`, `seen`, `is_within` and `now`, never wait and never allocate.
@@ -34,6 +35,7 @@ mod clocks;
 mod entries;
 mod faults;
 mod memory;
+mod numbers;
 mod publications;
 mod readings;
 mod shows;

@@ -7,15 +7,17 @@
 //! Pens exist in the proofs alone. In contracts a `source` is a chain of the history: the publications of one teller.
 //! There is one pen for the next publication of a source, and the teller has it.
 
-ghost use Rattle.std.specs.Prelude.{◌≡◌, ◌-◌, ◌<◌, ◌^◌, ◌++◌, ◌∷◌, [], ◌↔◌, length, IsTrue};
+ghost use Rattle.std.specs.Prelude.{◌≡◌, ◌-◌, ◌<◌, ◌^◌, ◌++◌, ◌∷◌, [], ◌↔◌, length, IfOk, IsTrue};
 ghost use mathlib.Core.List.{IsPrefix};
 ghost use Rattle.logbook.specs.Pages.{may_write};
 ghost use Rattle.tt_publish.specs.Known.{last_read_of, GoesBack, IsLonger};
 ghost use Rattle.tt_publish.specs.History.{Begins, word_of};
 
 use crate::entries::Entry;
+use crate::numbers::ShownNumber;
 use crate::readings::FusedSpan;
 use logbook::{Gain, Offer, Pen, Plain, Play, Rule, Seen, Start, Word};
+use std::alloc::{AllocError, Global};
 use std::marker::{Model, PhantomData};
 use tt_daemon::Fused;
 
@@ -61,7 +63,7 @@ impl Play<Entry, u64> for Begin {
 impl Plain<u64, Entry, u64> for Begin {
     ghost use Rattle.std.specs.Prelude.{None};
 
-    ghost ask = { λ key. record { chain = key; next = key; item = None } };
+    ghost ask = { λ key. record { chain = key; next = key; item = None; shown = 0 } };
 
     ghost state = { λ key. None };
 }
@@ -87,7 +89,7 @@ impl<'a> Plain<Asked<'a>, Entry, u64> for Add {
     ghost use Rattle.std.specs.Prelude.{Some, None};
     ghost use Rattle.tt_publish.specs.History.{chain_of};
 
-    ghost ask = { λ asked. record { chain = chain_of asked.first.now.log; next = asked.next.now.nib.key; item = Some asked.item.now } };
+    ghost ask = { λ asked. record { chain = chain_of asked.first.now.log; next = asked.next.now.nib.key; item = Some asked.item.now; shown = 0 } };
 
     ghost state = { λ asked. None };
 }
@@ -184,13 +186,16 @@ impl Model for Latest {
 }
 
 impl Latest {
-    /// A new source, which has no publication: its history, and what is known of it.
-    pub fn open() -> (History, Latest)
-        ensures history { result.0 ≡ result.1 }
-        ensures none { result.1.items ≡ [] }
+    /// A new source, which has no publication: its history, what is known of it, and the number of its publications that
+    /// are shown.
+    pub fn open(alloc: Global) -> Result<(History, Latest, ShownNumber), AllocError>
+        ensures history { IfOk result (λ opened. opened.0 ≡ opened.1) }
+        ensures none { IfOk result (λ opened. opened.1.items ≡ []) }
+        ensures number { IfOk result (λ opened. opened.2.book ≡ opened.1.source.book) }
     {
-        let (mut seen, mut head, _second) = Seen::open(Start::alone(), 0, 0);
+        let (mut seen, mut head, mut second) = Seen::open(Start::alone(), 0, 0);
         let word = Word::tracked(0, &mut head);
+        let number = ShownNumber::over(alloc, Word::tracked(0, &mut second), seen.again())?;
         let pen = new_pen(&word, &mut seen);
         let first = seen.again();
         let latest = Latest {
@@ -205,7 +210,7 @@ impl Latest {
             first,
             seen,
         };
-        (history, latest)
+        Ok((history, latest, number))
     }
 
     /// What is read of the last publication.

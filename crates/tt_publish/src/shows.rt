@@ -12,6 +12,7 @@ use left_right::Absorb;
 use left_right::reader::Reader;
 use left_right::writer::Writer;
 use std::alloc::{AllocError, Global};
+use std::marker::PhantomData;
 use std::sync::Wait;
 
 impl Absorb<Latest> for Latest {
@@ -143,18 +144,26 @@ pub fn reader_of(writer: &mut LatestWriter) -> Option<LatestReader>
     Some(reader)
 }
 
+/// A sign that a watch looked at what is shown. Only [`look`] makes it.
+#[derive(Drop)]
+pub struct Looked {
+    marker: PhantomData<()>,
+}
+
 /// Looks at what is shown, and learns it if it is more than `latest` knows. If the writer is gone, nothing is learned.
-pub fn look(reader: LatestReader, latest: &mut Latest) -> LatestReader
+pub fn look(reader: LatestReader, latest: &mut Latest) -> (LatestReader, Looked)
     requires { source_of (view reader.place) ≡ Some latest.old.source }
-    ensures place { source_of (view result.place) ≡ Some latest.old.source }
+    ensures place { source_of (view result.0.place) ≡ Some latest.old.source }
     ensures source { latest.new.source ≡ latest.old.source }
     ensures seen { IsPrefix latest.old.items latest.new.items }
 {
-    match reader.enter_as::<See>() {
+    let reader = match reader.enter_as::<See>() {
         Ok(reading) => {
             latest.learn(reading.get());
             reading.leave()
         }
         Err(reader) => reader,
-    }
+    };
+    let marker = PhantomData;
+    (reader, Looked { marker })
 }

@@ -1,10 +1,11 @@
 //! The teller, which publishes, and what it tells.
 
-ghost use Rattle.std.specs.Prelude.{◌≡◌, ◌<◌, ◌↔◌, ◌⊎◌, ◌++◌, ◌∷◌, [], length, vec_len, All, IfOk, IfSome, OnOk, OnErr, IsErrOf, IsTrue};
+ghost use Rattle.std.specs.Prelude.{◌≡◌, ◌<◌, ◌↔◌, ◌⊎◌, ◌++◌, ◌∷◌, [], length, vec_len, All, IfOk, OnOk, OnErr, IsErrOf, IsTrue};
 ghost use mathlib.Core.List.{IsPrefix};
 ghost use Rattle.tt_publish.specs.Known.{GoesBack, max_watches};
 
 use crate::faults::PublishFault;
+use crate::numbers::ShownNumber;
 use crate::publications::{History, Latest};
 use crate::shows::{LatestWriter, reader_of, show, writer_of};
 use crate::watch::Watch;
@@ -18,19 +19,21 @@ use tt_span::Drift;
 pub const MAX_WATCHES: usize = 32;
 
 /// Publishes the fusions of a machine. In contracts it is its `source`, which says whose publications these are, and
-/// the list of what it has published, oldest first. Its invariant says that its watches are shown this list.
+/// the list of what it has published, oldest first. Its invariant says that its watches are shown this list, and that
+/// the number at which they look first counts all of it.
 ///
 /// It has no `Drop`: end it by [`close`](Teller::close).
 pub struct Teller {
     /// None once an allocation failed. Then the history has a publication that no watch is shown.
     history: Option<History>,
     latest: Latest,
+    number: ShownNumber,
     /// Present between calls.
     writer: Option<LatestWriter>,
 }
 
 impl Model for Teller {
-    ghost use Rattle.std.specs.Prelude.{◌≡◌, [], Some, MatchOption, drop};
+    ghost use Rattle.std.specs.Prelude.{◌≡◌, ◌≤◌, [], Some, MatchOption, drop, length};
     ghost use Rattle.left_right.specs.Sides.{view as seen_at};
     ghost use Rattle.tt_publish.specs.Known.{Known};
     ghost use Rattle.tt_publish.specs.Shown.{source_of};
@@ -43,7 +46,9 @@ impl Model for Teller {
         × MatchOption t.writer ⊥ (λ writer.
         (writer.desk.shown.value ≡ t.latest)
         × (drop writer.behind writer.log.items ≡ [])
-        × (source_of (seen_at writer.desk.place) ≡ Some t.latest.source)) };
+        × (source_of (seen_at writer.desk.place) ≡ Some t.latest.source))
+        × (t.number.book ≡ t.latest.source.book)
+        × (length t.latest.items ≤ t.number.number) };
 }
 
 /// The first publications of a teller: those that it had published when it was asked, or those that a watch has seen.
@@ -80,13 +85,16 @@ pub fn open<R: Wait>(
     if readers == 0 || readers > MAX_WATCHES {
         return Err(PublishFault::Places);
     }
-    let (history, latest) = Latest::open();
+    let Ok((history, latest, number)) = Latest::open(alloc) else {
+        return Err(PublishFault::Memory);
+    };
     let Ok(writer) = writer_of(rt, alloc, &latest, readers) else {
         return Err(PublishFault::Memory);
     };
     let mut teller = Teller {
         history: Some(history),
         latest,
+        number,
         writer: Some(writer),
     };
     match teller.watches(alloc, drift, readers) {
@@ -139,6 +147,8 @@ impl Teller {
             return Err(PublishFault::Memory);
         }
         self.history = Some(history);
+        // Only now: a watch enters as soon as it finds a number that it does not know.
+        self.number.raise(self.latest.number());
         self.latest = next;
         Ok(())
     }
@@ -157,6 +167,7 @@ impl Teller {
         let Teller {
             history: _history,
             latest: _latest,
+            number: _number,
             writer,
         } = self;
         writer.unwrap().take(rt);
@@ -178,21 +189,25 @@ impl Teller {
             return Err(PublishFault::Memory);
         };
         for _ in 0..readers {
-            let Some(watch) = self.watch(drift) else {
-                return Err(PublishFault::Places);
-            };
+            let watch = self.watch(drift)?;
             watches.push_reserved(watch);
         }
         Ok(watches)
     }
 
     /// A watch that has seen what this teller has published.
-    fn watch(&mut self, drift: Drift) -> Option<Watch>
+    fn watch(&mut self, drift: Drift) -> Result<Watch, PublishFault>
         ensures same { self.new ≡ self.old }
-        ensures watch { IfSome result (λ watch. watch ≡ record { source = self.old.source; drift = drift; items = self.old.items }) }
+        ensures faults { (¬ IsErrOf result PublishFault.ClockBack) × (¬ IsErrOf result PublishFault.UsedUp) }
+        ensures watch { IfOk result (λ watch. watch ≡ record { source = self.old.source; drift = drift; items = self.old.items }) }
     {
-        let reader = reader_of(self.writer.as_mut().unwrap())?;
-        Some(Watch::over(reader, self.latest.copied(), drift))
+        let Some(reader) = reader_of(self.writer.as_mut().unwrap()) else {
+            return Err(PublishFault::Places);
+        };
+        let Ok(number) = self.number.again() else {
+            return Err(PublishFault::Memory);
+        };
+        Ok(Watch::over(reader, number, self.latest.copied(), drift))
     }
 }
 

@@ -10,12 +10,13 @@ compare_exchange-requires c =
     let book = sym (ap (λ w. w.book) kept.0) in
     let v = c.self.inside.seen.log in
     let asks : c.plain-offer.result.ask.item ≡ Some c.args.item.now = ap (λ e. e.item) offer.1 in
+    let none : c.plain-offer.result.ask.shown ≡ 0 = ap (λ e. e.shown) offer.1 in
     let key : c.self.inside.pen.nib.key ≡ pen_of c.plain-offer.result.ask.chain v = kept.3 ∙ ap (λ e. pen_of e.chain v) (sym offer.1) in (
       ap (λ w. w.tracked) kept.0,
       book,
       kept.1 ∙ book,
       offer.0,
-      rw (ap (λ w. w.key) kept.0, offer.3) (adds_moves v c.plain-offer.result.ask c.self.inside.pen.nib c.args.item.now asks kept.2 key),
+      rw (ap (λ w. w.key) kept.0, offer.3) (adds_moves v c.plain-offer.result.ask c.self.inside.pen.nib c.args.item.now asks none kept.2 key),
     )
 
 pub invariant_of-result : goal.invariant_of-result
