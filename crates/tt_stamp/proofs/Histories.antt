@@ -1,5 +1,5 @@
 -- What is true of the histories of books.
-use Rattle.std.proofs.Common.{◌≡◌, ◌≢◌, ◌↔◌, ℕ, ◌<◌, ◌≤◌, ◌==◌, ◌||◌, cond, nat_le, Bool, true, false, List, [], ◌∷◌, ◌++◌, length, reverse, get_or, Contains, Option, Some, None, is_some, MatchOption, Result, Err, ⊎_elim, refl, sym, ap, ◌∙◌, subst, arith}
+use Rattle.std.proofs.Common.{◌≡◌, ◌≢◌, ◌↔◌, ℕ, ◌<◌, ◌≤◌, ◌==◌, ◌||◌, cond, nat_le, Bool, true, false, List, [], ◌∷◌, ◌++◌, length, reverse, get_or, Contains, Option, Some, None, is_some, MatchOption, ⊎_elim, refl, sym, ap, ◌∙◌, subst, arith}
 use Rattle.std.specs.List.{AllByRecursion}
 use Rattle.std.proofs.lemmas.Bool.{true≢false, false≢true, cases_Bool, or_cases, eqb-true, eq-eqb, lt-leb, le-leb, leb-true, leb-false}
 use Rattle.std.proofs.Math.ListN.{get_or-append}
@@ -17,7 +17,7 @@ use Rattle.tt_stamp.specs.declared.commits.Entry.TheVariants.{Queued, Passed}
 use Rattle.tt_stamp.specs.declared.commits.Standing.{Standing}
 use Rattle.tt_stamp.specs.declared.commits.Standing.TheVariants.{Waits, Released}
 use Rattle.tt_stamp.specs.declared.faults.BookFault.{BookFault}
-use Rattle.tt_stamp.specs.declared.faults.BookFault.TheVariants.{Full, IdThere, StampThere, Memory}
+use Rattle.tt_stamp.specs.declared.faults.BookFault.TheVariants.{Full, IdThere, StampThere}
 use Rattle.tt_stamp.proofs.Ids.{same_id-true, same_id-refl, eq-same_id, or_left, or_right, Contains-here, Contains-there, Contains-nil, Contains-cases}
 use Rattle.tt_stamp.proofs.Waiting.{AllByRecursion-weaker, AllByRecursion-insert_entry, AllByRecursion-remove_entry, Ascends, Ascends-insert_entry, Ascends-remove_entry, length-insert_entry-le, length-remove_entry-le}
 
@@ -122,13 +122,6 @@ first_queue_fault-stamp past id stamp room e f =
 pub first_queue_fault-none : (past : List Entry) (id : Id) (stamp : ℕ) → length (waiting_of past) < max_waiting → has_id past id ≡ false → has_stamp past stamp ≡ false → first_queue_fault past id stamp ≡ None
 first_queue_fault-none past id stamp room e f =
     fault_at past id stamp false false false (lt-leb _ _ room) e f
-
--- the fault of a commit with a new id for which there is no memory
-pub first_queue_fault-no_memory : (past : List Entry) (id : Id) (stamp : ℕ) (fault : BookFault) (there : Bool) → length (waiting_of past) < max_waiting → has_id past id ≡ false → has_stamp past stamp ≡ there → fault ≡ cond there StampThere Memory → MatchOption (first_queue_fault past id stamp) (fault ≡ Memory) (λ f. ◌≡◌ {A = Result (Unit {0}) BookFault} (Err fault) (Err f))
-first_queue_fault-no_memory past id stamp fault true room new_id is e =
-    rw (first_queue_fault-stamp past id stamp room new_id is) (ap (λ (f : BookFault). let r : Result (Unit {0}) BookFault = Err f in r) e)
-first_queue_fault-no_memory past id stamp fault false room new_id is e =
-    rw (first_queue_fault-none past id stamp room new_id is) e
 
 -- ---- where a commit stands
 known : (past : List Entry) → AllByRecursion (λ (commit : ℕ × Id). has_id past (commit.1) ≡ true) (waiting_of past)

@@ -3,7 +3,7 @@ use Rattle.std.proofs.Common.{◌≡◌, ◌≢◌, ℕ, zero, suc, ◌+◌, ◌
 use Rattle.std.specs.declared.cmp.Ordering.{Ordering}
 use Rattle.std.specs.declared.cmp.Ordering.TheVariants.{Less, Equal, Greater}
 use Rattle.std.specs.Ordering.{nat_cmp, match_ordering}
-use Rattle.std.specs.List.{insert, AllByRecursion}
+use Rattle.std.specs.List.{insert}
 use Rattle.std.specs.List.Sorted.{IsPartitionPoint, IsNonDecreasingBy}
 use Rattle.std.specs.BTreeMap.{insert_entry}
 use Rattle.std.proofs.lemmas.Bool.{lt-ltb, le-ltb, ltb-true, ltb-false, ne_eqb, true≢false}
@@ -13,7 +13,7 @@ use Rattle.std.proofs.Math.ListN.{length-map}
 use Rattle.tt_stamp.specs.History.{waiting_of, release_of, has_stamp}
 use Rattle.tt_stamp.specs.declared.commits.Id.{Id}
 use Rattle.tt_stamp.specs.declared.commits.Entry.{Entry}
-use Rattle.tt_stamp.proofs.Waiting.{Ascends}
+use Rattle.tt_stamp.proofs.Ascending.{IsNonDecreasingBy-ascends}
 use Rattle.tt_stamp.proofs.Histories.{Ascends-waiting_of}
 use Rattle.tt_stamp.proofs.Releases.{Commit, receipt_for}
 use Rattle.tt_stamp.proofs.Waits.{stamped}
@@ -51,22 +51,6 @@ module _ (stamp : ℕ) (id : Id) where
       let first : c.0 < stamp = at.0 0 c (omega arith) (omega arith) in
       let rest = insert-in_order xs i (omega (arith, h)) ((λ k d l m. at.0 (suc k) d (omega arith) (omega (arith, m))), (λ k d l m. at.1 (suc k) d (omega (arith, l)) (omega (arith, m)))) in
       ap (λ (es : List Commit). c ∷ es) rest ∙ ap (λ (o : Ordering). match_ordering o ((stamp, id) ∷ c ∷ xs) ((c.0, id) ∷ xs) (c ∷ insert_entry nat_cmp xs stamp id)) (sym (nat_cmp-Greater stamp (c.0) first))
-
--- ---- commits in order
-below_all : (stamp : ℕ) (xs : List Commit) → AllByRecursion (λ (c : Commit). stamp < c.0) xs → (j : ℕ) (d : Commit) → j < length xs → stamp < (slice_index_or xs j d).0
-below_all stamp [] all j d h = absurd (omega (arith, h))
-below_all stamp (c ∷ xs) all zero d h = all.0
-below_all stamp (c ∷ xs) all (suc j) d h = below_all stamp xs all.1 j d (omega (arith, h))
-
-pub IsNonDecreasingBy-ascends : (xs : List Commit) → Ascends xs → IsNonDecreasingBy (λ (c : Commit). c.0) xs
-IsNonDecreasingBy-ascends [] asc i j d l h = absurd (omega (arith, h))
-IsNonDecreasingBy-ascends (c ∷ xs) asc zero zero d l h = omega arith
-IsNonDecreasingBy-ascends (c ∷ xs) asc zero (suc j) d l h =
-    let above = below_all (c.0) xs asc.0 j d (omega (arith, h)) in
-    omega (arith, above)
-IsNonDecreasingBy-ascends (c ∷ xs) asc (suc i) zero d l h = absurd (omega (arith, l))
-IsNonDecreasingBy-ascends (c ∷ xs) asc (suc i) (suc j) d l h =
-    IsNonDecreasingBy-ascends xs asc.1 i j d (omega (arith, l)) (omega (arith, h))
 
 -- one that is above the last is above all
 pub IsPartitionPoint-all : (xs : List Commit) (stamp n i : ℕ) (last : Commit) → IsNonDecreasingBy (λ (c : Commit). c.0) xs → n + 1 ≡ length xs → i ≡ length xs → last ≡ slice_index_or xs n last → last.0 < stamp → IsPartitionPoint (λ (c : Commit). nat_lt (c.0) stamp ≡ true) (λ (c : Commit). nat_lt (c.0) stamp ≡ false) xs i

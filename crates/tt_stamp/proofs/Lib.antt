@@ -1,5 +1,6 @@
 pub mod Stamps
 pub mod Ids
+pub mod Ascending
 pub mod Waiting
 pub mod Histories
 pub mod Releases
@@ -7,7 +8,7 @@ pub mod Waits
 pub mod Forgetting
 pub mod InOrder
 pub mod Places
-pub mod Standings
+pub mod Kept
 pub mod Runs
 pub mod Turns
 pub mod Seats

@@ -7,6 +7,7 @@ use Rattle.std.specs.List.{AllByRecursion}
 use Rattle.std.specs.Map.{remove_entry}
 use Rattle.std.specs.BTreeMap.{insert_entry}
 use Rattle.std.proofs.lemmas.Cmp.{ranked}
+pub use Rattle.tt_stamp.specs.Standings.{Ascends}
 
 pub AllByRecursion-weaker : {X : Type 0} (P Q : X → Type 0) → ((x : X) → P x → Q x) → (xs : List X) → AllByRecursion P xs → AllByRecursion Q xs
 AllByRecursion-weaker P Q weaker [] all = tt
@@ -14,11 +15,6 @@ AllByRecursion-weaker P Q weaker (x ∷ xs) all =
     (weaker x all.0, AllByRecursion-weaker P Q weaker xs all.1)
 
 module _ {X : Type 0} where
-  -- the keys rise
-  abbrev pub Ascends : List (ℕ × X) → Type 0
-  Ascends [] = Unit {0}
-  Ascends (e ∷ es) = AllByRecursion (λ f. e.0 < f.0) es × Ascends es
-
   module _ (P : ℕ × X → Type 0) (k : ℕ) (v : X) (here : P (k, v)) where
     all_inserted : (o : Ordering) (e : ℕ × X) (es : List (ℕ × X)) → MatchOrdering o (k < e.0) (k ≡ e.0) (e.0 < k) → P e → AllByRecursion P es → AllByRecursion P (insert_entry nat_cmp es k v) → AllByRecursion P (match_ordering o ((k, v) ∷ e ∷ es) ((e.0, v) ∷ es) (e ∷ insert_entry nat_cmp es k v))
     all_inserted Less e es is first rest inserted = (here, (first, rest))

@@ -1,10 +1,10 @@
 -- What a book keeps beside its history, so that each question takes a look-up.
 use Rattle.std.specs.Prelude.{ℕ, ◌≡◌, ◌+◌, ◌≤◌, ◌==◌, Bool, false, if◌then◌else◌, List, [], ◌∷◌, length, reverse, Option, Some, None, vec_len, vec_capacity}
-use Rattle.std.specs.BTreeMap as tree
 use Rattle.std.specs.VecDeque.{deque_len}
 use Rattle.std.specs.List.{list_any, insert}
 use Rattle.std.specs.List.Sorted.{IsNonDecreasing}
-use Rattle.tt_stamp.specs.Ids.{same_id, id_cmp}
+use Rattle.tt_stamp.specs.Ids.{same_id}
+use Rattle.tt_stamp.specs.Standings.{IsInOrder, standing_in}
 use Rattle.tt_stamp.specs.History.{waiting_of, release_of, with_receipts, has_stamp, IsLegalHistory}
 use Rattle.tt_stamp.specs.declared.commits.Id.{Id}
 use Rattle.tt_stamp.specs.declared.commits.Entry.{Entry}
@@ -37,7 +37,8 @@ pub record IsPlaceOf (stamps : List ℕ) (stamp place : ℕ) : Type 0 where
 pub record IsBook (b : Inside) : Type 0 where
   pub legal : IsLegalHistory (history_of b)
   pub waits : b.waiting.items ≡ waiting_of (history_of b)
-  pub stands : (id : Id) → tree.get id_cmp b.standings id ≡ standing_of (history_of b) id
+  pub standings : IsInOrder b.standings
+  pub stands : (id : Id) → standing_in b.standings id ≡ standing_of (history_of b) id
   pub stamps : (stamp : ℕ) → is_among b.stamps.items stamp ≡ has_stamp (history_of b) stamp
   pub in_order : IsNonDecreasing b.stamps.items
   pub room : vec_len b.history + deque_len b.waiting ≤ vec_capacity b.history

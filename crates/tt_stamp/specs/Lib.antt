@@ -1,6 +1,7 @@
 pub mod Fault
 pub mod Stamp
 pub mod Ids
+pub mod Standings
 pub mod History
 pub mod Forgetting
 pub mod Book

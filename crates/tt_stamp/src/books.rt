@@ -17,8 +17,9 @@ ghost use Rattle.tt_stamp.specs.declared.commits.Receipt.{Receipt};
 
 use crate::commits::{Entry, Id, Receipt, Standing};
 use crate::faults::{BookFault, ForgetFault};
+use crate::standings::Standings;
 use std::alloc::{AllocError, Global};
-use std::collections::{BTreeMap, VecDeque};
+use std::collections::VecDeque;
 use std::marker::Model;
 use tt_publish::Reading;
 
@@ -34,7 +35,7 @@ pub struct Book {
     history: Vec<Entry>,
     // The pending commits, least stamp first.
     waiting: VecDeque<(u64, Id)>,
-    standings: BTreeMap<Id, Standing>,
+    standings: Standings,
     // The stamps of all commits that were queued, in order. A new one is mostly the greatest, and goes to the end.
     stamps: Vec<u64>,
 }
@@ -60,7 +61,7 @@ impl Book {
         Book {
             history: Vec::new(alloc),
             waiting: VecDeque::new(alloc),
-            standings: BTreeMap::new(alloc),
+            standings: Standings::new(alloc),
             stamps: Vec::new(alloc),
         }
     }
@@ -81,24 +82,16 @@ impl Book {
         if self.waiting() >= MAX_WAITING {
             return Err(BookFault::Full);
         }
-        match self.standings.insert(id, Standing::Waits) {
-            Ok(None) => {}
-            Ok(Some(standing)) => {
-                // It stays where it stood.
-                set_standing(&mut self.standings, id, standing);
-                return Err(BookFault::IdThere);
-            }
-            Err(_) => return Err(no_memory_for(&self.stamps, stamp)),
+        if self.standings.get(id).is_some() {
+            return Err(BookFault::IdThere);
         }
-        let place = match place_of(&self.stamps, stamp) {
-            Some(place) => place,
-            None => {
-                let _ = self.standings.remove(&id);
-                return Err(BookFault::StampThere);
-            }
+        let Some(place) = place_of(&self.stamps, stamp) else {
+            return Err(BookFault::StampThere);
         };
         if make_room(&mut self.history, &mut self.waiting, &mut self.stamps).is_err() {
-            let _ = self.standings.remove(&id);
+            return Err(BookFault::Memory);
+        }
+        if self.standings.add(id).is_err() {
             return Err(BookFault::Memory);
         }
         let _ = self.stamps.insert(place, stamp);
@@ -142,7 +135,7 @@ impl Book {
             unreachable!()
         };
         let place = self.history.len();
-        set_standing(&mut self.standings, id, Standing::Released(place));
+        self.standings.set(id, Standing::Released(place));
         self.history.push_reserved(Entry::Passed(Receipt {
             id,
             stamp,
@@ -156,7 +149,7 @@ impl Book {
         ensures found { IfSome result (λ receipt. (receipt.id ≡ id) × Contains (released_of self.now) receipt) }
         ensures none { IfNone result ((receipt : Receipt) → Contains (released_of self.now) receipt → receipt.id ≢ id) }
     {
-        let Standing::Released(place) = *self.standings.get(&id)? else {
+        let Standing::Released(place) = self.standings.get(id)? else {
             return None;
         };
         let Entry::Passed(receipt) = self.history[place] else {
@@ -293,15 +286,6 @@ fn session_of(entry: &Entry) -> u32
     }
 }
 
-// Writes the new standing of a commit that is in the book.
-fn set_standing(standings: &mut BTreeMap<Id, Standing>, id: Id, standing: Standing)
-    requires { IsSome (tree.get id_cmp standings.old id) }
-    ensures { (other : Id) → tree.get id_cmp standings.new other ≡
-        (if is_at (id_cmp id) other then Some standing else tree.get id_cmp standings.old other) }
-{
-    *standings.get_mut(&id).unwrap() = standing;
-}
-
 // The place of a new stamp among stamps in order. None where it is one of them.
 fn place_of(stamps: &[u64], stamp: u64) -> Option<usize>
     requires { IsNonDecreasing stamps.now }
@@ -370,15 +354,4 @@ fn put_in_order(waiting: &mut VecDeque<(u64, Id)>, stamp: u64, id: Id)
 {
     let place = count_below(waiting, stamp);
     let _ = waiting.insert(place, (stamp, id));
-}
-
-// Why a commit with a new id is not queued when memory for the id is missing.
-fn no_memory_for(stamps: &[u64], stamp: u64) -> BookFault
-    requires { IsNonDecreasing stamps.now }
-    ensures { result ≡ (if is_among stamps.now stamp then BookFault.StampThere else BookFault.Memory) }
-{
-    match place_of(stamps, stamp) {
-        None => BookFault::StampThere,
-        Some(_) => BookFault::Memory,
-    }
 }

@@ -23,7 +23,7 @@
 //!
 //! `crates/tt_stamp/CALLING.md` has a whole caller. The modules: `rows` for one thread, `sequencers` for several
 //! (`rule` is the rule by which they share a word, `stampings` what seats know, `requests` what a try asks), `books`
-//! with `commits`, `steps`, and `faults`.
+//! with `commits` and `standings`, `steps`, and `faults`.
 #![tactic(auto)]
 
 mod books;
@@ -34,6 +34,7 @@ mod rows;
 mod rule;
 mod sequencers;
 mod stampings;
+mod standings;
 mod steps;
 
 pub use books::{Book, MAX_WAITING, book_laws, forget_laws};

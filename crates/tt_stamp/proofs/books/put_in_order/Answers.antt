@@ -1,6 +1,6 @@
 use Rattle.std.proofs.Common.{◌∙◌, arith}
 use Rattle.tt_stamp.proofs.InOrder.{insert-new, IsNonDecreasingBy-waiting_of}
-use Rattle.tt_stamp.proofs.Standings.{on_succeeded}
+use Rattle.tt_stamp.proofs.Kept.{on_succeeded}
 use Rattle.tt_stamp.proofs.books.put_in_order.Goals as goal
 
 pub count_below-place-requires : goal.count_below-place-requires

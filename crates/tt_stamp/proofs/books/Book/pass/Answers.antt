@@ -6,11 +6,11 @@ use Rattle.tt_stamp.specs.declared.commits.Entry.{Entry}
 use Rattle.tt_stamp.specs.declared.commits.Entry.TheVariants.{Passed}
 use Rattle.tt_stamp.proofs.Histories.{Ascends-waiting_of, has_id-waits, is_some-standing_of}
 use Rattle.tt_stamp.proofs.Releases.{receipt_for, sure-first, release_of-first_sure, IsNextReceipt-first, IsReleaseTurn-next}
-use Rattle.tt_stamp.proofs.Standings.{IsBook-passed, reverse-push}
+use Rattle.tt_stamp.proofs.Kept.{IsBook-passed, reverse-push}
 use Rattle.tt_stamp.proofs.books.Book.pass.Goals as goal
 
-pub set_standing-requires : goal.set_standing-requires
-set_standing-requires c =
+pub set-requires-clause-there : goal.set-requires-clause-there
+set-requires-clause-there c =
     let past = history_of c.self.inside in
     let first = ap (λ es. slice_get es 0) (sym c.self.invariant.waits ∙ c.in-Some.ensures.items) in
     let some = subst (λ (h : List Entry). 0 < length (release_of (waiting_of h) c.args.earliest)) (sym c.self.view_is) c.requires in
@@ -25,7 +25,7 @@ invariant_of-self c =
     let some = subst (λ (h : List Entry). 0 < length (release_of (waiting_of h) c.args.earliest)) (sym c.self.view_is) c.requires in
     let sure = sure-first (waiting_of past) c.args.earliest _ (Ascends-waiting_of past) first some in
     let next = IsNextReceipt-first past _ c.args.earliest first sure in
-    IsBook-passed c.self.inside _ (receipt_for c.args.earliest (c.in-Some.stamp, c.in-Some.id)) (c.in-Some.stamp, c.in-Some.id) c.len-place.result c.self.invariant next c.push_reserved.ensures.items c.in-Some.ensures.items c.set_standing.ensures c.len-place.ensures refl (omega (arith, c.push_reserved.ensures.len, c.push_reserved.ensures.capacity, c.self.invariant.room, ap length c.in-Some.ensures.items))
+    IsBook-passed c.self.inside _ (receipt_for c.args.earliest (c.in-Some.stamp, c.in-Some.id)) (c.in-Some.stamp, c.in-Some.id) c.len-place.result c.self.invariant next c.push_reserved.ensures.items c.in-Some.ensures.items c.set.ensures.order c.set.ensures.standings c.len-place.ensures refl (omega (arith, c.push_reserved.ensures.len, c.push_reserved.ensures.capacity, c.self.invariant.room, ap length c.in-Some.ensures.items))
 
 pub returns-clause-turn : goal.returns-clause-turn
 returns-clause-turn c =
