@@ -2,6 +2,7 @@ pub mod Talking
 pub mod Spelled
 pub mod Splitting
 pub mod Releasing
+pub mod Following
 pub mod Hearing
 pub mod Stepping
 pub mod Spelling

@@ -3,7 +3,8 @@ use Rattle.std.proofs.Common.{◌≡◌, ◌≢◌, ℕ, Bool, true, false, ◌=
 use Rattle.std.specs.List.{flat_map}
 use Rattle.std.proofs.lemmas.Bool.Decides.{nat_tests}
 use Rattle.std.proofs.lemmas.List.{flat_map_more}
-use Rattle.std.proofs.lemmas.List.Elements.{All-nil, All-cons, All-head, All-tail, All-push}
+use Rattle.std.proofs.lemmas.List.Elements.{All-nil, All-cons, All-head, All-tail, All-push, All-append}
+use Rattle.std.proofs.lemmas.Grind.{flat_map-append}
 use Rattle.tt_session.specs.Lines.{Splits, HasNoEnd, ended, lines_of, rest_of, onto_first, onto_rest}
 
 -- no bytes
@@ -29,6 +30,21 @@ Splits-ended bytes lines rest s =
     } where
       ended_line : (lines : List (List ℕ)) (rest : List ℕ) → flat_map ended lines ++ ended rest ≡ flat_map ended (lines ++ rest ∷ []) ++ []
       ended_line lines rest = flat_map_more ended [] lines rest ∙ sym (append-nil (flat_map ended (lines ++ rest ∷ [])))
+
+-- bytes with no line feed
+pub Splits-rest : (rest : List ℕ) → HasNoEnd rest → Splits rest [] rest
+Splits-rest rest no_end = record { whole = refl; each = All-nil HasNoEnd; last = no_end }
+
+-- further bytes behind a rest
+pub Splits-append : (xs ys : List ℕ) (lines more : List (List ℕ)) (rest behind : List ℕ) → Splits xs lines rest → Splits (rest ++ ys) more behind → Splits (xs ++ ys) (lines ++ more) behind
+Splits-append xs ys lines more rest behind s t =
+    record {
+      whole =
+          ap (λ l. l ++ ys) s.whole ∙ append_assoc (flat_map ended lines) rest ys ∙ ap (λ l. flat_map ended lines ++ l) t.whole
+          ∙ sym (append_assoc (flat_map ended lines) (flat_map ended more) behind) ∙ ap (λ l. l ++ behind) (sym (flat_map-append ended lines more));
+      each = All-append HasNoEnd lines more s.each t.each;
+      last = t.last;
+    }
 
 -- a line feed before the first line
 feed_first : (bytes : List ℕ) (lines : List (List ℕ)) (rest : List ℕ) → Splits bytes lines rest → Splits (10 ∷ bytes) ([] ∷ lines) rest

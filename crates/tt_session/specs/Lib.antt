@@ -6,6 +6,7 @@ pub mod Conversation
 pub mod Answers
 pub mod Session
 pub mod Talks
+pub mod Steps
 pub mod Desk
 pub mod Deadline
 pub mod Timed

@@ -1,5 +1,5 @@
 -- What a line asks for, and its one spelling.
-use Rattle.std.specs.Prelude.{◌≡◌, ◌≢◌, ℕ, List, [], ◌∷◌, codes, Option, Some, None}
+use Rattle.std.specs.Prelude.{◌≡◌, ◌≢◌, ℕ, Bool, true, false, List, [], ◌∷◌, codes, Option, Some, None}
 use Rattle.tt_text.specs.Line.{line_of}
 use Rattle.tt_text.specs.Reading.{IsNumber}
 use Rattle.tt_session.specs.declared.requests.Request.{Request}
@@ -36,6 +36,11 @@ IsRequest (After t) = IsNumber t
 IsRequest (Before t) = IsNumber t
 IsRequest (Commit number floor) = IsNumber number × IsNumber floor
 IsRequest (Lease lo hi) = IsNumber lo × IsNumber hi
+
+-- whether the request is a commit
+abbrev pub is_commit : Request → Bool
+is_commit (Commit number floor) = true
+is_commit _ = false
 
 -- a line, given with its line feed, spells this request, or none
 abbrev pub Spells : List ℕ → Option Request → Type 0

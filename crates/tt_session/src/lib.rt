@@ -8,6 +8,9 @@
 //! with the service: a list of calls and answers, each of which the service allows in the state that the one before
 //! left. A [`Desk`] is the service of one thread.
 //!
+//! A [`Talk`] is a session as a value, and [`Talk::step`] is one step of it: it answers the lines that end in further
+//! bytes, and neither reads nor writes. So one thread can go on with many sessions, each when bytes of it came.
+//!
 //! ```text
 //! now            ->  now 1795654766534185885 1795654766543911764
 //! commit 1 0     ->  waiting 1 1795654766557298236      the commit is pending: send the line again
@@ -19,7 +22,8 @@
 //! - `services`: the trait `Service`. `calls`: the calls of a conversation.
 //! - `answers`: which calls of the service a request takes, and the reply to it. `begun`: what is kept of the last
 //!   commit.
-//! - `talks`: from bytes to lines. `serving`: `serve`, with its faults in `faults`.
+//! - `talks`: `Talk`, a session between its bytes, and the reply to each line that ends. `steps`: one step of a session,
+//!   for a caller that serves many. `serving`: `serve`, with its faults in `faults`.
 //! - `desks`: `Desk`.
 //! - `timed`: devices whose calls may end before anything came. `deadlines`: a reader and a writer over such devices,
 //!   which end a session at a time of its clock.
@@ -35,6 +39,7 @@ mod replies;
 mod requests;
 mod services;
 mod serving;
+mod steps;
 mod talks;
 mod timed;
 
@@ -47,4 +52,6 @@ pub use replies::LineReply;
 pub use requests::{Request, request_laws};
 pub use services::Service;
 pub use serving::{Served, Turns, line_laws, serve};
+pub use steps::{Replies, STEP_ROOM, Step, Stop, step_laws};
+pub use talks::Talk;
 pub use timed::{Timed, TimedReader, TimedWriter};

@@ -2,7 +2,7 @@
 
 ghost use Rattle.std.specs.Prelude.{◌≡◌, ◌≢◌, ℕ, Some, IfSome, IfNone};
 ghost use Rattle.tt_text.specs.Reading.{IsNumber};
-ghost use Rattle.tt_session.specs.Requests.{Spells, IsRequest, spelling_of};
+ghost use Rattle.tt_session.specs.Requests.{Spells, IsRequest, spelling_of, is_commit};
 ghost use Rattle.tt_session.specs.declared.requests.Request.{Request};
 
 use tt_text::numbers_behind;
@@ -30,6 +30,15 @@ pub enum Request {
         /// Its upper end, in nanoseconds.
         hi: u64,
     },
+}
+
+impl Request {
+    /// Whether it is a commit.
+    pub(crate) fn is_commit(&self) -> bool
+        ensures { result ≡ is_commit self.now }
+    {
+        matches!(self, Request::Commit { .. })
+    }
 }
 
 /// The request of this line, which ends with its line feed. None where the line is not the one spelling of a request.

@@ -1,16 +1,17 @@
 //! One session from its first byte to its end.
 
-ghost use Rattle.std.specs.Prelude.{◌≡◌, ◌≢◌, ℕ, ◌≤◌, ◌⊎◌, List, Err, OnOk, IfOk, IsErrOf};
+ghost use Rattle.std.specs.Prelude.{◌≡◌, ◌≢◌, ℕ, ◌+◌, ◌<◌, ◌≤◌, ◌^◌, ◌⊎◌, List, [], ◌∷◌, length, Err, OnOk, OnErr, IfOk, IsErrOf};
 ghost use Rattle.std.specs.Io.KnownBytes.{IsAtEnd};
 ghost use Rattle.tt_stream.specs.Counts.{HasFailed, CountsOn};
 ghost use Rattle.tt_session.specs.Lines.{Splits, lines_of, rest_of};
 ghost use Rattle.tt_session.specs.Session.{Serves, Breaks, StaysFlushed, BreaksFlushed};
+ghost use Rattle.tt_session.specs.Talks.{TalksOn, BreaksIn};
 ghost use Rattle.tt_session.specs.declared.serving.Served.{Served};
 
 use crate::faults::ServeFault;
 use crate::services::Service;
-use crate::talks::{Talk, hear};
-use tt_stream::{ByteReader, ByteWriter};
+use crate::talks::Talk;
+use tt_stream::{ByteReader, ByteWriter, DeviceFault, write_all};
 
 /// How many bytes one read asks for at most.
 const PIECE: usize = 512;
@@ -82,13 +83,65 @@ pub fn serve<R: ByteReader, W: ByteWriter, S: Service>(
             return Err(ServeFault::ReadFailed);
         };
         if n == 0 {
-            return Ok(talk.served);
+            return Ok(talk.served());
         }
         let Ok(()) = hear(&buffer[..n], writer, service, turns.waits, &mut talk) else {
             return Err(ServeFault::WriteFailed);
         };
     }
     Err(ServeFault::ReadFailed)
+}
+
+/// Takes further bytes, and answers each line that ends in them. Each reply is written before the next line is answered.
+fn hear<W: ByteWriter, S: Service>(
+    bytes: &[u8],
+    writer: &mut W,
+    service: &mut S,
+    waits: u32,
+    talk: &mut Talk,
+) -> Result<(), DeviceFault>
+    requires room { talk.old.served.lines + length bytes.now < 2 ^ 64 }
+    ensures more { talk.new.served.lines ≤ talk.old.served.lines + length bytes.now }
+    ensures ok { OnOk result (TalksOn S.allows waits (W.taken writer.old) service.old talk.old bytes.now
+        (W.taken writer.new) service.new talk.new) }
+    ensures err { OnErr result (BreaksIn S.allows waits W.taken W.flushed writer.old service.old talk.old bytes.now
+        writer.new service.new) }
+    ensures flushed { OnOk result (StaysFlushed W.flushed writer.old writer.new) }
+    ensures sound { OnOk result (W.failed writer.new ≡ W.failed writer.old) }
+    ensures cause { OnErr result (HasFailed (W.failed writer.old) (W.failed writer.new)) }
+{
+    for byte in bytes {
+        take(*byte, writer, service, waits, talk)?;
+    }
+    Ok(())
+}
+
+/// Takes one byte: keeps it, or answers the line if the byte is the line feed.
+fn take<W: ByteWriter, S: Service>(
+    byte: u8,
+    writer: &mut W,
+    service: &mut S,
+    waits: u32,
+    talk: &mut Talk,
+) -> Result<(), DeviceFault>
+    requires room { talk.old.served.lines + 1 < 2 ^ 64 }
+    ensures more { talk.new.served.lines ≤ talk.old.served.lines + 1 }
+    ensures ok { OnOk result (TalksOn S.allows waits (W.taken writer.old) service.old talk.old (byte ∷ [])
+        (W.taken writer.new) service.new talk.new) }
+    ensures err { OnErr result (BreaksIn S.allows waits W.taken W.flushed writer.old service.old talk.old (byte ∷ [])
+        writer.new service.new) }
+    ensures flushed { OnOk result (StaysFlushed W.flushed writer.old writer.new) }
+    ensures sound { OnOk result (W.failed writer.new ≡ W.failed writer.old) }
+    ensures cause { OnErr result (HasFailed (W.failed writer.old) (W.failed writer.new)) }
+{
+    if byte != b'\n' {
+        talk.keep(byte);
+        return Ok(());
+    }
+    let judged = talk.end_line(service, waits);
+    let text = judged.reply.text();
+    write_all(writer, text.as_str().as_bytes())?;
+    writer.flush()
 }
 
 /// A law of lines: there is one way to split bytes into lines and a rest, and `lines_of` and `rest_of` compute it.

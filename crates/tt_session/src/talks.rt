@@ -1,12 +1,12 @@
-//! From bytes to lines, and from each line to its reply.
+//! A session between its bytes, and the reply to each line that ends.
 
-ghost use Rattle.std.specs.Prelude.{◌≡◌, ℕ, ◌+◌, ◌<◌, ◌≤◌, ◌^◌, ◌⊎◌, List, [], ◌∷◌, ◌++◌, length, Option, None, OnOk, OnErr, if◌then◌else◌};
-ghost use Rattle.tt_stream.specs.Counts.{HasFailed};
+ghost use Rattle.std.specs.Prelude.{◌≡◌, ℕ, ◌+◌, ◌<◌, ◌≤◌, ◌^◌, List, [], ◌∷◌, ◌++◌, false, if◌then◌else◌, MatchBool};
+ghost use Rattle.tt_session.specs.Fault.{line_number_of};
 ghost use Rattle.tt_session.specs.Conversation.{Talked};
 ghost use Rattle.tt_session.specs.Answers.{AnswersLine};
-ghost use Rattle.tt_session.specs.Replies.{is_refused};
-ghost use Rattle.tt_session.specs.Session.{StaysFlushed};
-ghost use Rattle.tt_session.specs.Talks.{IsKept, TalksOn, BreaksIn};
+ghost use Rattle.tt_session.specs.Replies.{text_of, is_refused};
+ghost use Rattle.tt_session.specs.Talks.{IsKept, first_talk};
+ghost use Rattle.tt_session.specs.Steps.{IsCommitLine, Steps};
 
 use crate::answers::answer;
 use crate::begun::Begun;
@@ -16,26 +16,48 @@ use crate::requests::request_of;
 use crate::services::Service;
 use crate::serving::Served;
 use arrayvec::ArrayVec;
-use tt_stream::{ByteWriter, DeviceFault, write_all};
+use std::marker::Model;
 
-/// What is kept of a session from byte to byte.
+/// A session between two of its bytes: what is kept of the line so far, the last commit that was begun, and the counts
+/// of the lines that were answered. In contracts it is these three.
+///
+/// It is a value: whoever has it, the service of the session and further bytes can go on with the session, by
+/// [`Talk::step`].
 #[derive(Drop)]
-pub(crate) struct Talk {
+pub struct Talk {
     /// The bytes of the line so far, at most one more than a line may have. If this is full, the line is too long;
     /// otherwise there is room for its line feed.
     pub(crate) line: ArrayVec<u8, 65>,
     /// The last commit that was begun.
-    pub(crate) last: Option<Begun>,
+    last: Option<Begun>,
     /// The counts of the lines that were answered.
-    pub(crate) served: Served,
+    served: Served,
+}
+
+impl Model for Talk {
+    ghost use Rattle.std.specs.Prelude.{◌≤◌};
+    ghost use Rattle.tt_session.specs.Talks.{TalkState};
+
+    ghost Value = { TalkState };
+
+    ghost view = { λ t. record { line = t.line.items; last = t.last; served = t.served } };
+
+    ghost invariant = { λ t. t.served.refused ≤ t.served.lines };
+}
+
+/// The reply to a line, and whether the line is that of a commit.
+#[derive(Clone, Copy)]
+pub(crate) struct Judged {
+    /// The reply.
+    pub(crate) reply: LineReply,
+    /// Whether the line is that of a commit.
+    pub(crate) is_commit: bool,
 }
 
 impl Talk {
-    /// The state before the first byte.
-    pub(crate) fn new() -> Talk
-        ensures line { result.line.items ≡ [] }
-        ensures last { result.last ≡ None }
-        ensures served { result.served ≡ record { lines = 0; refused = 0 } }
+    /// A session before its first byte.
+    pub fn new() -> Talk
+        ensures { result ≡ first_talk }
     {
         Talk {
             line: ArrayVec::new(),
@@ -46,71 +68,34 @@ impl Talk {
             },
         }
     }
-}
 
-/// Takes further bytes, and answers each line that ends in them.
-pub(crate) fn hear<W: ByteWriter, S: Service>(
-    bytes: &[u8],
-    writer: &mut W,
-    service: &mut S,
-    waits: u32,
-    talk: &mut Talk,
-) -> Result<(), DeviceFault>
-    requires few { talk.old.served.refused ≤ talk.old.served.lines }
-    requires room { talk.old.served.lines + length bytes.now < 2 ^ 64 }
-    ensures few { talk.new.served.refused ≤ talk.new.served.lines }
-    ensures more { talk.new.served.lines ≤ talk.old.served.lines + length bytes.now }
-    ensures ok { OnOk result (TalksOn S.allows waits (W.taken writer.old) service.old talk.old bytes.now
-        (W.taken writer.new) service.new talk.new) }
-    ensures err { OnErr result (BreaksIn S.allows waits W.taken W.flushed writer.old service.old talk.old bytes.now
-        writer.new service.new) }
-    ensures flushed { OnOk result (StaysFlushed W.flushed writer.old writer.new) }
-    ensures sound { OnOk result (W.failed writer.new ≡ W.failed writer.old) }
-    ensures cause { OnErr result (HasFailed (W.failed writer.old) (W.failed writer.new)) }
-{
-    for byte in bytes {
-        take(*byte, writer, service, waits, talk)?;
+    /// The counts of the lines that were answered.
+    pub fn served(&self) -> Served
+        ensures { result ≡ self.now.served }
+    {
+        self.served
     }
-    Ok(())
-}
 
-/// Takes one byte: keeps it, or answers the line if the byte is the line feed.
-fn take<W: ByteWriter, S: Service>(
-    byte: u8,
-    writer: &mut W,
-    service: &mut S,
-    waits: u32,
-    talk: &mut Talk,
-) -> Result<(), DeviceFault>
-    requires few { talk.old.served.refused ≤ talk.old.served.lines }
-    requires room { talk.old.served.lines + 1 < 2 ^ 64 }
-    ensures few { talk.new.served.refused ≤ talk.new.served.lines }
-    ensures more { talk.new.served.lines ≤ talk.old.served.lines + 1 }
-    ensures ok { OnOk result (TalksOn S.allows waits (W.taken writer.old) service.old talk.old (byte ∷ [])
-        (W.taken writer.new) service.new talk.new) }
-    ensures err { OnErr result (BreaksIn S.allows waits W.taken W.flushed writer.old service.old talk.old (byte ∷ [])
-        writer.new service.new) }
-    ensures flushed { OnOk result (StaysFlushed W.flushed writer.old writer.new) }
-    ensures sound { OnOk result (W.failed writer.new ≡ W.failed writer.old) }
-    ensures cause { OnErr result (HasFailed (W.failed writer.old) (W.failed writer.new)) }
-{
-    if byte != b'\n' {
-        keep(&mut talk.line, byte);
-        return Ok(());
+    /// Keeps one more byte of the line, if there is room.
+    pub(crate) fn keep(&mut self, byte: u8)
+        ensures kept { (bytes : List ℕ) → IsKept self.old.line bytes → IsKept self.new.line (bytes ++ byte ∷ []) }
+        ensures same { self.new ≡ record self.old { line = self.new.line } }
+    {
+        if !self.line.is_full() {
+            self.line.push(byte);
+        }
     }
-    let reply = judge(&mut talk.line, service, waits, &mut talk.last);
-    count(&mut talk.served, &reply);
-    let text = reply.text();
-    write_all(writer, text.as_str().as_bytes())?;
-    writer.flush()
-}
 
-/// Keeps one more byte of the line, if there is room.
-fn keep(line: &mut ArrayVec<u8, 65>, byte: u8)
-    ensures { (bytes : List ℕ) → IsKept line.old.items bytes → IsKept line.new.items (bytes ++ byte ∷ []) }
-{
-    if !line.is_full() {
-        line.push(byte);
+    /// Answers the line, whose line feed has come.
+    pub(crate) fn end_line<S: Service>(&mut self, service: &mut S, waits: u32) -> Judged
+        requires room { self.old.served.lines + 1 < 2 ^ 64 }
+        ensures steps { Steps S.allows waits service.old self.old (10 ∷ []) service.new self.new (text_of result.reply) result.is_commit }
+        ensures empty { self.new.line ≡ [] }
+        ensures lines { self.new.served.lines ≡ self.old.served.lines + 1 }
+    {
+        let judged = judge(&mut self.line, service, waits, &mut self.last);
+        count(&mut self.served, &judged.reply);
+        judged
     }
 }
 
@@ -120,21 +105,36 @@ fn judge<S: Service>(
     service: &mut S,
     waits: u32,
     last: &mut Option<Begun>,
-) -> LineReply
+) -> Judged
     ensures answered { (bytes : List ℕ) → IsKept line.old.items bytes →
-        Talked S.allows service.old service.new (λ calls. AnswersLine waits last.old bytes calls result last.new) }
+        Talked S.allows service.old service.new (λ calls. AnswersLine waits last.old bytes calls result.reply last.new) }
+    ensures commit { (bytes : List ℕ) → IsKept line.old.items bytes →
+        MatchBool result.is_commit (IsCommitLine bytes) (¬ IsCommitLine bytes) }
     ensures empty { line.new.items ≡ [] }
 {
     if line.is_full() {
         line.clear();
-        return LineReply::Refused(LineFault::LongLine.number());
+        return refused(LineFault::LongLine);
     }
     line.push(b'\n');
     let request = request_of(line);
     line.clear();
     match request {
-        Some(request) => answer(request, service, waits, last),
-        None => LineReply::Refused(LineFault::BadLine.number()),
+        Some(request) => Judged {
+            reply: answer(request, service, waits, last),
+            is_commit: request.is_commit(),
+        },
+        None => refused(LineFault::BadLine),
+    }
+}
+
+/// A line that the session refuses is not that of a commit.
+fn refused(fault: LineFault) -> Judged
+    ensures { result ≡ record { reply = LineReply.Refused (line_number_of fault); is_commit = false } }
+{
+    Judged {
+        reply: LineReply::Refused(fault.number()),
+        is_commit: false,
     }
 }
 
@@ -142,6 +142,7 @@ fn judge<S: Service>(
 fn count(served: &mut Served, reply: &LineReply)
     requires few { served.old.refused ≤ served.old.lines }
     requires room { served.old.lines + 1 < 2 ^ 64 }
+    ensures few { served.new.refused ≤ served.new.lines }
     ensures lines { served.new.lines ≡ served.old.lines + 1 }
     ensures refused { served.new.refused ≡ served.old.refused + (if is_refused reply.now then 1 else 0) }
 {

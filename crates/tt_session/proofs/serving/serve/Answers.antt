@@ -1,16 +1,15 @@
 use Rattle.std.proofs.Common.{◌≡◌, ◌+◌, ◌++◌, [], ◌∙◌, arith, ap, inl, refl, length-take}
 use Rattle.std.proofs.KnownBytes.{Consumes-nil, Consumes-trans}
 use Rattle.tt_stream.proofs.Reading.{CountsOn-more}
+use Rattle.tt_session.specs.Talks.{TalkState}
 use Rattle.tt_session.proofs.Hearing.{Talks-first, Kept-later}
 use Rattle.tt_session.proofs.serving.serve.Goals as goal
 
 pub loop-init : goal.loop-init
 loop-init g c =
-    let lines : c.new-talk.result.served.lines ≡ 0 = ap (λ s. s.lines) c.new-talk.ensures.served in
-    let refused : c.new-talk.result.served.refused ≡ 0 = ap (λ s. s.refused) c.new-talk.ensures.served in
+    let lines : c.new-talk.result.served.lines ≡ 0 = ap (λ (t : TalkState). t.served.lines) c.new-talk.ensures in
     record {
-      heard = ([], Consumes-nil _, Talks-first g.S.Service.allows c.args.turns.waits _ _ c.new-talk.result c.new-talk.ensures.line c.new-talk.ensures.last c.new-talk.ensures.served);
-      few = omega arith;
+      heard = ([], Consumes-nil _, Talks-first g.S.Service.allows c.args.turns.waits _ _ c.new-talk.result c.new-talk.ensures);
       more = omega arith;
       sound_read = refl;
       sound_write = refl;
@@ -54,7 +53,6 @@ loop-preserved g c =
     let (bytes, came, stands) = c.loop.invariant.heard in
     record {
       heard = (bytes ++ _, Consumes-trans _ _ _ _ _ came c.in-Ok.ensures.bytes.0, c.in-Ok-hear.ensures.ok _ _ _ stands);
-      few = c.in-Ok-hear.ensures.few;
       more = omega (arith, c.in-Ok-hear.ensures.more, c.in-Ok.ensures.count, length-take c.in-Ok.n c.read.new.buffer);
       sound_read = c.in-Ok.ensures.sound ∙ c.loop.invariant.sound_read;
       sound_write = c.in-Ok-hear.ensures.sound ∙ c.loop.invariant.sound_write;

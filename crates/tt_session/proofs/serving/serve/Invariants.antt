@@ -11,7 +11,6 @@ invariant-loop g l =
     record {
       heard : (bytes : List ℕ) × Consumes (g.R.ByteReader.left l.initial.reader) (g.R.ByteReader.left l.reader) bytes
           × Talks g.S.Service.allows l.turns.waits (g.W.ByteWriter.taken l.initial.writer) (g.W.ByteWriter.taken l.writer) l.initial.service bytes l.service l.talk;
-      few : l.talk.served.refused ≤ l.talk.served.lines;
       more : l.talk.served.lines ≤ 512 * l.counter;
       sound_read : g.R.ByteReader.failed l.reader ≡ g.R.ByteReader.failed l.initial.reader;
       sound_write : g.W.ByteWriter.failed l.writer ≡ g.W.ByteWriter.failed l.initial.writer;

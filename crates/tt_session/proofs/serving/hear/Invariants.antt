@@ -2,12 +2,11 @@
 use Rattle.std.proofs.Common.{◌≡◌, ◌≤◌, ◌+◌, take}
 use Rattle.tt_session.specs.Session.{StaysFlushed}
 use Rattle.tt_session.specs.Talks.{TalksOn}
-use Rattle.tt_session.proofs.talks.hear.Given as goal
+use Rattle.tt_session.proofs.serving.hear.Given as goal
 
 abbrev pub invariant-loop-byte : goal.invariant-loop-byte
 invariant-loop-byte g l =
     record {
-      few : l.talk.served.refused ≤ l.talk.served.lines;
       more : l.talk.served.lines ≤ l.initial.talk.served.lines + l.byte-index;
       stands : TalksOn g.S.Service.allows l.waits (g.W.ByteWriter.taken l.initial.writer) l.initial.service l.initial.talk (take l.byte-index l.bytes) (g.W.ByteWriter.taken l.writer) l.service l.talk;
       flushed : StaysFlushed g.W.ByteWriter.flushed l.initial.writer l.writer;

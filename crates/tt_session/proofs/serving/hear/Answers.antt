@@ -1,7 +1,7 @@
 use Rattle.std.proofs.Common.{◌≡◌, ◌+◌, ◌∷◌, [], ◌++◌, take, drop, get_or, sym, ap, ◌∙◌, take-append-drop}
 use Rattle.std.proofs.lemmas.List.{take_more}
 use Rattle.tt_session.proofs.Hearing.{BreaksIn-more, on_err}
-use Rattle.tt_session.proofs.talks.hear.Goals as goal
+use Rattle.tt_session.proofs.serving.hear.Goals as goal
 
 pub returns-in_err-take-clause-err : goal.returns-in_err-take-clause-err
 returns-in_err-take-clause-err g c =
