@@ -1,25 +1,32 @@
--- What a running machine published held the true time.
-use Rattle.std.proofs.Common.{◌≡◌, ℕ, List, sym, ap, subst, ◌∙◌}
+-- What a running machine published held the true time, and meets what it published before.
 use Rattle.std.specs.List.{AllByRecursion}
-use Rattle.std.proofs.lemmas.List.{length-replicate}
-use Rattle.tt_source.specs.Table.{SourceState, unknown_source}
-use Rattle.tt_runs.specs.Calls.{calls_steps, kept_after}
-use Rattle.tt_runs.specs.Steps.{Step, after_steps}
-use Rattle.tt_runs.specs.Tale.{AreOf, HeldTrueTime, steps_told}
-use Rattle.tt_runs.proofs.Calling.{calls-made, calls-named}
-use Rattle.tt_runs.proofs.Telling.{daemon-holds}
-use Rattle.tt_consistency.specs.Running.{Machine, IsRunning, begun_with, clock_moments, published_by}
+use Rattle.tt_world.specs.Meeting.{AllMeet}
+use Rattle.tt_runs.specs.Calls.{kept_after}
+use Rattle.tt_runs.specs.Steps.{Kept}
+use Rattle.tt_runs.specs.Tale.{HeldTrueTime}
+use Rattle.tt_runs.proofs.Calling.{named-by_calls, made-by_calls}
+use Rattle.tt_runs.proofs.Comparing.{daemon-meets}
+use Rattle.tt_runs.proofs.Telling.{Follows, daemon-holds}
+use Rattle.tt_consistency.specs.Running.{Machine, IsRunning, life_of_machine, begun_with, clock_moments, published_by}
 
 module _ (machine : Machine) (running : IsRunning machine) where
-  named : AreOf machine.config.sources (steps_told machine.tale)
-  named =
-      subst (AreOf machine.config.sources) (sym running.told)
-      (subst (λ (n : ℕ). AreOf n (calls_steps machine.calls)) (length-replicate {A = SourceState} machine.config.sources unknown_source) (calls-named (begun_with machine) machine.calls running.in_turn))
+  -- what it has at the end of its calls
+  abbrev to : Kept
+  to = kept_after (begun_with machine) machine.calls
 
-  made : kept_after (begun_with machine) machine.calls ≡ after_steps (begun_with machine) (steps_told machine.tale)
-  made = calls-made (begun_with machine) machine.calls running.in_turn ∙ ap (λ (steps : List Step). after_steps (begun_with machine) steps) (sym running.told)
+  -- all that is assumed of it is met
+  met : (Conclusion : Type 0) → Follows machine.number (life_of_machine machine).number machine.start.at machine.start.clock machine.tale to machine.config Conclusion → Conclusion
+  met Conclusion follows =
+      follows running.forward running.nonces (named-by_calls machine.config machine.number (life_of_machine machine).number machine.tale machine.calls running.in_turn running.told)
+      (made-by_calls machine.config machine.number (life_of_machine machine).number machine.tale machine.calls running.in_turn running.told)
+      running.configured running.of_time running.drift running.few_faulty
 
   pub publications-hold : AllByRecursion (HeldTrueTime (clock_moments machine)) (published_by machine)
   publications-hold =
-      daemon-holds machine.config machine.number machine.start.at machine.start.clock machine.start.lives machine.tale (kept_after (begun_with machine) machine.calls) running.at running.clock running.lives
-      running.forward running.nonces named made running.configured running.of_time running.drift running.few_faulty
+      met (AllByRecursion (HeldTrueTime (clock_moments machine)) (published_by machine))
+      (daemon-holds machine.config machine.number machine.start.at machine.start.clock machine.start.lives machine.tale to running.at running.clock running.lives)
+
+  pub publications-meet : AllMeet machine.config.drift (published_by machine)
+  publications-meet =
+      met (AllMeet machine.config.drift (published_by machine))
+      (daemon-meets machine.config machine.number machine.start.at machine.start.clock machine.start.lives machine.tale to running.at running.clock running.lives)

@@ -11,6 +11,7 @@ ghost use Rattle.tt_session.specs.declared.replies.LineReply.{LineReply};
 ghost use Rattle.tt_order.specs.Timed.{TimedSession, IsTimed, times_at};
 ghost use Rattle.tt_order.specs.Order.{BeginsAt, IsCommitted, IsSeen, IsWithin};
 ghost use Rattle.tt_order.specs.Told.{IsTold};
+ghost use Rattle.tt_world.specs.Meeting.{AllMeet};
 ghost use Rattle.tt_runs.specs.Tale.{HeldTrueTime};
 ghost use Rattle.tt_consistency.specs.Running.{Machine, IsRunning, clock_moments, published_by};
 ghost use Rattle.tt_consistency.specs.Served.{IsServedOn, IsSeenOnOneOf};
@@ -28,6 +29,9 @@ pub fn machine_laws()
     // the machine's life at which the clock showed the reading of the publication.
     ensures publications_hold { (machine : Machine) →
         IsRunning machine → AllByRecursion (HeldTrueTime (clock_moments machine)) (published_by machine) }
+
+    // Each of their publications meets every publication of this life before it, aged to its clock reading.
+    ensures publications_meet { (machine : Machine) → IsRunning machine → AllMeet machine.config.drift (published_by machine) }
 {}
 
 /// Laws of one session that is served on a running machine.

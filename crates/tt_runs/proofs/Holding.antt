@@ -12,14 +12,14 @@ use Rattle.tt_world.specs.Life.{Life, life_at}
 use Rattle.tt_world.specs.Past.{packets_of, moments_of}
 use Rattle.tt_world.specs.Publications.{publications_of}
 use Rattle.tt_world.specs.declared.events.Event.{Event}
-use Rattle.tt_world.proofs.Histories.FusionTimes.{WasRight, publications_right}
+use Rattle.tt_world.proofs.Histories.FusionTimes.{WasRight, IsKept, were_right, few_lie_in}
 use Rattle.tt_world.proofs.Histories.Judging.{AreGood, good_accepted}
 use Rattle.tt_world.proofs.Histories.Places.{IsIn, all_append, all_weaker}
 use Rattle.tt_runs.specs.Steps.{Step, Polls, Takes, Fuses, Kept, kept_at}
 use Rattle.tt_runs.specs.Tale.{Happening, Does, Answers, Timed, IsAmong, HeldTrueTime, IsOfTime, AreOfTime, last_place, is_request_in, is_answer_with, answer_events, take_events, events_at, events_of, IsRunOf}
 
 -- the events are such as can be
-abbrev AreActions : List Event → Type 0
+abbrev pub AreActions : List Event → Type 0
 AreActions events = AllByRecursion (λ (event : Event). IsAction event.action) events
 
 answer_actions : (at : ℕ) (span : Interval) (o : Option ℕ) → IsOfTime (Answers 0 0 span) → AreActions (answer_events at span o)
@@ -54,6 +54,27 @@ held_of past life moments are publication was = record {
   held = was.held;
 }
 
+-- the life of the machine keeps the assumptions
+pub kept-told : (configs : List Configuration) (m : ℕ) (base : List Event) (tale : List Timed) (steps : List Step) (moments : List Moment) → IsRunOf configs m base (events_of base m tale) steps moments → AreOfTime tale → AreActions base
+    → KeepsDrift (config_at configs m).drift (moments ++ moments_of base (life_at base m)) → FewLie configs (events_of base m tale ++ base)
+    → IsKept configs (events_of base m tale ++ base) (life_at base m)
+kept-told configs m base tale steps moments run valid valid_base drift few =
+    let past = events_of base m tale ++ base in
+    record {
+      good = subst (AreGood configs) run.good (good_accepted configs past);
+      valid = all_append _ (events_of base m tale) base (actions_of base m tale valid) valid_base;
+      drift = subst (KeepsDrift (config_at configs m).drift) (sym run.moments_are) drift;
+      few = few_lie_in configs past (life_at base m) few;
+    }
+
+-- and its publications are what the daemon published
+pub published-told : (configs : List Configuration) (m : ℕ) (base : List Event) (tale : List Timed) (steps : List Step) (moments : List Moment) (to : Kept) → IsRunOf configs m base (events_of base m tale) steps moments
+    → kept_at configs (events_of base m tale ++ base) m ≡ to → publications_of (config_at configs m) (events_of base m tale ++ base) (life_at base m) ≡ to.published
+published-told configs m base tale steps moments to run leaves =
+    let past = events_of base m tale ++ base in
+    let own : life_at past m ≡ life_at base m = ap (λ (n : ℕ). record { machine = m; number = n }) run.same_life in
+    ap (publications_of (config_at configs m) past) (sym own) ∙ ap (λ (kept : Kept). kept.published) leaves
+
 pub publications-held : (configs : List Configuration) (m : ℕ) (base : List Event) (tale : List Timed) (steps : List Step) (moments : List Moment) (to : Kept)
     → IsRunOf configs m base (events_of base m tale) steps moments → kept_at configs (events_of base m tale ++ base) m ≡ to
     → IsConfiguration (config_at configs m) → AreOfTime tale → AreActions base
@@ -62,13 +83,8 @@ pub publications-held : (configs : List Configuration) (m : ℕ) (base : List Ev
 publications-held configs m base tale steps moments to run leaves configuration valid valid_base drift few =
     let past = events_of base m tale ++ base in
     let life = life_at base m in
-    let good : AreGood configs past = subst (AreGood configs) run.good (good_accepted configs past) in
-    let own : life_at past m ≡ life = ap (λ (n : ℕ). record { machine = m; number = n }) run.same_life in
     let right : AllByRecursion (λ (p : FusedSpan). WasRight past life p) (publications_of (config_at configs m) past life) =
-    publications_right configs past life configuration good (all_append _ (events_of base m tale) base (actions_of base m tale valid) valid_base)
-    (subst (KeepsDrift (config_at configs m).drift) (sym run.moments_are) drift) few in
-    let are : publications_of (config_at configs m) past life ≡ to.published =
-    ap (publications_of (config_at configs m) past) (sym own) ∙ ap (λ (kept : Kept). kept.published) leaves in
-    subst (AllByRecursion (HeldTrueTime (moments ++ moments_of base life))) are
+    were_right configs past life configuration (kept-told configs m base tale steps moments run valid valid_base drift few) in
+    subst (AllByRecursion (HeldTrueTime (moments ++ moments_of base life))) (published-told configs m base tale steps moments to run leaves)
     (all_weaker (λ (p : FusedSpan). WasRight past life p) (HeldTrueTime (moments ++ moments_of base life)) (held_of past life (moments ++ moments_of base life) run.moments_are)
     (publications_of (config_at configs m) past life) right)

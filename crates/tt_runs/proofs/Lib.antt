@@ -4,6 +4,7 @@ pub mod Coursing
 pub mod Naming
 pub mod Running
 pub mod Holding
+pub mod Rounding
 pub mod Reading
 pub mod Beginning
 pub mod Worked
@@ -13,4 +14,5 @@ pub mod Faulting
 pub mod Assuming
 pub mod Calling
 pub mod Telling
+pub mod Comparing
 pub mod WorkedCalls

@@ -16,7 +16,7 @@ use Rattle.tt_world.specs.declared.events.Event.{Event}
 use Rattle.tt_world.proofs.Histories.Places.{all_weaker}
 use Rattle.tt_runs.specs.Faulty.{FewFaulty}
 use Rattle.tt_runs.specs.Steps.{Kept, Polls, Takes, Fuses, kept_at, new_kept, after_steps}
-use Rattle.tt_runs.specs.Tale.{Happening, Does, Answers, Timed, steps_told, moments_told, last_time, last_shown, shows_after, AreOf, AreOfTime, IsForward, IsTale, IsAmong, HeldTrueTime, BeginsLife, last_place, is_request_in, is_answer_with, answer_events, take_events, events_at, events_of, restarts_of}
+use Rattle.tt_runs.specs.Tale.{Happening, Does, Answers, Timed, steps_told, moments_told, last_time, last_shown, shows_after, AreOf, AreOfTime, IsForward, IsTale, IsRunOf, IsAmong, HeldTrueTime, BeginsLife, last_place, is_request_in, is_answer_with, answer_events, take_events, events_at, events_of, restarts_of}
 use Rattle.tt_runs.proofs.Assuming.{lie-from_told}
 use Rattle.tt_runs.proofs.Beginning.{begins-life}
 use Rattle.tt_runs.proofs.Holding.{publications-held}
@@ -125,41 +125,62 @@ held_swapped one xs moments are publication was = record {
 
 -- ---- what is published
 
+-- what a tale is in the model, after a base, if it keeps the assumptions
+pub record IsToldAfter (configs : List Configuration) (m : ℕ) (tale : List Timed) (to : Kept) (base : List Event) : Type 0 where
+  pub run : IsRunOf configs m base (events_of base m tale) (steps_told tale) (moments_told tale)
+  pub leaves : kept_at configs (events_of base m tale ++ base) m ≡ to
+  pub drift : KeepsDrift (config_at configs m).drift (moments_told tale ++ moments_of base (life_at base m))
+  pub few : FewLie configs (events_of base m tale ++ base)
+
 module _ (m number at clock : ℕ) (tale : List Timed) (to : Kept) where
   -- the moment at which the life begins
   abbrev first : Moment
   first = record { clock = clock; time = at }
 
   -- all that is assumed of a tale of a machine of this set-up, and what follows
-  abbrev pub Holding : Configuration → Type 0
-  Holding config =
+  abbrev pub Follows : Configuration → Type 0 → Type 0
+  Follows config Conclusion =
       IsTale at clock tale → length tale < 2 ^ 64 → AreOf config.sources (steps_told tale) → to ≡ after_steps (new_kept config m number) (steps_told tale) → IsConfiguration config → AreOfTime tale →
-      KeepsDrift config.drift (moments_told tale ++ first ∷ []) → FewFaulty config (record { machine = m; number = number }) tale →
-      AllByRecursion (HeldTrueTime (moments_told tale ++ first ∷ [])) to.published
+      KeepsDrift config.drift (moments_told tale ++ first ∷ []) → FewFaulty config (record { machine = m; number = number }) tale → Conclusion
 
-  pub life-holds : (configs : List Configuration) (base : List Event) → m < length configs → BeginsLife configs m number at clock base → AllByRecursion (λ event. IsAction event.action) base → Holding (config_at configs m)
-  life-holds configs base there begins actions tale_on short named made configuration valid drift few =
+  -- each publication held the true time
+  abbrev pub Holding : Configuration → Type 0
+  Holding config = Follows config (AllByRecursion (HeldTrueTime (moments_told tale ++ first ∷ [])) to.published)
+
+  pub life-told : (configs : List Configuration) (base : List Event) → m < length configs → BeginsLife configs m number at clock base → Follows (config_at configs m) (IsToldAfter configs m tale to base)
+  life-told configs base there begins tale_on short named made configuration valid drift few =
       let is : IsTale (time_of base) (clock_of base (life_at base m)) tale = tale-from (time_of base) at (clock_of base (life_at base m)) clock tale begins.by_time begins.by_clock tale_on in
       let run = tale-is_run configs m base tale there begins.good named is in
       let sent : sends_of (events_of base m tale ++ base) (life_at base m) < 2 ^ 64 = omega (arith, told_sends base m tale (life_at base m), begins.none_polled) in
       let room : sends_now (events_of base m tale ++ base) m < 2 ^ 64 = subst (λ (n : ℕ). sends_of (events_of base m tale ++ base) (record { machine = m; number = n }) < 2 ^ 64) (sym run.same_life) sent in
-      let lie : FewLie configs (events_of base m tale ++ base) = lie-from_told configs m number at clock base tale there begins named is room few in
-      let leaves : kept_at configs (events_of base m tale ++ base) m ≡ to =
-      run-leaves configs m base (events_of base m tale) (steps_told tale) (moments_told tale) (new_kept (config_at configs m) m number) to run begins.as_new made room in
+      record {
+        run = run;
+        leaves = run-leaves configs m base (events_of base m tale) (steps_told tale) (moments_told tale) (new_kept (config_at configs m) m number) to run begins.as_new made room;
+        drift = keeps_swapped (config_at configs m).drift first (moments_told tale) (moments_of base (life_at base m)) drift begins.one_moment;
+        few = lie-from_told configs m number at clock base tale there begins named is room few;
+      }
+
+  pub life-holds : (configs : List Configuration) (base : List Event) → m < length configs → BeginsLife configs m number at clock base → AllByRecursion (λ event. IsAction event.action) base → Holding (config_at configs m)
+  life-holds configs base there begins actions tale_on short named made configuration valid drift few =
+      let told = life-told configs base there begins tale_on short named made configuration valid drift few in
       all_weaker (HeldTrueTime (moments_told tale ++ moments_of base (life_at base m))) (HeldTrueTime (moments_told tale ++ first ∷ []))
       (held_swapped first (moments_told tale) (moments_of base (life_at base m)) begins.one_moment) to.published
-      (publications-held configs m base tale (steps_told tale) (moments_told tale) to run leaves configuration valid actions
-      (keeps_swapped (config_at configs m).drift first (moments_told tale) (moments_of base (life_at base m)) drift begins.one_moment) lie)
+      (publications-held configs m base tale (steps_told tale) (moments_told tale) to told.run told.leaves configuration valid actions told.drift told.few)
 
 restart_actions : (m at clock lives : ℕ) → AllByRecursion (λ (event : Event). IsAction event.action) (restarts_of m at clock lives)
 restart_actions m at clock zero = tt
 restart_actions m at clock (suc n) = (tt, restart_actions m at clock n)
 
--- a machine that has restarted so often, among others of its set-up
-pub daemon-holds : (config : Configuration) (m at clock lives : ℕ) (tale : List Timed) (to : Kept) → at ≤ max_time → clock ≤ max_time → lives < 2 ^ 64 - 1
-    → Holding m (lives + 1) at clock tale to config
-daemon-holds config m at clock lives tale to in_time fits few =
+-- what is claimed after every base at which a life begins holds of a machine that has restarted so often, among others of its set-up
+pub for_daemon : (config : Configuration) (m at clock lives : ℕ) (Claim : Configuration → Type 0)
+    → ((configs : List Configuration) (base : List Event) → m < length configs → BeginsLife configs m (lives + 1) at clock base → AllByRecursion (λ event. IsAction event.action) base → Claim (config_at configs m))
+    → at ≤ max_time → clock ≤ max_time → lives < 2 ^ 64 - 1 → Claim config
+for_daemon config m at clock lives Claim claimed in_time fits few =
     let configs = replicate (m + 1) config in
     let there : m < length configs = omega (arith, length-replicate {A = Configuration} (m + 1) config) in
-    subst (Holding m (lives + 1) at clock tale to) (get_or-replicate (m + 1) m config no_configuration (omega arith))
-    (life-holds m (lives + 1) at clock tale to configs (restarts_of m at clock lives) there (begins-life configs m at clock lives there in_time fits few) (restart_actions m at clock lives))
+    subst Claim (get_or-replicate (m + 1) m config no_configuration (omega arith))
+    (claimed configs (restarts_of m at clock lives) there (begins-life configs m at clock lives there in_time fits few) (restart_actions m at clock lives))
+
+pub daemon-holds : (config : Configuration) (m at clock lives : ℕ) (tale : List Timed) (to : Kept) → at ≤ max_time → clock ≤ max_time → lives < 2 ^ 64 - 1
+    → Holding m (lives + 1) at clock tale to config
+daemon-holds config m at clock lives tale to = for_daemon config m at clock lives (Holding m (lives + 1) at clock tale to) (life-holds m (lives + 1) at clock tale to)

@@ -9,8 +9,11 @@
 //! given when the tale says so. If there is no such answer, the packet was made up.
 //!
 //! - `laws`: `step_laws`, `round_laws`, `tale_laws`, `assumption_laws` and `reading_laws`.
+//! - `meeting`: `meeting_laws`.
 #![tactic(auto)]
 
 mod laws;
+mod meeting;
 
 pub use laws::{assumption_laws, reading_laws, round_laws, step_laws, tale_laws};
+pub use meeting::meeting_laws;

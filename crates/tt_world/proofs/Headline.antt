@@ -6,3 +6,4 @@ pub mod Running
 pub mod Committing
 pub mod Committed
 pub mod OnRun
+pub mod Meeting

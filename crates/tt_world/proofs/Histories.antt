@@ -10,6 +10,7 @@ pub mod PollTimes
 pub mod Stating
 pub mod Fusing
 pub mod FusionTimes
+pub mod Meeting
 pub mod Sound
 pub mod Sight
 pub mod Placing

@@ -13,4 +13,5 @@ pub mod Private
 pub mod State
 pub mod Fault
 pub mod Headline
+pub mod Meeting
 pub mod Trace

@@ -29,6 +29,8 @@
 //!   clock keeps its drift bound (Spanner's `TT.now()`, OSDI 2012, section 3).
 //! - Every published span is the shortest that is right whichever sources lie (Marzullo and Owicki, 1983).
 //! - Under the same assumptions no fusion is refused if enough sources are known.
+//! - Two fusions of one life of a machine meet, if the earlier span is aged to the later clock reading, under the
+//!   assumptions on this life alone ([`meeting_laws`]).
 //! - Every stamp is the least that is at least the latest of the reading, the floor and the start of the machine's
 //!   lease, and above all stamps of the machine's life. It lies in the lease (the start rule, OSDI 2012, section
 //!   4.1.2).
@@ -47,7 +49,7 @@
 //! - `workers`: the state of one worker. `machine_actions`: the actions of one machine alone.
 //! - `machines`: the state of one machine.
 //! - `world`: a whole run, event by event.
-//! - `runs`: whole runs.
+//! - `runs`: whole runs. `meeting`: two fusions of one life of a machine.
 //! - `faults`: why an event is bad.
 #![tactic(auto)]
 
@@ -56,6 +58,7 @@ mod events;
 mod faults;
 mod machine_actions;
 mod machines;
+mod meeting;
 mod packets;
 mod publications;
 mod runs;
@@ -65,6 +68,7 @@ mod world;
 pub use breaches::Breach;
 pub use events::{Action, Event, MAX_PAYLOAD, Payload, Receipts, Reply};
 pub use faults::WorldFault;
+pub use meeting::meeting_laws;
 pub use publications::Shown;
 pub use runs::{Trace, run, run_laws};
 pub use world::{MAX_MACHINES, World};

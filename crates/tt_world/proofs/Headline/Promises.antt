@@ -47,7 +47,7 @@ read_not_bad : (reason : Option WorldFault) (reply : Reply) (reading : Interval)
 read_not_bad None reply reading h = (refl, h)
 read_not_bad (Some number) reply reading h = absurd cc
 
-published_not_bad : (reason : Option WorldFault) (reply : Reply) (number : ℕ) (span : Interval) → reply_unless_bad reason reply ≡ Published number span → (reason ≡ None) × (reply ≡ Published number span)
+pub published_not_bad : (reason : Option WorldFault) (reply : Reply) (number : ℕ) (span : Interval) → reply_unless_bad reason reply ≡ Published number span → (reason ≡ None) × (reply ≡ Published number span)
 published_not_bad None reply number span h = (refl, h)
 published_not_bad (Some other) reply number span h = absurd cc
 
@@ -76,7 +76,7 @@ no_reading_queued (Some fault) reading h = cc
 same_reading : (a b : Interval) → Read a ≡ Read b → a ≡ b
 same_reading a b h = cc
 
-published_made : (count : ℕ) (made : Result FusedSpan ℕ) (number : ℕ) (span : Interval) → fusion_reply count made ≡ Published number span → (publication : FusedSpan) × (made ≡ Ok publication) × (publication.span ≡ span)
+pub published_made : (count : ℕ) (made : Result FusedSpan ℕ) (number : ℕ) (span : Interval) → fusion_reply count made ≡ Published number span → (publication : FusedSpan) × (made ≡ Ok publication) × (publication.span ≡ span)
 published_made count (Ok publication) number span h = (publication, refl, cc)
 published_made count (Err other) number span h = absurd cc
 
@@ -87,7 +87,7 @@ machine_of_worker configs m w h =
     let parts = and_parts _ _ (not-false _ h) in
     ltb-true m (length configs) parts.0
 
-machine_there : (configs : List Configuration) (m : ℕ) → not (has_machine configs m) ≡ false → m < length configs
+pub machine_there : (configs : List Configuration) (m : ℕ) → not (has_machine configs m) ≡ false → m < length configs
 machine_there configs m h = ltb-true m (length configs) (not-false _ h)
 
 -- a publication that can be read is there
