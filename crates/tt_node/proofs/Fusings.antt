@@ -18,6 +18,7 @@ use Rattle.tt_publish.specs.declared.faults.PublishFault.{PublishFault}
 use Rattle.tt_publish.specs.declared.faults.PublishFault.TheVariants as publishes
 use Rattle.tt_node.specs.Fusing.{Fusion, Grows, fusion_in, fusions_in, fusion_found, fusion_at, is_before, goes_back}
 use Rattle.tt_node.specs.Course.{publish, publish_fused, fuse_at}
+use Rattle.tt_node.specs.Reports.{Fuses as Fused, Report, fusion_of, after_event, fuse_events, ReportsByMemory}
 use Rattle.tt_node.specs.Tallies.{fusion_refused}
 use Rattle.tt_node.specs.declared.tallies.Tally.{Tally}
 use Rattle.tt_node.specs.Making.{before_rest, stand_of, MakesByMemory}
@@ -36,11 +37,6 @@ pub record Fuses (d : DaemonState) (clock : ℕ) (r : Result Publication DaemonF
   pub found : IsForward d clock → KnowsEnough d → MatchResult r
       (λ p. slow_fusion (spans_of d clock) d.config.faulty ≡ Some p.span)
       (λ e. (e ≡ daemon.NoPoint) × (slow_fusion (spans_of d clock) d.config.faulty ≡ None))
-
--- the fusion of a publication, or the refusal
-abbrev pub fusion_of : Result Publication DaemonFault → Result Fusion DaemonFault
-fusion_of (Ok p) = Ok (fusion_in p)
-fusion_of (Err fault) = Err fault
 
 is_back-true : (table : TableState) (clock : ℕ) → is_back table clock ≡ true → (clock < table.clock) ⊎ (max_time < clock)
 is_back-true table clock = (Decides-or (nat_lt clock table.clock) (nat_lt max_time clock) (Decides-ltb clock table.clock) (Decides-ltb max_time clock)).0
@@ -193,14 +189,17 @@ publish-answered d items after tally p (Err publishes.Memory) h =
     rw h.unchanged (not_granted d items tally p (goes_back-false items p forward) (not_full items room))
 
 -- what was fused was published, or not
-pub fuse-published : (d d' : DaemonState) (items after : List Publication) (tally : Tally) (clock : ℕ) (p : Publication) (r : Result (Unit {0}) PublishFault)
-    → fusion_at d clock ≡ Ok (fusion_in p) → d' ≡ d → Published items after p r
-    → MakesByMemory (fuse_at clock) (stand_of d (fusions_in items) tally) (stand_of d' (fusions_in after) tally) (answered r)
-unfolding fuse_at publish_fused
-fuse-published d d' items after tally clock p r is same h =
+pub fuse-published : (d d' : DaemonState) (items after : List Publication) (tally : Tally) (clock : ℕ) (p : Publication) (r : Result (Unit {0}) PublishFault) (old new : Report)
+    → fusion_at d clock ≡ Ok (fusion_in p) → d' ≡ d → Published items after p r → new ≡ after_event (Fused (Ok (fusion_in p))) old
+    → ReportsByMemory (fuse_at clock) (fuse_events clock) (stand_of d (fusions_in items) tally) (stand_of d' (fusions_in after) tally) (answered r) old new
+unfolding fuse_at publish_fused fuse_events
+fuse-published d d' items after tally clock p r old new is same h reports =
     let one = publish-answered d items after tally p r h in
     rw same (record {
       grants = one.grants;
+      told = Fused (Ok (fusion_in p)) ∷ [];
+      tells = record { tells = λ past rest. ap (λ fusion. Fused fusion ∷ []) is };
+      reports = reports;
       course = record {
         leads = λ past rest.
             ap (λ fused. publish_fused fused (stand_of d (fusions_in items) tally past) (before_rest (record { readings = []; gifts = []; grants = one.grants }) rest)) is
@@ -209,13 +208,16 @@ fuse-published d d' items after tally clock p r is same h =
     })
 
 -- nothing was fused
-pub fuse-refused : (d d' : DaemonState) (items : List Fusion) (tally : Tally) (clock : ℕ) (fault : DaemonFault)
-    → fusion_at d clock ≡ Err fault → d' ≡ d
-    → MakesByMemory (fuse_at clock) (stand_of d items tally) (stand_of d' items (fusion_refused fault tally)) (Ok tt)
-unfolding fuse_at publish_fused
-fuse-refused d d' items tally clock fault is same =
+pub fuse-refused : (d d' : DaemonState) (items : List Fusion) (tally : Tally) (clock : ℕ) (fault : DaemonFault) (old new : Report)
+    → fusion_at d clock ≡ Err fault → d' ≡ d → new ≡ after_event (Fused (Err fault)) old
+    → ReportsByMemory (fuse_at clock) (fuse_events clock) (stand_of d items tally) (stand_of d' items (fusion_refused fault tally)) (Ok tt) old new
+unfolding fuse_at publish_fused fuse_events
+fuse-refused d d' items tally clock fault old new is same reports =
     rw same (record {
       grants = [];
+      told = Fused (Err fault) ∷ [];
+      tells = record { tells = λ past rest. ap (λ fusion. Fused fusion ∷ []) is };
+      reports = reports;
       course = record {
         leads = λ past rest.
             ap (λ fused. publish_fused fused (stand_of d items tally past) (before_rest (record { readings = []; gifts = []; grants = [] }) rest)) is
@@ -235,3 +237,22 @@ Grows-then old mid new first second third one two = record {
   each = All-append IsPublication one.added two.added one.each two.each;
   count = omega (arith, one.count, two.count, length-append one.added two.added);
 }
+
+-- ---- what is reported
+
+-- the last of a list is what was put behind it
+last_or-behind : (o : Option Publication) (items : List Publication) (p : Publication) → last_or o (items ++ p ∷ []) ≡ Some p
+last_or-behind o [] p = refl
+last_or-behind o (x ∷ items) p = last_or-behind (Some x) items p
+
+-- a fusion that was published is the last publication
+pub last-published : (items after : List Publication) (p : Publication) (fusion : Option (Result Publication DaemonFault)) → fusion ≡ Some (Ok p) → after ≡ items ++ p ∷ []
+    → (q : Publication) → fusion ≡ Some (Ok q) → last_of after ≡ Some q
+last-published items after p fusion is grew q says =
+    let same : p ≡ q = cc (is, says) in
+    rw grew (last_or-behind None items p ∙ ap (λ x. Some x) same)
+
+-- where nothing was fused, there is nothing to tell
+pub last-refused : (items : List Publication) (fault : DaemonFault) (fusion : Option (Result Publication DaemonFault)) → fusion ≡ Some (Err fault)
+    → (q : Publication) → fusion ≡ Some (Ok q) → last_of items ≡ Some q
+last-refused items fault fusion is q says = absurd (cc (is, says))

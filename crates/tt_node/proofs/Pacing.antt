@@ -4,12 +4,13 @@ use Rattle.tt_node.specs.Link.{Call, Gift, Exchange}
 use Rattle.tt_node.specs.Course.{Stand, each_below, round_of, rounds_of}
 use Rattle.tt_node.specs.Tallies.{refused_in}
 use Rattle.tt_node.specs.declared.tallies.Tally.{Tally}
-use Rattle.tt_node.specs.Making.{Makes, answer_of}
+use Rattle.tt_node.specs.Making.{answer_of}
+use Rattle.tt_node.specs.Reports.{Report, events_below, round_events, rounds_events, Reports}
 use Rattle.tt_node.specs.Pacing.{LetsBegin, EndsAfter}
 use Rattle.tt_node.specs.declared.faults.NodeFault.{NodeFault}
 use Rattle.tt_node.specs.declared.rounds.Rounds.{Rounds}
 use Rattle.tt_node.specs.declared.paces.CountedPace.{CountedPace}
-use Rattle.tt_node.proofs.Leading.{Makes-ends_below}
+use Rattle.tt_node.proofs.Leading.{Reports-ends_below}
 
 -- one more round
 pub Lets-more : {P : Type 0} (says : P → Rounds → Bool → P → Type 0) (before mid after : P) (n : ℕ) (did : Rounds) (goes : Bool)
@@ -52,13 +53,13 @@ counted-done rounds pace pace' (Err fault) is most ends = tt
 
 -- so many rounds that this pace let begin are the course of the rounds that it counts
 module _ {C L : Type 0} (gives : C → Option ℕ → C → Type 0) (does : L → Call → Gift → L → Type 0) where
-  pub counted-course : (rounds turns n : ℕ) (tally : Tally) (pace pace' : CountedPace) (clock clock' : C) (link link' : L) (from to : List Exchange → Stand) (result : Result Rounds NodeFault)
+  pub counted-course : (rounds turns n : ℕ) (tally : Tally) (pace pace' : CountedPace) (clock clock' : C) (link link' : L) (from to : List Exchange → Stand) (result : Result Rounds NodeFault) (old new : Report)
       → pace.rounds ≡ rounds → rounds ≤ 4294967295 → IfOk result (λ did. (did.tally ≡ tally) × (did.refused ≡ refused_in tally) × (did.done ≡ n)) → OnErr result (LetsBegin counts pace n pace')
       → IfOk result (λ did. EndsAfter counts pace did pace')
-      → Makes gives does (rounds_of n turns) clock clock' link link' from to (answer_of result)
-      → Makes gives does (rounds_of rounds turns) clock clock' link link' from to (answer_of result)
-  unfolding rounds_of
-  counted-course rounds turns n tally pace pace' clock clock' link link' from to (Ok did) is most done lets ends made =
-      subst (λ k. Makes gives does (each_below k (λ _. round_of turns)) clock clock' link link' from to (Ok tt)) (sym done.2 ∙ counts-all rounds pace pace' did is most ends) made
-  counted-course rounds turns n tally pace pace' clock clock' link link' from to (Err fault) is most done lets ends made =
-      Makes-ends_below gives does n rounds _ _ _ _ _ _ _ _ (omega (arith, (counts-few n pace pace' lets).1, is)) made
+      → Reports gives does (rounds_of n turns) (rounds_events n turns) clock clock' link link' from to (answer_of result) old new
+      → Reports gives does (rounds_of rounds turns) (rounds_events rounds turns) clock clock' link link' from to (answer_of result) old new
+  unfolding rounds_of rounds_events
+  counted-course rounds turns n tally pace pace' clock clock' link link' from to (Ok did) old new is most done lets ends made =
+      subst (λ k. Reports gives does (each_below k (λ _. round_of turns)) (events_below k (λ _. round_of turns) (λ _. round_events turns)) clock clock' link link' from to (Ok tt) old new) (sym done.2 ∙ counts-all rounds pace pace' did is most ends) made
+  counted-course rounds turns n tally pace pace' clock clock' link link' from to (Err fault) old new is most done lets ends made =
+      Reports-ends_below gives does n rounds _ _ _ _ _ _ _ _ _ _ _ (omega (arith, (counts-few n pace pace' lets).1, is)) made

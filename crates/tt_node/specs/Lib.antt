@@ -15,3 +15,4 @@ pub mod Lists
 pub mod Gating
 pub mod Working
 pub mod Pacing
+pub mod Reports

@@ -3,6 +3,7 @@ use Rattle.std.specs.Prelude.{◌≡◌, ℕ, List, [], ◌∷◌, ◌++◌, Boo
 use Rattle.tt_node.specs.Link.{Packet, Call, Gift, Exchange, sent_by, sends_in}
 use Rattle.tt_node.specs.Course.{Stand, Part}
 use Rattle.tt_node.specs.Making.{part_with}
+use Rattle.tt_node.specs.Reports.{Report, PartEvents, after_events}
 use Rattle.tt_node.specs.declared.faults.NodeFault.{NodeFault}
 
 -- a clock that keeps what it is to give, failures included, gives the first of it
@@ -26,3 +27,8 @@ pub record IsCourse (part : Part (Unit {0})) (clock clock' : List (Option ℕ)) 
   pub course : part (from []) (record { readings = clock; gifts = line.left; grants = grants })
       ≡ part_with answer (to exchanges) (record { readings = clock'; gifts = line'.left; grants = [] })
   pub sent : line'.sent ≡ line.sent ++ sends_in exchanges
+
+-- the same, and the report after it is that of the events of the part, computed from the same lists
+pub record IsReported (part : Part (Unit {0})) (events : PartEvents) (clock clock' : List (Option ℕ)) (line line' : Line) (from to : List Exchange → Stand) (answer : Result (Unit {0}) NodeFault) (old new : Report) : Type 0 where
+  pub course : IsCourse part clock clock' line line' from to answer
+  pub report : new ≡ after_events (events (from []) (record { readings = clock; gifts = line.left; grants = course.grants })) old

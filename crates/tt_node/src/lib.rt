@@ -19,7 +19,8 @@
 //! - `links`: the trait `Link`, which sends and receives packets. `datagrams`: links over UDP, for a daemon and for a
 //!   master.
 //! - `paces`: the trait `Pace`, which says how long a daemon goes on, and a pace that counts the rounds.
-//! - `rounds`: `daemon_while` and `daemon_rounds`, and what one such call did. `tallies`: what it counted.
+//! - `rounds`: `daemon_while`, `daemon_rounds` and `report_rounds`, and what one such call did. `tallies`: what it
+//!   counted. `reports`: what its last round did.
 //! - `masters`: `master_rounds`.
 //! - `gates`: the trait `Gate`, which may hold the calls of a worker, and a gate that holds none. `workers`: `Worker`.
 //! - `nodes`: `run_node`, with its clocks, its limits and its end.
@@ -34,6 +35,7 @@ mod links;
 mod masters;
 mod nodes;
 mod paces;
+mod reports;
 mod round_links;
 mod rounds;
 mod tallies;
@@ -47,7 +49,8 @@ pub use links::{Link, PACKET_LEN};
 pub use masters::master_rounds;
 pub use nodes::{Clocks, Limits, NodeEnd, WorkerEnd, run_node};
 pub use paces::{CountedPace, Pace};
+pub use reports::{RoundReport, SourceOutcome, SourceReport};
 pub use round_links::{MAX_DROPPED, RoundLink};
-pub use rounds::{Rounds, course_laws, daemon_rounds, daemon_while};
+pub use rounds::{Rounds, course_laws, daemon_rounds, daemon_while, report_laws, report_rounds};
 pub use tallies::{RefusedFusions, RefusedPackets, Tally};
 pub use workers::{MAX_PAUSE, MAX_TURNS, Worker};

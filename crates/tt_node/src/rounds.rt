@@ -6,16 +6,18 @@ ghost use Rattle.tt_node.specs.Counting.{FailsBy};
 ghost use Rattle.tt_node.specs.Fault.{IsDeviceFault, IsRoundsFault};
 ghost use Rattle.tt_node.specs.Fusing.{Fusion, fusions_in, Grows};
 ghost use Rattle.tt_node.specs.Course.{Stand, Part, poll_at, poll_all as polls_all, each_below, turn as turn_of, fuse_at as fuses_at, round_of, rounds_of};
-ghost use Rattle.tt_node.specs.Lists.{GivesInTurn, Line, MovesInTurn, IsCourse};
+ghost use Rattle.tt_node.specs.Lists.{GivesInTurn, Line, MovesInTurn, IsCourse, IsReported};
 ghost use Rattle.tt_node.specs.declared.faults.NodeFault.{NodeFault};
-ghost use Rattle.tt_node.specs.Making.{Makes, MakesByLink, MakesByMemory, stand_of, answer_of};
+ghost use Rattle.tt_node.specs.Making.{Makes, stand_of, answer_of};
 ghost use Rattle.tt_node.specs.Pacing.{LetsBegin, EndsAfter};
+ghost use Rattle.tt_node.specs.Reports.{PartEvents, Report, Reports, ReportsByLink, ReportsByMemory, poll_events, polls_events, turn_events, events_below, fuse_events, round_events, rounds_events, TellsLast, no_report, told_by};
 ghost use Rattle.tt_node.specs.Tallies.{no_tally, refused_in, counted_in};
 ghost use Rattle.tt_node.specs.declared.tallies.Tally.{Tally};
 
 use crate::faults::NodeFault;
 use crate::links::{Link, PACKET_LEN};
 use crate::paces::{CountedPace, Pace};
+use crate::reports::RoundReport;
 use crate::tallies::Tally;
 use std::sync::Wait;
 use tt_daemon::Daemon;
@@ -41,10 +43,11 @@ fn poll_one<L: Link>(
     source: u8,
     clock: u64,
     tally: &mut Tally,
+    report: &mut RoundReport,
 ) -> Result<(), NodeFault>
     requires room { tally.old.polls + 1 < 2 ^ 64 }
-    ensures course { (items : List Fusion) → MakesByLink L.does (poll_at clock source) link.old link.new
-        (stand_of daemon.old items tally.old) (stand_of daemon.new items tally.new) result }
+    ensures course { (items : List Fusion) → ReportsByLink L.does (poll_at clock source) (poll_events clock source) link.old link.new
+        (stand_of daemon.old items tally.old) (stand_of daemon.new items tally.new) result (told_by report.old) (told_by report.new) }
     ensures fails { FailsBy result NodeFault.LinkFailed (L.failed link.old) (L.failed link.new) }
     ensures no_clock { ¬ IsErrOf result NodeFault.ClockFailed }
     ensures rounds_fault { IfErr result IsDeviceFault }
@@ -56,6 +59,7 @@ fn poll_one<L: Link>(
         return Ok(());
     };
     tally.polls += 1;
+    report.poll(source, clock);
     let Ok(()) = link.send(source, &request) else {
         return Err(NodeFault::LinkFailed);
     };
@@ -68,10 +72,11 @@ fn poll_all<L: Link>(
     link: &mut L,
     clock: u64,
     tally: &mut Tally,
+    report: &mut RoundReport,
 ) -> Result<(), NodeFault>
     requires room { tally.old.polls + 255 < 2 ^ 64 }
-    ensures course { (items : List Fusion) → MakesByLink L.does (polls_all clock) link.old link.new
-        (stand_of daemon.old items tally.old) (stand_of daemon.new items tally.new) result }
+    ensures course { (items : List Fusion) → ReportsByLink L.does (polls_all clock) (polls_events clock) link.old link.new
+        (stand_of daemon.old items tally.old) (stand_of daemon.new items tally.new) result (told_by report.old) (told_by report.new) }
     ensures fails { FailsBy result NodeFault.LinkFailed (L.failed link.old) (L.failed link.new) }
     ensures no_clock { ¬ IsErrOf result NodeFault.ClockFailed }
     ensures rounds_fault { IfErr result IsDeviceFault }
@@ -79,7 +84,7 @@ fn poll_all<L: Link>(
     ensures counted { counted_in tally.new ≡ counted_in tally.old }
 {
     for source in 0..daemon.config().sources() {
-        poll_one(daemon, link, source as u8, clock, tally)?;
+        poll_one(daemon, link, source as u8, clock, tally, report)?;
     }
     Ok(())
 }
@@ -120,10 +125,11 @@ fn turn<L: Link, C: Clock>(
     link: &mut L,
     clock: &mut C,
     tally: &mut Tally,
+    report: &mut RoundReport,
 ) -> Result<(), NodeFault>
     requires room { counted_in tally.old + 1 < 2 ^ 64 }
-    ensures course { (items : List Fusion) → Makes C.gives L.does turn_of clock.old clock.new link.old link.new
-        (stand_of daemon.old items tally.old) (stand_of daemon.new items tally.new) result }
+    ensures course { (items : List Fusion) → Reports C.gives L.does turn_of turn_events clock.old clock.new link.old link.new
+        (stand_of daemon.old items tally.old) (stand_of daemon.new items tally.new) result (told_by report.old) (told_by report.new) }
     ensures link_fails { FailsBy result NodeFault.LinkFailed (L.failed link.old) (L.failed link.new) }
     ensures clock_fails { FailsBy result NodeFault.ClockFailed (C.failed clock.old) (C.failed clock.new) }
     ensures rounds_fault { IfErr result IsDeviceFault }
@@ -138,10 +144,12 @@ fn turn<L: Link, C: Clock>(
     match daemon.take(source, now, &buffer[..length]) {
         Ok(()) => {
             tally.taken += 1;
+            report.accept(source, now);
             Ok(())
         }
         Err(fault) => {
             tally.refuse_packet(fault);
+            report.refuse(source, now, fault);
             Ok(())
         }
     }
@@ -154,10 +162,12 @@ fn all_turns<L: Link, C: Clock>(
     clock: &mut C,
     turns: u32,
     tally: &mut Tally,
+    report: &mut RoundReport,
 ) -> Result<(), NodeFault>
     requires room { counted_in tally.old + turns < 2 ^ 64 }
-    ensures course { (items : List Fusion) → Makes C.gives L.does (each_below turns (λ _. turn_of)) clock.old clock.new link.old link.new
-        (stand_of daemon.old items tally.old) (stand_of daemon.new items tally.new) result }
+    ensures course { (items : List Fusion) → Reports C.gives L.does (each_below turns (λ _. turn_of)) (events_below turns (λ _. turn_of) (λ _. turn_events))
+        clock.old clock.new link.old link.new
+        (stand_of daemon.old items tally.old) (stand_of daemon.new items tally.new) result (told_by report.old) (told_by report.new) }
     ensures link_fails { FailsBy result NodeFault.LinkFailed (L.failed link.old) (L.failed link.new) }
     ensures clock_fails { FailsBy result NodeFault.ClockFailed (C.failed clock.old) (C.failed clock.new) }
     ensures rounds_fault { IfErr result IsDeviceFault }
@@ -165,7 +175,7 @@ fn all_turns<L: Link, C: Clock>(
     ensures few { counted_in tally.new ≤ counted_in tally.old + turns }
 {
     for _ in 0..turns {
-        turn(daemon, link, clock, tally)?;
+        turn(daemon, link, clock, tally, report)?;
     }
     Ok(())
 }
@@ -177,11 +187,13 @@ fn fuse<R: Wait>(
     teller: &mut Teller,
     clock: u64,
     counts: &mut Rounds,
+    report: &mut RoundReport,
 ) -> Result<(), NodeFault>
     requires refused_room { refused_in counts.old.tally + 1 < 2 ^ 64 }
     requires published_room { counts.old.published + 1 < 2 ^ 64 }
-    ensures course { MakesByMemory (fuses_at clock) (stand_of daemon.old (fusions_in teller.old.items) counts.old.tally)
-        (stand_of daemon.new (fusions_in teller.new.items) counts.new.tally) result }
+    ensures course { ReportsByMemory (fuses_at clock) (fuse_events clock) (stand_of daemon.old (fusions_in teller.old.items) counts.old.tally)
+        (stand_of daemon.new (fusions_in teller.new.items) counts.new.tally) result (told_by report.old) (told_by report.new) }
+    ensures last { OnOk result (TellsLast report.new teller.new.items) }
     ensures grew { Grows teller.old.items teller.new.items counts.old.published counts.new.published }
     ensures no_device { (¬ IsErrOf result NodeFault.LinkFailed) × (¬ IsErrOf result NodeFault.ClockFailed) }
     ensures rounds_fault { IfErr result (IsRoundsFault teller.new.items) }
@@ -196,9 +208,11 @@ fn fuse<R: Wait>(
         Ok(fused) => fused,
         Err(fault) => {
             counts.tally.refuse_fusion(fault);
+            report.fuse(Err(fault));
             return Ok(());
         }
     };
+    report.fuse(Ok(fused.copied()));
     match teller.publish(rt, fused) {
         Ok(()) => {
             counts.published += 1;
@@ -217,13 +231,15 @@ fn round<R: Wait, L: Link, C: Clock>(
     teller: &mut Teller,
     turns: u32,
     counts: &mut Rounds,
+    report: &mut RoundReport,
 ) -> Result<(), NodeFault>
     requires room { counted_in counts.old.tally + turns + 1 < 2 ^ 64 }
     requires polls_room { counts.old.tally.polls + 255 < 2 ^ 64 }
     requires published_room { counts.old.published + 1 < 2 ^ 64 }
-    ensures course { Makes C.gives L.does (round_of turns) clock.old clock.new link.old link.new
+    ensures course { Reports C.gives L.does (round_of turns) (round_events turns) clock.old clock.new link.old link.new
         (stand_of daemon.old (fusions_in teller.old.items) counts.old.tally)
-        (stand_of daemon.new (fusions_in teller.new.items) counts.new.tally) result }
+        (stand_of daemon.new (fusions_in teller.new.items) counts.new.tally) result (told_by report.old) (told_by report.new) }
+    ensures last { OnOk result (TellsLast report.new teller.new.items) }
     ensures grew { Grows teller.old.items teller.new.items counts.old.published counts.new.published }
     ensures link_fails { FailsBy result NodeFault.LinkFailed (L.failed link.old) (L.failed link.new) }
     ensures clock_fails { FailsBy result NodeFault.ClockFailed (C.failed clock.old) (C.failed clock.new) }
@@ -234,11 +250,12 @@ fn round<R: Wait, L: Link, C: Clock>(
     ensures fewer { counts.new.published ≤ counts.old.published + 1 }
     ensures source { teller.new.source ≡ teller.old.source }
 {
+    report.begin();
     let sent = read(clock)?;
-    poll_all(daemon, link, sent, &mut counts.tally)?;
-    all_turns(daemon, link, clock, turns, &mut counts.tally)?;
+    poll_all(daemon, link, sent, &mut counts.tally, report)?;
+    all_turns(daemon, link, clock, turns, &mut counts.tally, report)?;
     let now = read(clock)?;
-    fuse(rt, daemon, teller, now, counts)
+    fuse(rt, daemon, teller, now, counts, report)
 }
 
 /// Makes rounds as long as the pace says yes.
@@ -251,16 +268,19 @@ fn paced_rounds<R: Wait, L: Link, C: Clock, P: Pace>(
     pace: &mut P,
     turns: u32,
     counts: &mut Rounds,
+    report: &mut RoundReport,
 ) -> Result<(), NodeFault>
     requires done { counts.old.done ≡ 0 }
     requires published { counts.old.published ≡ 0 }
     requires refused { counts.old.refused ≡ 0 }
     requires tally { counts.old.tally ≡ no_tally }
-    ensures course { (rounds : ℕ) × Makes C.gives L.does (rounds_of rounds turns) clock.old clock.new link.old link.new
+    requires last { TellsLast report.old teller.old.items }
+    ensures course { (rounds : ℕ) × Reports C.gives L.does (rounds_of rounds turns) (rounds_events rounds turns) clock.old clock.new link.old link.new
         (stand_of daemon.old (fusions_in teller.old.items) no_tally)
-        (stand_of daemon.new (fusions_in teller.new.items) counts.new.tally) result
+        (stand_of daemon.new (fusions_in teller.new.items) counts.new.tally) result (told_by report.old) (told_by report.new)
         × OnOk result (counts.new.done ≡ rounds) × OnErr result (LetsBegin P.says pace.old rounds pace.new) }
     ensures whole { OnOk result (counts.new.refused ≡ refused_in counts.new.tally) }
+    ensures last { OnOk result (TellsLast report.new teller.new.items) }
     ensures paced { OnOk result (EndsAfter P.says pace.old counts.new pace.new) }
     ensures grew { Grows teller.old.items teller.new.items 0 counts.new.published }
     ensures link_fails { FailsBy result NodeFault.LinkFailed (L.failed link.old) (L.failed link.new) }
@@ -273,7 +293,7 @@ fn paced_rounds<R: Wait, L: Link, C: Clock, P: Pace>(
         if !pace.goes_on(daemon, counts) {
             return Ok(());
         }
-        round(rt, daemon, link, clock, teller, turns, counts)?;
+        round(rt, daemon, link, clock, teller, turns, counts, report)?;
         counts.refused = counts.tally.refused();
         counts.done += 1;
     }
@@ -323,13 +343,52 @@ pub fn daemon_while<R: Wait, L: Link, C: Clock, P: Pace>(
     ensures rounds_fault { IfErr result (IsRoundsFault teller.new.items) }
     ensures source { teller.new.source ≡ teller.old.source }
 {
+    let mut report = RoundReport::new();
+    rounds_with(rt, daemon, link, clock, teller, pace, turns, &mut report)
+}
+
+/// Does what [`daemon_while`] does, with the same refusals, and reports the last round.
+fn rounds_with<R: Wait, L: Link, C: Clock, P: Pace>(
+    rt: &R,
+    daemon: &mut Daemon,
+    link: &mut L,
+    clock: &mut C,
+    teller: &mut Teller,
+    pace: &mut P,
+    turns: u32,
+    report: &mut RoundReport,
+) -> Result<Rounds, NodeFault>
+    ensures course { (rounds : ℕ) × (tally : Tally) × Reports C.gives L.does (rounds_of rounds turns) (rounds_events rounds turns) clock.old clock.new link.old link.new
+        (stand_of daemon.old (fusions_in teller.old.items) no_tally)
+        (stand_of daemon.new (fusions_in teller.new.items) tally) (answer_of result) no_report (told_by report.new)
+        × IfOk result (λ did. (did.tally ≡ tally) × (did.refused ≡ refused_in tally) × (did.done ≡ rounds)) × OnErr result (LetsBegin P.says pace.old rounds pace.new) }
+    ensures paced { IfOk result (λ did. EndsAfter P.says pace.old did pace.new) }
+    ensures last { OnOk result (TellsLast report.new teller.new.items) }
+    ensures grew { (published : ℕ) × Grows teller.old.items teller.new.items 0 published × IfOk result (λ did. did.published ≡ published) }
+    ensures few { length teller.new.items ≤ length teller.old.items + 4294967295 }
+    ensures link_fails { FailsBy result NodeFault.LinkFailed (L.failed link.old) (L.failed link.new) }
+    ensures clock_fails { FailsBy result NodeFault.ClockFailed (C.failed clock.old) (C.failed clock.new) }
+    ensures rounds_fault { IfErr result (IsRoundsFault teller.new.items) }
+    ensures source { teller.new.source ≡ teller.old.source }
+{
+    report.begin();
     let mut counts = Rounds {
         done: 0,
         published: 0,
         refused: 0,
         tally: Tally::new(),
     };
-    match paced_rounds(rt, daemon, link, clock, teller, pace, turns, &mut counts) {
+    match paced_rounds(
+        rt,
+        daemon,
+        link,
+        clock,
+        teller,
+        pace,
+        turns,
+        &mut counts,
+        report,
+    ) {
         Ok(()) => Ok(counts),
         Err(fault) => Err(fault),
     }
@@ -360,8 +419,43 @@ pub fn daemon_rounds<R: Wait, L: Link, C: Clock>(
     ensures rounds_fault { IfErr result (IsRoundsFault teller.new.items) }
     ensures source { teller.new.source ≡ teller.old.source }
 {
+    let mut report = RoundReport::new();
+    report_rounds(rt, daemon, link, clock, teller, rounds, turns, &mut report)
+}
+
+/// Does `rounds` rounds, as [`daemon_rounds`] does, with the same refusals, and reports the last one in `report`. What
+/// `report` held before is forgotten. If a fault ended the rounds, the report is of the round that it ended, up to the
+/// fault. If `rounds` is 0, it is the report of no round.
+pub fn report_rounds<R: Wait, L: Link, C: Clock>(
+    rt: &R,
+    daemon: &mut Daemon,
+    link: &mut L,
+    clock: &mut C,
+    teller: &mut Teller,
+    rounds: u32,
+    turns: u32,
+    report: &mut RoundReport,
+) -> Result<Rounds, NodeFault>
+    // The call did the course of the rounds, by what the clock, the link and the memory gave in this call. The report
+    // is of the events of this course: of the polls, of the packets that came, and of the fusion.
+    ensures course { (tally : Tally) × Reports C.gives L.does (rounds_of rounds turns) (rounds_events rounds turns) clock.old clock.new link.old link.new
+        (stand_of daemon.old (fusions_in teller.old.items) no_tally)
+        (stand_of daemon.new (fusions_in teller.new.items) tally) (answer_of result) no_report (told_by report.new)
+        × IfOk result (λ did. (did.tally ≡ tally) × (did.refused ≡ refused_in tally)) }
+    // If there was no fault, a fusion that the report has is the last publication, with its certificate.
+    ensures last { OnOk result (TellsLast report.new teller.new.items) }
+    // The list of publications grew, by publications with their certificates.
+    ensures grew { (published : ℕ) × Grows teller.old.items teller.new.items 0 published × IfOk result (λ did. did.published ≡ published) }
+    ensures done { IfOk result (λ did. did.done ≡ rounds) }
+    ensures few { length teller.new.items ≤ length teller.old.items + 4294967295 }
+    // A fault of a device is answered exactly if this device failed.
+    ensures link_fails { FailsBy result NodeFault.LinkFailed (L.failed link.old) (L.failed link.new) }
+    ensures clock_fails { FailsBy result NodeFault.ClockFailed (C.failed clock.old) (C.failed clock.new) }
+    ensures rounds_fault { IfErr result (IsRoundsFault teller.new.items) }
+    ensures source { teller.new.source ≡ teller.old.source }
+{
     let mut pace = CountedPace { rounds };
-    daemon_while(rt, daemon, link, clock, teller, &mut pace, turns)
+    rounds_with(rt, daemon, link, clock, teller, &mut pace, turns, report)
 }
 
 /// A law of all parts of the course, for instance the rounds of [`daemon_rounds`], over a clock and a link that each
@@ -371,4 +465,12 @@ pub fn course_laws()
     ensures lists { (part : Part (Unit {0})) (clock clock' : List (Option ℕ)) (line line' : Line) (from to : List Exchange → Stand)
         (answer : Result (Unit {0}) NodeFault) → Makes GivesInTurn MovesInTurn part clock clock' line line' from to answer →
         IsCourse part clock clock' line line' from to answer }
+{}
+
+/// The same law of all parts of the course with their events, for instance of [`report_rounds`]: the events are
+/// computed from the same lists, and the report is theirs.
+pub fn report_laws()
+    ensures lists { (part : Part (Unit {0})) (events : PartEvents) (clock clock' : List (Option ℕ)) (line line' : Line) (from to : List Exchange → Stand)
+        (answer : Result (Unit {0}) NodeFault) (before after : Report) → Reports GivesInTurn MovesInTurn part events clock clock' line line' from to answer before after →
+        IsReported part events clock clock' line line' from to answer before after }
 {}

@@ -1,12 +1,12 @@
 use Rattle.std.proofs.Common.{◌≡◌, ◌+◌, ◌∙◌, Err, arith, refl}
 use Rattle.std.proofs.lemmas.Result.{err_from_is_err_and}
 use Rattle.tt_node.proofs.Failing.{not_failed}
-use Rattle.tt_node.proofs.Leading.{each-none, Makes-done, Makes-more, Makes-ends_below}
+use Rattle.tt_node.proofs.Leading.{Reports-none, Reports-more, Reports-ends_below}
 use Rattle.tt_node.proofs.rounds.all_turns.Goals as goal
 
 pub loop-init : goal.loop-init
 loop-init g c = record {
-  course = λ items. Makes-done g.C.Clock.gives g.L.Link.does _ _ _ _ (each-none _ _);
+  course = λ items. Reports-none g.C.Clock.gives g.L.Link.does _ _ _ _ _ _;
   link = refl;
   clock = refl;
   polls = refl;
@@ -17,12 +17,12 @@ pub returns-in_err-turn-clause-course : goal.returns-in_err-turn-clause-course
 returns-in_err-turn-clause-course g c = λ items.
     let p = err_from_is_err_and c.from_residual.result c.from_residual.ensures.1 in
     let e : c.from_residual.result ≡ Err c.in_err-turn.field-0.0 = cc (p.1, p.2) in
-    rw e (Makes-ends_below g.C.Clock.gives g.L.Link.does (c.loop.counter + 1) _ _ _ _ _ _ _ _ _ (omega arith)
-    (Makes-more g.C.Clock.gives g.L.Link.does _ _ _ _ _ _ _ _ _ _ _ _ (c.loop.invariant.course items) (c.in_err-turn.ensures.course items)))
+    rw e (Reports-ends_below g.C.Clock.gives g.L.Link.does (c.loop.counter + 1) _ _ _ _ _ _ _ _ _ _ _ _ (omega arith)
+    (Reports-more g.C.Clock.gives g.L.Link.does _ _ _ _ _ _ _ _ _ _ _ _ _ _ _ _ (c.loop.invariant.course items) (c.in_err-turn.ensures.course items)))
 
 pub loop-preserved : goal.loop-preserved
 loop-preserved g c = record {
-  course = λ items. Makes-more g.C.Clock.gives g.L.Link.does _ _ _ _ _ _ _ _ _ _ _ _ (c.loop.invariant.course items) (c.in_ok-turn.ensures.course items);
+  course = λ items. Reports-more g.C.Clock.gives g.L.Link.does _ _ _ _ _ _ _ _ _ _ _ _ _ _ _ _ (c.loop.invariant.course items) (c.in_ok-turn.ensures.course items);
   link = not_failed _ _ _ _ c.in_ok-turn.ensures.link_fails ∙ c.loop.invariant.link;
   clock = not_failed _ _ _ _ c.in_ok-turn.ensures.clock_fails ∙ c.loop.invariant.clock;
   polls = c.in_ok-turn.ensures.polls ∙ c.loop.invariant.polls;

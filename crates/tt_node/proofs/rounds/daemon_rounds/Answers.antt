@@ -1,11 +1,7 @@
-use Rattle.std.proofs.Common.{arith, refl}
-use Rattle.tt_node.proofs.Pacing.{counted-course, counted-done, told-counts}
+use Rattle.tt_node.proofs.Leading.{Reports-made}
 use Rattle.tt_node.proofs.rounds.daemon_rounds.Goals as goal
 
 pub returns-clause-course : goal.returns-clause-course
 returns-clause-course g c =
-    let (rounds, tally, made, did, lets) = c.daemon_while.ensures.course in
-    (tally, counted-course g.C.Clock.gives g.L.Link.does _ _ _ _ _ _ _ _ _ _ _ _ _ refl (omega arith) did lets c.daemon_while.ensures.paced made, told-counts _ _ _ did)
-
-pub returns-clause-done : goal.returns-clause-done
-returns-clause-done g c = counted-done _ _ _ _ refl (omega arith) c.daemon_while.ensures.paced
+    let (tally, reports, did) = c.report_rounds.ensures.course in
+    (tally, Reports-made g.C.Clock.gives g.L.Link.does _ _ _ _ _ _ _ _ _ _ _ reports, did)

@@ -1,9 +1,7 @@
-use Rattle.std.proofs.Common.{arith}
-use Rattle.tt_node.proofs.Fusings.{Grows-length}
+use Rattle.tt_node.proofs.Leading.{Reports-made}
 use Rattle.tt_node.proofs.rounds.daemon_while.Goals as goal
 
-pub returns-in-Ok-clause-few : goal.returns-in-Ok-clause-few
-returns-in-Ok-clause-few g c = omega (arith, Grows-length _ _ _ c.in-Ok.ensures.grew, c.in-Ok.ensures.few)
-
-pub returns-in-Err-clause-few : goal.returns-in-Err-clause-few
-returns-in-Err-clause-few g c = omega (arith, Grows-length _ _ _ c.in-Err.ensures.grew, c.in-Err.ensures.few)
+pub returns-clause-course : goal.returns-clause-course
+returns-clause-course g c =
+    let (rounds, tally, reports, did, lets) = c.rounds_with.ensures.course in
+    (rounds, tally, Reports-made g.C.Clock.gives g.L.Link.does _ _ _ _ _ _ _ _ _ _ _ reports, did, lets)

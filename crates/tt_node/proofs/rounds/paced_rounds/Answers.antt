@@ -2,18 +2,20 @@ use Rattle.std.proofs.Common.{◌≡◌, ◌+◌, ◌∙◌, Ok, Err, rules, tes
 use Rattle.tt_node.specs.Fusing.{Grows, fusions_in}
 use Rattle.tt_node.specs.Course.{round_of}
 use Rattle.tt_node.specs.Tallies.{refused_in, counted_in}
-use Rattle.tt_node.specs.Making.{Makes, stand_of}
+use Rattle.tt_node.specs.Making.{stand_of}
+use Rattle.tt_node.specs.Reports.{Reports, round_events, told_by}
 use Rattle.std.proofs.lemmas.Result.{err_from_is_err_and}
 use Rattle.std.proofs.lemmas.Grind.{common_steps}
 use Rattle.tt_node.proofs.Failing.{not_failed}
-use Rattle.tt_node.proofs.Leading.{Makes-more, rounds-none, rounds-all}
+use Rattle.tt_node.proofs.Leading.{Reports-more, rounds-none, rounds-all}
 use Rattle.tt_node.proofs.Fusings.{Grows-none, Grows-then}
 use Rattle.tt_node.proofs.Pacing.{Lets-more}
 use Rattle.tt_node.proofs.rounds.paced_rounds.Goals as goal
 
 pub loop-init : goal.loop-init
 loop-init g c = record {
-  course = rounds-none g.C.Clock.gives g.L.Link.does _ _ _ _ _ _ c.requires.tally;
+  course = rounds-none g.C.Clock.gives g.L.Link.does _ _ _ _ _ _ _ c.requires.tally;
+  last = c.requires.last;
   paced = refl;
   grew = subst (λ n. Grows c.args.teller.now.items c.args.teller.now.items 0 n) (sym c.requires.published) (Grows-none c.args.teller.now.items 0);
   link = refl;
@@ -32,8 +34,8 @@ returns-in_err-round-clause-course g c =
     let e : c.from_residual.result ≡ Err c.in_err-round.field-0.0 = cc (p.1, p.2) in
     rw e (
       c.loop.counter + 1,
-      rounds-all g.C.Clock.gives g.L.Link.does (c.loop.counter + 1) (c.loop.counter + 1) _ _ _ _ _ _ _ _ refl
-          (Makes-more g.C.Clock.gives g.L.Link.does _ _ _ _ _ _ _ _ _ _ _ _ c.loop.invariant.course (subst (λ d. Makes g.C.Clock.gives g.L.Link.does (round_of c.args.turns) c.loop.clock c.round.new.clock c.loop.link c.round.new.link (stand_of d (fusions_in c.loop.teller.items) c.loop.counts.tally) (stand_of c.round.new.daemon (fusions_in c.round.new.teller.items) c.round.new.counts.tally) (Err c.in_err-round.field-0.0)) c.goes_on.ensures.same c.in_err-round.ensures.course)),
+      rounds-all g.C.Clock.gives g.L.Link.does (c.loop.counter + 1) (c.loop.counter + 1) _ _ _ _ _ _ _ _ _ _ refl
+          (Reports-more g.C.Clock.gives g.L.Link.does _ _ _ _ _ _ _ _ _ _ _ _ _ _ _ _ c.loop.invariant.course (subst (λ d. Reports g.C.Clock.gives g.L.Link.does (round_of c.args.turns) (round_events c.args.turns) c.loop.clock c.round.new.clock c.loop.link c.round.new.link (stand_of d (fusions_in c.loop.teller.items) c.loop.counts.tally) (stand_of c.round.new.daemon (fusions_in c.round.new.teller.items) c.round.new.counts.tally) (Err c.in_err-round.field-0.0) (told_by c.loop.report) (told_by c.round.new.report)) c.goes_on.ensures.same c.in_err-round.ensures.course)),
       tt,
       Lets-more g.P.Pace.says _ _ _ _ _ _ c.loop.invariant.paced c.loop.invariant.done c.goes_on.ensures.said (search (rules, tests)),
     )
@@ -43,7 +45,8 @@ returns-in_err-round-clause-grew g c = Grows-then _ _ _ _ _ _ c.loop.invariant.g
 
 pub loop-preserved : goal.loop-preserved
 loop-preserved g c = record {
-  course = Makes-more g.C.Clock.gives g.L.Link.does _ _ _ _ _ _ _ _ _ _ _ _ c.loop.invariant.course (subst (λ d. Makes g.C.Clock.gives g.L.Link.does (round_of c.args.turns) c.loop.clock c.round.new.clock c.loop.link c.round.new.link (stand_of d (fusions_in c.loop.teller.items) c.loop.counts.tally) (stand_of c.round.new.daemon (fusions_in c.round.new.teller.items) c.round.new.counts.tally) (Ok c.in_ok-round.field-0)) c.goes_on.ensures.same c.in_ok-round.ensures.course);
+  course = Reports-more g.C.Clock.gives g.L.Link.does _ _ _ _ _ _ _ _ _ _ _ _ _ _ _ _ c.loop.invariant.course (subst (λ d. Reports g.C.Clock.gives g.L.Link.does (round_of c.args.turns) (round_events c.args.turns) c.loop.clock c.round.new.clock c.loop.link c.round.new.link (stand_of d (fusions_in c.loop.teller.items) c.loop.counts.tally) (stand_of c.round.new.daemon (fusions_in c.round.new.teller.items) c.round.new.counts.tally) (Ok c.in_ok-round.field-0) (told_by c.loop.report) (told_by c.round.new.report)) c.goes_on.ensures.same c.in_ok-round.ensures.course);
+  last = c.in_ok-round.ensures.last;
   paced = Lets-more g.P.Pace.says _ _ _ _ _ _ c.loop.invariant.paced c.loop.invariant.done c.goes_on.ensures.said (search (rules, tests));
   grew = Grows-then _ _ _ _ _ _ c.loop.invariant.grew c.in_ok-round.ensures.grew;
   link = not_failed _ _ _ _ c.in_ok-round.ensures.link_fails ∙ c.loop.invariant.link;
@@ -57,7 +60,7 @@ loop-preserved g c = record {
 }
 
 pub returns-clause-course : goal.returns-clause-course
-returns-clause-course g c = (c.loop.counter, rounds-all g.C.Clock.gives g.L.Link.does c.loop.counter c.loop.counter _ _ _ _ _ _ _ _ refl c.loop.invariant.course, c.loop.invariant.done, tt)
+returns-clause-course g c = (c.loop.counter, rounds-all g.C.Clock.gives g.L.Link.does c.loop.counter c.loop.counter _ _ _ _ _ _ _ _ _ _ refl c.loop.invariant.course, c.loop.invariant.done, tt)
 
 pub returns-in_err-round-clause-rounds_fault : goal.returns-in_err-round-clause-rounds_fault
 returns-in_err-round-clause-rounds_fault g c =
@@ -67,4 +70,4 @@ returns-in_err-round-clause-rounds_fault g c =
 
 pub returns-then-not-goes_on-clause-course : goal.returns-then-not-goes_on-clause-course
 returns-then-not-goes_on-clause-course g c =
-    rw c.goes_on.ensures.same (c.loop.counter, rounds-all g.C.Clock.gives g.L.Link.does c.loop.counter c.loop.counter _ _ _ _ _ _ _ _ refl c.loop.invariant.course, c.loop.invariant.done, tt)
+    rw c.goes_on.ensures.same (c.loop.counter, rounds-all g.C.Clock.gives g.L.Link.does c.loop.counter c.loop.counter _ _ _ _ _ _ _ _ _ _ refl c.loop.invariant.course, c.loop.invariant.done, tt)

@@ -3,12 +3,12 @@ use Rattle.tt_node.proofs.rounds.poll_one.Goals as goal
 
 pub returns-in_default-clause-course : goal.returns-in_default-clause-course
 returns-in_default-clause-course g c = λ items.
-    poll-refused g.L.Link.does _ _ items _ _ _ _ _ c.in_default.ensures.refused c.in_default.ensures.unchanged
+    poll-refused g.L.Link.does _ _ items _ _ _ _ _ _ c.in_default.ensures.refused c.in_default.ensures.unchanged
 
 pub returns-in_default-send-clause-course : goal.returns-in_default-send-clause-course
 returns-in_default-send-clause-course g c = λ items.
-    poll-sent g.L.Link.does _ _ _ items _ _ _ _ _ _ _ c.in-Ok.ensures.polled c.in-Ok.ensures.keeps_config c.in-Ok.ensures.request c.in_default-send.ensures.did Leads-broke
+    poll-sent g.L.Link.does _ _ _ items _ _ _ _ _ _ _ _ _ c.in-Ok.ensures.polled c.in-Ok.ensures.keeps_config c.in-Ok.ensures.request c.in_default-send.ensures.did Leads-broke c.poll-2.ensures
 
 pub returns-clause-course : goal.returns-clause-course
 returns-clause-course g c = λ items.
-    poll-sent g.L.Link.does _ _ _ items _ _ _ _ _ _ _ c.in-Ok.ensures.polled c.in-Ok.ensures.keeps_config c.in-Ok.ensures.request c.in-Ok-send.ensures.did Leads-went
+    poll-sent g.L.Link.does _ _ _ items _ _ _ _ _ _ _ _ _ c.in-Ok.ensures.polled c.in-Ok.ensures.keeps_config c.in-Ok.ensures.request c.in-Ok-send.ensures.did Leads-went c.poll-2.ensures
