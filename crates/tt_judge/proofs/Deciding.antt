@@ -44,12 +44,12 @@ tally b = cond b 1 0
 
 -- nothing is counted where nothing passes
 module _ {X : Type 0} (test : X → Bool) (xs : List X) where
-  none_counted : (number : ℕ) (d : X) → number < length xs → count_by test xs ≡ 0 → test (get_or xs number d) ≡ true → ⊥
+  pub none_counted : (number : ℕ) (d : X) → number < length xs → count_by test xs ≡ 0 → test (get_or xs number d) ≡ true → ⊥
   none_counted number d inside zero is =
       let one : tally (test (get_or xs number d)) ≡ 1 = cond-true (test (get_or xs number d)) 1 0 is in
       omega (arith, one, get_or-le-sum_by (λ x. tally (test x)) xs number d inside)
 
-  count_by-none : ((number : ℕ) (d : X) → number < length xs → test (get_or xs number d) ≡ false) → count_by test xs ≡ 0
+  pub count_by-none : ((number : ℕ) (d : X) → number < length xs → test (get_or xs number d) ≡ false) → count_by test xs ≡ 0
   count_by-none none =
       let most : count_by test xs ≤ length xs * 0 = sum_by-le (λ x. tally (test x)) 0 xs (λ number d inside.
       let zero : tally (test (get_or xs number d)) ≡ 0 = cond-false (test (get_or xs number d)) 1 0 (none number d inside) in

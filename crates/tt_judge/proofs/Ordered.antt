@@ -43,10 +43,10 @@ pair_cmp = then_cmp (on (λ (p : ℕ × ℕ). p.0) nat_cmp) (on (λ (p : ℕ × 
 pair_cmp_total : IsTotalOrder pair_cmp
 pair_cmp_total = then_total (on_total (λ (p : ℕ × ℕ). p.0) nat_cmp_total) (on_total (λ (p : ℕ × ℕ). p.1) nat_cmp_total)
 
-nat_cmp-less : (a b : ℕ) → a < b → nat_cmp a b ≡ Less
+pub nat_cmp-less : (a b : ℕ) → a < b → nat_cmp a b ≡ Less
 nat_cmp-less a b h = cond-true _ _ _ (lt-ltb a b h)
 
-nat_cmp-equal : (a b : ℕ) → a ≡ b → nat_cmp a b ≡ Equal
+pub nat_cmp-equal : (a b : ℕ) → a ≡ b → nat_cmp a b ≡ Equal
 nat_cmp-equal a b h = cond-false _ _ _ (le-ltb a b (omega arith)) ∙ cond-true _ _ _ (eq-eqb a b h)
 
 -- what a sort says of two entries

@@ -1,6 +1,9 @@
 pub mod Consistency
 pub mod Fault
+pub mod History
 pub mod HistoryText
 pub mod Order
 pub mod Sweep
+pub mod TermSweep
+pub mod Terms
 pub mod Text

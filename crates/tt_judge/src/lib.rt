@@ -22,10 +22,12 @@ mod history;
 mod judging;
 mod order;
 mod reading;
+mod terms;
 mod writing;
 
 pub use faults::HistoryFault;
-pub use history::Commit;
+pub use history::{Commit, History, Line, ShardCommit, ShardTerm};
 pub use judging::{Judgement, Violation, consistency_laws, judge};
 pub use reading::read_history;
+pub use terms::{Conflicts, Rule, TermJudgement, judge_terms, term_laws};
 pub use writing::judgement_text;

@@ -166,11 +166,16 @@ Refused:
 pub(crate) const ABOUT_JUDGE: &str = "\
 Reads standard input, at most 1 GiB: ttd judge < FILE
 A history: a line `commit BEGAN ENDED STAMP` for each commit, in any order; the times at which it
-began and ended are by one clock, and BEGAN is at most ENDED.
+began and ended are by one clock, and BEGAN is at most ENDED. A line may go on with SHARD TERM: the
+shard of the commit, and the term of the shard's leader in which it was made.
 
 Prints `commits N` and `violations N`, how many commits have a stamp that is not above that of some
 commit that ended before they began; and where there is one `first LATER EARLIER`: the line of the
-one that began first, and the line of the one that it contradicts. The status is 3 then.
+one that began first, and the line of the one that it contradicts. If some commit names a shard, it
+also prints `term_violations N`, how many commits have a stamp that is not above that of some commit
+of an earlier term of their shard, and `equal_stamps N`, how many have the stamp of an earlier line
+of their shard; and where there is one `first_term LATER EARLIER` and `first_equal LATER EARLIER`,
+of the lowest such line. The status is 3 if one of these counts is not 0.
 
 Example:
   printf 'commit 10 20 7\\ncommit 30 40 6\\n' | ttd judge

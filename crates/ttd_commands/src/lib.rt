@@ -12,7 +12,7 @@
 //! - `live` reads a script, runs its machine in threads, and prints how many readings there were and how many were
 //!   wrong.
 //! - `judge` reads a history of commits, and prints how many of them contradict external consistency, and the first of
-//!   these.
+//!   these; and the same of the terms and the stamps of each shard, if a commit names one.
 //!
 //! A refusal is answered with the one line `refused N`. N is the number of the first refusal in this order: invalid
 //! arguments (1601), an input that is too long (1603), and then the refusals of the command:

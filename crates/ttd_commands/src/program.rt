@@ -303,12 +303,13 @@ pub fn answer_live<
 /// - `twin --event K --side low` (or `high`) writes the events of the twin of the reading of event K in that run, and
 ///   then that reading with the true time at the end of the twin.
 /// - `picture` writes that run as a document in SVG.
-/// - `judge` writes how many commits of the history in the input are violated, and the first of them.
+/// - `judge` writes how many commits of the history in the input are violated, and the first of them; and if some commit
+///   names a shard, how many are in conflict with another one of their shard by its terms or its stamp, and the first.
 /// - `--help` writes the help.
 ///
 /// After such an answer the program ends with [`Status::Fine`]. But `run` ends with [`Status::Broken`] if the run did
-/// not keep the assumptions, and `judge` if a commit is violated. `picture` ends with [`Status::Fine`] whether the run
-/// kept the assumptions or not.
+/// not keep the assumptions, and `judge` if a commit is violated or in conflict. `picture` ends with [`Status::Fine`]
+/// whether the run kept the assumptions or not.
 ///
 /// Each refusal is the one line `refused N`, with [`Status::Bad`]. N is the first number that applies: 1601 invalid
 /// arguments, before any read; 1603 more than 1,048,576 bytes of input (`judge`: 1,073,741,824); and then the numbers

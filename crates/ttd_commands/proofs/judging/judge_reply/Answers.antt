@@ -11,5 +11,5 @@ returns-in-Err-clause-value c = history_refused answer_in c.args.input.now _ c.i
     (let told : c.from.result ≡ history_fault_of c.in-Err.fault = c.from.ensures in cc) c.in-Err.ensures.bad
 
 pub returns-in-Ok-clause-value : goal.returns-in-Ok-clause-value
-returns-in-Ok-clause-value c = history_replied answer_in c.args.input.now c.judged.result _ c.in-Ok.ensures.found c.in-Ok.ensures.only
-    (subst (λ (h : List Commit). HasReply answer_in (TellsJudgement h) c.judged.result) c.as_slice.ensures.value c.judged.ensures.value)
+returns-in-Ok-clause-value c = history_replied answer_in c.args.input.now c.judged.result c.in-Ok.history c.in-Ok.ensures.found c.in-Ok.ensures.only c.judge_terms-terms.result c.judge_terms-terms.ensures
+    (subst (λ (h : List Commit). HasReply answer_in (TellsJudgement h c.judge_terms-terms.result) c.judged.result) c.as_slice.ensures.value c.judged.ensures.value)
