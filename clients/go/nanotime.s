@@ -1,0 +1,1 @@
+// Nothing: see clock_runtime.go.

@@ -1,0 +1,432 @@
+package truetime
+
+import (
+	"context"
+	"errors"
+	"fmt"
+	"io"
+	"net"
+	"os"
+	"sync"
+	"sync/atomic"
+	"time"
+)
+
+// Timeout is how long connecting, and each reply, may take, unless SetTimeout says otherwise.
+const Timeout = 30 * time.Second
+
+const (
+	lineBytes = 64               // the most bytes of a line and of a reply, without the line feed
+	pause     = time.Millisecond // before a line is sent again
+)
+
+// A Session is a connection to the service: one line and its reply at a time. Calls of several goroutines take turns. A
+// session has one commit at a time, so each goroutine that commits wants a session of its own.
+//
+// A call ends when its context does, with the context's error, and the session goes on. If its line was sent, the reply is
+// still to come: the next call waits for it, and drops it. A call that was cancelled may have been done:
+//
+//   - After Wait or Commit, call Wait again: the service says the same of the same commit. Begin refuses with CommitPending
+//     before that.
+//   - After Begin, nobody has the timestamp, and no other commit gets it, since it may be too early for one that comes later:
+//     where that commit is pending, the next Begin has the service release it first. So it is after a refused Begin, too.
+//   - After Lease, the lease is the old one or the new one.
+//
+// If no reply comes in time, or the connection fails otherwise, a call fails with a BrokenError; the session is closed then.
+type Session struct {
+	conn      net.Conn
+	timeout   atomic.Int64
+	turn      chan struct{} // full while a call is under way
+	closed    chan struct{}
+	closeOnce sync.Once
+	replies   chan reply  // what was received
+	asked     atomic.Bool // whether a reply is to come
+
+	// The rest is of the call whose turn it is.
+	judge func(reply string) error // of the reply that is owed, also a late one; nil where none is
+	sent  time.Time                // when the last line was
+	last  commit
+}
+
+// A reply is one line of the service, or why there will be none.
+type reply struct {
+	text string
+	err  error
+}
+
+// A commit is the last one that the service may have begun. Commits are counted from 1.
+type commit struct {
+	number    uint64
+	stamp     uint64
+	isStamped bool // whether the timestamp is known
+	isPending bool // whether it may not be released
+	isTold    bool // whether a caller has it, and may wait for it
+}
+
+// Dial connects to the service. The network is "tcp" (an address as "127.0.0.1:5601") or "unix" (a path). Close the session
+// in the end: it keeps a goroutine.
+func Dial(ctx context.Context, network, address string) (*Session, error) {
+	switch network {
+	case "tcp", "tcp4", "tcp6", "unix":
+	default:
+		return nil, net.UnknownNetworkError(network)
+	}
+	dialer := net.Dialer{Timeout: Timeout}
+	conn, err := dialer.DialContext(ctx, network, address) // which sets TCP_NODELAY
+	if err != nil {
+		return nil, err
+	}
+	return newSession(conn), nil
+}
+
+func newSession(conn net.Conn) *Session {
+	s := &Session{conn: conn, turn: make(chan struct{}, 1), closed: make(chan struct{}), replies: make(chan reply, 1)}
+	s.SetTimeout(Timeout)
+	go s.receiveAll()
+	return s
+}
+
+// SetTimeout sets how long the reply to a line may take; 0 is without end.
+func (s *Session) SetTimeout(timeout time.Duration) { s.timeout.Store(int64(timeout)) }
+
+// Close ends the session, and a call that is under way, which fails. A commit that is not released then is never known as
+// released.
+func (s *Session) Close() error {
+	err := net.ErrClosed
+	s.closeOnce.Do(func() {
+		close(s.closed)
+		err = s.conn.Close()
+	})
+	if errors.Is(err, net.ErrClosed) {
+		return nil
+	}
+	return err
+}
+
+// Now gives the time now.
+func (s *Session) Now(ctx context.Context) (Interval, error) {
+	now := allTimes
+	err := s.inTurn(ctx, func() error {
+		reply, err := s.question(ctx, "now", isInterval)
+		if err == nil {
+			numbers, _ := numbersBehind(reply, "now", 2)
+			now = Interval{numbers[0], numbers[1]}
+		}
+		return err
+	})
+	return now, err
+}
+
+// After says whether time t has surely passed.
+func (s *Session) After(ctx context.Context, t uint64) (bool, error) {
+	return s.compare(ctx, lineOf("after", t))
+}
+
+// Before says whether time t has surely not arrived.
+func (s *Session) Before(ctx context.Context, t uint64) (bool, error) {
+	return s.compare(ctx, lineOf("before", t))
+}
+
+func (s *Session) compare(ctx context.Context, line string) (bool, error) {
+	isSo := false
+	err := s.inTurn(ctx, func() error {
+		reply, err := s.question(ctx, line, isYesOrNo)
+		isSo = reply == "yes"
+		return err
+	})
+	return isSo, err
+}
+
+// Begin begins a commit, and gives its timestamp, no less than floor, and whether it is released already, so that Wait sends
+// nothing. It refuses with CommitPending before the last commit is known as released.
+func (s *Session) Begin(ctx context.Context, floor uint64) (stamp uint64, isCommitted bool, err error) {
+	err = s.inTurn(ctx, func() error {
+		if err := s.begin(ctx, floor); err != nil {
+			return err
+		}
+		stamp, isCommitted = s.last.stamp, !s.last.isPending
+		return nil
+	})
+	return stamp, isCommitted, err
+}
+
+// Wait waits until the timestamp of the commit has surely passed, and gives it: only then may anybody be told of the commit.
+// After a refusal, or where the context ended, it may be called again.
+func (s *Session) Wait(ctx context.Context) (stamp uint64, err error) {
+	err = s.inTurn(ctx, func() (err error) {
+		stamp, err = s.wait(ctx)
+		return err
+	})
+	return stamp, err
+}
+
+// Commit begins a commit, waits for its release, and gives its timestamp, as Begin and Wait.
+func (s *Session) Commit(ctx context.Context, floor uint64) (stamp uint64, err error) {
+	err = s.inTurn(ctx, func() error {
+		err := s.begin(ctx, floor)
+		if err == nil {
+			stamp, err = s.wait(ctx)
+		}
+		return err
+	})
+	return stamp, err
+}
+
+// Lease sets the lease of this session: the timestamps of commits that begin from now on lie from lo to hi, both included.
+// After a refusal the lease is what it was.
+func (s *Session) Lease(ctx context.Context, lo, hi uint64) error {
+	return s.inTurn(ctx, func() error {
+		_, err := s.question(ctx, lineOf("lease", lo, hi), func(reply string) bool { return reply == lineOf("leased", lo, hi) })
+		return err
+	})
+}
+
+// Ask sends one line and gives its reply, both without the line feed; "refused N" is a reply like another. Begin no commit by
+// it: the other calls do not know of that.
+func (s *Session) Ask(ctx context.Context, line string) (string, error) {
+	if len(line) > lineBytes || !isPrintable(line) {
+		return "", ErrBadLine
+	}
+	text := ""
+	err := s.inTurn(ctx, func() (err error) {
+		text, err = s.exchange(ctx, line, func(string) error { return nil })
+		return err
+	})
+	return text, err
+}
+
+// Commits.
+
+func (s *Session) begin(ctx context.Context, floor uint64) error {
+	if s.last.isTold && s.last.isPending {
+		return CommitPending
+	}
+	err := s.sendBegin(ctx, floor)
+	if err == CommitPending && s.last.isPending {
+		// Nobody has the timestamp of the commit that is pending.
+		if err = s.release(ctx); err == nil {
+			err = s.sendBegin(ctx, floor)
+		}
+	}
+	s.last.isTold = err == nil
+	return err
+}
+
+// sendBegin sends the first line of the next commit.
+func (s *Session) sendBegin(ctx context.Context, floor uint64) error {
+	number := s.last.number + 1
+	line := lineOf("commit", number, floor)
+	_, err := s.exchange(ctx, line, func(reply string) error {
+		if refusal, ok := refusalIn(reply); ok {
+			if !refusal.neverBegins() {
+				s.last = commit{number: number, isPending: true}
+			}
+			return refusal
+		}
+		stamp, isCommitted, ok := stampIn(reply, number)
+		if !ok || stamp < floor {
+			return noReply(line, reply)
+		}
+		s.last = commit{number: number, stamp: stamp, isStamped: true, isPending: !isCommitted}
+		return nil
+	})
+	return err
+}
+
+func (s *Session) wait(ctx context.Context) (uint64, error) {
+	if !s.last.isTold {
+		return 0, ErrNoCommit
+	}
+	if err := s.release(ctx); err != nil {
+		return 0, err
+	}
+	return s.last.stamp, nil
+}
+
+// release sends the line of the last commit until it is known as released.
+func (s *Session) release(ctx context.Context) error {
+	for s.last.isPending {
+		if err := s.sendAgain(ctx); err != nil {
+			return err
+		}
+		if !s.last.isPending {
+			return nil
+		}
+		timer := time.NewTimer(pause)
+		select {
+		case <-timer.C:
+		case <-ctx.Done():
+			timer.Stop()
+			return ctx.Err()
+		case <-s.closed:
+			timer.Stop()
+			return &BrokenError{net.ErrClosed}
+		}
+	}
+	return nil
+}
+
+// sendAgain sends the line of the last commit.
+func (s *Session) sendAgain(ctx context.Context) error {
+	number := s.last.number
+	_, err := s.question(ctx, lineOf("commit", number, 0), func(reply string) bool {
+		stamp, isCommitted, ok := stampIn(reply, number)
+		if !ok || (s.last.isStamped && stamp != s.last.stamp) {
+			return false
+		}
+		s.last.stamp, s.last.isStamped, s.last.isPending = stamp, true, !isCommitted
+		return true
+	})
+	return err
+}
+
+// Lines and replies.
+
+// inTurn makes a call once the others have ended, and the reply that is owed to one of them has come.
+func (s *Session) inTurn(ctx context.Context, call func() error) error {
+	if err := s.ended(ctx); err != nil {
+		return err
+	}
+	select {
+	case s.turn <- struct{}{}:
+		defer func() { <-s.turn }()
+	case <-ctx.Done():
+		return ctx.Err()
+	case <-s.closed:
+	}
+	if err := s.ended(ctx); err != nil {
+		return err
+	}
+	if s.judge != nil {
+		if _, err := s.receive(ctx); err != nil && !isRefusal(err) {
+			return err
+		}
+	}
+	return call()
+}
+
+// ended says whether the session or the context has ended.
+func (s *Session) ended(ctx context.Context) error {
+	select {
+	case <-s.closed:
+		return &BrokenError{net.ErrClosed}
+	default:
+		return ctx.Err()
+	}
+}
+
+// question sends one line and gives its reply, which is no refusal.
+func (s *Session) question(ctx context.Context, line string, isReply func(reply string) bool) (string, error) {
+	return s.exchange(ctx, line, func(reply string) error {
+		if refusal, ok := refusalIn(reply); ok {
+			return refusal
+		}
+		if !isReply(reply) {
+			return noReply(line, reply)
+		}
+		return nil
+	})
+}
+
+// exchange sends one line, and gives its reply once it is judged: a refusal is an error, and so is what is no reply, which
+// breaks the session. Where the context ends before, the reply is owed: the next call has it judged, and drops it.
+func (s *Session) exchange(ctx context.Context, line string, judge func(reply string) error) (string, error) {
+	select {
+	case got := <-s.replies:
+		return "", s.fail(got.err) // the connection has ended since the last reply
+	default:
+	}
+	s.sent = time.Now()
+	var deadline time.Time
+	if timeout := time.Duration(s.timeout.Load()); timeout > 0 {
+		deadline = s.sent.Add(timeout)
+	}
+	if err := s.conn.SetWriteDeadline(deadline); err != nil {
+		return "", s.fail(err)
+	}
+	s.asked.Store(true)
+	s.judge = judge
+	// One line at a time fits into what the system holds, so this does not wait.
+	if _, err := s.conn.Write(append([]byte(line), '\n')); err != nil {
+		return "", s.fail(err)
+	}
+	return s.receive(ctx)
+}
+
+// receive waits for the reply that is owed, and has it judged.
+func (s *Session) receive(ctx context.Context) (string, error) {
+	got, err := s.await(ctx)
+	if err != nil {
+		return "", err
+	}
+	if got.err != nil {
+		return "", s.fail(got.err)
+	}
+	judge := s.judge
+	s.judge = nil
+	if err := judge(got.text); isRefusal(err) {
+		return "", err
+	} else if err != nil {
+		return "", s.fail(err)
+	}
+	return got.text, nil
+}
+
+func (s *Session) await(ctx context.Context) (reply, error) {
+	select {
+	case got := <-s.replies:
+		return got, nil
+	default:
+	}
+	var late <-chan time.Time
+	if timeout := time.Duration(s.timeout.Load()); timeout > 0 {
+		timer := time.NewTimer(time.Until(s.sent.Add(timeout)))
+		defer timer.Stop()
+		late = timer.C
+	}
+	select {
+	case got := <-s.replies:
+		return got, nil
+	case <-ctx.Done():
+		return reply{}, ctx.Err()
+	case <-late:
+		return reply{}, s.fail(os.ErrDeadlineExceeded)
+	case <-s.closed:
+		return reply{}, &BrokenError{net.ErrClosed}
+	}
+}
+
+func (s *Session) fail(err error) error {
+	s.Close()
+	return &BrokenError{err}
+}
+
+// receiveAll receives replies until the connection ends, or what comes is no reply.
+func (s *Session) receiveAll() {
+	var buffer [lineBytes + 1]byte
+	for length := 0; ; {
+		received, err := s.conn.Read(buffer[length:])
+		length += received
+		got, isWhole := replyIn(buffer[:length])
+		switch {
+		case received == 0 && err == io.EOF:
+			got = reply{err: io.ErrUnexpectedEOF}
+		case received == 0 && err != nil:
+			got = reply{err: err}
+		case received > 0 && !s.asked.Load():
+			got = reply{err: fmt.Errorf("%w: nothing was asked", ErrReply)}
+		case !isWhole:
+			continue
+		}
+		length = 0
+		s.asked.Store(false)
+		select {
+		case s.replies <- got:
+		case <-s.closed:
+			return
+		}
+		if got.err != nil {
+			return
+		}
+	}
+}

@@ -1,0 +1,229 @@
+//go:build linux && (amd64 || arm64 || loong64 || mips64le || ppc64le || riscv64) && !truetime_nofile
+
+package truetime
+
+import (
+	"encoding/binary"
+	"errors"
+	"io/fs"
+	"math/bits"
+	"os"
+	"runtime"
+	"strings"
+	"sync/atomic"
+	"syscall"
+	"unsafe"
+)
+
+const (
+	fileBytes = 192
+	fileWords = fileBytes / 8
+	indexWord = 2
+	firstSlot = 8
+	slotWords = 8
+	tries     = 1000
+	// The format, the length, and the clock: 1 is CLOCK_MONOTONIC.
+	head = "TTS1\xc0\x00\x00\x00\x01\x00\x00\x00\x00\x00\x00\x00"
+)
+
+// A Client reads the time from a file of a daemon. Any number of goroutines may use it.
+type Client struct {
+	mapped    atomic.Pointer[mapping]
+	file      *os.File // where it is not mapped
+	byRuntime bool     // whether the clock of the runtime is CLOCK_MONOTONIC
+}
+
+// A mapping is the memory of a mapped file.
+type mapping struct {
+	words *[fileWords]uint64 // loaded by sync/atomic alone
+}
+
+// Open maps the file at this path, which the user with this id has to own. It refuses with NoFile and OtherFile. Where an
+// owner of the file or of its folder truncates the file, a reading ends the process (SIGBUS); one of OpenUnmapped refuses.
+func Open(path string, owner uint32) (*Client, error) {
+	file, err := openFile(path, owner)
+	if err != nil {
+		return nil, err
+	}
+	defer file.Close()
+	bytes, err := syscall.Mmap(int(file.Fd()), 0, fileBytes, syscall.PROT_READ, syscall.MAP_SHARED)
+	if err != nil {
+		return nil, NoFile
+	}
+	mapped := &mapping{(*[fileWords]uint64)(unsafe.Pointer(&bytes[0]))} // it begins at a page
+	runtime.SetFinalizer(mapped, func(*mapping) { syscall.Munmap(bytes) })
+	client := &Client{byRuntime: isRuntimeClock()}
+	client.mapped.Store(mapped)
+	return client, nil
+}
+
+// OpenUnmapped opens it as Open, and each call reads it, by three system calls.
+func OpenUnmapped(path string, owner uint32) (*Client, error) {
+	file, err := openFile(path, owner)
+	if err != nil {
+		return nil, err
+	}
+	return &Client{file: file, byRuntime: isRuntimeClock()}, nil
+}
+
+// Close closes the client: later calls refuse with NoFile. It may come while others are in a call; the file is unmapped once
+// none is.
+func (c *Client) Close() error {
+	c.mapped.Store(nil)
+	if c.file != nil {
+		return c.file.Close()
+	}
+	return nil
+}
+
+// Read gives the last publication. It refuses with Nothing, Busy and NoSlot, and with NoFile where the client is closed, or
+// where the file is not mapped and has become shorter.
+func (c *Client) Read() (Publication, error) {
+	var published Publication
+	if err := c.read(&published); err != nil {
+		return Publication{}, err
+	}
+	return published, nil
+}
+
+// Now gives the time now. It refuses as Read, and with ClockFailed and ClockBack.
+func (c *Client) Now() (Reading, error) {
+	var published Publication
+	if err := c.read(&published); err != nil {
+		return Reading{Interval: allTimes}, err
+	}
+	// The clock is read after the publication, so it is not below that of the publication.
+	clock, ok := readClock(c.byRuntime)
+	if !ok {
+		return Reading{Interval: allTimes}, ClockFailed
+	}
+	return published.At(clock)
+}
+
+func (c *Client) read(published *Publication) error {
+	mapped := c.mapped.Load()
+	for try := 0; try < tries; try++ {
+		var index, echo, again uint64
+		if mapped != nil {
+			index, echo, again = mapped.copy(published)
+		} else {
+			var err error
+			if index, echo, again, err = copyUnmapped(c.file, published); err != nil {
+				return NoFile
+			}
+		}
+		if again != index {
+			continue
+		}
+		if index == 0 {
+			return Nothing
+		}
+		if echo != index || !published.isInRange() {
+			return NoSlot
+		}
+		return nil
+	}
+	return Busy
+}
+
+// slotOf gives the word at which the slot begins that is current at this index.
+func slotOf(index uint64) int {
+	// The publication's count is odd where an odd number of the eight bytes of the index are odd.
+	return firstSlot + slotWords*(bits.OnesCount64(index&0x0101010101010101)&1)
+}
+
+// copy gives the index, the index in the slot that is current at it, the publication in that slot, and the index again. The
+// copy is whole where the first and the last are the same: a publication changes the index before the next one writes into
+// this slot, and no index comes twice. Atomic loads of Go stay in their order.
+func (m *mapping) copy(published *Publication) (index, echo, again uint64) {
+	index = atomic.LoadUint64(&m.words[indexWord])
+	slot := (*[slotWords]uint64)(m.words[slotOf(index):])
+	echo = atomic.LoadUint64(&slot[0])
+	published.Clock = atomic.LoadUint64(&slot[1])
+	published.Lo = atomic.LoadUint64(&slot[2])
+	published.Hi = atomic.LoadUint64(&slot[3])
+	published.ValidUntil = atomic.LoadUint64(&slot[4])
+	published.Epoch = atomic.LoadUint64(&slot[5])
+	published.Number = atomic.LoadUint64(&slot[6])
+	published.Drift = atomic.LoadUint64(&slot[7])
+	again = atomic.LoadUint64(&m.words[indexWord])
+	runtime.KeepAlive(m) // it is not unmapped before
+	return index, echo, again
+}
+
+// copyUnmapped is the same of a file that is not mapped.
+func copyUnmapped(file *os.File, published *Publication) (index, echo, again uint64, err error) {
+	var word [slotWords]uint64
+	if err = readWords(file, indexWord, word[:1]); err != nil {
+		return 0, 0, 0, err
+	}
+	index = word[0]
+	if err = readWords(file, slotOf(index), word[:]); err != nil {
+		return 0, 0, 0, err
+	}
+	*published = Publication{word[1], word[2], word[3], word[4], word[5], word[6], word[7]}
+	echo = word[0]
+	err = readWords(file, indexWord, word[:1])
+	return index, echo, word[0], err
+}
+
+// readWords reads words of a file from this place on. It fails where the file has not that many.
+func readWords(file *os.File, place int, words []uint64) error {
+	var bytes [8 * slotWords]byte
+	if _, err := file.ReadAt(bytes[:8*len(words)], int64(8*place)); err != nil {
+		return err
+	}
+	for word := range words {
+		words[word] = binary.LittleEndian.Uint64(bytes[8*word:])
+	}
+	return nil
+}
+
+// openFile opens the file at this path, where it is such a file.
+func openFile(path string, owner uint32) (*os.File, error) {
+	// A FIFO in place of the file does not block the opening.
+	file, err := os.OpenFile(path, os.O_RDONLY|syscall.O_NOFOLLOW|syscall.O_NONBLOCK, 0)
+	if err != nil {
+		return nil, NoFile
+	}
+	if err := checkFile(file, owner); err != nil {
+		file.Close()
+		return nil, err
+	}
+	return file, nil
+}
+
+func checkFile(file *os.File, owner uint32) error {
+	found, err := file.Stat()
+	if err != nil {
+		return NoFile
+	}
+	of, ok := found.Sys().(*syscall.Stat_t)
+	if !ok || !found.Mode().IsRegular() || found.Size() != fileBytes || of.Uid != owner || found.Mode().Perm()&0o022 != 0 {
+		return OtherFile
+	}
+	var bytes [8 * firstSlot]byte
+	if _, err := file.ReadAt(bytes[:], 0); err != nil {
+		return NoFile
+	}
+	// The boot has 36 letters, and 4 zeros follow.
+	if string(bytes[:len(head)]) != head || string(bytes[60:]) != "\x00\x00\x00\x00" || !isSameClock(string(bytes[24:60])) {
+		return OtherFile
+	}
+	return nil
+}
+
+// isSameClock says whether CLOCK_MONOTONIC is here what it is to the daemon: the same boot, and no time namespace that
+// shifts it.
+func isSameClock(boot string) bool {
+	here, err := os.ReadFile("/proc/sys/kernel/random/boot_id")
+	if err != nil || !strings.HasPrefix(string(here), boot) {
+		return false
+	}
+	offsets, err := os.ReadFile("/proc/self/timens_offsets")
+	if errors.Is(err, fs.ErrNotExist) {
+		return true // a kernel without time namespaces
+	}
+	first, _, _ := strings.Cut(string(offsets), "\n")
+	return err == nil && strings.Join(strings.Fields(first), " ") == "monotonic 0 0"
+}

@@ -1,0 +1,384 @@
+//go:build linux && (amd64 || arm64 || loong64 || mips64le || ppc64le || riscv64) && !truetime_nofile
+
+package truetime
+
+import (
+	"encoding/binary"
+	"errors"
+	"os"
+	"path/filepath"
+	"runtime"
+	"strings"
+	"sync"
+	"sync/atomic"
+	"testing"
+	"time"
+)
+
+// indexOf gives the index of a count: byte i of the count less byte i + 1, modulo 256.
+func indexOf(count uint64) (index uint64) {
+	for place := 0; place < 8; place++ {
+		index |= uint64(byte(count>>(8*place))-byte(count>>(8*place)>>8)) << (8 * place)
+	}
+	return index
+}
+
+// scattered is a number that looks like chance, made from n and a field's place.
+func scattered(n, field uint64) uint64 {
+	x := n*0x9e3779b97f4a7c15 + field*0xbf58476d1ce4e5b9
+	x = (x ^ x>>31) * 0x94d049bb133111eb
+	return x ^ x>>29
+}
+
+// publicationOf makes every number from n, so a copy that mixes two publications shows.
+func publicationOf(n uint64) Publication {
+	lo, hi := scattered(n, 1)%MaxTime, scattered(n, 2)%MaxTime
+	if lo > hi {
+		lo, hi = hi, lo
+	}
+	return Publication{scattered(n, 3) % 1_000_000, lo, hi, scattered(n, 4), scattered(n, 5), n, scattered(n, 6) % (MaxDrift + 1)}
+}
+
+// slotWith gives the words of a slot with this publication.
+func slotWith(count uint64, p Publication) [slotWords]uint64 {
+	return [slotWords]uint64{indexOf(count), p.Clock, p.Lo, p.Hi, p.ValidUntil, p.Epoch, p.Number, p.Drift}
+}
+
+// makeFile makes a file with this publication, and gives its path.
+func makeFile(t testing.TB, count uint64, p Publication) string {
+	t.Helper()
+	boot, err := os.ReadFile("/proc/sys/kernel/random/boot_id")
+	if err != nil {
+		t.Fatal(err)
+	}
+	bytes := append([]byte(head), make([]byte, fileBytes-len(head))...)
+	binary.LittleEndian.PutUint64(bytes[8*indexWord:], indexOf(count))
+	copy(bytes[24:60], boot)
+	for place, word := range slotWith(count, p) {
+		binary.LittleEndian.PutUint64(bytes[8*(slotOf(indexOf(count))+place):], word)
+	}
+	path := filepath.Join(t.TempDir(), "time")
+	if err := os.WriteFile(path, bytes, 0o644); err != nil {
+		t.Fatal(err)
+	}
+	return path
+}
+
+// me is the user of this process.
+func me() uint32 { return uint32(os.Geteuid()) }
+
+var ways = map[string]func(string, uint32) (*Client, error){"mapped": Open, "unmapped": OpenUnmapped}
+
+func openFor(t testing.TB, way, path string) *Client {
+	t.Helper()
+	client, err := ways[way](path, me())
+	if err != nil {
+		t.Fatal(err)
+	}
+	t.Cleanup(func() { client.Close() })
+	return client
+}
+
+func TestNow(t *testing.T) {
+	clock, _ := readSystemClock()
+	const lo, hi = 1_000_000_000, 1_000_000_100
+	for way := range ways {
+		for _, until := range []uint64{0, MaxTime} {
+			client := openFor(t, way, makeFile(t, 1, Publication{Clock: clock, Lo: lo, Hi: hi, ValidUntil: until, Epoch: 7, Number: 9}))
+			before, _ := readSystemClock()
+			now, err := client.Now()
+			after, _ := readSystemClock()
+			elapsed := now.Earliest - lo
+			want := Reading{Interval{lo + elapsed, hi + elapsed}, 7, 9, until > 0}
+			if err != nil || now != want || elapsed < before-clock || elapsed > after-clock {
+				t.Error(way, now, err)
+			}
+			if !now.After(lo-1) || now.After(now.Earliest) || now.Before(now.Latest) || !now.Before(MaxTime) {
+				t.Error(way, now)
+			}
+		}
+	}
+}
+
+func TestRefusals(t *testing.T) {
+	clock, _ := readSystemClock()
+	for way, open := range ways {
+		for _, try := range []struct {
+			count uint64
+			p     Publication
+			want  error
+		}{
+			{0, Publication{}, Nothing},
+			{1, Publication{Clock: clock + 1_000_000_000_000}, ClockBack},
+			{1, Publication{Lo: 2, Hi: 1}, NoSlot},
+			{1, Publication{Drift: MaxDrift + 1}, NoSlot},
+		} {
+			if now, err := openFor(t, way, makeFile(t, try.count, try.p)).Now(); err != try.want || now.Interval != allTimes || now.Fresh {
+				t.Error(way, now, err, "in place of", try.want)
+			}
+		}
+		path := makeFile(t, 1, Publication{})
+		if _, err := open(path+"-not", me()); err != NoFile {
+			t.Error(way, err)
+		}
+		if _, err := open(path, me()+1); err != OtherFile {
+			t.Error(way, err)
+		}
+		client := openFor(t, way, path)
+		if _, err := client.Read(); err != nil {
+			t.Error(way, err)
+		}
+		client.Close()
+		if now, err := client.Now(); err != NoFile || now.Interval != allTimes {
+			t.Error(way, now, err)
+		}
+	}
+}
+
+// TestClosing closes clients while others read, and has what nobody uses unmapped.
+func TestClosing(t *testing.T) {
+	path := makeFile(t, 1, publicationOf(1))
+	for turn := 0; turn < 20; turn++ {
+		for way := range ways {
+			client := openFor(t, way, path)
+			started := make(chan struct{})
+			var reader sync.WaitGroup
+			reader.Add(1)
+			go func() {
+				defer reader.Done()
+				p, err := client.Read()
+				for close(started); err == nil; p, err = client.Read() {
+					if p != publicationOf(1) {
+						t.Error(p)
+						return
+					}
+				}
+				if err != NoFile {
+					t.Error(err)
+				}
+			}()
+			<-started
+			client.Close()
+			runtime.GC()
+			reader.Wait()
+		}
+	}
+	for try := 0; isMapped(t, path); try++ {
+		if try == 1000 {
+			t.Fatal("it stays mapped")
+		}
+		runtime.GC()
+		time.Sleep(time.Millisecond)
+	}
+}
+
+func isMapped(t *testing.T, path string) bool {
+	maps, err := os.ReadFile("/proc/self/maps")
+	if err != nil {
+		t.Fatal(err)
+	}
+	return strings.Contains(string(maps), path)
+}
+
+// TestCounts has publications at counts where bytes of the index change.
+func TestCounts(t *testing.T) {
+	for _, count := range []uint64{1, 2, 255, 256, 257, 65_535, 65_536, 1<<32 - 1, 1 << 32, 1 << 56, 1<<64 - 1} {
+		for way := range ways {
+			if p, err := openFor(t, way, makeFile(t, count, publicationOf(count))).Read(); err != nil || p != publicationOf(count) {
+				t.Error(way, count, p, err)
+			}
+		}
+	}
+}
+
+// readOn reads until it is over, and gives how often it read. Each copy has to be whole, and none older than the last.
+func readOn(t *testing.T, client *Client, isOver *atomic.Bool) (reads int) {
+	for last := uint64(0); !isOver.Load(); {
+		p, err := client.Read()
+		if err == Busy {
+			continue
+		}
+		if err != nil || p != publicationOf(p.Number) || p.Number < last {
+			t.Errorf("%v %v after %d", p, err, last)
+			return reads
+		}
+		last = p.Number
+		reads++
+	}
+	return reads
+}
+
+// publishBeside has readers beside a writer that never pauses, until each has read some thousand times, or for some seconds.
+func publishBeside(t *testing.T, clients []*Client, publish func(n uint64)) {
+	var isOver atomic.Bool
+	var readers sync.WaitGroup
+	for _, client := range clients {
+		readers.Add(1)
+		go func(client *Client) {
+			defer readers.Done()
+			t.Log(readOn(t, client, &isOver), "reads")
+		}(client)
+	}
+	began, n := time.Now(), uint64(2)
+	for ; time.Since(began) < 300*time.Millisecond; n++ {
+		publish(n)
+	}
+	isOver.Store(true)
+	readers.Wait()
+	t.Log(n, "publications")
+}
+
+// A page is a file in memory of this process, where checks for races see its writer and its readers.
+type page [fileWords]uint64
+
+func (p *page) publish(count uint64, published Publication) {
+	slot := slotWith(count, published)
+	for place := range slot {
+		atomic.StoreUint64(&p[slotOf(slot[0])+place], slot[place])
+	}
+	atomic.StoreUint64(&p[indexWord], slot[0])
+}
+
+func (p *page) client() *Client {
+	client := &Client{byRuntime: isRuntimeClock()}
+	client.mapped.Store(&mapping{(*[fileWords]uint64)(p)})
+	return client
+}
+
+func TestBesideWriter(t *testing.T) {
+	var words page
+	words.publish(1, publicationOf(1))
+	publishBeside(t, []*Client{words.client(), words.client()}, func(n uint64) { words.publish(n, publicationOf(n)) })
+}
+
+// TestNowBesideWriter has each publication made at the clock of that moment: a reading never has an older one.
+func TestNowBesideWriter(t *testing.T) {
+	var words page
+	publish := func(n uint64) {
+		clock, _ := readSystemClock()
+		words.publish(n, Publication{Clock: clock, Hi: MaxTime, Number: n})
+	}
+	publish(1)
+	client := words.client()
+	began, n := time.Now(), uint64(1)
+	var writer sync.WaitGroup
+	writer.Add(1)
+	go func() {
+		defer writer.Done()
+		for ; time.Since(began) < 100*time.Millisecond; n++ {
+			publish(n + 1)
+		}
+	}()
+	for time.Since(began) < 100*time.Millisecond {
+		if now, err := client.Now(); err != nil && err != Busy {
+			t.Error(now, err)
+			break
+		}
+	}
+	writer.Wait()
+}
+
+// TestBesideDaemon has the writer write as the daemon does: the slot, and then one byte of the index.
+func TestBesideDaemon(t *testing.T) {
+	path := makeFile(t, 1, publicationOf(1))
+	file, err := os.OpenFile(path, os.O_WRONLY, 0)
+	if err != nil {
+		t.Fatal(err)
+	}
+	defer file.Close()
+	publishBeside(t, []*Client{openFor(t, "mapped", path), openFor(t, "mapped", path), openFor(t, "unmapped", path)}, func(n uint64) {
+		var bytes [8 * slotWords]byte
+		for place, word := range slotWith(n, publicationOf(n)) {
+			binary.LittleEndian.PutUint64(bytes[8*place:], word)
+		}
+		at := 0
+		for index, before := indexOf(n), indexOf(n-1); byte(index>>(8*at)) == byte(before>>(8*at)); {
+			at++
+		}
+		_, failed := file.WriteAt(bytes[:], int64(8*slotOf(indexOf(n))))
+		_, also := file.WriteAt([]byte{byte(indexOf(n) >> (8 * at))}, int64(8*indexWord+at))
+		if failed != nil || also != nil {
+			t.Error(failed, also)
+		}
+	})
+}
+
+// TestShorter has files become shorter after they were opened, and whole again.
+func TestShorter(t *testing.T) {
+	path := makeFile(t, 1, publicationOf(1))
+	whole, err := os.ReadFile(path)
+	if err != nil {
+		t.Fatal(err)
+	}
+	client := openFor(t, "unmapped", path)
+	for _, length := range []int{191, 128, 23, 16, 0} {
+		if err := os.WriteFile(path, whole[:length], 0o644); err != nil {
+			t.Fatal(err)
+		}
+		if _, err := OpenUnmapped(path, me()); err != OtherFile {
+			t.Error(length, err)
+		}
+		if _, err := client.Now(); !errors.Is(err, NoFile) {
+			t.Error(length, err)
+		}
+		if err := os.WriteFile(path, whole, 0o644); err != nil {
+			t.Fatal(err)
+		}
+		if p, err := client.Read(); err != nil || p != publicationOf(1) {
+			t.Error(length, p, err)
+		}
+	}
+}
+
+// TestAllocations has a mapped file read without allocating.
+func TestAllocations(t *testing.T) {
+	client := openFor(t, "mapped", makeFile(t, 1, Publication{}))
+	if often := testing.AllocsPerRun(1000, func() { client.Now() }); often != 0 {
+		t.Error(often)
+	}
+}
+
+var sum uint64
+
+func benchmarkNow(b *testing.B, way string, byRuntime bool) {
+	client := openFor(b, way, makeFile(b, 1, Publication{}))
+	client.byRuntime = byRuntime
+	b.ResetTimer()
+	for turn := 0; turn < b.N; turn++ {
+		now, err := client.Now()
+		if err != nil {
+			b.Fatal(err)
+		}
+		sum += now.Earliest
+	}
+}
+
+func BenchmarkNow(b *testing.B)        { benchmarkNow(b, "mapped", isRuntimeClock()) }
+func BenchmarkNowSyscall(b *testing.B) { benchmarkNow(b, "mapped", false) }
+func BenchmarkUnmapped(b *testing.B)   { benchmarkNow(b, "unmapped", isRuntimeClock()) }
+
+func BenchmarkRead(b *testing.B) {
+	client := openFor(b, "mapped", makeFile(b, 1, Publication{}))
+	b.ResetTimer()
+	for turn := 0; turn < b.N; turn++ {
+		p, err := client.Read()
+		if err != nil {
+			b.Fatal(err)
+		}
+		sum += p.Hi
+	}
+}
+
+func BenchmarkClock(b *testing.B) {
+	for turn := 0; turn < b.N; turn++ {
+		clock, _ := readClock(true)
+		sum += clock
+	}
+}
+
+func BenchmarkClockSyscall(b *testing.B) {
+	for turn := 0; turn < b.N; turn++ {
+		clock, _ := readClock(false)
+		sum += clock
+	}
+}
