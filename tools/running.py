@@ -24,11 +24,19 @@ class Fault(Exception):
     """Why a tool cannot go on."""
 
 
+# For each port that `free_port` gave, a name that the system keeps for as long as this process lives.
+PORTS_TAKEN = []
+
+
 def free_port(kind):
-    """A free port, below those that the system gives to clients, so that nobody takes it while its owner is restarted."""
+    """A free port, below those that the system gives to clients, so that nobody takes it while its owner is restarted. It is given to no
+    other process of these tools as long as this one lives: its owner may take it later."""
     for port in random.SystemRandom().sample(range(20_000, 32_000), 100):
         with socket.socket(socket.AF_INET, kind) as door, contextlib.suppress(OSError):
             door.bind(("127.0.0.1", port))
+            name = socket.socket(socket.AF_UNIX, socket.SOCK_DGRAM)
+            name.bind(f"\0truetime-port-{kind:d}-{port}")
+            PORTS_TAKEN.append(name)
             return port
     raise Fault("no port is free")
 

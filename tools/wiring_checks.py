@@ -1,0 +1,218 @@
+"""What tools/wiring checks, by the names of docs/FORMATS.md, and what its scenarios share."""
+import contextlib
+import os
+import subprocess
+import time
+import typing
+
+from running import Process, truetime
+from trouble import REQUEST, SPAN, Fake, Trial, honest, write
+
+# The names. One that changes is changed here; that of a setting or of an event also where a scenario gives or awaits it.
+
+SETTINGS = "machine masters faulty workers drift poll wait floor_ahead idle lease_lo lease_hi listen state socket shared status".split()
+OPTIONS = "source listen uncertainty offset act".split()
+ACTS = "honest ahead behind silent garbage repeat".split()
+
+# The numbers of the status in their order, by the names that the checks use.
+STATUS = {
+    "epoch": "truetime_epoch", "width": "truetime_width_nanoseconds", "fusion_age": "truetime_fusion_age_nanoseconds",
+    "sources": "truetime_sources", "known": "truetime_sources_known", "suspects": "truetime_sources_suspect",
+    "rounds": "truetime_rounds_total", "publications": "truetime_publications_total", "answers_refused": "truetime_answers_refused_total",
+    "fusions_504": 'truetime_fusions_refused_total{number="504"}', "fusions_701": 'truetime_fusions_refused_total{number="701"}',
+    "sharing": "truetime_sharing", "sessions": "truetime_sessions_total", "lines": "truetime_lines_total",
+    "lines_refused": "truetime_lines_refused_total", "unsent": "truetime_packets_unsent_total",
+    "waiting": "truetime_connections_waiting", "left_out": "truetime_records_left_out_total",
+}
+
+# The numbers of a publication in the shared file, as clients/python names them.
+SHARED = truetime.Publication._fields
+
+# The level and the numbers of each event of the log.
+EVENTS = {
+    "started": "info machine epoch port", "first_publication": "info width", "sharing_resumed": "info", "ended": "info",
+    "master_started": "info source port", "source_silent": "warn source", "source_suspect": "warn source", "source_unsent": "warn source",
+    "fusion_refused": "warn number", "round_failed": "warn number", "sharing_ended": "warn number", "socket_renewed": "warn number pause",
+    "publication_slow": "warn nanoseconds", "clock_back": "warn", "status_unwritten": "warn", "not_accepted": "warn",
+    "state_loose": "warn", "epoch_loose": "warn", "shared_loose": "warn", "answers_refused": "warn count", "master_failed": "warn number",
+}
+
+# The names of all checks that are to be made.
+NAMES = [*(f"setting {name}" for name in SETTINGS), *(f"option {name}" for name in OPTIONS), *(f"act {name}" for name in ACTS),
+         *(f"status {name}" for name in STATUS), *(f"shared {name}" for name in SHARED), *(f"log {name}" for name in EVENTS)]
+
+
+def eventually(call, seconds=6.0, pause_s=0.02):
+    """What the call gives as soon as that is something, or what it gave at the end of these seconds."""
+    end = time.monotonic() + seconds
+    while True:
+        found = None
+        with contextlib.suppress(OSError, ValueError, KeyError, truetime.Refused):
+            found = call()
+        if found or time.monotonic() > end:
+            return found
+        time.sleep(pause_s)
+
+
+class Checks(Trial):
+    """The processes of one scenario, and its checks: the name of each, and what is wrong if anything is."""
+
+    def __init__(self, program, room):
+        super().__init__(program, room)
+        self.checked = []
+
+    def check(self, name, is_right, what):
+        self.checked.append((name, "" if is_right else what))
+
+    def equal(self, name, got, wanted):
+        self.check(name, got == wanted, f"{got!r}, and {wanted!r} is wanted")
+
+    def between(self, name, low, got, high):
+        self.check(name, got is not None and low <= got <= high, f"{got}, and {low} to {high} is wanted")
+
+    def numbers(self, node, seconds=6.0, **wanted):
+        """The status comes to have these numbers, all of them at once."""
+        seen = [dict.fromkeys(wanted)]
+
+        def look():
+            seen.append(status_of(node))
+            return all(seen[-1][name] == value for name, value in wanted.items())
+
+        eventually(look, seconds)
+        for name, value in wanted.items():
+            self.equal(f"status {name}", seen[-1][name], value)
+        return seen[-1]
+
+    def logs(self, process, event, seconds=6.0, **wanted):
+        """A line of this event comes, with these numbers and with those that its kind has; the line."""
+        def look():
+            return [line for line in process.said(event) if all(line.get(name) == str(value) for name, value in wanted.items())]
+        lines = eventually(look, seconds) or []
+        level, *numbers = EVENTS[event].split()
+        fits = [line for line in lines if line["level"] == level and line.keys() - {"left_out"} == {"time", "level", "event", *numbers}]
+        self.check(f"log {event}", fits, f"no line with level {level} and {wanted or numbers}, only {process.said(event)[:3]}")
+        return fits[0] if fits else {}
+
+    def look_at_events(self):
+        """Each event in the logs of this scenario has its name here."""
+        for name in os.listdir(self.room):
+            if name.endswith(".log"):
+                with open(os.path.join(self.room, name), encoding="utf-8", errors="replace") as log:
+                    for event in {word[6:] for line in log for word in line.split() if word.startswith("event=")} - EVENTS.keys():
+                        self.check(f"log {event}", False, "tools/wiring_checks.py has no such event")
+
+    def process(self, *words):
+        """A command of the program that runs until the scenario ends."""
+        return self.keep(Process(self, f"{words[0]}-{len(os.listdir(self.room))}", words))
+
+    def scripts(self, *acts):
+        """Masters that keep each poll. Each has its acts, one for each poll in turn, and the last one for all further ones."""
+        return [self.keep(Scripted(*(one if isinstance(one, (list, tuple)) else [one]))) for one in acts]
+
+    def spoilable(self, masters, **settings):
+        """A machine that has published, and a folder in which a file spoils its calls, as tools/spoil_calls.c says."""
+        folder, library = os.path.join(self.room, "spoil"), os.path.join(self.room, "spoil_calls.so")
+        os.mkdir(folder)
+        source = os.path.join(os.path.dirname(os.path.realpath(__file__)), "spoil_calls.c")
+        subprocess.run([os.environ.get("CC", "cc"), "-O2", "-shared", "-fPIC", "-o", library, source], check=True)
+        node = self.node(masters, **settings)
+        node.run(env=dict(os.environ, LD_PRELOAD=library, SPOIL=folder))
+        node.wait_until_ready()
+        return node, folder
+
+
+@contextlib.contextmanager
+def spoiled(folder, kind):
+    """Calls of this kind are spoiled as long as this lasts."""
+    path = os.path.join(folder, kind)
+    write(path, b"")
+    try:
+        yield
+    finally:
+        os.remove(path)
+
+
+def status_of(node):
+    """The numbers of its status by the names of `STATUS`; a number that is not there is None."""
+    numbers = node.status()
+    return {name: numbers.get(line) for name, line in STATUS.items()}
+
+
+def published(node, number=1, seconds=6.0):
+    """The publication in its shared file, once it has this number or a greater one."""
+    def look():
+        with node.client() as client:
+            publication = client.read()
+            return publication if publication.number >= number else None
+    return eventually(look, seconds)
+
+
+def reply_to(session, line):
+    """The reply to a line, which is sent again while it waits."""
+    while (reply := session.ask(line)).startswith("waiting"):
+        pass
+    return reply
+
+
+def latest_of(session):
+    return int(reply_to(session, "now").split()[2])
+
+
+# Masters.
+
+class Scripted(Fake):
+    """A master that keeps each poll with its time since 1970. Its acts are for one poll each, the last one for all further ones."""
+
+    def __init__(self, *acts):
+        self.acts, self.polls, self.times = acts, [], []
+        super().__init__(Scripted.play)
+
+    def play(self, poll):
+        self.times.append(time.time_ns())
+        self.polls.append(Poll(*REQUEST.unpack(poll)))
+        self.acts[min(len(self.polls), len(self.acts)) - 1](self, poll)
+
+
+class Poll(typing.NamedTuple):
+    """A request of docs/FORMATS.md, section 1."""
+    magic: bytes
+    kind: int
+    machine: int
+    source: int
+    zero: int
+    nonce: int
+    epoch: int
+
+
+def answer(poll, ahead_ns=0, **changed):
+    """The answer to a poll, by this host's clock and so far ahead, with these fields changed."""
+    head = Poll(*REQUEST.unpack(poll))._replace(**{"kind": 2, **changed})
+    now = time.time_ns() + ahead_ns
+    return REQUEST.pack(*head) + SPAN.pack(now - 1_000_000, now + 1_000_000)
+
+
+def lies(ahead_ns):
+    """It is so far ahead."""
+    return lambda fake, poll: fake.send(answer(poll, ahead_ns))
+
+
+def late(seconds):
+    """It answers so late."""
+    def act(fake, poll):
+        time.sleep(seconds)
+        honest(fake, poll)
+    return act
+
+
+def forges(*packets):
+    """It sends what these calls make of a poll, and then an honest answer."""
+    def act(fake, poll):
+        for packet in packets:
+            fake.send(packet(poll))
+        honest(fake, poll)
+    return act
+
+
+def other(**ahead):
+    """An answer in which these numbers are greater by so much than those of the poll."""
+    return lambda poll: answer(poll, **{name: getattr(Poll(*REQUEST.unpack(poll)), name) + by for name, by in ahead.items()})

@@ -1,0 +1,270 @@
+"""Scenarios of tools/wiring: each setting of a machine has its effect."""
+import contextlib
+import os
+import socket
+import statistics
+import subprocess
+import time
+
+from running import free_port, truetime
+from trouble import SECOND, honest, read, scenario, silent
+from users import is_closed_within, never_read
+from wiring_checks import eventually, late, latest_of, lies, published, reply_to, status_of
+
+MILLISECOND = SECOND // 1000
+# The greatest drift, which shows soonest.
+DRIFT = 100_000
+
+
+@scenario()
+def lease(trial):
+    """It begins in two seconds and is over after its first stamp."""
+    lo = time.time_ns() + 2 * SECOND
+    node = trial.running_node(trial.scripts(honest), lease_lo=lo, lease_hi=lo + 1000)
+    with truetime.Session(node.address, 10) as session:
+        trial.equal("setting lease_lo", reply_to(session, "commit 1 0"), f"committed 1 {lo}")
+        trial.equal("setting lease_hi", reply_to(session, "commit 2 0"), "refused 903")
+
+
+@scenario()
+def floor_ahead(trial):
+    """Beyond it a floor and a lease are refused, and within it a floor is taken."""
+    node = trial.running_node(trial.scripts(honest), floor_ahead="300ms")
+    with truetime.Session(node.address, 10) as session:
+        beyond = latest_of(session) + 900 * MILLISECOND
+        trial.equal("setting floor_ahead", reply_to(session, f"commit 1 {beyond}"), "refused 1821")
+        within = latest_of(session) + 200 * MILLISECOND
+        trial.equal("setting floor_ahead", reply_to(session, f"commit 1 {within}"), f"committed 1 {within}")
+        beyond = latest_of(session) + 900 * MILLISECOND
+        replies = [reply_to(session, line) for line in (f"lease {beyond} {beyond + SECOND}", "commit 2 0")]
+        trial.equal("setting floor_ahead", replies, [f"leased {beyond} {beyond + SECOND}", "refused 1821"])
+
+
+def fits(node, session):
+    """Whether a reading of the session is that of the publication in the shared file at some moment while it was made, a tenth of a second
+    after the publication or more."""
+    before, began = published(node), time.monotonic_ns()
+    earliest, latest = map(int, reply_to(session, "now").split()[1:])
+    ended, after = time.monotonic_ns(), published(node)
+    elapsed = (earliest + latest - before.lo_ns - before.hi_ns) // 2
+    clock = before.clock_ns + elapsed
+    if before != after or not began <= clock <= ended or elapsed < SECOND // 10:
+        return False
+    return before.read_at(clock)[:2] == (earliest, latest)
+
+
+@scenario()
+def drift(trial):
+    """It widens old statements, readings of sessions, and those of the shared file. The master answers once."""
+    node = trial.running_node(trial.scripts([honest, silent]), drift=DRIFT, poll="600ms", wait="200ms")
+    first = published(node)
+    with truetime.Session(node.address, 10) as session:
+        trial.check("setting drift", eventually(lambda: fits(node, session), 4), "no reading of a session is that of the shared file")
+    later = published(node, first.number + 2)
+    grown = (later.hi_ns - later.lo_ns) - (first.hi_ns - first.lo_ns)
+    wanted = 2 * DRIFT * (later.clock_ns - first.clock_ns) // 1_000_000
+    trial.between("setting drift", wanted - 10, grown, wanted + 10)
+    trial.equal("shared drift_ppm", later.drift_ppm, DRIFT)
+
+
+def say_nothing(_door):
+    """Nothing is sent."""
+
+
+def send_slowly(door):
+    """A line of which a byte comes each quarter of a second."""
+    with contextlib.suppress(OSError):
+        for _ in range(24):
+            if is_closed_within(door, 0.25):
+                return
+            door.sendall(b"n")
+
+
+def close_one_side(door):
+    """A commit that waits for nine seconds, of a client that sends no more."""
+    door.sendall(b"now\n")
+    latest = int(door.recv(100).split()[2])
+    door.sendall(b"commit 1 %d\n" % (latest + 9 * SECOND))
+    door.shutdown(socket.SHUT_WR)
+
+
+@scenario()
+def idle(trial):
+    """Clients that say nothing, send slowly, close one side, or never read are let go then, and neither at once nor much later."""
+    node = trial.running_node(trial.scripts(honest), idle="1s", floor_ahead="10s")
+    for act in (say_nothing, send_slowly, close_one_side):
+        with socket.create_connection(node.address, 5) as door:
+            began = time.monotonic()
+            act(door)
+            closed = is_closed_within(door, 6)
+            took = time.monotonic() - began
+            trial.check("setting idle", closed and 0.9 <= took <= 5, f"{act.__doc__} Closed {closed} after {took:.1f} seconds")
+    began = time.monotonic()
+    wrong = never_read(node.address, 10)
+    took = time.monotonic() - began
+    trial.check("setting idle", not wrong and took >= 0.9, f"a client that never reads: {wrong} after {took:.1f} seconds")
+
+
+def ask_at(doors, address):
+    """A connection that has asked for the time."""
+    door = doors.enter_context(socket.socket(socket.AF_UNIX if isinstance(address, str) else socket.AF_INET))
+    door.settimeout(5)
+    door.connect(address)
+    door.sendall(b"now\n")
+    return door
+
+
+def has_reply(door, seconds):
+    door.settimeout(seconds)
+    try:
+        return door.recv(100).startswith(b"now ")
+    except TimeoutError:
+        return False
+
+
+@scenario()
+def workers(trial):
+    """Of five, three serve `listen` and two `socket`. One more client at each waits until another leaves."""
+    node = trial.running_node(trial.scripts(honest), workers=5)
+    with contextlib.ExitStack() as doors:
+        waiting = []
+        for name, address, number in (("listen", node.address, 3), ("socket", node.path("socket"), 2)):
+            served = [ask_at(doors, address) for _ in range(number)]
+            trial.equal(f"setting {name}", sum(has_reply(door, 5) for door in served), number)
+            last = ask_at(doors, address)
+            trial.check("setting workers", not has_reply(last, 0.4), f"of 5 more than {number} serve {name}")
+            waiting.append((served[0], last))
+        trial.numbers(node, waiting=2)
+        for served, last in waiting:
+            served.close()
+            trial.check("setting workers", has_reply(last, 5), "a client that waited is not served when another has left")
+    trial.numbers(node, waiting=0)
+
+
+def pause_between(times):
+    """The median of the last three times between polls, in seconds."""
+    return statistics.median((second - first) / SECOND for first, second in zip(times[-4:], times[-3:]))
+
+
+@scenario()
+def polls(trial):
+    """What masters see: the machine, each its own source, the epoch of each life, and a poll each 0.3 seconds."""
+    masters = trial.scripts(*[honest] * 3)
+    node = trial.running_node(masters, machine=5, poll="300ms", wait="3s", faulty=0)
+    for epoch in (1, 2):
+        known = len(masters[0].polls)
+        eventually(lambda: len(masters[0].polls) >= known + 6, 10)
+        seen = [master.polls[known:] for master in masters]
+        trial.equal("setting machine", {poll.machine for polls in seen for poll in polls}, {5})
+        trial.equal("setting masters", [{poll.source for poll in polls} for polls in seen], [{0}, {1}, {2}])
+        trial.equal("setting state", {poll.epoch for polls in seen for poll in polls}, {epoch})
+        trial.between("setting poll", 0.29, pause_between(masters[0].times), 0.9)
+        if epoch == 1:
+            nonces = [poll.nonce for master in masters for poll in master.polls]
+            trial.equal("setting masters", len(set(nonces) - {0}), len(nonces))
+            node.kill()
+            time.sleep(0.1)
+            node.run()
+
+
+@scenario()
+def first_rounds(trial):
+    """They follow each other quickly until the first publication, and clients are served as soon as that is made."""
+    masters = trial.scripts([*[silent] * 3, honest])
+    node = trial.node(masters, poll="3600s", wait="50ms")
+    node.run()
+    with eventually(lambda: truetime.Session(node.address, 10)) as session:
+        trial.equal("the first answer", session.ask("now").split()[0], "now")
+    trial.between("the first answer", 0.1, time.monotonic() - node.began, 1.7)
+    time.sleep(0.4)
+    trial.equal("setting poll", len(masters[0].polls), 4)
+
+
+@scenario()
+def wait(trial):
+    """With a silent master a round lasts so long, and one that answers after more than half of it is heard."""
+    masters = trial.scripts(honest, late(0.4), silent)
+    node = trial.node(masters, poll="50ms", wait="700ms")
+    node.run()
+    eventually(lambda: len(masters[2].polls) >= 5, 10)
+    trial.between("setting wait", 0.7, pause_between(masters[2].times), 1.6)
+    trial.equal("setting wait", {line["source"] for line in node.said("source_silent")}, {"2"})
+
+
+# How many of five masters may be faulty, how many lie, and whether there is a fusion.
+FAULTY = [(None, 2, True), (1, 2, False), (1, 1, True), (0, 1, False)]
+
+
+@scenario()
+def faulty(trial):
+    """More than so many liars leave nothing to fuse."""
+    good, liars = trial.scripts(*[honest] * 5), trial.scripts(lies(5 * SECOND), lies(-7 * SECOND))
+    nodes = [trial.node([*good[lying:], *liars[:lying]], f"{number}", faulty=most, wait="2s")
+             for number, (most, lying, _) in enumerate(FAULTY)]
+    for node in nodes:
+        node.run()
+    for node, (most, lying, is_fused) in zip(nodes, FAULTY):
+        status = eventually(lambda node=node: (seen := status_of(node))["rounds"] >= 5 and seen) or {}
+        fusions = [bool(status.get(name)) for name in ("publications", "fusions_504")]
+        trial.check("setting faulty", fusions == [is_fused, not is_fused], f"{most} of 5, and {lying} lie: {status}")
+
+
+@scenario()
+def files(trial):
+    """Each is where its setting says, and nothing else is there."""
+    node = trial.running_node(trial.scripts(honest), "A", socket=None, shared=None, status=None)
+    trial.equal("setting state", sorted(os.listdir(node.folder)), ["node.toml", "state"])
+    trial.equal("setting state", read(node.path("state/epoch")), b"tt-epoch 1 1\n")
+    places = {name: os.path.join(trial.room, f"other-{name}") for name in ("state", "socket", "shared", "status")}
+    os.mkdir(places["state"])
+    node = trial.node(trial.scripts(honest), "B", listen="127.0.0.1:0", **places)
+    node.run()
+    port = int(trial.logs(node, "started").get("port", 0))
+    for name, address in (("listen", ("127.0.0.1", port)), ("socket", places["socket"])):
+        with truetime.Session(address, 5) as session:
+            trial.equal(f"setting {name}", session.ask("now").split()[0], "now")
+    with truetime.Client(places["shared"], os.geteuid()) as client:
+        trial.check("setting shared", client.read().number, "nothing is there")
+    trial.check("setting status", eventually(lambda: os.path.getsize(places["status"])), "nothing is there")
+    trial.equal("setting state", read(os.path.join(places["state"], "epoch")), b"tt-epoch 1 1\n")
+    trial.equal("setting state", sorted(os.listdir(node.folder)), ["node.toml", "state"])
+    trial.equal("setting state", os.listdir(node.path("state")), [])
+    node = trial.node(trial.scripts(honest), "C", **{name: name for name in places})
+    node.run(cwd=node.folder)
+    trial.check("setting shared", published(node), "nothing is there, and its path is relative")
+    trial.check("setting status", eventually(lambda: os.path.getsize(node.path("status"))), "nothing is there, and its path is relative")
+    there = {"node.toml", "shared.lock", *places}
+    trial.equal("setting state", set(os.listdir(node.folder)) - {"status.new"}, there)
+
+
+@scenario()
+def end_of_input(trial):
+    """It ends a machine that is told so, and no other."""
+    for name, is_told in (("A", True), ("B", False)):
+        node = trial.node(trial.scripts(honest), name)
+        if not is_told:
+            node.words.remove("--until-eof")
+        node.run(stdin=subprocess.DEVNULL)
+        if is_told:
+            trial.check("--until-eof", eventually(lambda: node.running.poll() is not None), "it goes on")
+        else:
+            node.wait_until_ready()
+            time.sleep(0.4)
+            trial.check("--until-eof", node.running.poll() is None, "it ends without being told")
+
+
+@scenario()
+def outline(trial):
+    """What `--check` says of settings none of which is a default."""
+    ports = [free_port(socket.SOCK_DGRAM) for _ in range(4)]
+    masters = [f"127.0.0.1:{port}" for port in ports]
+    node = trial.node(masters, machine=6, faulty=0, workers=7, drift=321, poll="31ms", wait="32ms", floor_ahead="33ms", idle="34s",
+                      lease_lo=35, lease_hi=36)
+    growth = 2 * -(-63_000_000 * 321 // 1_000_000)
+    numbers = {"faulty": 0, "workers": 7, "drift": 321, "poll": 31_000_000, "wait": 32_000_000, "floor_ahead": 33_000_000,
+               "idle": 34 * SECOND, "lease": "35 36", "growth": growth, "threads": 12, "memory": 4_194_304 + 7 * 131_072}
+    lines = ["machine 6", f"listen 127.0.0.1:{node.address[1]}", *(f"master {master}" for master in masters),
+             *(f"{name} {value}" for name, value in numbers.items()),
+             *(f"{name} {node.path(name)}" for name in ("state", "socket", "shared", "status"))]
+    status, said, _ = trial.command("serve", "--check", node.path("node.toml"))
+    trial.equal("--check", (status, said.splitlines()), (0, lines))
