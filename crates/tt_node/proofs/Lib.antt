@@ -9,3 +9,4 @@ pub mod Reading
 pub mod Sharing
 pub mod Turns
 pub mod Gating
+pub mod Committing

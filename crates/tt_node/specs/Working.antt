@@ -15,6 +15,7 @@ use Rattle.tt_stamp.specs.Steps.{Stamps, Begins}
 use Rattle.tt_stamp.specs.declared.commits.Id.{Id}
 use Rattle.tt_stamp.specs.declared.commits.Entry.{Entry}
 use Rattle.tt_stamp.specs.declared.commits.Entry.TheVariants.{Queued}
+use Rattle.tt_stamp.specs.declared.commits.Receipt.{Receipt}
 use Rattle.tt_stamp.specs.declared.faults.BeginFault.{BeginFault}
 use Rattle.tt_stamp.specs.declared.faults.BookFault.{BookFault}
 use Rattle.tt_audit.specs.declared.live.LiveNote.{LiveNote}
@@ -74,6 +75,17 @@ pub data GivesNone {C G : Type 0} (gives : C → Option ℕ → C → Type 0) (f
   -- the clock failed just after the watch gave its reading
   FailedAfter : (first : ℕ) (clock later : C) (reading : Interval) → number ≡ 803 → gives before.clock (Some first) clock
       → Looks gives failed before.watch clock (Ok reading) after.watch later → gives later None after.clock → HasFailed (failed later) (failed after.clock) → GivesNone gives failed before number after
+
+-- one queueing in a shared book, by what was seen of it before and after: what is seen goes on from what was seen to a history in which the commit has no fault, and ends with the commit; or the commit is refused by the first fault of what is seen, or for want of memory where that has none
+abbrev pub QueuesShared : List Entry → Id → ℕ → Result (Unit {0}) BookFault → List Entry → Type 0
+QueuesShared old id stamp (Ok done) new = IsLegalHistory new × ((past : List Entry) × GoesOn old past × (first_queue_fault past id stamp ≡ None) × (new ≡ Queued id stamp ∷ past))
+QueuesShared old id stamp (Err fault) new = GoesOn old new × IsLegalHistory new × AnswersFault (first_queue_fault new id stamp) fault
+
+-- one release of a shared book by a reading, by what was seen of it before and after: what is seen goes on from what was seen, and ends with the receipts of what has surely passed; the answer is the receipt that it has of the commit
+pub record ReleasesShared (old : List Entry) (reading : Interval) (id : Id) (answer : Option Receipt) (new : List Entry) : Type 0 where
+  pub legal : IsLegalHistory new
+  pub released : (past : List Entry) × GoesOn old past × (new ≡ with_receipts (release_of (waiting_of past) reading.lo) past)
+  pub receipt : answer ≡ receipt_of new id
 
 -- the answer to a commit that has begun, by what was seen of the book before and after: what is seen goes on from what was seen to a history in which the commit has no fault, and ends with the commit and its stamp, which is the answer; or the commit is refused by the first fault of what is seen, or for want of memory where that has none. Where it has not begun, the answer is the number of that refusal, and nothing more is seen
 abbrev pub AnswersBegun : Id → List Entry → Result ℕ BeginFault → Result ℕ ℕ → List Entry → Type 0

@@ -53,4 +53,4 @@ pub use reports::{RoundReport, SourceOutcome, SourceReport};
 pub use round_links::{MAX_DROPPED, RoundLink};
 pub use rounds::{Rounds, course_laws, daemon_rounds, daemon_while, report_laws, report_rounds};
 pub use tallies::{RefusedFusions, RefusedPackets, Tally};
-pub use workers::{MAX_PAUSE, MAX_TURNS, Worker};
+pub use workers::{MAX_TURNS, Worker};

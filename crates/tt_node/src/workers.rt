@@ -3,42 +3,76 @@
 ghost use Rattle.std.specs.Prelude.{◌≡◌, [], Some, None, IfOk, IfErr, IsErrOf, OnErr};
 ghost use Rattle.tt_stream.specs.Counts.{HasFailed};
 ghost use Rattle.tt_node.specs.Gating.{Asks};
-ghost use Rattle.tt_node.specs.Working.{Works, HasRead, GivesNone, LooksThen, BeginsAt, PassesAt, DoesWhere, Reads, Commits, Releases, Allows, after_asking, with_gate};
+ghost use Rattle.tt_node.specs.Working.{Works, HasRead, GivesNone, LooksThen, BeginsAt, PassesAt, DoesWhere, Reads, Commits, Releases, QueuesShared, ReleasesShared, Allows, after_asking, with_gate};
 
 use crate::faults::NodeFault;
 use crate::gates::Gate;
 use std::alloc::Global;
 use std::marker::Model;
 use std::sync::Wait;
-use std::thread::Parker;
-use std::time::Duration;
 use tt_audit::LiveNote;
 use tt_publish::{Clock, Reading, Watch};
-use tt_session::Service;
+use tt_session::{CommitBook, CommitFault, Service, StampSeat, begin_commit};
 use tt_shared_book::{BookView, SharedBook, WhichBook};
 use tt_span::Span;
-use tt_stamp::{Id, Seat, Sequencer, begin_step};
+use tt_stamp::{BookFault, Id, Receipt, Seat, Sequencer};
 
 /// How often a gate is asked about one call at most.
 pub const MAX_TURNS: u32 = 10_000;
 
-/// The longest wait of one `pass` for a stamp, in nanoseconds: a tenth of a second.
-pub const MAX_PAUSE: u64 = 100_000_000;
-
 /// A commit that was begun, and its stamp.
 #[derive(Clone, Copy)]
 struct Begun {
-    number: u64,
+    id: Id,
     stamp: u64,
 }
 
-/// What a release step gave.
-#[derive(Clone, Copy)]
-struct Step {
-    /// Whether the commit is released.
-    released: bool,
-    /// The earliest of the reading, in nanoseconds.
-    earliest: u64,
+/// The shared book, through the view of one thread. In contracts it is what the view has seen.
+#[derive(Drop)]
+struct SeenBook<'a, R, J: WhichBook> {
+    rt: &'a R,
+    book: &'a SharedBook<J>,
+    seen: BookView<J>,
+    /// The commit that this thread queued last.
+    begun: Option<Begun>,
+}
+
+impl<'a, R, J: WhichBook> Model for SeenBook<'a, R, J> {
+    ghost use Rattle.std.specs.Prelude.{List};
+    ghost use Rattle.tt_stamp.specs.declared.commits.Entry.{Entry};
+
+    ghost Value = { List Entry };
+
+    ghost view = { λ b. b.seen };
+}
+
+impl<'a, R, J: WhichBook> SeenBook<'a, R, J> {
+    /// The stamp of a commit, in nanoseconds, if this thread queued it last.
+    fn stamp_of(&self, id: Id) -> Option<u64> {
+        let begun = self.begun?;
+        if begun.id == id {
+            Some(begun.stamp)
+        } else {
+            None
+        }
+    }
+}
+
+impl<'a, R: Wait, J: WhichBook> CommitBook for SeenBook<'a, R, J> {
+    ghost queues = { QueuesShared };
+
+    ghost releases = { ReleasesShared };
+
+    fn queue_commit(&mut self, id: Id, stamp: u64) -> Result<(), BookFault> {
+        self.book.queue(self.rt, &mut self.seen, id, stamp)?;
+        self.begun = Some(Begun { id, stamp });
+        Ok(())
+    }
+
+    fn release_commits(&mut self, reading: &Reading, id: Id) -> Option<Receipt> {
+        self.book
+            .release_and_ask(self.rt, &mut self.seen, reading, id)
+    }
 }
 
 /// The service of one worker, for one session. It takes readings with a watch and a clock of its own. It takes stamps
@@ -54,33 +88,23 @@ struct Step {
 /// once that the call was answered.
 #[derive(Drop)]
 pub struct Worker<'a, R, C, G, J: WhichBook> {
-    rt: &'a R,
     session: u32,
     watch: Watch,
     clock: C,
-    seat: Seat,
-    sequencer: &'a Sequencer,
-    book: &'a SharedBook<J>,
-    book_view: BookView<J>,
+    seat: StampSeat<'a, R>,
+    book: SeenBook<'a, R, J>,
     gate: G,
     lease: Span,
     calls: u64,
     notes: Vec<LiveNote>,
-    /// The commit that was begun last.
-    begun: Option<Begun>,
-    /// Makes the waits. Nothing ends one before its time.
-    parker: Parker,
 }
 
 impl<'a, R, C, G, J: WhichBook> Model for Worker<'a, R, C, G, J> {
-    ghost use Rattle.std.specs.Prelude.{◌≡◌};
     ghost use Rattle.tt_node.specs.Working.{WorkerState};
 
     ghost Value = { WorkerState C G };
 
-    ghost view = { λ w. record { session = w.session; gate = w.gate; calls = w.calls; watch = w.watch; clock = w.clock; seat = w.seat; lease = w.lease; notes = w.notes.items; book = w.book_view } };
-
-    ghost invariant = { λ w. w.seat.table ≡ w.sequencer.now };
+    ghost view = { λ w. record { session = w.session; gate = w.gate; calls = w.calls; watch = w.watch; clock = w.clock; seat = w.seat; lease = w.lease; notes = w.notes.items; book = w.book } };
 }
 
 impl<'a, R: Wait, C: Clock, G: Gate, J: WhichBook> Worker<'a, R, C, G, J> {
@@ -102,20 +126,20 @@ impl<'a, R: Wait, C: Clock, G: Gate, J: WhichBook> Worker<'a, R, C, G, J> {
         ensures made { result ≡ record { session = session; gate = gate; calls = 0; watch = watch; clock = clock; seat = seat; lease = lease; notes = []; book = book_view } }
     {
         Worker {
-            rt,
             session,
             watch,
             clock,
-            seat,
-            sequencer,
-            book,
-            book_view,
+            seat: StampSeat::new(rt, sequencer, seat),
+            book: SeenBook {
+                rt,
+                book,
+                seen: book_view,
+                begun: None,
+            },
             gate,
             lease,
             calls: 0,
             notes: Vec::new(alloc),
-            begun: None,
-            parker: Parker::new(),
         }
     }
 
@@ -140,7 +164,7 @@ impl<'a, R, C: Drop, G: Drop, J: WhichBook> Worker<'a, R, C, G, J> {
             watch,
             ..
         } = self;
-        (notes, seat, watch)
+        (notes, seat.into_seat(), watch)
     }
 }
 
@@ -183,9 +207,7 @@ impl<'a, R: Wait, C: Clock, G: Gate, J: WhichBook> Worker<'a, R, C, G, J> {
         ensures does { DoesWhere passes (Commits C.gives C.failed number floor) self.old result self.new }
     {
         if passes {
-            let answer = self.commit(number, floor);
-            self.remember(number, answer);
-            answer
+            self.commit(number, floor)
         } else {
             Err(NodeFault::GateClosed.number())
         }
@@ -232,42 +254,27 @@ impl<'a, R: Wait, C: Clock, G: Gate, J: WhichBook> Worker<'a, R, C, G, J> {
         Ok(reading)
     }
 
-    /// Stamps and queues a commit.
+    /// Takes a reading, and begins a commit by it.
     fn commit(&mut self, number: u64, floor: u64) -> Result<u64, u16>
         ensures works { Works self.old self.new }
         ensures open { ¬ IsErrOf result 1504 }
         ensures notes { self.new.notes ≡ self.old.notes }
         ensures begins { LooksThen C.gives C.failed self.old (λ looked. BeginsAt number floor self.old looked result self.new) self.new }
     {
-        let stamp = match begin_step(
-            self.rt,
-            self.sequencer,
-            &mut self.seat,
-            &mut self.watch,
-            &mut self.clock,
-            floor,
-            &self.lease,
-        ) {
-            Ok(stamp) => stamp,
-            Err(fault) => return Err(fault.number()),
-        };
         let id = Id {
             session: self.session,
             number,
         };
-        match self.book.queue(self.rt, &mut self.book_view, id, stamp) {
-            Ok(()) => Ok(stamp),
-            Err(fault) => Err(fault.number()),
-        }
-    }
-
-    /// Keeps the number and the stamp of the last commit, if this answer to a `begin` is a stamp.
-    fn remember(&mut self, number: u64, answer: Result<u64, u16>)
-        ensures same { self.new ≡ self.old }
-    {
-        if let Ok(stamp) = answer {
-            self.begun = Some(Begun { number, stamp });
-        }
+        let reading = self.watch.now(&mut self.clock).map_err(CommitFault::Read)?;
+        let stamp = begin_commit(
+            &mut self.seat,
+            &mut self.book,
+            &reading,
+            id,
+            floor,
+            &self.lease,
+        )?;
+        Ok(stamp)
     }
 
     /// Makes one release step. Answers whether the commit is released. If it is not, a wait follows, without a lock on
@@ -283,35 +290,21 @@ impl<'a, R: Wait, C: Clock, G: Gate, J: WhichBook> Worker<'a, R, C, G, J> {
             session: self.session,
             number,
         };
-        let reading = match self.watch.now(&mut self.clock) {
-            Ok(reading) => reading,
-            Err(fault) => return Err(fault.number()),
-        };
-        let receipt = self
-            .book
-            .release_and_ask(self.rt, &mut self.book_view, &reading, id);
+        let reading = self.watch.now(&mut self.clock).map_err(CommitFault::Read)?;
+        let receipt = self.book.release_commits(&reading, id);
         let released = receipt.is_some();
-        self.pause(
-            number,
-            Step {
-                released,
-                earliest: reading.earliest(),
-            },
-        );
+        self.pause(id, reading.earliest(), released);
         Ok(released)
     }
 
-    /// Waits for the time from the earliest of the step's reading to the stamp of the commit, at most [`MAX_PAUSE`].
-    fn pause(&self, number: u64, step: Step) {
-        let Some(begun) = self.begun else {
-            return;
-        };
-        if step.released || begun.number != number {
+    /// Waits for the stamp of a commit that is not released, if this worker began it last: see [`StampSeat::pause`].
+    fn pause(&self, id: Id, earliest: u64, released: bool) {
+        if released {
             return;
         }
-        let left = begun.stamp.saturating_sub(step.earliest).saturating_add(1);
-        self.parker
-            .park_timeout(self.rt, Duration::from_nanos(left.min(MAX_PAUSE)));
+        if let Some(stamp) = self.book.stamp_of(id) {
+            self.seat.pause(stamp, earliest);
+        }
     }
 }
 
@@ -329,8 +322,9 @@ impl<'a, R: Wait, C: Clock, G: Gate, J: WhichBook> Service for Worker<'a, R, C, 
         answer
     }
 
-    /// One [`begin_step`] in the lease, then one [`SharedBook::queue`] of the session's commit with this number, under
-    /// the stamp. Answers the stamp, in nanoseconds. The book is locked only while the commit is queued.
+    /// One [`Watch::now`], then one [`begin_commit`] by this reading: one [`Sequencer::stamp`] in the lease, and one
+    /// [`SharedBook::queue`] of the session's commit with this number, under the stamp. Answers the stamp, in
+    /// nanoseconds. The book is locked only while the commit is queued.
     ///
     /// Refuses with 1504 if the gate is closed, then with the number of the first of these calls that refuses: 801,
     /// 803, 802, 902, 901, 903, 1001, 1002, 1003, 1. If the book refuses, the stamp is lost.
@@ -343,8 +337,8 @@ impl<'a, R: Wait, C: Clock, G: Gate, J: WhichBook> Service for Worker<'a, R, C, 
 
     /// One [`Watch::now`], then one [`SharedBook::release_and_ask`] by this reading. Answers whether the commit is
     /// released then. If it is not released, and it is the commit that was begun last, the call waits before it answers
-    /// no: for the time from the earliest of the reading to the stamp, at most [`MAX_PAUSE`]. The book is not locked
-    /// during the wait.
+    /// no: for the time from the earliest of the reading to the stamp, at most [`MAX_PAUSE`](tt_session::MAX_PAUSE) and
+    /// its margin. The book is not locked during the wait.
     ///
     /// Refuses with 1504 if the gate is closed, then as the reading does: 801, 803, 802.
     fn pass(&mut self, number: u64) -> Result<bool, u16> {

@@ -4,6 +4,6 @@ pub mod Splitting
 pub mod Releasing
 pub mod Following
 pub mod Hearing
-pub mod Stepping
+pub mod Receipts
 pub mod Spelling
 pub mod Asking

@@ -5,15 +5,17 @@ use Rattle.tt_publish.specs.Fault.{read_number_of}
 use Rattle.tt_publish.specs.Known.{WatchState}
 use Rattle.tt_publish.specs.Looks.{Looks}
 use Rattle.tt_publish.specs.declared.faults.ReadFault.{ReadFault}
-use Rattle.tt_stamp.specs.Fault.{begin_number_of, book_number_of}
-use Rattle.tt_stamp.specs.Steps.{StampsRow, Begins}
+use Rattle.tt_stamp.specs.Fault.{book_number_of}
+use Rattle.tt_stamp.specs.Steps.{StampsRow}
 use Rattle.tt_stamp.specs.History.{waiting_of, release_of, with_receipts, receipt_of, first_queue_fault}
 use Rattle.tt_stamp.specs.declared.commits.Id.{Id}
 use Rattle.tt_stamp.specs.declared.commits.Entry.{Entry}
 use Rattle.tt_stamp.specs.declared.commits.Entry.TheVariants.{Queued}
-use Rattle.tt_stamp.specs.declared.faults.BeginFault.{BeginFault}
 use Rattle.tt_stamp.specs.declared.faults.BookFault.{BookFault}
 use Rattle.tt_stamp.specs.declared.faults.BookFault.TheVariants.{Memory}
+use Rattle.tt_session.specs.Commits.{CommitsBy, numbered}
+use Rattle.tt_session.specs.Fault.{commit_number_of}
+use Rattle.tt_session.specs.declared.faults.CommitFault.{CommitFault}
 use Rattle.tt_session.specs.declared.calls.Call.{Call}
 use Rattle.tt_session.specs.declared.calls.Call.TheVariants.{Now, Begin, Lease, Pass}
 
@@ -55,16 +57,13 @@ abbrev pub AnswersQueued : ℕ → Result ℕ ℕ → Result (Unit {0}) BookFaul
 AnswersQueued stamp answer (Ok done) = answer ≡ Ok stamp
 AnswersQueued stamp answer (Err fault) = answer ≡ Err (book_number_of fault)
 
--- a commit that has begun is queued; where it has not, the number of the refusal is the answer
-abbrev pub QueuesBegun : {C : Type 0} → DeskState C → ℕ → Result ℕ ℕ → DeskState C → Result ℕ BeginFault → Type 0
-QueuesBegun before number answer after (Ok stamp) =
-    (queued : Result (Unit {0}) BookFault) × Queues before.book (id_at before number) stamp queued after.book × AnswersQueued stamp answer queued
-QueuesBegun before number answer after (Err fault) = (answer ≡ Err (begin_number_of fault)) × (after.book ≡ before.book)
-
--- a commit whose reading was taken is stamped by the row and queued; where there is no reading, the row stays
+-- a commit whose reading was taken is stamped by the row and queued, and the answer has a refusal as its number; where there is no reading, the row and the book stay
 abbrev pub BeginsAt : {C : Type 0} → DeskState C → ℕ → ℕ → Result ℕ ℕ → DeskState C → Result Interval ReadFault → Type 0
-BeginsAt before number floor answer after looked =
-    (begun : Result ℕ BeginFault) × Begins (StampsRow floor before.lease) looked before.row begun after.row × QueuesBegun before number answer after begun
+BeginsAt before number floor answer after (Ok reading) =
+    (given : Result ℕ CommitFault)
+    × CommitsBy (StampsRow floor before.lease reading) Queues (id_at before number) before.row before.book given after.row after.book
+    × (answer ≡ numbered commit_number_of given)
+BeginsAt before number floor answer after (Err fault) = (answer ≡ Err (read_number_of fault)) × (after.row ≡ before.row) × (after.book ≡ before.book)
 
 -- what has surely passed at the reading is released, and the answer is whether the commit is; where there is no reading, the number of the refusal
 abbrev pub PassesAt : {C : Type 0} → DeskState C → ℕ → Result Bool ℕ → DeskState C → Result Interval ReadFault → Type 0

@@ -7,6 +7,7 @@ pub mod Answers
 pub mod Session
 pub mod Talks
 pub mod Steps
+pub mod Commits
 pub mod Desk
 pub mod Deadline
 pub mod Timed

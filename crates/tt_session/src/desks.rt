@@ -2,13 +2,15 @@
 
 ghost use Rattle.std.specs.Prelude.{◌≡◌};
 ghost use Rattle.tt_span.specs.Interval.{whole};
-ghost use Rattle.tt_session.specs.Desk.{Allows};
+ghost use Rattle.tt_session.specs.Desk.{Allows, id_at};
 
+use crate::commits::{CommitBook, begin_commit};
+use crate::faults::CommitFault;
 use crate::services::Service;
 use std::marker::Model;
 use tt_publish::{Clock, Reading, Watch};
 use tt_span::Span;
-use tt_stamp::{Book, Id, Row, release_step};
+use tt_stamp::{Book, Id, Row};
 
 /// The service of one thread: a watch with its clock, a row of stamps and a book of its own. In contracts it is its
 /// parts.
@@ -60,6 +62,16 @@ impl<C> Desk<C> {
     {
         &self.book
     }
+
+    /// The id of the session's commit with this number.
+    fn id(&self, number: u64) -> Id
+        ensures { result ≡ id_at self.now number }
+    {
+        Id {
+            session: self.session,
+            number,
+        }
+    }
 }
 
 impl<C: Clock> Service for Desk<C> {
@@ -67,47 +79,35 @@ impl<C: Clock> Service for Desk<C> {
 
     /// One [`Watch::now`]. Refuses as `now` does, in this order: 801, 803, 802.
     fn now(&mut self) -> Result<Reading, u16> {
-        match self.watch.now(&mut self.clock) {
-            Ok(reading) => Ok(reading),
-            Err(fault) => Err(fault.number()),
-        }
+        let reading = self.watch.now(&mut self.clock).map_err(CommitFault::Read)?;
+        Ok(reading)
     }
 
-    /// One [`Watch::now`], then one [`Row::stamp`] by this reading, in the lease, then one [`Book::queue`] of the
-    /// commit with this number, under the stamp. Answers the stamp, in nanoseconds.
+    /// One [`Watch::now`], then one [`begin_commit`] by this reading: one [`Row::stamp`] in the lease, then one
+    /// [`Book::queue`] of the commit with this number, under the stamp. Answers the stamp, in nanoseconds.
     ///
     /// Refuses with the number of the first of these calls that refuses: 801, 803, 802, 902, 901, 903, 1001, 1002,
     /// 1003, 1. If the book refuses, the stamp is lost. After any other refusal the row and the book are as they were.
     fn begin(&mut self, number: u64, floor: u64) -> Result<u64, u16> {
-        let reading = match self.watch.now(&mut self.clock) {
-            Ok(reading) => reading,
-            Err(fault) => return Err(fault.number()),
-        };
-        let stamp = match self.row.stamp(&reading, floor, &self.lease) {
-            Ok(stamp) => stamp,
-            Err(fault) => return Err(fault.number()),
-        };
-        let id = Id {
-            session: self.session,
-            number,
-        };
-        match self.book.queue(id, stamp) {
-            Ok(()) => Ok(stamp),
-            Err(fault) => Err(fault.number()),
-        }
+        let id = self.id(number);
+        let reading = self.watch.now(&mut self.clock).map_err(CommitFault::Read)?;
+        let stamp = begin_commit(
+            &mut self.row,
+            &mut self.book,
+            &reading,
+            id,
+            floor,
+            &self.lease,
+        )?;
+        Ok(stamp)
     }
 
-    /// One [`release_step`]. Answers whether the book has released the commit with this number. Refuses as the step
-    /// does, in this order: 801, 803, 802.
+    /// One [`Watch::now`], then one [`Book::release`] by this reading. Answers whether the book has released the commit
+    /// with this number. Refuses as the reading does, in this order: 801, 803, 802.
     fn pass(&mut self, number: u64) -> Result<bool, u16> {
-        match release_step(&mut self.book, &mut self.watch, &mut self.clock) {
-            Ok(_) => {}
-            Err(fault) => return Err(fault.number()),
-        }
-        let id = Id {
-            session: self.session,
-            number,
-        };
-        Ok(self.book.is_released(id).is_some())
+        let id = self.id(number);
+        let reading = self.watch.now(&mut self.clock).map_err(CommitFault::Read)?;
+        let receipt = self.book.release_commits(&reading, id);
+        Ok(receipt.is_some())
     }
 }

@@ -1,9 +1,12 @@
-//! Why the session refuses a line, and why a session ended before its input did.
+//! Why the session refuses a line, why a service gave no reading or did not begin a commit, and why a session ended
+//! before its input did.
 
 ghost use Rattle.std.specs.Prelude.{◌≡◌};
-ghost use Rattle.tt_session.specs.Fault.{line_number_of, number_of};
+ghost use Rattle.tt_session.specs.Fault.{line_number_of, commit_number_of, number_of};
 
 use thiserror::Error;
+use tt_publish::ReadFault;
+use tt_stamp::{BookFault, StampFault};
 
 /// Why the session itself refuses a line. The session goes on.
 #[derive(Clone, Copy, Debug, PartialEq, Eq, Error)]
@@ -33,6 +36,41 @@ impl LineFault {
             LineFault::OldId => 1103,
             LineFault::OtherWaits => 1104,
         }
+    }
+}
+
+/// Why there was no reading, or a commit was not begun.
+#[derive(Clone, Copy, Debug, PartialEq, Eq, Error)]
+pub enum CommitFault {
+    /// There was no reading.
+    #[error("no reading: {0}")]
+    Read(ReadFault),
+    /// There was a reading, and no stamp was given by it.
+    #[error("no stamp: {0}")]
+    Stamp(StampFault),
+    /// A stamp was given, and the commit was not queued. The stamp is lost.
+    #[error("not queued: {0}")]
+    Queue(BookFault),
+}
+
+impl CommitFault {
+    /// The number of the fault within: 801, 802, 803, 901, 902, 903, 1001, 1002, 1003 or 1.
+    pub fn number(&self) -> u16
+        ensures { result ≡ commit_number_of self.now }
+    {
+        match self {
+            CommitFault::Read(fault) => fault.number(),
+            CommitFault::Stamp(fault) => fault.number(),
+            CommitFault::Queue(fault) => fault.number(),
+        }
+    }
+}
+
+impl From<CommitFault> for u16 {
+    ghost from_gives = { λ fault number. number ≡ commit_number_of fault };
+
+    fn from(fault: CommitFault) -> u16 {
+        fault.number()
     }
 }
 

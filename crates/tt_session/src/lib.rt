@@ -24,7 +24,8 @@
 //!   commit.
 //! - `talks`: `Talk`, a session between its bytes, and the reply to each line that ends. `steps`: one step of a session,
 //!   for a caller that serves many. `serving`: `serve`, with its faults in `faults`.
-//! - `desks`: `Desk`.
+//! - `commits`: the steps of a commit, over any source of stamps and any book, and the pause between its release steps.
+//!   `desks`: `Desk`.
 //! - `timed`: devices whose calls may end before anything came. `deadlines`: a reader and a writer over such devices,
 //!   which end a session at a time of its clock.
 #![tactic(auto)]
@@ -32,6 +33,7 @@
 mod answers;
 mod begun;
 mod calls;
+mod commits;
 mod deadlines;
 mod desks;
 mod faults;
@@ -45,9 +47,12 @@ mod timed;
 
 pub use begun::Begun;
 pub use calls::Call;
+pub use commits::{
+    CommitBook, MAX_PAUSE, PAUSE_MARGIN, StampSeat, StampSource, begin_commit, pause_for,
+};
 pub use deadlines::{Deadline, DeadlineReader, DeadlineWriter};
 pub use desks::Desk;
-pub use faults::{LineFault, ServeFault};
+pub use faults::{CommitFault, LineFault, ServeFault};
 pub use replies::LineReply;
 pub use requests::{Request, request_laws};
 pub use services::Service;

@@ -1,3 +1,2 @@
-mod Receipts
 mod Serving
 pub mod Leasing

@@ -70,6 +70,15 @@ abbrev pub StampsIn : Interval → Interval → ℕ → Interval → SeatState �
 StampsIn a b floor reading old answer new =
     MatchBool (nat_lt (min a.hi b.hi) (max a.lo b.lo)) ((answer ≡ Err LeaseOver) × (new ≡ old)) (Stamps floor (common a b) reading old answer new)
 
+-- one stamp of a post is one of its seat, in what a lease and that of the machine have in common; the rest of the post stays
+pub record StampsPost {C : Type 0} (floor : ℕ) (lease reading : Interval) (old : PostState C) (answer : Result ℕ StampFault) (new : PostState C) : Type 0 where
+  pub stamps : StampsIn lease old.lease floor reading old.seat answer new.seat
+  pub same : new ≡ record old { seat = new.seat }
+
+-- one queueing in the book of a session
+abbrev pub QueuesPage : List Entry → Id → ℕ → Result (Unit {0}) BookFault → List Entry → Type 0
+QueuesPage old id stamp answer new = Queues (book_before old) id stamp answer new
+
 -- the answer to a lease with these ends: the first reason why they are those of no interval of time, if there is one
 abbrev pub lease_answer : ℕ → ℕ → Result (Unit {0}) ℕ
 lease_answer lo hi = if nat_lt hi lo then Err (span_number_of Backwards) else (if nat_lt max_time hi then Err (span_number_of PastMax) else Ok tt)

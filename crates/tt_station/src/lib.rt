@@ -15,7 +15,7 @@
 //! - `posts`: `Post`, and `Post::serve`.
 //! - `stations`: `Station`, the service of one session.
 //! - `clients`: `Presence`, whether a client is still there.
-//! - `faults`: what a station refuses beside what its parts refuse.
+//! - `faults`: why a station refuses a call.
 #![tactic(auto)]
 
 mod clients;
@@ -25,5 +25,5 @@ mod stations;
 
 pub use clients::{AlwaysThere, Presence};
 pub use faults::StationFault;
-pub use posts::{MAX_PAUSE, Post, Terms};
+pub use posts::{Post, Terms};
 pub use stations::Station;

@@ -4,26 +4,18 @@ ghost use Rattle.std.specs.Prelude.{◌≡◌, ◌≢◌, ◌+◌, nat_lt, Err, 
 ghost use Rattle.std.specs.Io.KnownBytes.{IsAtEnd};
 ghost use Rattle.tt_publish.specs.Looks.{Looks};
 ghost use Rattle.tt_session.specs.declared.serving.Served.{Served};
-ghost use Rattle.tt_station.specs.Station.{ServesSession, BreaksSession, StampsIn};
+ghost use Rattle.tt_station.specs.Station.{ServesSession, BreaksSession, StampsPost};
 
 use crate::clients::Presence;
 use crate::stations::Station;
 use std::alloc::Global;
 use std::marker::Model;
 use std::sync::Wait;
-use std::thread::Parker;
-use std::time::Duration;
 use tt_publish::{Clock, ReadFault, Reading, Watch};
-use tt_session::{ServeFault, Served, Turns, serve};
+use tt_session::{ServeFault, Served, StampSeat, StampSource, Turns, serve};
 use tt_span::Span;
 use tt_stamp::{Seat, Sequencer, StampFault};
 use tt_stream::{ByteReader, ByteWriter};
-
-/// The longest pause of one release step, in nanoseconds: a twentieth of a second.
-pub const MAX_PAUSE: u64 = 50_000_000;
-
-/// How much longer a pause is than the time that is missing, in nanoseconds: the clock may be slow.
-const MARGIN: u64 = 1_000;
 
 /// The settings by which commits are stamped.
 #[derive(Clone, Copy, Debug, PartialEq, Eq)]
@@ -40,26 +32,30 @@ pub struct Terms {
 /// parts.
 #[derive(Drop)]
 pub struct Post<'a, R, C> {
-    rt: &'a R,
     alloc: Global,
     watch: Watch,
     clock: C,
-    seat: Seat,
-    sequencer: &'a Sequencer,
+    seat: StampSeat<'a, R>,
     terms: Terms,
-    /// Makes the pauses. Nothing ends one before its time.
-    parker: Parker,
 }
 
 impl<'a, R, C> Model for Post<'a, R, C> {
-    ghost use Rattle.std.specs.Prelude.{◌≡◌};
     ghost use Rattle.tt_station.specs.Station.{PostState};
 
     ghost Value = { PostState C };
 
     ghost view = { λ p. record { watch = p.watch; clock = p.clock; seat = p.seat; lease = p.terms.lease; ahead = p.terms.ahead } };
+}
 
-    ghost invariant = { λ p. p.seat.table ≡ p.sequencer.now };
+impl<'a, R, C: Drop> Post<'a, R, C> {
+    /// Ends the worker. Answers its watch and its seat.
+    pub fn into_parts(self) -> (Watch, Seat)
+        ensures watch { result.0 ≡ self.entry.watch }
+        ensures seat { result.1 ≡ self.entry.seat }
+    {
+        let Post { watch, seat, .. } = self;
+        (watch, seat.into_seat())
+    }
 }
 
 impl<'a, R: Wait, C: Clock> Post<'a, R, C> {
@@ -77,14 +73,11 @@ impl<'a, R: Wait, C: Clock> Post<'a, R, C> {
         ensures made { result ≡ record { watch = watch; clock = clock; seat = seat; lease = terms.lease; ahead = terms.ahead } }
     {
         Post {
-            rt,
             alloc,
             watch,
             clock,
-            seat,
-            sequencer,
+            seat: StampSeat::new(rt, sequencer, seat),
             terms,
-            parker: Parker::new(),
         }
     }
 
@@ -131,31 +124,28 @@ impl<'a, R: Wait, C: Clock> Post<'a, R, C> {
         floor.saturating_sub(reading.latest()) > self.terms.ahead
     }
 
+    /// Waits after a release step: see [`StampSeat::pause`].
+    pub(crate) fn pause(&self, stamp: u64, earliest: u64) {
+        self.seat.pause(stamp, earliest);
+    }
+}
+
+impl<'a, R: Wait, C> StampSource for Post<'a, R, C> {
+    ghost stamps = { StampsPost };
+
     /// One [`Sequencer::stamp`] in what this lease and that of the machine have in common. Where that is nothing, the
     /// lease is over, and the sequencer is not asked.
-    pub(crate) fn stamp(
+    fn next_stamp(
         &mut self,
         reading: &Reading,
         floor: u64,
         lease: &Span,
-    ) -> Result<u64, StampFault>
-        ensures stamps { StampsIn lease.now self.old.lease floor reading.now self.old.seat result self.new.seat }
-        ensures same { self.new ≡ record self.old { seat = self.new.seat } }
-    {
+    ) -> Result<u64, StampFault> {
         let lo = lease.lo().max(self.terms.lease.lo());
         let hi = lease.hi().min(self.terms.lease.hi());
         match Span::new(lo, hi) {
-            Ok(both) => self
-                .sequencer
-                .stamp(self.rt, &mut self.seat, reading, floor, &both),
+            Ok(both) => self.seat.next_stamp(reading, floor, &both),
             Err(_) => Err(StampFault::LeaseOver),
         }
-    }
-
-    /// Waits until a reading is past the stamp, or for the longest pause.
-    pub(crate) fn pause(&self, stamp: u64, earliest: u64) {
-        let left = stamp.saturating_sub(earliest).min(MAX_PAUSE);
-        self.parker
-            .park_timeout(self.rt, Duration::from_nanos(left + MARGIN));
     }
 }

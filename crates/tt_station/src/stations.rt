@@ -1,9 +1,9 @@
 //! The service of one session.
 
-ghost use Rattle.std.specs.Prelude.{◌≡◌, ◌<◌, ◌⊎◌, [], None, Err, IfSome};
+ghost use Rattle.std.specs.Prelude.{◌≡◌, ◌⊎◌, [], None, Err};
 ghost use Rattle.tt_span.specs.Interval.{whole};
-ghost use Rattle.tt_stamp.specs.History.{waiting_of, release_of, with_receipts, receipt_of};
-ghost use Rattle.tt_station.specs.Station.{Allows, AnswersReceipt, CommitsAt, SetsLease, book_before, id_at};
+ghost use Rattle.tt_session.specs.Commits.{ReleasesBy};
+ghost use Rattle.tt_station.specs.Station.{Allows, AnswersReceipt, QueuesPage, SetsLease, book_before};
 
 use crate::clients::Presence;
 use crate::faults::StationFault;
@@ -12,9 +12,67 @@ use std::alloc::Global;
 use std::marker::Model;
 use std::sync::Wait;
 use tt_publish::{Clock, Reading};
-use tt_session::Service;
+use tt_session::{CommitBook, CommitFault, Service, begin_commit};
 use tt_span::Span;
-use tt_stamp::{Book, Id, Receipt};
+use tt_stamp::{Book, BookFault, Id, Receipt};
+
+/// The book of a session. If no commit is pending, the next one is queued into an empty book. In contracts it is its
+/// book.
+#[derive(Drop)]
+struct Page {
+    book: Book,
+    alloc: Global,
+    /// The stamp of the commit that was queued last, in nanoseconds.
+    stamp: u64,
+}
+
+impl Model for Page {
+    ghost use Rattle.std.specs.Prelude.{List};
+    ghost use Rattle.tt_stamp.specs.declared.commits.Entry.{Entry};
+
+    ghost Value = { List Entry };
+
+    ghost view = { λ p. p.book };
+}
+
+impl Page {
+    /// The book of a session in which nothing has happened.
+    fn new(alloc: Global) -> Self
+        ensures { result ≡ [] }
+    {
+        Page {
+            book: Book::new(alloc),
+            alloc,
+            stamp: 0,
+        }
+    }
+
+    /// Makes the book ready for a commit: if none is pending, a new book begins.
+    fn turn(&mut self)
+        ensures { self.new ≡ book_before self.old }
+    {
+        if self.book.waiting() == 0 {
+            self.book = Book::new(self.alloc);
+        }
+    }
+}
+
+impl CommitBook for Page {
+    ghost queues = { QueuesPage };
+
+    ghost releases = { ReleasesBy };
+
+    fn queue_commit(&mut self, id: Id, stamp: u64) -> Result<(), BookFault> {
+        self.turn();
+        self.book.queue_commit(id, stamp)?;
+        self.stamp = stamp;
+        Ok(())
+    }
+
+    fn release_commits(&mut self, reading: &Reading, id: Id) -> Option<Receipt> {
+        self.book.release_commits(reading, id)
+    }
+}
 
 /// The service of one session: the post of its worker, its client, a lease and a book of its own. In contracts it is
 /// these four.
@@ -24,13 +82,10 @@ use tt_stamp::{Book, Id, Receipt};
 #[derive(Drop)]
 pub struct Station<'a, 'c, R, C, V> {
     post: Post<'a, R, C>,
-    alloc: Global,
     client: &'c V,
     /// Stamps lie in this lease and in that of the machine. It is the whole of time until the client sets one.
     lease: Span,
-    book: Book,
-    /// The stamp of the commit that was begun last, in nanoseconds.
-    stamp: u64,
+    book: Page,
 }
 
 impl<'a, 'c, R, C, V> Model for Station<'a, 'c, R, C, V> {
@@ -48,11 +103,9 @@ impl<'a, 'c, R: Wait, C: Clock, V: Presence> Station<'a, 'c, R, C, V> {
     {
         Station {
             post,
-            alloc,
             client,
             lease: Span::whole(),
-            book: Book::new(alloc),
-            stamp: 0,
+            book: Page::new(alloc),
         }
     }
 
@@ -64,34 +117,6 @@ impl<'a, 'c, R: Wait, C: Clock, V: Presence> Station<'a, 'c, R, C, V> {
         post
     }
 
-    /// Makes the book ready for a commit: if none is pending, a new book begins.
-    fn turn_page(&mut self)
-        ensures { self.new ≡ record self.old { book = book_before self.old.book } }
-    {
-        if self.book.waiting() == 0 {
-            self.book = Book::new(self.alloc);
-        }
-    }
-
-    /// Stamps a commit by this reading, and queues it.
-    fn commit(&mut self, number: u64, floor: u64, reading: &Reading) -> Result<u64, u16>
-        ensures commits { CommitsAt self.old number floor reading.now result self.new }
-        ensures same { self.new ≡ record self.old { post = record self.old.post { seat = self.new.post.seat }; book = self.new.book } }
-    {
-        let stamp = match self.post.stamp(reading, floor, &self.lease) {
-            Ok(stamp) => stamp,
-            Err(fault) => return Err(fault.number()),
-        };
-        self.turn_page();
-        match self.book.queue(Id { session: 0, number }, stamp) {
-            Ok(()) => {
-                self.stamp = stamp;
-                Ok(stamp)
-            }
-            Err(fault) => Err(fault.number()),
-        }
-    }
-
     /// The answer for a pending commit: no after a pause, or a refusal if the client has left.
     fn put_off(&self, earliest: u64) -> Result<bool, u16>
         ensures { AnswersReceipt V.says self.now.client result None }
@@ -99,22 +124,8 @@ impl<'a, 'c, R: Wait, C: Clock, V: Presence> Station<'a, 'c, R, C, V> {
         if self.client.has_left() {
             return Err(StationFault::ClientLeft.number());
         }
-        self.post.pause(self.stamp, earliest);
+        self.post.pause(self.book.stamp, earliest);
         Ok(false)
-    }
-
-    /// Releases each commit whose stamp has surely passed by this reading. Answers the receipt of the commit with this
-    /// number, if it is released then.
-    #[tactic(auto, using(crate::proofs::Receipts::sure))]
-    fn release(&mut self, number: u64, reading: &Reading) -> Option<Receipt>
-        ensures same { self.new ≡ record self.old { book = with_receipts (release_of (waiting_of self.old.book) reading.now.lo) self.old.book } }
-        ensures receipt { result ≡ receipt_of self.new.book (id_at number) }
-        ensures sure { IfSome result (λ receipt. receipt.stamp < receipt.earliest) }
-    {
-        self.book.release(reading);
-        // Its law: the history is legal.
-        let _ = self.book.history();
-        self.book.is_released(Id { session: 0, number })
     }
 }
 
@@ -123,10 +134,8 @@ impl<'a, 'c, R: Wait, C: Clock, V: Presence> Service for Station<'a, 'c, R, C, V
 
     /// One [`Watch::now`](tt_publish::Watch::now). Refuses as `now` does, in this order: 801, 803, 802.
     fn now(&mut self) -> Result<Reading, u16> {
-        match self.post.read() {
-            Ok(reading) => Ok(reading),
-            Err(fault) => Err(fault.number()),
-        }
+        let reading = self.post.read().map_err(CommitFault::Read)?;
+        Ok(reading)
     }
 
     /// One [`Watch::now`](tt_publish::Watch::now), then one [`Sequencer::stamp`](tt_stamp::Sequencer::stamp) by this
@@ -138,14 +147,20 @@ impl<'a, 'c, R: Wait, C: Clock, V: Presence> Service for Station<'a, 'c, R, C, V
     /// nothing in common, 902, 901, 903 if there is no stamp, 1001, 1002, 1003, 1 if the commit is not queued: then the
     /// stamp is lost. After any other refusal the seat has given no stamp, and the book is as it was.
     fn begin(&mut self, number: u64, floor: u64) -> Result<u64, u16> {
-        let reading = match self.post.read() {
-            Ok(reading) => reading,
-            Err(fault) => return Err(fault.number()),
-        };
+        let reading = self.post.read().map_err(CommitFault::Read)?;
         if self.post.is_above_cap(&reading, floor.max(self.lease.lo())) {
             return Err(StationFault::FloorAboveCap.number());
         }
-        self.commit(number, floor, &reading)
+        let id = Id { session: 0, number };
+        let stamp = begin_commit(
+            &mut self.post,
+            &mut self.book,
+            &reading,
+            id,
+            floor,
+            &self.lease,
+        )?;
+        Ok(stamp)
     }
 
     /// Sets the lease of the session, by its ends in nanoseconds. Refuses as [`Span::new`] does, and the lease stays:
@@ -165,16 +180,15 @@ impl<'a, 'c, R: Wait, C: Clock, V: Presence> Service for Station<'a, 'c, R, C, V
 
     /// One [`Watch::now`](tt_publish::Watch::now), then one [`Book::release`] by this reading. Answers whether the
     /// commit with this number is released then. If it is not, a pause follows: as long as the stamp of the commit that
-    /// was begun last lies above the earliest of the reading, and at most [`MAX_PAUSE`](crate::MAX_PAUSE).
+    /// was begun last lies above the earliest of the reading, and at most [`MAX_PAUSE`](tt_session::MAX_PAUSE) and its
+    /// margin.
     ///
     /// Refuses, in this order: 801, 803, 802 if there is no reading, 1822 if the commit is pending and the client has
     /// left.
     fn pass(&mut self, number: u64) -> Result<bool, u16> {
-        let reading = match self.post.read() {
-            Ok(reading) => reading,
-            Err(fault) => return Err(fault.number()),
-        };
-        match self.release(number, &reading) {
+        let reading = self.post.read().map_err(CommitFault::Read)?;
+        let id = Id { session: 0, number };
+        match self.book.release_commits(&reading, id) {
             Some(_) => Ok(true),
             None => self.put_off(reading.earliest()),
         }
