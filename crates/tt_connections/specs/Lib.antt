@@ -1,3 +1,4 @@
 pub mod Path
 pub mod Waiting
 pub mod Session
+pub mod Clock

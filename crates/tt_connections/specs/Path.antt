@@ -1,5 +1,5 @@
 -- What is done at the path of a Unix socket.
-use Rattle.std.specs.Prelude.{Bool, true, false, ◌&&◌, nat_eq, Result, Ok, Err, Option, Some, None}
+use Rattle.std.specs.Prelude.{Bool, true, false, not, ◌&&◌, nat_eq, Result, Ok, Err, Option, Some, None}
 use Rattle.tt_connections.specs.declared.doors.DoorFault.{DoorFault}
 use Rattle.tt_connections.specs.declared.doors.DoorFault.TheVariants as fault
 use Rattle.tt_connections.specs.declared.doors.Found.{Found}
@@ -12,6 +12,13 @@ plan_of Nothing = Ok false
 plan_of Left = Ok true
 plan_of Listened = Err fault.Failed
 plan_of Other = Err fault.NotSocket
+
+-- a bind that failed has left the socket at which nobody listens, unless it failed because the path was taken
+abbrev pub is_left_by : Bool → Found → Bool
+is_left_by was_taken Left = not was_taken
+is_left_by was_taken Nothing = false
+is_left_by was_taken Listened = false
+is_left_by was_taken Other = false
 
 -- both are known, and are one file
 abbrev pub is_same : Option Identity → Option Identity → Bool

@@ -1,5 +1,5 @@
 -- How long a session may go on, and when its client has left.
-use Rattle.std.specs.Prelude.{ℕ, ◌+◌, ◌-◌, ◌/◌, ◌^◌, min, nat_lt, if◌then◌else◌, Bool, true, false}
+use Rattle.std.specs.Prelude.{ℕ, ◌+◌, ◌-◌, ◌/◌, ◌^◌, min, nat_lt, if◌then◌else◌, Bool, true, false, Option, Some, None}
 use Rattle.tt_session.specs.declared.deadlines.Deadline.{Deadline}
 use Rattle.tt_connections.specs.declared.sights.Seen.{Seen}
 use Rattle.tt_connections.specs.declared.sights.Seen.TheVariants.{Open, Closed, Broken}
@@ -20,3 +20,10 @@ abbrev pub is_gone : Seen → ℕ → ℕ → ℕ → Bool
 is_gone Open since idle now = false
 is_gone Closed since idle now = nat_lt (since + idle) now
 is_gone Broken since idle now = true
+
+-- where the clock can't be read, only a broken connection says that the client has left
+abbrev pub is_gone_at : Seen → ℕ → ℕ → Option ℕ → Bool
+is_gone_at seen since idle (Some now) = is_gone seen since idle now
+is_gone_at Broken since idle None = true
+is_gone_at Open since idle None = false
+is_gone_at Closed since idle None = false

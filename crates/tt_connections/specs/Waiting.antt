@@ -1,7 +1,7 @@
 -- How many connections wait, and for how long.
 use Rattle.std.specs.Prelude.{ℕ, ◌-◌, nat_lt, not, Bool, true, false, Option, Some, None}
 use Rattle.tt_connections.specs.declared.acceptors.Turn.{Turn}
-use Rattle.tt_connections.specs.declared.acceptors.Turn.TheVariants.{Empty, Full, More, Failed}
+use Rattle.tt_connections.specs.declared.acceptors.Turn.TheVariants.{More, Failed}
 
 -- fewer than 256 wait
 abbrev pub has_room : ℕ → Bool

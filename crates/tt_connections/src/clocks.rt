@@ -4,6 +4,7 @@ ghost use Rattle.std.specs.Prelude.{◌≡◌, ◌≤◌, IfSome};
 ghost use Rattle.std.specs.Duration.{as_nanos};
 ghost use Rattle.tt_span.specs.Time.{max_time};
 
+use std::marker::Model;
 use std::time::{Clock as SystemClock, Duration};
 use tt_publish::{Clock, ClockFault};
 use tt_span::MAX_TIME;
@@ -18,7 +19,7 @@ fn nanos_of(elapsed: Duration) -> Option<u64>
     if time <= MAX_TIME { Some(time) } else { None }
 }
 
-/// The host's raw monotonic clock now, in nanoseconds. None if it can't be read, or shows a time above [`MAX_TIME`].
+/// The host's monotonic clock now, in nanoseconds. None if it can't be read, or shows a time above [`MAX_TIME`].
 pub fn reading_of<R: SystemClock>(rt: &R) -> Option<u64>
     ensures in_time { IfSome result (λ time. time ≤ max_time) }
 {
@@ -28,11 +29,12 @@ pub fn reading_of<R: SystemClock>(rt: &R) -> Option<u64>
     }
 }
 
-/// The raw monotonic clock of the host, in nanoseconds since an arbitrary start. The daemon, the workers and the
-/// readers of a shared file use it. A read fails if the system's clock can't be read, or if it shows a time above
-/// [`MAX_TIME`].
+/// The monotonic clock of the host (`CLOCK_MONOTONIC`), in nanoseconds since an arbitrary start. The daemon, the workers
+/// and the readers of a shared file use it. A read fails if the system's clock can't be read, if it shows a time above
+/// [`MAX_TIME`], or if it shows a time below the last one. So no reading is below one before it.
 ///
-/// Nothing is claimed of what the system's clock shows.
+/// Nothing else is claimed of what the system's clock shows. In contracts the clock is its last reading and its
+/// failures.
 #[derive(Drop)]
 pub struct MachineClock<'a, R> {
     rt: &'a R,
@@ -40,9 +42,19 @@ pub struct MachineClock<'a, R> {
     last: u64,
 }
 
+impl<'a, R> Model for MachineClock<'a, R> {
+    ghost use Rattle.tt_connections.specs.Clock.{ClockState};
+
+    ghost Value = { ClockState };
+
+    ghost view = { λ clock. record { last = clock.last; failures = clock.failures } };
+}
+
 impl<'a, R: SystemClock> MachineClock<'a, R> {
     /// The clock of this machine.
-    pub fn new(rt: &'a R) -> Self {
+    pub fn new(rt: &'a R) -> Self
+        ensures new { result ≡ record { last = 0; failures = 0 } }
+    {
         MachineClock {
             rt,
             failures: 0,
@@ -59,16 +71,18 @@ impl<'a, R: SystemClock> MachineClock<'a, R> {
 }
 
 impl<'a, R: SystemClock> Clock for MachineClock<'a, R> {
-    ghost use Rattle.std.specs.Prelude.{◌≡◌, IfSome};
+    ghost use Rattle.tt_connections.specs.Clock.{MachineGives};
 
-    ghost gives = { λ _ reading after. IfSome reading (λ time. after.last ≡ time) };
+    ghost gives = { MachineGives };
 
     ghost failed = { λ clock. clock.failures };
 
     fn read(&mut self) -> Result<u64, ClockFault> {
         if let Some(time) = reading_of(self.rt) {
-            self.last = time;
-            return Ok(time);
+            if self.last <= time {
+                self.last = time;
+                return Ok(time);
+            }
         }
         self.failures = self.failures.saturating_add(1);
         Err(ClockFault::Failed)

@@ -1,7 +1,7 @@
 //! Where clients connect: a TCP listener, or a Unix socket.
 
 ghost use Rattle.std.specs.Prelude.{◌≡◌};
-ghost use Rattle.tt_connections.specs.Path.{plan_of, is_same};
+ghost use Rattle.tt_connections.specs.Path.{plan_of, is_left_by, is_same};
 
 use std::fs::{self, Files};
 use std::io::{self, ErrorKind};
@@ -47,6 +47,14 @@ fn plan_of(found: Found) -> Result<bool, DoorFault>
         Found::Listened => Err(DoorFault::Failed),
         Found::Other => Err(DoorFault::NotSocket),
     }
+}
+
+/// Whether a bind that failed has left the socket that is found at its path then. It has if nobody listens there, unless
+/// the bind failed because the path was taken.
+fn is_left_by(was_taken: bool, found: Found) -> bool
+    ensures value { result ≡ is_left_by was_taken found }
+{
+    matches!(found, Found::Left) && !was_taken
 }
 
 /// The device and the inode of a file.
@@ -101,20 +109,21 @@ impl Door {
     /// The Unix socket at this path. If a machine left a socket there, and nobody listens at it, it is removed first.
     ///
     /// Refuses with `NotSocket` if anything else is at the path, also a symbolic link, and with `Failed` if somebody
-    /// listens there or the socket can't be made. Then what is at the path is left alone. It does not wait.
+    /// listens there or the socket can't be made. Then what is at the path is left alone, and a socket that this call had
+    /// made there is removed. It does not wait.
     pub fn at_path<R: Files + Net>(rt: &R, path: &str) -> Result<Door, DoorFault> {
         let is_left = plan_of(found_at(rt, path))?;
         if is_left && fs::remove_file(rt, path).is_err() {
             return Err(DoorFault::Failed);
         }
-        let Ok(listener) = UnixListener::bind(rt, path) else {
-            return Err(DoorFault::Failed);
-        };
-        if listener.set_nonblocking(true).is_err() {
+        let listener = bound_at(rt, path)?;
+        let is_ready = listener.set_nonblocking(true).is_ok();
+        let door = Door::Unix(listener, identity_at(rt, path));
+        if !is_ready {
+            door.remove(rt, path);
             return Err(DoorFault::Failed);
         }
-        let identity = identity_at(rt, path);
-        Ok(Door::Unix(listener, identity))
+        Ok(door)
     }
 
     /// Accepts the next connection, if one waits.
@@ -165,6 +174,19 @@ impl Door {
             let _ = fs::remove_file(rt, path);
         }
     }
+}
+
+/// A listener that is bound at this path. The system first makes the socket there, and then listens at it: where only the
+/// second fails, the socket is removed again.
+fn bound_at<R: Files + Net>(rt: &R, path: &str) -> Result<UnixListener, DoorFault> {
+    let error = match UnixListener::bind(rt, path) {
+        Ok(listener) => return Ok(listener),
+        Err(error) => error,
+    };
+    if is_left_by(error.kind() == ErrorKind::AddrInUse, found_at(rt, path)) {
+        let _ = fs::remove_file(rt, path);
+    }
+    Err(DoorFault::Failed)
 }
 
 /// What is at this path. It does not wait for a listener that has no room.

@@ -12,7 +12,8 @@
 //! - `clients`: the reader and the writer of a session. `sights`: whether its client has left. `clocks`: [`MachineClock`].
 //!
 //! The functions over values are proved: what is done at the path of a Unix socket, when connections are handed over, how
-//! long the acceptor waits, and when a client has left. Nothing is claimed of sockets, threads and their order.
+//! long the acceptor waits, and when a client has left. It is also proved that no reading of a [`MachineClock`] is below
+//! one before it. Nothing is claimed of sockets, threads and their order.
 #![tactic(auto)]
 
 mod acceptors;

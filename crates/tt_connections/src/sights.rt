@@ -1,7 +1,7 @@
 //! Whether the client of a session has left.
 
 ghost use Rattle.std.specs.Prelude.{◌≡◌};
-ghost use Rattle.tt_connections.specs.Session.{seen_after, is_gone};
+ghost use Rattle.tt_connections.specs.Session.{seen_after, is_gone, is_gone_at};
 
 use crate::clients::is_over;
 use crate::clocks::reading_of;
@@ -9,6 +9,7 @@ use mio::unix::SourceFd;
 use mio::{Events, Interest, Poll, Token};
 use std::alloc::Global;
 use std::io;
+use std::marker::Model;
 use std::net::{Net, TcpStream};
 use std::os::fd::AsRawFd;
 use std::sync::atomic::{AtomicBool, Ordering};
@@ -52,6 +53,17 @@ fn is_gone(seen: Seen, since: u64, idle: u64, now: u64) -> bool
         Seen::Open => false,
         Seen::Closed => is_over(since, idle, now),
         Seen::Broken => true,
+    }
+}
+
+/// Whether a client has left when the clock shows `now`, or cannot be read. Then only a broken connection says that it
+/// has: what fails is the clock, and the next reading of the session says so.
+fn is_gone_at(seen: Seen, since: u64, idle: u64, now: Option<u64>) -> bool
+    ensures value { result ≡ is_gone_at seen since idle now }
+{
+    match now {
+        Some(now) => is_gone(seen, since, idle, now),
+        None => matches!(seen, Seen::Broken),
     }
 }
 
@@ -119,13 +131,14 @@ impl Sight {
         seen
     }
 
-    /// Whether the client of this connection has left when the clock shows `now`.
-    fn has_left(&mut self, stream: &TcpStream, idle: u64, now: u64) -> bool {
+    /// Whether the client of this connection has left when the clock shows `now`. None if the clock cannot be read.
+    fn has_left(&mut self, stream: &TcpStream, idle: u64, now: Option<u64>) -> bool {
         let seen = self.look(stream);
         if seen == Seen::Closed && self.since.is_none() {
-            self.since = Some(now);
+            self.since = now;
         }
-        is_gone(seen, self.since.unwrap_or(now), idle, now)
+        let since = self.since.or(now).unwrap_or(0);
+        is_gone_at(seen, since, idle, now)
     }
 }
 
@@ -134,7 +147,8 @@ impl Sight {
 /// It has left if its connection is broken. A client that has closed its side gets the replies to the lines that it sent,
 /// and has left once that was seen longer than `idle` ago. Both are seen also if bytes of it are unread. A TCP client that
 /// has closed both sides looks like one that has closed its own until a reply is written to it. At the end of the machine
-/// all clients have left.
+/// all clients have left. While the clock cannot be read, only a broken connection is a client that has left. In contracts
+/// a client is nothing: nothing is claimed of when it leaves.
 #[derive(Drop)]
 pub struct Client<'a, R> {
     rt: &'a R,
@@ -143,6 +157,12 @@ pub struct Client<'a, R> {
     /// How long a client that has closed its side is still there, in nanoseconds.
     idle: u64,
     sight: &'a Mutex<Sight>,
+}
+
+impl<'a, R> Model for Client<'a, R> {
+    ghost Value = { Unit {0} };
+
+    ghost view = { λ _. tt };
 }
 
 impl<'a, R: Wait + SystemClock> Client<'a, R> {
@@ -166,15 +186,15 @@ impl<'a, R: Wait + SystemClock> Client<'a, R> {
 }
 
 impl<'a, R: Wait + SystemClock> Presence for Client<'a, R> {
-    ghost says = { λ _ _. Unit {0} };
+    ghost use Rattle.tt_connections.specs.Clock.{ClientSays};
+
+    ghost says = { ClientSays };
 
     fn has_left(&self) -> bool {
         if self.ended.load(Ordering::SeqCst) {
             return true;
         }
-        let Some(now) = reading_of(self.rt) else {
-            return true;
-        };
+        let now = reading_of(self.rt);
         self.sight
             .lock(self.rt)
             .has_left(self.stream, self.idle, now)

@@ -1,5 +1,5 @@
 -- The readings of sessions that are served on running machines.
-use Rattle.std.proofs.Common.{ℕ, List, [], ◌∷◌, Bool, Option, All}
+use Rattle.std.proofs.Common.{ℕ, List, [], ◌∷◌, Bool, Option, sym, All}
 use Rattle.std.specs.Prelude.{IfOk}
 use Rattle.std.proofs.lemmas.List.Elements.{All-contains}
 use Rattle.tt_span.specs.Interval.{Holds}
@@ -12,20 +12,20 @@ use Rattle.tt_order.specs.Timed.{CallTimes, looked_of, ReadingsHold, TimedSessio
 use Rattle.tt_order.specs.Order.{IsSeenAtSome}
 use Rattle.tt_runs.proofs.Reading.{look-holds}
 use Rattle.tt_consistency.specs.Running.{Machine, IsRunning, clock_moments, published_by}
-use Rattle.tt_consistency.specs.Served.{LooksAt, LooksBy, AllLookAt, IsServedOn, IsSeenOnOneOf}
+use Rattle.tt_consistency.specs.Served.{LooksBy, AllLookAt, IsServedOn, IsSeenOnOneOf}
 use Rattle.tt_consistency.proofs.Holding.{publications-hold}
 
 module _ {C V : Type 0} (gives : C → Option ℕ → C → Type 0) (failed : C → ℕ) (says : V → Bool → Type 0) where
   module _ (machine : Machine) (running : IsRunning machine) where
     -- the reading of one call
-    call-holds : (before : StationState C V) (call : Call) (after : StationState C V) (allowed : Allows gives failed says before call after) (time : ℕ) → LooksBy gives machine before call after time → IfOk (looked_of gives failed says before call after allowed) (λ reading. Holds reading time)
+    call-holds : (before : StationState C V) (call : Call) (after : StationState C V) (allowed : Allows gives failed says before call after) (time : ℕ) → LooksBy gives failed says machine before call after allowed time → IfOk (looked_of gives failed says before call after allowed) (λ reading. Holds reading time)
     call-holds before (Now answer) after allowed time at =
-        look-holds gives failed before.post.watch after.post.watch before.post.clock after.post.clock allowed.looked (clock_moments machine) (published_by machine) time allowed.looks (publications-hold machine running) at.seen at.read
+        look-holds gives failed after.post.watch.drift before.post.watch after.post.watch before.post.clock after.post.clock allowed.looked (clock_moments machine) (published_by machine) time (sym allowed.looks.same.1) allowed.looks (publications-hold machine running) at.seen at.read
     call-holds before (Begin number floor answer) after allowed time at =
-        look-holds gives failed before.post.watch after.post.watch before.post.clock after.post.clock allowed.looked (clock_moments machine) (published_by machine) time allowed.looks (publications-hold machine running) at.seen at.read
+        look-holds gives failed after.post.watch.drift before.post.watch after.post.watch before.post.clock after.post.clock allowed.looked (clock_moments machine) (published_by machine) time (sym allowed.looks.same.1) allowed.looks (publications-hold machine running) at.seen at.read
     call-holds before (Lease lo hi answer) after allowed time at = tt
     call-holds before (Pass number answer) after allowed time at =
-        look-holds gives failed before.post.watch after.post.watch before.post.clock after.post.clock allowed.looked (clock_moments machine) (published_by machine) time allowed.looks (publications-hold machine running) at.seen at.read
+        look-holds gives failed after.post.watch.drift before.post.watch after.post.watch before.post.clock after.post.clock allowed.looked (clock_moments machine) (published_by machine) time (sym allowed.looks.same.1) allowed.looks (publications-hold machine running) at.seen at.read
 
     -- the readings of all calls
     calls-hold : (calls : List Call) (before after : StationState C V) (talked : Conversation (Allows gives failed says) before calls after) (times : List CallTimes) → AllLookAt gives failed says machine before calls after talked times → ReadingsHold gives failed says before calls after talked times

@@ -42,7 +42,7 @@ abbrev says : Unit {0} → Bool → Type 0
 says client left = left ≡ false
 
 -- what both machines published
-abbrev fused : Publication
+abbrev pub fused : Publication
 fused = record { clock = 111; span = record { lo = 1000; hi = 1020 }; spans = record { lo = 1000; hi = 1020 } ∷ []; faulty = 0; certificate = record { left = []; right = []; below = []; above = [] } }
 
 abbrev pub watch : WatchState
@@ -64,7 +64,7 @@ interval low high = record { lo = low; hi = high }
 abbrev pub read_at : ℕ → Interval
 read_at clock = interval (888 + clock) (910 + clock)
 
-reads_at : (clock : ℕ) → 112 ≤ clock → clock ≤ 1000 → read_at clock ≡ reading_at 100 (fused_span_of fused) clock
+pub reads_at : (clock : ℕ) → 112 ≤ clock → clock ≤ 1000 → read_at clock ≡ reading_at 100 (fused_span_of fused) clock
 unfolding widening
 reads_at clock late early =
     let low : 888 + clock ≡ aged_low 100 1000 (clock - 111) = omega arith in
@@ -87,13 +87,13 @@ looks_at clock later late early = record {
 abbrev given_at : ℕ → Stamping
 given_at stamp = record { number = 0; latest = stamp; floor = 0; lease = whole; stamp = stamp }
 
-abbrev seat_after : ℕ → SeatState
+abbrev pub seat_after : ℕ → SeatState
 seat_after stamp = record seat { seen = given_at stamp ∷ []; own = given_at stamp ∷ [] }
 
 abbrev begun_with : Clocks → ℕ → StationState Clocks (Unit {0})
 begun_with clock stamp = record { post = record (post clock) { seat = seat_after stamp }; client = tt; lease = whole; book = Queued (id_at 1) stamp ∷ [] }
 
-gives_at : (stamp : ℕ) → stamp ≤ 3000 → Gives seat (seat_after stamp) stamp 0 whole stamp
+pub gives_at : (stamp : ℕ) → stamp ≤ 3000 → Gives seat (seat_after stamp) stamp 0 whole stamp
 gives_at stamp early =
     let legal : IsLegalRun 1 (given_at stamp ∷ []) = (
       record {
@@ -109,10 +109,10 @@ gives_at stamp early =
     ) in
     record { same = record { table = refl; seats = refl; numbers = refl; legal = legal; mine = refl }; number = 0; of_seat = refl; between = []; after = refl; own = refl }
 
-queues_at : (stamp : ℕ) → Queues [] (id_at 1) stamp (Ok tt) (Queued (id_at 1) stamp ∷ [])
+pub queues_at : (stamp : ℕ) → Queues [] (id_at 1) stamp (Ok tt) (Queued (id_at 1) stamp ∷ [])
 queues_at stamp = record { fault = tt; ok = refl; err = tt }
 
-below_cap : (clock : ℕ) → nat_lt (910 + clock + 0) 0 ≡ false
+pub below_cap : (clock : ℕ) → nat_lt (910 + clock + 0) 0 ≡ false
 below_cap clock = le-ltb (910 + clock + 0) 0 (omega arith)
 
 begins_at : (clock : ℕ) (later : Clocks) → 112 ≤ clock → clock ≤ 1000 → Allows GivesInTurn failed says (begin (Some clock ∷ later)) (Begin 1 0 (Ok (910 + clock))) (begun_with later (910 + clock))
@@ -131,7 +131,7 @@ begins_at clock later late early = record {
 }
 
 -- ---- and is released at the clock's next reading
-abbrev receipt : ℕ → ℕ → Receipt
+abbrev pub receipt : ℕ → ℕ → Receipt
 receipt stamp earliest = record { id = id_at 1; stamp = stamp; earliest = earliest }
 
 abbrev released_with : ℕ → ℕ → StationState Clocks (Unit {0})
@@ -170,25 +170,29 @@ later = record {
 }
 
 -- ---- both are served on their machines
-among-by : (time clock made : ℕ) (moments : List Moment) → AllByRecursion (λ (moment : Moment). moment.time ≤ time) moments → IsAmong (record { clock = clock; time = made }) moments → made ≤ time
+pub among-by : (time clock made : ℕ) (moments : List Moment) → AllByRecursion (λ (moment : Moment). moment.time ≤ time) moments → IsAmong (record { clock = clock; time = made }) moments → made ≤ time
 among-by time clock made [] all is = absurd is
 among-by time clock made (moment ∷ moments) all (inl same) = subst (λ (m : Moment). m.time ≤ time) same all.0
 among-by time clock made (moment ∷ moments) all (inr later) = among-by time clock made moments all.1 later
 
-shown : (clock other : ℕ) (later : Clocks) → Some clock ∷ later ≡ Some other ∷ later → clock ≡ other
-shown clock other later is = cc
-
-keeps : (m clock : ℕ) → 112 ≤ clock → KeepsDrift 100 (record { clock = clock; time = 900 + clock } ∷ clock_moments (machine m))
+pub keeps : (m clock : ℕ) → 112 ≤ clock → KeepsDrift 100 (record { clock = clock; time = 900 + clock } ∷ clock_moments (machine m))
 keeps m clock late = ((omega arith, (omega arith, (omega arith, (omega arith, tt)))), ((omega arith, (omega arith, (omega arith, tt))), ((omega arith, (omega arith, tt)), ((omega arith, tt), (tt, tt)))))
 
-pub is_read : (m clock : ℕ) (later : Clocks) → 112 ≤ clock → clock ≤ 1000 → IsReadAt GivesInTurn (clock_moments (machine m)) watch (Some clock ∷ later) later (900 + clock)
+pub is_read : (m clock : ℕ) (later : Clocks) → 112 ≤ clock → clock ≤ 1000 → IsReadAt GivesInTurn 100 (clock_moments (machine m)) watch (Some clock ∷ later) later (Ok (read_at clock)) (900 + clock)
 is_read m clock later late early = record {
+  last = fused;
+  clock = clock;
+  last_is = refl;
+  gave = refl;
+  can = (omega arith, omega arith);
+  reading_is = reads_at clock late early;
+  drift = keeps m clock late;
   in_time = omega arith;
-  drift = λ other is. subst (λ (c : ℕ). KeepsDrift 100 (record { clock = c; time = 900 + clock } ∷ clock_moments (machine m))) (shown clock other later is) (keeps m clock late);
-  no_earlier = λ last is made among. among-by (900 + clock) (fused_span_of last).clock made (clock_moments (machine m)) (omega arith, (omega arith, (omega arith, (omega arith, tt)))) among;
+  no_earlier = λ made among. among-by (900 + clock) 111 made (clock_moments (machine m)) (omega arith, (omega arith, (omega arith, (omega arith, tt)))) among;
 }
 
 served-0 : IsServedOn GivesInTurn failed says (machine 0) earlier
+unfolding begins_at passes-0
 served-0 = record {
   in_order = (omega arith, omega arith, omega arith, (omega arith, omega arith, omega arith, tt));
   look = (
@@ -198,6 +202,7 @@ served-0 = record {
 }
 
 served-1 : IsServedOn GivesInTurn failed says (machine 1) later
+unfolding begins_at passes-1
 served-1 = record {
   in_order = (omega arith, omega arith, omega arith, (omega arith, omega arith, omega arith, tt));
   look = (

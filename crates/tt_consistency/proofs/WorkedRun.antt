@@ -27,11 +27,11 @@ abbrev bytes_for : ℕ → List ℕ
 bytes_for m = spelling_of2 (message.Answer (record { machine = m; source = 0; nonce = 1; epoch = 1; span = span }))
 
 -- each machine has one source, and its clock may drift by 100 parts per million
-abbrev one : Configuration
+abbrev pub one : Configuration
 one = record { sources = 1; faulty = 0; drift = 100; workers = 1 }
 
 -- the life begins at the true time 990, when the clock shows 90
-abbrev start : Start
+abbrev pub start : Start
 start = record { lives = 0; at = 990; clock = 90 }
 
 -- polled at the true time 1000, answered at 1005, taken at 1010
@@ -43,7 +43,7 @@ before_fusion m =
     ∷ []
 
 -- and fused at 1011
-abbrev tale_of : ℕ → List Timed
+abbrev pub tale_of : ℕ → List Timed
 tale_of m = record { at = 1011; happening = Does (Fuses 111) } ∷ before_fusion m
 
 -- one call of one round of one turn, by a new daemon
@@ -67,7 +67,7 @@ stand_in begun Lacks = begun
 abbrev ended : ℕ → List Exchange → Stand
 ended m exchanges = record (stand_in (begin m []) (rounds_of 1 1 (begin m []) (given_to m))) { exchanges = exchanges }
 
-abbrev call_of : ℕ → RoundsCall
+abbrev pub call_of : ℕ → RoundsCall
 call_of m = record { rounds = 1; turns = 1; given = given_to m; exchanges = sent_by m ∷ came_to m ∷ []; from = begin m; to = ended m; answer = Ok tt }
 
 abbrev pub machine : ℕ → Machine

@@ -1,5 +1,5 @@
 -- What the workers of a node say of their commits, in true time.
-use Rattle.std.proofs.Common.{◌≡◌, ℕ, zero, suc, ◌<◌, ◌≤◌, List, [], ◌∷◌, ◌++◌, Bool, true, false, Option, Some, None, Result, Ok, Err, ◌⊎◌, ⊎_elim, refl, sym, ap, ◌∙◌, subst, arith, All, Contains, append_assoc}
+use Rattle.std.proofs.Common.{◌≡◌, ℕ, zero, suc, ◌<◌, ◌≤◌, List, [], ◌∷◌, ◌++◌, Bool, true, false, Option, Some, None, Result, Ok, Err, ⊎_elim, refl, sym, ap, ◌∙◌, subst, arith, All, Contains, append_assoc}
 use Rattle.std.specs.Prelude.{IfOk, IfSome, if◌then◌else◌, is_some}
 use Rattle.std.proofs.lemmas.Option.{same_Some, none-some}
 use Rattle.std.proofs.lemmas.List.Elements.{All-contains, Contains-append_right}
@@ -281,19 +281,19 @@ module _ {C G : Type 0} (gives : C → Option ℕ → C → Type 0) (failed : C 
         → IfSome (look_of_now gives failed before reading after passes does) (λ look. IfOk look.answer (λ r. Holds r time))
     hold-now before reading after time true does on =
         let read = does.1.read in
-        look-holds gives failed before.watch after.watch read.clock read.later (Ok reading) (clock_moments machine) (published_by machine) time read.looks (publications-hold machine running) on.0 on.1
+        look-holds gives failed after.watch.drift before.watch after.watch read.clock read.later (Ok reading) (clock_moments machine) (published_by machine) time (sym read.looks.same.1) read.looks (publications-hold machine running) on.0 on.1
     hold-now before reading after time false does on = tt
 
     hold-begin : (number floor : ℕ) (before : WorkerState C G) (answer : Result ℕ ℕ) (after : WorkerState C G) (time : ℕ) (passes : Bool) (does : DoesWhere passes (Commits gives failed number floor) before answer after) → IfSome (look_of_begin gives failed number floor before answer after passes does) (λ look. LooksOn gives machine look time)
         → IfSome (look_of_begin gives failed number floor before answer after passes does) (λ look. IfOk look.answer (λ r. Holds r time))
     hold-begin number floor before answer after time true does on =
-        look-holds gives failed before.watch after.watch before.clock after.clock does.1.begins.0 (clock_moments machine) (published_by machine) time does.1.begins.1 (publications-hold machine running) on.0 on.1
+        look-holds gives failed after.watch.drift before.watch after.watch before.clock after.clock does.1.begins.0 (clock_moments machine) (published_by machine) time (sym does.1.begins.1.same.1) does.1.begins.1 (publications-hold machine running) on.0 on.1
     hold-begin number floor before answer after time false does on = tt
 
     hold-pass : (number : ℕ) (before : WorkerState C G) (answer : Result Bool ℕ) (after : WorkerState C G) (time : ℕ) (passes : Bool) (does : DoesWhere passes (Releases gives failed number) before answer after) → IfSome (look_of_pass gives failed number before answer after passes does) (λ look. LooksOn gives machine look time)
         → IfSome (look_of_pass gives failed number before answer after passes does) (λ look. IfOk look.answer (λ r. Holds r time))
     hold-pass number before answer after time true does on =
-        look-holds gives failed before.watch after.watch before.clock after.clock does.1.passes.0 (clock_moments machine) (published_by machine) time does.1.passes.1 (publications-hold machine running) on.0 on.1
+        look-holds gives failed after.watch.drift before.watch after.watch before.clock after.clock does.1.passes.0 (clock_moments machine) (published_by machine) time (sym does.1.passes.1.same.1) does.1.passes.1 (publications-hold machine running) on.0 on.1
     hold-pass number before answer after time false does on = tt
 
     hold-call : (before : WorkerState C G) (of : Call) (after : WorkerState C G) (allowed : Allows gives failed says hears before of after) (time : ℕ) → IfSome (look_of gives failed says hears before of after allowed) (λ look. LooksOn gives machine look time)

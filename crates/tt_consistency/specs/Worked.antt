@@ -62,9 +62,9 @@ look_in gives failed says hears before (call ∷ calls) after talked (suc place)
 abbrev pub look_at : {C G : Type 0} (gives : C → Option ℕ → C → Type 0) (failed : C → ℕ) (says : G → ℕ → ℕ → Bool → G → Type 0) (hears : G → ℕ → ℕ → G → Type 0) → TimedWorker gives failed says hears → ℕ → Option (Look C)
 look_at gives failed says hears worker place = look_in gives failed says hears worker.before worker.calls worker.after worker.talked place
 
--- a look on a machine at a true time: the watch has then seen the first ones of its publications, and was read at that time by its clock, which keeps its drift bound at that moment too
+-- a look on a machine at a true time: the watch has then seen the first ones of its publications, and if it gave a reading, this was taken at that time by the machine's clock, which keeps the bound that the watch reckons with at that moment too
 abbrev pub LooksOn : {C : Type 0} → (C → Option ℕ → C → Type 0) → Machine → Look C → ℕ → Type 0
-LooksOn gives machine look time = IsPrefix (map fused_span_of look.watch.items) (published_by machine) × IsReadAt gives (clock_moments machine) look.watch look.before look.after time
+LooksOn gives machine look time = IsPrefix (map fused_span_of look.watch.items) (published_by machine) × IsReadAt gives look.watch.drift (clock_moments machine) look.watch look.before look.after look.answer time
 
 -- each call of a conversation looked on a machine at the time at which it took its reading; each call has its times
 abbrev pub AllLookOn : {C G : Type 0} (gives : C → Option ℕ → C → Type 0) (failed : C → ℕ) (says : G → ℕ → ℕ → Bool → G → Type 0) (hears : G → ℕ → ℕ → G → Type 0) (machine : Machine) (before : WorkerState C G) (calls : List Call) (after : WorkerState C G) → Conversation (Allows gives failed says hears) before calls after → List CallTimes → Type 0

@@ -6,6 +6,7 @@ pub mod Running
 pub mod Holding
 pub mod Rounding
 pub mod Reading
+pub mod Rising
 pub mod Beginning
 pub mod Worked
 pub mod Putting

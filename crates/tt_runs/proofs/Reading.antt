@@ -1,5 +1,5 @@
 -- A reading of what held the true time holds the true time of its own moment.
-use Rattle.std.proofs.Common.{◌≡◌, ℕ, ◌≤◌, List, [], ◌∷◌, ◌++◌, Option, Some, None, Result, Ok, Err, inl, inr, map, subst, sym}
+use Rattle.std.proofs.Common.{◌≡◌, ℕ, ◌≤◌, List, [], ◌∷◌, ◌++◌, Option, Some, None, Result, Ok, Err, inl, inr, map, subst, sym, ◌∙◌}
 use Rattle.std.specs.Prelude.{IfOk}
 use Rattle.std.specs.List.{AllByRecursion, last_or}
 use mathlib.Core.List.{IsPrefix}
@@ -7,13 +7,13 @@ use Rattle.tt_span.specs.Time.{max_time}
 use Rattle.tt_span.specs.Interval.{Interval, Holds}
 use Rattle.tt_span.specs.Drift.{Moment, AgreesWith, KeepsDrift}
 use Rattle.tt_daemon.specs.Publication.{Publication}
-use Rattle.tt_publish.specs.Known.{WatchState, ReadsLast}
+use Rattle.tt_publish.specs.Known.{WatchState}
 use Rattle.tt_publish.specs.Looks.{Looks}
 use Rattle.tt_publish.specs.Reading.{fused_span_of, CanBeReadAt, reading_at}
 use Rattle.tt_publish.specs.declared.faults.ReadFault.{ReadFault}
 use Rattle.tt_publish.specs.declared.readings.FusedSpan.{FusedSpan}
 use Rattle.tt_world.proofs.Histories.Ageing.{aged_holds}
-use Rattle.tt_runs.specs.Reads.{IsNoEarlier, IsReadAt}
+use Rattle.tt_runs.specs.Reads.{IsNoEarlier, IsTakenAt, IsReadAt}
 use Rattle.tt_runs.specs.Tale.{IsAmong, HeldTrueTime}
 
 -- what holds of each of some moments holds of one of them
@@ -44,13 +44,18 @@ reading-holds ppm moments publication clock time held drift no_earlier in_time c
     (of_one (AgreesWith ppm (record { clock = clock; time = time })) (record { clock = publication.clock; time = held.time }) moments drift.0 held.moment)
     held.held
 
-pub look-holds : {C : Type 0} (gives : C → Option ℕ → C → Type 0) (failed : C → ℕ) (old new : WatchState) (before after : C) (answer : Result Interval ReadFault) (moments : List Moment) (published : List FusedSpan) (time : ℕ) →
-    Looks gives failed old before answer new after → AllByRecursion (HeldTrueTime moments) published → IsPrefix (map fused_span_of new.items) published → IsReadAt gives moments new before after time → IfOk answer (λ reading. Holds reading time)
-look-holds gives failed old new before after (Err fault) moments published time looks held begins at = tt
-look-holds gives failed old new before after (Ok reading) moments published time looks held begins at =
-    let w : ReadsLast new (λ c. gives before (Some c) after) reading = looks.reading in
-    let last : Publication = w.0 in
-    let seen : AllByRecursion (HeldTrueTime moments) (map fused_span_of new.items) = of_beginning (HeldTrueTime moments) (map fused_span_of new.items) begins.0 (subst (AllByRecursion (HeldTrueTime moments)) (sym begins.1) held) in
-    let one : HeldTrueTime moments (fused_span_of last) = of_last (HeldTrueTime moments) new.items None last seen tt w.2 in
-    subst (λ (i : Interval). Holds i time) (sym w.5)
-    (reading-holds new.drift moments (fused_span_of last) w.1 time one (at.drift w.1 w.3) (at.no_earlier last w.2) at.in_time w.4)
+-- a reading that was taken at a true time from what held the true time
+taken-holds : {C : Type 0} (gives : C → Option ℕ → C → Type 0) (ppm : ℕ) (watch : WatchState) (before after : C) (reading : Interval) (moments : List Moment) (published : List FusedSpan) (time : ℕ) →
+    watch.drift ≡ ppm → AllByRecursion (HeldTrueTime moments) published → IsPrefix (map fused_span_of watch.items) published → IsTakenAt gives ppm moments watch before after reading time → Holds reading time
+taken-holds gives ppm watch before after reading moments published time same held begins taken =
+    let seen : AllByRecursion (HeldTrueTime moments) (map fused_span_of watch.items) = of_beginning (HeldTrueTime moments) (map fused_span_of watch.items) begins.0 (subst (AllByRecursion (HeldTrueTime moments)) (sym begins.1) held) in
+    let one : HeldTrueTime moments (fused_span_of taken.last) = of_last (HeldTrueTime moments) watch.items None taken.last seen tt taken.last_is in
+    subst (λ (i : Interval). Holds i time) (sym taken.reading_is)
+    (subst (λ (drift : ℕ). Holds (reading_at drift (fused_span_of taken.last) taken.clock) time) (sym same)
+    (reading-holds ppm moments (fused_span_of taken.last) taken.clock time one taken.drift taken.no_earlier taken.in_time taken.can))
+
+pub look-holds : {C : Type 0} (gives : C → Option ℕ → C → Type 0) (failed : C → ℕ) (ppm : ℕ) (old new : WatchState) (before after : C) (answer : Result Interval ReadFault) (moments : List Moment) (published : List FusedSpan) (time : ℕ) →
+    old.drift ≡ ppm → Looks gives failed old before answer new after → AllByRecursion (HeldTrueTime moments) published → IsPrefix (map fused_span_of new.items) published → IsReadAt gives ppm moments new before after answer time → IfOk answer (λ reading. Holds reading time)
+look-holds gives failed ppm old new before after (Err fault) moments published time same looks held begins at = tt
+look-holds gives failed ppm old new before after (Ok reading) moments published time same looks held begins at =
+    taken-holds gives ppm new before after reading moments published time (looks.same.1 ∙ same) held begins at

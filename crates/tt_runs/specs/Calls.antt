@@ -1,5 +1,5 @@
 -- Calls of a daemon's rounds one after another, as one life of its machine. Each list has the newest first.
-use Rattle.std.specs.Prelude.{◌≡◌, ℕ, List, [], ◌∷◌, ◌++◌, Result}
+use Rattle.std.specs.Prelude.{◌≡◌, ℕ, ◌≤◌, List, [], ◌∷◌, ◌++◌, Option, Some, None, Result}
 use Rattle.tt_node.specs.Course.{Given, Stand, rounds_of}
 use Rattle.tt_node.specs.Link.{Exchange}
 use Rattle.tt_node.specs.Making.{Leads}
@@ -32,3 +32,14 @@ AreInTurn begun (call ∷ calls) =
 abbrev pub calls_steps : List RoundsCall → List Step
 calls_steps [] = []
 calls_steps (call ∷ calls) = rounds_steps call.rounds call.turns (call.from []) call.given ++ calls_steps calls
+
+-- readings, the oldest first, of which none is below one before it: from this one on, up to the last of them; a failure gives none
+abbrev pub Rise : ℕ → List (Option ℕ) → ℕ → Type 0
+Rise from [] to = from ≡ to
+Rise from (None ∷ readings) to = Rise from readings to
+Rise from (Some clock ∷ readings) to = (from ≤ clock) × Rise clock readings to
+
+-- no reading that the clock gave in these calls is below one before it, or below this one; the last is at most this
+abbrev pub RiseIn : ℕ → List RoundsCall → ℕ → Type 0
+RiseIn from [] to = from ≤ to
+RiseIn from (call ∷ calls) to = (before after : ℕ) × RiseIn from calls before × Rise before call.given.readings after × (after ≤ to)

@@ -23,10 +23,11 @@ ghost use Rattle.tt_world.specs.Headline.{IsAction};
 ghost use Rattle.tt_world.specs.Life.{life_of, life_at};
 ghost use Rattle.tt_world.specs.Past.{time_of, clock_of, moments_of, sends_now};
 ghost use Rattle.tt_world.specs.declared.events.Event.{Event};
-ghost use Rattle.tt_runs.specs.Calls.{AreInTurn, RoundsCall, calls_steps, kept_after};
+ghost use Rattle.tt_runs.specs.Calls.{AreInTurn, RiseIn, RoundsCall, calls_steps, kept_after};
 ghost use Rattle.tt_runs.specs.CourseSteps.{IsMadeBy, kept_in, rounds_steps};
 ghost use Rattle.tt_runs.specs.Faulty.{FewFaulty};
 ghost use Rattle.tt_runs.specs.Reads.{IsNoEarlier, IsReadAt};
+ghost use Rattle.tt_runs.specs.Rising.{BeginFrom, IsInTime, StepsRise, TimesRise};
 ghost use Rattle.tt_runs.specs.Steps.{Kept, Step, after_steps, kept_at, new_kept, steps_in};
 ghost use Rattle.tt_runs.specs.Tale.{AreOf, AreOfTime, BeginsLife, HeldTrueTime, IsRunOf, IsTale, Timed, events_of, moments_told, restarts_of, steps_told};
 
@@ -61,6 +62,14 @@ pub fn round_laws()
     ensures call_made_by_steps { (rounds turns : ℕ) (given : Given) (exchanges : List Exchange) (from to : List Exchange → Stand)
         (answer : Result (Unit {0}) NodeFault) → Leads (rounds_of rounds turns) given exchanges from to answer →
         kept_in (to exchanges) ≡ after_steps (kept_in (from [])) (rounds_steps rounds turns (from []) given) }
+    // If no reading that the clock gave in some calls is below one before it, then no clock reading of their steps is.
+    ensures calls_rise { (from to : ℕ) (calls : List RoundsCall) → RiseIn from calls to → StepsRise from (calls_steps calls) to }
+
+    // So such calls make a tale, at any true times that do not fall, if it begins at its first clock reading or an
+    // earlier one.
+    ensures tale_rises { (begun shown from to : ℕ) (tale : List Timed) (calls : List RoundsCall) →
+        RiseIn from calls to → steps_told tale ≡ calls_steps calls → TimesRise begun tale →
+        BeginFrom shown (steps_told tale) → AllByRecursion IsInTime (steps_told tale) → IsTale begun shown tale }
 {}
 
 /// Laws of tales, for the machines that are configured, after a base. A base is any list of events in which no event is
@@ -162,12 +171,13 @@ pub fn reading_laws<C: Clock>()
         IsNoEarlier moments publication time → time ≤ max_time → CanBeReadAt publication clock →
         Holds (reading_at ppm publication clock) time }
 
-    // So each reading that a watch gives holds the true time, if what the watch has seen is a first part of what was
-    // published. `Watch::now` answers such a reading. The calls `now`, `begin` and `pass` of a worker or a station take
-    // their readings by it. Watches are read in any order, and a watch may have seen less than was published.
-    ensures look_holds { (old new : WatchState) (before after : C) (answer : Result Interval ReadFault) (moments : List Moment)
+    // So each reading that a watch gives holds the true time of its moment, if what the watch has seen is a first part of
+    // what was published, and the drift of the watch is the bound that the clock keeps. `Watch::now` answers such a
+    // reading. The calls `now`, `begin` and `pass` of a worker or a station take their readings by it. Watches are read
+    // in any order, and a watch may have seen less than was published. Of a call that gave no reading nothing is asked.
+    ensures look_holds { (ppm : ℕ) (old new : WatchState) (before after : C) (answer : Result Interval ReadFault) (moments : List Moment)
         (published : List FusedSpan) (time : ℕ) →
-        Looks C.gives C.failed old before answer new after → AllByRecursion (HeldTrueTime moments) published →
-        IsPrefix (map fused_span_of new.items) published → IsReadAt C.gives moments new before after time →
+        old.drift ≡ ppm → Looks C.gives C.failed old before answer new after → AllByRecursion (HeldTrueTime moments) published →
+        IsPrefix (map fused_span_of new.items) published → IsReadAt C.gives ppm moments new before after answer time →
         IfOk answer (λ reading. Holds reading time) }
 {}

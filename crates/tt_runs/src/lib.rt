@@ -8,6 +8,10 @@
 //! sources gave. It has events in the model. In these events each packet that came is the answer with the same bytes,
 //! given when the tale says so. If there is no such answer, the packet was made up.
 //!
+//! The clock readings of a daemon's steps do not fall if none that its clock gave is below one before it. A reading of what
+//! the daemon published holds the true time of the moment at which it was taken. Nothing is asked of a look that gave no
+//! reading.
+//!
 //! - `laws`: `step_laws`, `round_laws`, `tale_laws`, `assumption_laws` and `reading_laws`.
 //! - `meeting`: `meeting_laws`.
 #![tactic(auto)]

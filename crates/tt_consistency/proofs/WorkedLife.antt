@@ -1,0 +1,296 @@
+-- A worked life with the clock that the service runs on, for which every premise of the law of lives holds: its daemon publishes once, and its worker serves a session, whose first call comes too early and gives no reading, and which then commits.
+use Rattle.std.proofs.Common.{◌≡◌, ◌≢◌, ℕ, ◌+◌, ◌≤◌, List, [], ◌∷◌, ◌++◌, Bool, true, Some, None, Result, Ok, Err, inl, inr, refl, sym, ap, ◌∙◌, subst, arith, All}
+use Rattle.std.specs.Fmt.{decimal}
+use Rattle.std.specs.List.{AllByRecursion, flat_map}
+use Rattle.std.specs.Prelude.{MatchBool}
+use Rattle.std.proofs.lemmas.Fmt.{decimal_digit}
+use Rattle.std.proofs.lemmas.List.Elements.{All-nil, All-cons}
+use mathlib.Core.List.{IsPrefix}
+use Rattle.tt_span.specs.Interval.{whole}
+use Rattle.tt_daemon.specs.Publication.{Publication}
+use Rattle.tt_publish.specs.Known.{WatchState}
+use Rattle.tt_publish.specs.Looks.{Looks}
+use Rattle.tt_publish.specs.declared.faults.ReadFault.TheVariants.{Nothing}
+use Rattle.tt_session.specs.Lines.{HasNoEnd, ended}
+use Rattle.tt_session.specs.Replies.{text_of}
+use Rattle.tt_session.specs.Requests.{commit_word, now_word, spelling_of}
+use Rattle.tt_session.specs.Session.{Serves}
+use Rattle.tt_session.specs.declared.calls.Call.{Call}
+use Rattle.tt_session.specs.declared.calls.Call.TheVariants as call
+use Rattle.tt_session.specs.declared.replies.LineReply.{LineReply}
+use Rattle.tt_session.specs.declared.replies.LineReply.TheVariants as reply
+use Rattle.tt_session.specs.declared.requests.Request.TheVariants as request
+use Rattle.tt_session.specs.declared.serving.Served.{Served}
+use Rattle.tt_stamp.specs.declared.commits.Entry.TheVariants.{Queued, Passed}
+use Rattle.tt_stamp.proofs.Ids.{Contains-here}
+use Rattle.tt_station.specs.Fault.{number_of}
+use Rattle.tt_station.specs.Sessions.{WorkerSession}
+use Rattle.tt_station.specs.Station.{PostState, StationState, Allows, CommitsAt, Keeps, id_at, new_station}
+use Rattle.tt_station.specs.declared.faults.StationFault.TheVariants.{FloorAboveCap}
+use Rattle.tt_station.proofs.Leasing.{stamps_whole}
+use Rattle.tt_connections.specs.Clock.{ClockState, MachineGives, ClientSays}
+use Rattle.tt_order.specs.Order.{IsSeen}
+use Rattle.tt_order.specs.Timed.{CallTimes}
+use Rattle.tt_runs.specs.Reads.{IsReadAt}
+use Rattle.tt_consistency.specs.Assumed.{IsAssumed, IsLived, IsSeenInOneOf, IsTimedIn, TimedLife, moments_in, timed_of}
+use Rattle.tt_consistency.specs.Lives.{Life, WorkerLife, WorksIn, IsLife}
+use Rattle.tt_consistency.specs.Running.{clock_moments}
+use Rattle.tt_consistency.proofs.WorkedOrder.{fused, seat, seat_after, gives_at, queues_at, below_cap, receipt, read_at, reads_at, keeps, among-by, call_at, first}
+use Rattle.tt_consistency.proofs.WorkedRun.{one, start, tale_of, call_of, machine, is_running-0, published-0}
+
+-- the clock of a machine fails as often as it has counted
+abbrev failed : ClockState → ℕ
+failed clock = clock.failures
+
+-- ---- the worker: its watch has seen nothing, and then what the daemon published
+abbrev unseen : WatchState
+unseen = record { source = record { book = record { number = 0; log_name = 0; cells_name = 0 }; chain = 0 }; drift = 100; items = [] }
+
+abbrev seen : WatchState
+seen = record unseen { items = fused ∷ [] }
+
+abbrev clock_at : ℕ → ClockState
+clock_at last = record { last = last; failures = 0 }
+
+abbrev post : WatchState → ClockState → PostState ClockState
+post watch clock = record { watch = watch; clock = clock; seat = seat; lease = whole; ahead = 0 }
+
+abbrev station : WatchState → ClockState → StationState ClockState (Unit {0})
+station watch clock = new_station (post watch clock) tt
+
+-- ---- its calls: the first comes before there is anything to read, and the clock is not read
+looks_early : Looks MachineGives failed unseen (clock_at 0) (Err Nothing) unseen (clock_at 0)
+looks_early = record {
+  same = (refl, refl);
+  seen = ([], refl);
+  reading = tt;
+  nothing = (λ is. refl, λ is. refl);
+  unread = λ is. refl;
+  clock_failed = λ is. absurd cc;
+  clock_back = λ is. absurd cc;
+  sound = λ not_failed. refl;
+}
+
+pub allows_early : Allows MachineGives failed ClientSays (station unseen (clock_at 0)) (call.Now (Err 801)) (station unseen (clock_at 0))
+allows_early = record { lease = refl; ahead = refl; client = refl; own = refl; looked = Err Nothing; looks = looks_early; rest = (refl, record { seat = refl; book = refl }) }
+
+-- the others read what the daemon has published by then
+looks_at : (items : List Publication) (last clock : ℕ) → IsPrefix items (fused ∷ []) → last ≤ clock → 112 ≤ clock → clock ≤ 1000 → Looks MachineGives failed (record unseen { items = items }) (clock_at last) (Ok (read_at clock)) seen (clock_at clock)
+looks_at items last clock begins rises late early = record {
+  same = (refl, refl);
+  seen = begins;
+  reading = (fused, clock, refl, (rises, refl), (omega arith, omega arith), reads_at clock late early);
+  nothing = (λ is. absurd cc, λ is. absurd cc);
+  unread = λ is. absurd cc;
+  clock_failed = λ is. absurd cc;
+  clock_back = λ is. absurd cc;
+  sound = λ not_failed. refl;
+}
+
+-- a commit begins when the clock shows 120
+abbrev begun : StationState ClockState (Unit {0})
+begun = record { post = record (post seen (clock_at 120)) { seat = seat_after 1030 }; client = tt; lease = whole; book = Queued (id_at 1) 1030 ∷ [] }
+
+pub allows_begin : Allows MachineGives failed ClientSays (station unseen (clock_at 0)) (call.Begin 1 0 (Ok 1030)) begun
+allows_begin = record {
+  lease = refl;
+  ahead = refl;
+  client = refl;
+  own = refl;
+  looked = Ok (read_at 120);
+  looks = looks_at [] 0 120 (fused ∷ [], refl) (omega arith) (omega arith) (omega arith);
+  rest = subst (λ (capped : Bool). MatchBool capped (◌≡◌ {A = Result ℕ ℕ} (Ok 1030) (Err (number_of FloorAboveCap)) × Keeps (station unseen (clock_at 0)) begun) (CommitsAt (station unseen (clock_at 0)) 1 0 (read_at 120) (Ok 1030) begun)) (sym (below_cap 120)) (
+    Ok 1030,
+    stamps_whole 0 whole (read_at 120) seat (Ok 1030) (seat_after 1030) (record { ordered = omega arith; in_time = omega arith }) (λ far. omega (arith, far), gives_at 1030 (omega arith), omega arith, (omega arith, omega arith)),
+    (Ok tt, queues_at 1030, refl),
+  );
+}
+
+-- and is released when it shows 150
+abbrev released : StationState ClockState (Unit {0})
+released = record begun { post = record (post seen (clock_at 150)) { seat = seat_after 1030 }; book = Passed (receipt 1030 1038) ∷ Queued (id_at 1) 1030 ∷ [] }
+
+pub allows_pass : Allows MachineGives failed ClientSays begun (call.Pass 1 (Ok true)) released
+allows_pass = record { lease = refl; ahead = refl; client = refl; own = refl; looked = Ok (read_at 150); looks = looks_at (fused ∷ []) 120 150 ([], refl) (omega arith) (omega arith) (omega arith); rest = (refl, refl, (refl, omega arith)) }
+
+-- ---- its session, of two lines
+abbrev calls : List Call
+calls = call.Now (Err 801) ∷ call.Begin 1 0 (Ok 1030) ∷ call.Pass 1 (Ok true) ∷ []
+
+abbrev replies : List LineReply
+replies = reply.Refused 801 ∷ reply.Committed 1 1030 ∷ []
+
+abbrev served : Served
+served = record { lines = 2; refused = 1 }
+
+-- the line that asks for commit 1, with no floor
+abbrev commit_line : List ℕ
+commit_line = commit_word ++ 32 ∷ 49 ∷ 32 ∷ 48 ∷ []
+
+spells_commit : ended commit_line ≡ spelling_of (request.Commit 1 0)
+spells_commit =
+    let line : List ℕ → List ℕ → List ℕ = λ number floor. commit_word ++ ((32 ∷ number) ++ ((32 ∷ floor) ++ [])) ++ 10 ∷ [] in
+    sym (ap (λ (number : List ℕ). line number (decimal 0)) (decimal_digit 1 (omega arith)) ∙ ap (λ (floor : List ℕ). line (49 ∷ []) floor) (decimal_digit 0 (omega arith)))
+
+-- no byte of a line is a line feed
+abbrev IsNoEnd : ℕ → Type 0
+IsNoEnd b = b ≢ 10
+
+no_end : (line : List ℕ) → AllByRecursion IsNoEnd line → HasNoEnd line
+no_end [] all = All-nil IsNoEnd
+no_end (b ∷ line) all = All-cons IsNoEnd b line all.0 (no_end line all.1)
+
+no_end_now : HasNoEnd now_word
+no_end_now = no_end now_word (λ is. absurd (omega (arith, is)), (λ is. absurd (omega (arith, is)), (λ is. absurd (omega (arith, is)), tt)))
+
+no_end_commit : HasNoEnd commit_line
+no_end_commit = no_end commit_line (λ is. absurd (omega (arith, is)), (λ is. absurd (omega (arith, is)), (λ is. absurd (omega (arith, is)), (λ is. absurd (omega (arith, is)), (λ is. absurd (omega (arith, is)), (λ is. absurd (omega (arith, is)), (λ is. absurd (omega (arith, is)), (λ is. absurd (omega (arith, is)), (λ is. absurd (omega (arith, is)), (λ is. absurd (omega (arith, is)), tt))))))))))
+
+pub serves : Serves (Allows MachineGives failed ClientSays) 1 None None None None (station unseen (clock_at 0)) released served
+serves = record {
+  bytes = ended now_word ++ ended commit_line;
+  text = flat_map text_of replies;
+  rest = [];
+  last = Some (record { number = 1; stamp = 1030; is_released = true });
+  session = record {
+    lines = now_word ∷ commit_line ∷ [];
+    calls = calls;
+    replies = replies;
+    splits = record { whole = refl; each = All-cons HasNoEnd now_word (commit_line ∷ []) no_end_now (All-cons HasNoEnd commit_line [] no_end_commit (All-nil HasNoEnd)); last = All-nil IsNoEnd };
+    talked = (station unseen (clock_at 0), allows_early, (begun, allows_begin, (released, allows_pass, refl)));
+    answered = (
+      call.Now (Err 801) ∷ [],
+      call.Begin 1 0 (Ok 1030) ∷ call.Pass 1 (Ok true) ∷ [],
+      None,
+      refl,
+      inr (omega arith, (Some request.Now, (tt, refl), record { answer = Err 801; called = refl; says = refl; same = refl })),
+      (
+        call.Begin 1 0 (Ok 1030) ∷ call.Pass 1 (Ok true) ∷ [],
+        [],
+        Some (record { number = 1; stamp = 1030; is_released = true }),
+        refl,
+        inr (
+          omega arith,
+          (
+            Some (request.Commit 1 0),
+            ((omega arith, omega arith), spells_commit),
+            (Ok 1030, (call.Pass 1 (Ok true) ∷ [], refl, record { answer = Ok true; passes = (0, omega arith, refl); says = refl; keeps = refl })),
+          ),
+        ),
+        (refl, refl),
+      ),
+    );
+    says = refl;
+    lines_are = refl;
+    refused_are = refl;
+  };
+  read = tt;
+  written = tt;
+}
+
+abbrev session : WorkerSession MachineGives failed ClientSays 1
+session = record {
+  client = tt;
+  before = post unseen (clock_at 0);
+  after = released.post;
+  left = None;
+  left' = None;
+  taken = None;
+  taken' = None;
+  served = inl (served, (released, refl, serves));
+}
+
+abbrev worker : WorkerLife MachineGives failed ClientSays 1
+worker = record { post = post unseen (clock_at 0); sessions = session ∷ [] }
+
+-- ---- the life: in its first epoch its daemon makes the one call of the worked machine
+abbrev life : Life MachineGives failed ClientSays 1
+life = record {
+  config = one;
+  number = 0;
+  epoch = 1;
+  lease = whole;
+  ahead = 0;
+  calls = call_of 0 ∷ [];
+  source = unseen.source;
+  published = fused ∷ [];
+  workers = worker ∷ [];
+}
+
+works_in : WorksIn life worker
+works_in = record { watch = refl; lease = refl; ahead = refl; in_turn = (refl, tt); seen = ([], refl) }
+
+is_life : IsLife life
+is_life = record {
+  configured = is_running-0.configured;
+  first = omega arith;
+  last = omega arith;
+  in_turn = is_running-0.in_turn;
+  rising = (111, (0, 111, omega arith, (omega arith, (omega arith, (omega arith, refl))), omega arith));
+  published = sym published-0;
+  workers = All-cons (WorksIn life) worker [] works_in (All-nil (WorksIn life));
+}
+
+is_assumed : IsAssumed life start (tale_of 0)
+is_assumed = record {
+  lives = refl;
+  at = is_running-0.at;
+  clock = is_running-0.clock;
+  told = is_running-0.told;
+  of_time = is_running-0.of_time;
+  times = (omega arith, omega arith, (omega arith, omega arith, (omega arith, omega arith, (omega arith, omega arith, tt))));
+  begins = omega arith;
+  readings = (omega arith, (omega arith, (omega arith, tt)));
+  nonces = is_running-0.nonces;
+  drift = is_running-0.drift;
+  few_faulty = is_running-0.few_faulty;
+}
+
+-- the first call comes before anything is published, and the others when the clock shows 120 and 150
+abbrev times : List CallTimes
+times = record { came = 1000; read = 1001; answered = 1002 } ∷ call_at 120 ∷ call_at 150 ∷ []
+
+is_taken : (last clock : ℕ) → last ≤ clock → 112 ≤ clock → clock ≤ 1000 → IsReadAt MachineGives 100 (moments_in start (tale_of 0)) seen (clock_at last) (clock_at clock) (Ok (read_at clock)) (900 + clock)
+is_taken last clock rises late early = record {
+  last = fused;
+  clock = clock;
+  last_is = refl;
+  gave = (rises, refl);
+  can = (omega arith, omega arith);
+  reading_is = reads_at clock late early;
+  drift = keeps 0 clock late;
+  in_time = omega arith;
+  no_earlier = λ made among. among-by (900 + clock) 111 made (clock_moments (machine 0)) (omega arith, (omega arith, (omega arith, (omega arith, tt)))) among;
+}
+
+is_timed : IsTimedIn life start (tale_of 0) session times
+unfolding serves allows_early allows_begin allows_pass
+is_timed = record {
+  in_order = (omega arith, omega arith, omega arith, (omega arith, omega arith, omega arith, (omega arith, omega arith, omega arith, tt)));
+  read = (tt, (is_taken 0 120 (omega arith) (omega arith) (omega arith), (is_taken 120 150 (omega arith) (omega arith) (omega arith), refl)));
+}
+
+-- ---- so all premises of the law hold, and the commit was seen at a session of the life
+abbrev lived : TimedLife MachineGives failed ClientSays 1
+lived = record { life = life; start = start; tale = tale_of 0 }
+
+pub is_lived : IsLived lived
+is_lived = record { proved = is_life; assumed = is_assumed }
+
+is_seen : IsSeen (timed_of session times).calls times first
+unfolding serves
+is_seen = record { number = 1; begun = 1; released = 2; committed = record { begins = (0, refl); releases = refl; later = omega arith }; began = omega arith; ended = omega arith }
+
+all_lived : All IsLived (lived ∷ [])
+all_lived = All-cons IsLived lived [] is_lived (All-nil IsLived)
+
+pub all_seen : All (IsSeenInOneOf (lived ∷ [])) (first ∷ [])
+all_seen =
+    All-cons (IsSeenInOneOf (lived ∷ [])) first [] (record {
+      lived = lived;
+      among = Contains-here lived [];
+      session = session;
+      times = times;
+      served = record { worker = worker; of_life = Contains-here worker []; of_worker = Contains-here session []; timed = is_timed };
+      seen = is_seen;
+    }) (All-nil (IsSeenInOneOf (lived ∷ [])))
