@@ -1,15 +1,17 @@
 -- Which lines of the log are of one kind.
-use Rattle.std.specs.Prelude.{ℕ, ◌+◌, nat_eq, min, if◌then◌else◌}
+use Rattle.std.specs.Prelude.{ℕ, ◌+◌, min}
 use Rattle.tt_status.specs.declared.lines.Event.{Event}
 use Rattle.tt_status.specs.declared.lines.Event.TheVariants.{Started, FirstPublication, SourceSilent, SourceSuspect, FusionRefused, ClockBack, AnswersRefused, RoundFailed, SharingEnded, SharingResumed, StatusUnwritten, NotAccepted, StateLoose, EpochLoose, SharedLoose, Ended, MasterStarted, MasterFailed, SocketRenewed, PublicationSlow, SourceUnsent}
+use Rattle.tt_status.specs.declared.lines.RefusedFusion.TheVariants.{NoPoint, TooFewKnown}
 
--- the kind of an event, of which one line is said in ten seconds: 504 is a kind of its own, and so is each source
+-- the kind of an event, of which one line is said in ten seconds: each reason of a refused fusion is a kind of its own, and so is each source
 abbrev pub kind_of : Event → ℕ
 kind_of (Started machine epoch port) = 0
 kind_of (FirstPublication width) = 1
 kind_of Ended = 2
 kind_of ClockBack = 3
-kind_of (FusionRefused number) = if nat_eq number 504 then 4 else 5
+kind_of (FusionRefused NoPoint) = 4
+kind_of (FusionRefused TooFewKnown) = 5
 kind_of (AnswersRefused count) = 6
 kind_of (RoundFailed number) = 7
 kind_of (SharingEnded number) = 8
@@ -22,7 +24,7 @@ kind_of EpochLoose = 14
 kind_of SharedLoose = 15
 kind_of (SocketRenewed number pause) = 16
 kind_of SharingResumed = 17
-kind_of (PublicationSlow nanoseconds) = 18
+kind_of (PublicationSlow lasted) = 18
 kind_of (SourceSilent source) = 32 + min source 15
 kind_of (SourceSuspect source) = 48 + min source 15
 kind_of (SourceUnsent source) = 64 + min source 15

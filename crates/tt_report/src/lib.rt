@@ -4,7 +4,8 @@
 //! [`Reporter`] and go on:
 //!
 //! ```text
-//! let reporter = Reporter::start(rt, alloc, Some("/run/truetime/status"))?;   // two threads, which are never joined
+//! // two threads, which are never joined
+//! let reporter = Reporter::start(rt, alloc, LogFormat::Text, Some("/run/truetime/status"))?;
 //! reporter.watch_for(1_000_000_000);
 //! reporter.log(rt, event);             // a line of the log
 //! reporter.show(rt, status);           // the newest status

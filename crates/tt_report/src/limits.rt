@@ -5,7 +5,7 @@ ghost use Rattle.tt_report.specs.Log.{kind_of};
 ghost use Rattle.tt_report.specs.Left.{Happened, KindStandsFor, StandsFor, of_kind, answer_of};
 ghost use Rattle.tt_report.specs.Left.Happened.{asked, settled};
 
-use tt_status::{Event, Limit};
+use tt_status::{Event, Limit, RefusedFusion};
 
 /// The number of kinds of lines.
 const KINDS: usize = 80;
@@ -19,8 +19,8 @@ const SUSPECT: usize = 48;
 /// The kind of the lines that say that a packet to source 0 could not be sent. The kinds of the other sources follow.
 const UNSENT: usize = 64;
 
-/// The kind of an event. At most one line of each kind is logged in ten seconds. A fusion that is refused because more
-/// than f sources are faulty has a kind of its own, and each source has kinds of its own.
+/// The kind of an event. At most one line of each kind is logged in ten seconds. Each
+/// reason for which a fusion is refused has a kind of its own, and each source has kinds of its own.
 fn kind_of(event: Event) -> usize
     ensures value { result ≡ kind_of event }
     ensures in_range { result < 80 }
@@ -30,7 +30,12 @@ fn kind_of(event: Event) -> usize
         Event::FirstPublication { .. } => 1,
         Event::Ended => 2,
         Event::ClockBack => 3,
-        Event::FusionRefused { number } => { if number == 504 { 4 } else { 5 } }
+        Event::FusionRefused {
+            reason: RefusedFusion::NoPoint,
+        } => 4,
+        Event::FusionRefused {
+            reason: RefusedFusion::TooFewKnown,
+        } => 5,
         Event::AnswersRefused { .. } => 6,
         Event::RoundFailed { .. } => 7,
         Event::SharingEnded { .. } => 8,

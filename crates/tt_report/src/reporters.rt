@@ -11,7 +11,7 @@ use std::sync::atomic::Ordering;
 use std::sync::{Arc, Wait};
 use std::thread::{self, Threads};
 use std::time::{Clock as SystemClock, Duration};
-use tt_status::{Event, Status};
+use tt_status::{Event, LogFormat, Status};
 
 /// For how long [`Reporter::end`] waits at most, in nanoseconds: 190 ms, so that with its last sleep it is at most
 /// 200 ms.
@@ -32,11 +32,16 @@ pub struct Reporter {
 }
 
 impl Reporter {
-    /// A reporter that writes lines to standard error and, if there is one, the status to the file at this path. Its
-    /// threads run until the process ends, and are never joined.
+    /// A reporter that writes lines in this form to standard error and, if there is one, the status to the file at this
+    /// path. Its threads run until the process ends, and are never joined.
     ///
     /// Refuses with 1816 `NoThread` if a thread can't be started, and with 1 `Memory`.
-    pub fn start<R>(rt: &R, alloc: Global, status: Option<&str>) -> Result<Reporter, ReporterFault>
+    pub fn start<R>(
+        rt: &R,
+        alloc: Global,
+        format: LogFormat,
+        status: Option<&str>,
+    ) -> Result<Reporter, ReporterFault>
     where
         R: Threads + Wait + SystemClock + Eprint + Disk + Copy + Send + 'static,
     {
@@ -48,7 +53,7 @@ impl Reporter {
         let has_file = file.is_some();
         let records = shared_records(alloc)?;
         let theirs = Arc::try_clone(&records)?;
-        if thread::spawn(&rt, move || write_lines(&rt, alloc, &theirs)).is_err() {
+        if thread::spawn(&rt, move || write_lines(&rt, alloc, &theirs, format)).is_err() {
             return Err(ReporterFault::NoThread);
         }
         if let Some(file) = file {

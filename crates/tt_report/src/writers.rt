@@ -9,19 +9,20 @@ use std::io::Eprint;
 use std::sync::Wait;
 use std::sync::atomic::Ordering;
 use std::time::Clock as SystemClock;
-use tt_status::{Event, push_event};
+use tt_status::{Event, LogFormat, push_event};
 
-/// Writes lines to standard error as they come, and looks at least once a second whether a publication is slow.
+/// Writes lines in this form to standard error as they come, and looks at least once a second whether a publication is slow.
 pub(crate) fn write_lines<R: Wait + SystemClock + Eprint>(
     rt: &R,
     alloc: Global,
     records: &Records,
+    format: LogFormat,
 ) {
     let mut watch = Watch::new();
     for _ in rt.forever() {
         look(rt, records, &mut watch);
         if let Some(line) = records.lines.take(rt) {
-            write_line(rt, alloc, &line);
+            write_line(rt, alloc, &line, format);
             records.written();
         }
     }
@@ -32,15 +33,15 @@ pub(crate) fn write_lines<R: Wait + SystemClock + Eprint>(
 fn look<R: Wait + SystemClock>(rt: &R, records: &Records, watch: &mut Watch) {
     let since = records.since.load(Ordering::SeqCst);
     let most = records.most.load(Ordering::SeqCst);
-    if let Some(nanoseconds) = watch.look(since, most, clock_of(rt)) {
-        records.log(rt, Event::PublicationSlow { nanoseconds });
+    if let Some(lasted) = watch.look(since, most, clock_of(rt)) {
+        records.log(rt, Event::PublicationSlow { lasted });
     }
 }
 
 /// Writes a line to standard error. If it is out of memory, or standard error fails, the line is lost.
-fn write_line<R: Eprint>(rt: &R, alloc: Global, line: &Line) {
+fn write_line<R: Eprint>(rt: &R, alloc: Global, line: &Line, format: LogFormat) {
     let mut text = String::new(alloc);
-    if push_event(&mut text, line.time, line.event, line.left_out).is_ok() {
+    if push_event(&mut text, format, line.time, line.event, line.left_out).is_ok() {
         let _ = eprint!(rt; "{text}");
     }
 }

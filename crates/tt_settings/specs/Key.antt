@@ -3,7 +3,7 @@ use Rattle.std.specs.Prelude.{codes, ℕ, Bool, true, false, nat_eq, if◌then�
 use Rattle.std.specs.Cmp.Lexicographic.{pointwise}
 use Rattle.toml.specs.Data.{Members, no_members, member}
 use Rattle.tt_settings.specs.declared.keys.Key.{Key}
-use Rattle.tt_settings.specs.declared.keys.Key.TheVariants.{Machine, Masters, Faulty, Workers, Drift, Poll, Wait, FloorAhead, Idle, LeaseLo, LeaseHi, Listen, Socket, State, Shared, Status}
+use Rattle.tt_settings.specs.declared.keys.Key.TheVariants.{Machine, Masters, Faulty, Workers, Drift, Poll, Wait, FloorAhead, Idle, LeaseLo, LeaseHi, Listen, Log, Socket, State, Shared, Status}
 
 -- the key as the file writes it
 abbrev pub text_of : Key → List ℕ
@@ -19,6 +19,7 @@ text_of Idle = codes "idle"
 text_of LeaseLo = codes "lease_lo"
 text_of LeaseHi = codes "lease_hi"
 text_of Listen = codes "listen"
+text_of Log = codes "log"
 text_of Socket = codes "socket"
 text_of State = codes "state"
 text_of Shared = codes "shared"
@@ -39,6 +40,7 @@ is_key text =
     else if pointwise nat_eq text (codes "lease_lo") then true
     else if pointwise nat_eq text (codes "lease_hi") then true
     else if pointwise nat_eq text (codes "listen") then true
+    else if pointwise nat_eq text (codes "log") then true
     else if pointwise nat_eq text (codes "socket") then true
     else if pointwise nat_eq text (codes "state") then true
     else if pointwise nat_eq text (codes "shared") then true

@@ -4,6 +4,7 @@ pub mod Numeral
 pub mod Duration
 pub mod Lookup
 pub mod Address
+pub mod Form
 pub mod Text
 pub mod Plan
 pub mod Path

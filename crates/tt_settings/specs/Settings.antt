@@ -4,6 +4,7 @@ use Rattle.toml.specs.Data.{Members}
 use Rattle.toml.specs.Parse.{parse_document}
 use Rattle.tt_span.specs.Interval.{Interval}
 use Rattle.tt_daemon.specs.Config.{Configuration}
+use Rattle.tt_status.specs.declared.lines.LogFormat.{LogFormat}
 use Rattle.tt_settings.specs.declared.keys.Key.TheVariants.{Machine, Listen, State, Socket, Shared, Status}
 use Rattle.tt_settings.specs.declared.faults.SettingsFault.{SettingsFault}
 use Rattle.tt_settings.specs.declared.faults.SettingsFault.TheVariants.{NotToml, UnknownKey}
@@ -13,6 +14,7 @@ use Rattle.tt_settings.specs.Key.{are_keys}
 use Rattle.tt_settings.specs.Lookup.{number_at, count_of, each}
 use Rattle.tt_settings.specs.Address.{address_at, master_items_in, master_in}
 use Rattle.tt_settings.specs.Plan.{configuration_in, pauses_in, lease_in}
+use Rattle.tt_settings.specs.Form.{log_at}
 use Rattle.tt_settings.specs.Text.{text_at, optional_text}
 use Rattle.tt_settings.specs.Check.{all_fit}
 
@@ -23,6 +25,7 @@ pub record Meaning : Type 0 where
   pub pauses : Pauses
   pub lease : Interval
   pub listen : ℕ
+  pub log : LogFormat
   pub masters : List ℕ
   pub state : List ℕ
   pub socket : Option (List ℕ)
@@ -44,12 +47,13 @@ keys_of t = do
   pauses ← pauses_in t
   lease ← lease_in t
   listen ← address_at Listen t
+  log ← log_at t
   masters ← each master_in items
   state ← text_at State t
   socket ← optional_text Socket t
   shared ← optional_text Shared t
   status ← optional_text Status t
-  Ok (record { machine = machine; config = config; pauses = pauses; lease = lease; listen = listen; masters = masters; state = state; socket = socket; shared = shared; status = status })
+  Ok (record { machine = machine; config = config; pauses = pauses; lease = lease; listen = listen; log = log; masters = masters; state = state; socket = socket; shared = shared; status = status })
 
 -- what a document means
 abbrev pub settings_of : Members → Result Meaning SettingsFault

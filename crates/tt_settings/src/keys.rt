@@ -18,6 +18,7 @@ pub enum Key {
     LeaseLo,
     LeaseHi,
     Listen,
+    Log,
     Socket,
     State,
     Shared,
@@ -42,6 +43,7 @@ impl Key {
             Key::LeaseLo => "lease_lo",
             Key::LeaseHi => "lease_hi",
             Key::Listen => "listen",
+            Key::Log => "log",
             Key::Socket => "socket",
             Key::State => "state",
             Key::Shared => "shared",
@@ -68,6 +70,7 @@ pub(crate) fn is_key(text: &str) -> bool
             | "lease_lo"
             | "lease_hi"
             | "listen"
+            | "log"
             | "socket"
             | "state"
             | "shared"

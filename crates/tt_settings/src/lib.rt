@@ -12,7 +12,7 @@
 //!
 //! - `settings`: [`Settings`], and [`read`].
 //! - `plans`: the settings that are numbers. `texts`: the settings that are paths.
-//! - `addresses`: addresses of this host. `durations`: lengths of time with a unit. `numerals`: decimal numbers.
+//! - `forms`: the form of the log. `addresses`: addresses of this host. `durations`: lengths of time with a unit. `numerals`: decimal numbers.
 //! - `checks`: what is refused of settings that can be read. `paths`: which files paths name.
 //! - `keys`: the keys of the file. `lookups`: values of a table by their keys.
 //! - `faults`: why a text is refused, with the place.
@@ -22,6 +22,7 @@ mod addresses;
 mod checks;
 mod durations;
 mod faults;
+mod forms;
 mod keys;
 mod lookups;
 mod numerals;
@@ -33,6 +34,7 @@ mod texts;
 pub use addresses::port_of;
 pub use durations::duration_of;
 pub use faults::SettingsFault;
+pub use forms::log_format_of;
 pub use keys::Key;
 pub use numerals::number_of;
 pub use plans::Pauses;

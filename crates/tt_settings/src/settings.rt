@@ -9,6 +9,7 @@ ghost use Rattle.tt_settings.specs.Settings.{keys_of, settings_of, settings_in};
 use crate::addresses::{address_at, master_items_in, masters_of};
 use crate::checks::{check_masters, check_paths, check_workers};
 use crate::faults::SettingsFault;
+use crate::forms::log_at;
 use crate::keys::Key;
 use crate::lookups::{are_keys, count_of, number_at};
 use crate::plans::{Pauses, configuration_in, lease_in, pauses_in};
@@ -18,6 +19,7 @@ use std::marker::Model;
 use toml::Table;
 use tt_daemon::Config;
 use tt_span::Span;
+use tt_status::LogFormat;
 
 /// The settings of a machine. In contracts they are their values.
 #[derive(Debug, Drop)]
@@ -27,6 +29,7 @@ pub struct Settings {
     pauses: Pauses,
     lease: Span,
     listen: u16,
+    log: LogFormat,
     masters: Vec<u16>,
     state: FilePath,
     socket: Option<FilePath>,
@@ -39,7 +42,7 @@ impl Model for Settings {
 
     ghost Value = { Meaning };
 
-    ghost view = { λ s. record { machine = s.machine; config = s.config; pauses = s.pauses; lease = s.lease; listen = s.listen; masters = s.masters.items; state = s.state; socket = s.socket; shared = s.shared; status = s.status } };
+    ghost view = { λ s. record { machine = s.machine; config = s.config; pauses = s.pauses; lease = s.lease; listen = s.listen; log = s.log; masters = s.masters.items; state = s.state; socket = s.socket; shared = s.shared; status = s.status } };
 }
 
 impl Settings {
@@ -76,6 +79,13 @@ impl Settings {
         ensures value { result ≡ self.now.listen }
     {
         self.listen
+    }
+
+    /// The form of its log.
+    pub fn log(&self) -> LogFormat
+        ensures value { result ≡ self.now.log }
+    {
+        self.log
     }
 
     /// The ports of 127.0.0.1 at which its masters answer, in the order of the sources.
@@ -120,7 +130,7 @@ impl Settings {
 /// be there. The others may be absent: `faulty` (default: as many as the number of masters allows), `workers` (1 to 32;
 /// default 32), `drift` (parts per million; default 200), `poll` (default `"1s"`), `wait` (default `"250ms"`), `floor_ahead`
 /// (default `"1s"`), `idle` (default `"60s"`), `lease_lo` and `lease_hi` (nanoseconds; default: the whole of time),
-/// `socket`, `shared` and `status` (paths). An address is `127.0.0.1:` and a port; a length of time is as
+/// `log` (`"text"` or `"json"`; default `"text"`), `socket`, `shared` and `status` (paths). An address is `127.0.0.1:` and a port; a length of time is as
 /// [`duration_of`](crate::duration_of) reads it.
 ///
 /// Refuses with the first that applies, in this order:
@@ -128,7 +138,7 @@ impl Settings {
 /// - 1801 `NotToml`: the text is not TOML.
 /// - 1802 `UnknownKey`: a key has another name.
 /// - Of the keys, in the order `machine`, `masters` (their number), `faulty`, `workers`, `drift`, `poll`, `wait`,
-///   `floor_ahead`, `idle`, `lease_lo`, `lease_hi`, `listen`, `masters` (each of them), `state`, `socket`, `shared`,
+///   `floor_ahead`, `idle`, `lease_lo`, `lease_hi`, `listen`, `log`, `masters` (each of them), `state`, `socket`, `shared`,
 ///   `status`: 1803 `MissingKey` where the key is absent, 1804 `WrongValue` where its value has another type or is out of
 ///   range, 1805 `NotLocal` where a text is not an address of this host; and behind `drift`, 1806 `TooManyFaulty` where
 ///   fewer than `2 * faulty + 1` masters are listed. A lease that ends before it begins is refused with 1804 at `lease_hi`.
@@ -192,12 +202,14 @@ fn keys_of(alloc: Global, table: &Table) -> Result<Settings, SettingsFault>
     let pauses = pauses_in(table)?;
     let lease = lease_in(table)?;
     let listen = address_at(table, Key::Listen)?;
+    let log = log_at(table)?;
     Ok(Settings {
         machine,
         config,
         pauses,
         lease,
         listen,
+        log,
         masters: masters_of(alloc, items)?,
         state: path_at(alloc, table, Key::State)?,
         socket: optional_path(alloc, table, Key::Socket)?,

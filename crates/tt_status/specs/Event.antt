@@ -1,59 +1,91 @@
--- The lines of a log.
-use Rattle.std.specs.Prelude.{codes, ℕ, nat_lt, if◌then◌else◌, List, [], ◌∷◌, ◌++◌}
+-- The lines of a log, as text or as JSON.
+use Rattle.std.specs.Prelude.{codes, ℕ, nat_lt, if◌then◌else◌, List, [], ◌++◌}
 use Rattle.std.specs.Fmt.{decimal}
+use Rattle.jiff_core.specs.declared.civil.date.Date.{Date}
+use Rattle.tt_status.specs.Moment.{moment_text}
+use Rattle.tt_status.specs.declared.lines.LogFormat.{LogFormat}
+use Rattle.tt_status.specs.declared.lines.LogFormat.TheVariants.{Text, Json}
 use Rattle.tt_status.specs.declared.lines.Event.{Event}
 use Rattle.tt_status.specs.declared.lines.Event.TheVariants.{Started, FirstPublication, SourceSilent, SourceSuspect, FusionRefused, ClockBack, AnswersRefused, RoundFailed, SharingEnded, SharingResumed, StatusUnwritten, NotAccepted, StateLoose, EpochLoose, SharedLoose, Ended, MasterStarted, MasterFailed, SocketRenewed, PublicationSlow, SourceUnsent}
+use Rattle.tt_status.specs.declared.lines.RefusedFusion.{RefusedFusion}
+use Rattle.tt_status.specs.declared.lines.RefusedFusion.TheVariants.{NoPoint, TooFewKnown}
+
+-- the number of each refusal of a fusion
+abbrev pub refusal_number_of : RefusedFusion → ℕ
+refusal_number_of NoPoint = 504
+refusal_number_of TooFewKnown = 701
 
 -- a name and the decimal digits of its number
-abbrev pub field : List ℕ → ℕ → List ℕ
-field name value = name ++ decimal value
+abbrev pub field : LogFormat → List ℕ → ℕ → List ℕ
+field Text name value = codes " " ++ name ++ codes "=" ++ decimal value
+field Json name value = codes ",\"" ++ name ++ codes "\":" ++ decimal value
 
--- how an event is called, with its level
+-- how grave an event is
+abbrev pub level_of : Event → List ℕ
+level_of (Started machine epoch port) = codes "info"
+level_of (FirstPublication width) = codes "info"
+level_of SharingResumed = codes "info"
+level_of Ended = codes "info"
+level_of (MasterStarted source port) = codes "info"
+level_of _ = codes "warn"
+
+-- how an event is called
 abbrev pub name_of : Event → List ℕ
-name_of (Started machine epoch port) = codes "level=info event=started"
-name_of (FirstPublication width) = codes "level=info event=first_publication"
-name_of (SourceSilent source) = codes "level=warn event=source_silent"
-name_of (SourceSuspect source) = codes "level=warn event=source_suspect"
-name_of (FusionRefused number) = codes "level=warn event=fusion_refused"
-name_of ClockBack = codes "level=warn event=clock_back"
-name_of (AnswersRefused count) = codes "level=warn event=answers_refused"
-name_of (RoundFailed number) = codes "level=warn event=round_failed"
-name_of (SharingEnded number) = codes "level=warn event=sharing_ended"
-name_of SharingResumed = codes "level=info event=sharing_resumed"
-name_of StatusUnwritten = codes "level=warn event=status_unwritten"
-name_of NotAccepted = codes "level=warn event=not_accepted"
-name_of StateLoose = codes "level=warn event=state_loose"
-name_of EpochLoose = codes "level=warn event=epoch_loose"
-name_of SharedLoose = codes "level=warn event=shared_loose"
-name_of Ended = codes "level=info event=ended"
-name_of (MasterStarted source port) = codes "level=info event=master_started"
-name_of (MasterFailed number) = codes "level=warn event=master_failed"
-name_of (SocketRenewed number pause) = codes "level=warn event=socket_renewed"
-name_of (PublicationSlow nanoseconds) = codes "level=warn event=publication_slow"
-name_of (SourceUnsent source) = codes "level=warn event=source_unsent"
+name_of (Started machine epoch port) = codes "started"
+name_of (FirstPublication width) = codes "first_publication"
+name_of (SourceSilent source) = codes "source_silent"
+name_of (SourceSuspect source) = codes "source_suspect"
+name_of (FusionRefused reason) = codes "fusion_refused"
+name_of ClockBack = codes "clock_back"
+name_of (AnswersRefused count) = codes "answers_refused"
+name_of (RoundFailed number) = codes "round_failed"
+name_of (SharingEnded number) = codes "sharing_ended"
+name_of SharingResumed = codes "sharing_resumed"
+name_of StatusUnwritten = codes "status_unwritten"
+name_of NotAccepted = codes "not_accepted"
+name_of StateLoose = codes "state_loose"
+name_of EpochLoose = codes "epoch_loose"
+name_of SharedLoose = codes "shared_loose"
+name_of Ended = codes "ended"
+name_of (MasterStarted source port) = codes "master_started"
+name_of (MasterFailed number) = codes "master_failed"
+name_of (SocketRenewed number pause) = codes "socket_renewed"
+name_of (PublicationSlow lasted) = codes "publication_slow"
+name_of (SourceUnsent source) = codes "source_unsent"
 
--- its numbers, each behind its name
-abbrev pub numbers_of : Event → List ℕ
-numbers_of (Started machine epoch port) = field (codes " machine=") machine ++ field (codes " epoch=") epoch ++ field (codes " port=") port
-numbers_of (FirstPublication width) = field (codes " width=") width
-numbers_of (SourceSilent source) = field (codes " source=") source
-numbers_of (SourceSuspect source) = field (codes " source=") source
-numbers_of (FusionRefused number) = field (codes " number=") number
-numbers_of (AnswersRefused count) = field (codes " count=") count
-numbers_of (RoundFailed number) = field (codes " number=") number
-numbers_of (SharingEnded number) = field (codes " number=") number
-numbers_of (MasterStarted source port) = field (codes " source=") source ++ field (codes " port=") port
-numbers_of (MasterFailed number) = field (codes " number=") number
-numbers_of (SocketRenewed number pause) = field (codes " number=") number ++ field (codes " pause=") pause
-numbers_of (PublicationSlow nanoseconds) = field (codes " nanoseconds=") nanoseconds
-numbers_of (SourceUnsent source) = field (codes " source=") source
-numbers_of _ = []
+-- its numbers, each behind its name; the name of a time in nanoseconds ends in `_ns`
+abbrev pub numbers_of : LogFormat → Event → List ℕ
+numbers_of f (Started machine epoch port) = field f (codes "machine") machine ++ field f (codes "epoch") epoch ++ field f (codes "port") port
+numbers_of f (FirstPublication width) = field f (codes "width_ns") width
+numbers_of f (SourceSilent source) = field f (codes "source") source
+numbers_of f (SourceSuspect source) = field f (codes "source") source
+numbers_of f (FusionRefused reason) = field f (codes "number") (refusal_number_of reason)
+numbers_of f (AnswersRefused count) = field f (codes "count") count
+numbers_of f (RoundFailed number) = field f (codes "number") number
+numbers_of f (SharingEnded number) = field f (codes "number") number
+numbers_of f (MasterStarted source port) = field f (codes "source") source ++ field f (codes "port") port
+numbers_of f (MasterFailed number) = field f (codes "number") number
+numbers_of f (SocketRenewed number pause) = field f (codes "number") number ++ field f (codes "pause_ns") pause
+numbers_of f (PublicationSlow lasted) = field f (codes "lasted_ns") lasted
+numbers_of f (SourceUnsent source) = field f (codes "source") source
+numbers_of f _ = []
+
+-- the time, the level and the name of an event
+abbrev pub head_text : LogFormat → Date → ℕ → Event → List ℕ
+head_text Text date time event =
+    codes "time=" ++ moment_text date time ++ codes " level=" ++ level_of event ++ codes " event=" ++ name_of event
+head_text Json date time event =
+    codes "{\"time\":\"" ++ moment_text date time ++ codes "\",\"level\":\"" ++ level_of event ++ codes "\",\"event\":\"" ++ name_of event ++ codes "\""
 
 -- how many of its kind were left out before it, where some were
-abbrev pub left_out_text : ℕ → List ℕ
-left_out_text n = if nat_lt 0 n then field (codes " left_out=") n else []
+abbrev pub left_out_text : LogFormat → ℕ → List ℕ
+left_out_text f n = if nat_lt 0 n then field f (codes "left_out") n else []
 
--- the line of an event at a moment
-abbrev pub event_line : ℕ → Event → ℕ → List ℕ
-event_line time event left_out =
-    field (codes "time=") time ++ codes " " ++ name_of event ++ numbers_of event ++ left_out_text left_out ++ codes "\n"
+-- the end of a line
+abbrev pub end_text : LogFormat → List ℕ
+end_text Text = codes "\n"
+end_text Json = codes "}\n"
+
+-- the line of an event at a time, the date of which is given
+abbrev pub event_line : LogFormat → Date → ℕ → Event → ℕ → List ℕ
+event_line f date time event left_out = head_text f date time event ++ numbers_of f event ++ left_out_text f left_out ++ end_text f

@@ -1,3 +1,6 @@
 pub mod Limit
-pub mod Status
+pub mod Digits
+pub mod Moment
 pub mod Event
+pub mod Metric
+pub mod Status

@@ -1,5 +1,5 @@
 -- How often a kind of line is said. A history is the moments at which it was to be said, newest first.
-use Rattle.std.specs.Prelude.{ℕ, ◌≡◌, ◌-◌, ◌+◌, ◌^◌, nat_lt, min, Bool, true, false, not, if◌then◌else◌, List, [], ◌∷◌, Option, Some, None}
+use Rattle.std.specs.Prelude.{ℕ, ◌≡◌, ◌-◌, ◌+◌, ◌^◌, nat_lt, min, Bool, true, not, if◌then◌else◌, List, [], ◌∷◌, Option, Some, None}
 use Rattle.tt_status.specs.declared.limits.Limit.{Limit}
 
 -- for how long a kind of line is not said again

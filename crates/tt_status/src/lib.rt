@@ -3,14 +3,19 @@
 //! All of it is functions over values: no file is written here.
 //!
 //! - `statuses`: [`Status`], and its text in the format that Prometheus collects.
+//! - `metrics`: the text of a metric. `digits`, `moments`: numbers with a fixed count of digits, seconds, and UTC.
 //! - `lines`: [`Event`], and the line of a log that says it.
 //! - `limits`: [`Limit`], which lets one line of a kind pass in ten seconds and counts the others.
 #![tactic(auto)]
 
+mod digits;
 mod limits;
 mod lines;
+mod metrics;
+mod moments;
 mod statuses;
 
 pub use limits::{Limit, QUIET};
-pub use lines::{Event, push_event};
-pub use statuses::{Status, push_status};
+pub use lines::{Event, LogFormat, RefusedFusion, push_event};
+pub use metrics::VERSION;
+pub use statuses::{MAX_SOURCES, SourceStatus, Status, push_status};

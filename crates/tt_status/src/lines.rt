@@ -1,9 +1,43 @@
 //! The lines of a log.
 
 ghost use Rattle.std.specs.Prelude.{◌≡◌, ◌++◌, OnOk, string_bytes};
-ghost use Rattle.tt_status.specs.Event.{event_line, field, name_of, numbers_of};
+ghost use Rattle.jiff_core.specs.declared.civil.date.Date.{Date as Day};
+ghost use Rattle.tt_status.specs.Moment.{IsDateOf};
+ghost use Rattle.tt_status.specs.Event.{event_line, head_text, left_out_text, end_text, field, level_of, name_of, numbers_of, refusal_number_of};
 
+use crate::moments::{date_of, push_moment};
+use jiff_core::civil::Date;
 use std::alloc::AllocError;
+
+/// Why a fusion is refused.
+#[derive(Clone, Copy, Debug, PartialEq, Eq)]
+pub enum RefusedFusion {
+    /// No point lies in the spans of enough sources: more than f sources are faulty. Its number is 504.
+    NoPoint,
+    /// Too few sources are known. Its number is 701.
+    TooFewKnown,
+}
+
+impl RefusedFusion {
+    /// The number of the refusal: 504 for `NoPoint`, 701 for `TooFewKnown`.
+    pub fn number(self) -> u64
+        ensures value { result ≡ refusal_number_of self }
+    {
+        match self {
+            RefusedFusion::NoPoint => 504,
+            RefusedFusion::TooFewKnown => 701,
+        }
+    }
+}
+
+/// The form of the lines of a log.
+#[derive(Clone, Copy, Debug, PartialEq, Eq)]
+pub enum LogFormat {
+    /// Names and values, as `level=warn event=clock_back`.
+    Text,
+    /// One object of JSON on each line.
+    Json,
+}
 
 /// An event that an operator wants to see, or may have to act on.
 #[derive(Clone, Copy, Debug, PartialEq, Eq)]
@@ -16,8 +50,8 @@ pub enum Event {
     SourceSilent { source: u64 },
     /// This source is a suspect of the fusion: its span does not meet the fused span.
     SourceSuspect { source: u64 },
-    /// A fusion was refused with this number. 504 says that more than f sources are faulty.
-    FusionRefused { number: u64 },
+    /// A fusion was refused for this reason.
+    FusionRefused { reason: RefusedFusion },
     /// The clock could not be read, or went back.
     ClockBack,
     /// This many answers of sources were refused in a round.
@@ -47,74 +81,161 @@ pub enum Event {
     /// The socket for polls failed with this number, and is made anew after this pause in nanoseconds.
     SocketRenewed { number: u64, pause: u64 },
     /// A publication has lasted this long so far, in nanoseconds: a reader has not left its reading.
-    PublicationSlow { nanoseconds: u64 },
+    PublicationSlow { lasted: u64 },
     /// A packet to this source could not be sent.
     SourceUnsent { source: u64 },
 }
 
 impl Event {
-    /// The level and the name of the event in a line.
+    /// The level of the event in a line.
+    fn level(self) -> &'static str
+        ensures { result.now ≡ level_of self }
+    {
+        match self {
+            Event::Started { .. }
+            | Event::FirstPublication { .. }
+            | Event::SharingResumed
+            | Event::Ended
+            | Event::MasterStarted { .. } => "info",
+            _ => "warn",
+        }
+    }
+
+    /// The name of the event in a line.
     fn name(self) -> &'static str
         ensures { result.now ≡ name_of self }
     {
         match self {
-            Event::Started { .. } => "level=info event=started",
-            Event::FirstPublication { .. } => "level=info event=first_publication",
-            Event::SourceSilent { .. } => "level=warn event=source_silent",
-            Event::SourceSuspect { .. } => "level=warn event=source_suspect",
-            Event::FusionRefused { .. } => "level=warn event=fusion_refused",
-            Event::ClockBack => "level=warn event=clock_back",
-            Event::AnswersRefused { .. } => "level=warn event=answers_refused",
-            Event::RoundFailed { .. } => "level=warn event=round_failed",
-            Event::SharingEnded { .. } => "level=warn event=sharing_ended",
-            Event::SharingResumed => "level=info event=sharing_resumed",
-            Event::StatusUnwritten => "level=warn event=status_unwritten",
-            Event::NotAccepted => "level=warn event=not_accepted",
-            Event::StateLoose => "level=warn event=state_loose",
-            Event::EpochLoose => "level=warn event=epoch_loose",
-            Event::SharedLoose => "level=warn event=shared_loose",
-            Event::Ended => "level=info event=ended",
-            Event::MasterStarted { .. } => "level=info event=master_started",
-            Event::MasterFailed { .. } => "level=warn event=master_failed",
-            Event::SocketRenewed { .. } => "level=warn event=socket_renewed",
-            Event::PublicationSlow { .. } => "level=warn event=publication_slow",
-            Event::SourceUnsent { .. } => "level=warn event=source_unsent",
+            Event::Started { .. } => "started",
+            Event::FirstPublication { .. } => "first_publication",
+            Event::SourceSilent { .. } => "source_silent",
+            Event::SourceSuspect { .. } => "source_suspect",
+            Event::FusionRefused { .. } => "fusion_refused",
+            Event::ClockBack => "clock_back",
+            Event::AnswersRefused { .. } => "answers_refused",
+            Event::RoundFailed { .. } => "round_failed",
+            Event::SharingEnded { .. } => "sharing_ended",
+            Event::SharingResumed => "sharing_resumed",
+            Event::StatusUnwritten => "status_unwritten",
+            Event::NotAccepted => "not_accepted",
+            Event::StateLoose => "state_loose",
+            Event::EpochLoose => "epoch_loose",
+            Event::SharedLoose => "shared_loose",
+            Event::Ended => "ended",
+            Event::MasterStarted { .. } => "master_started",
+            Event::MasterFailed { .. } => "master_failed",
+            Event::SocketRenewed { .. } => "socket_renewed",
+            Event::PublicationSlow { .. } => "publication_slow",
+            Event::SourceUnsent { .. } => "source_unsent",
         }
     }
 }
 
-/// Adds the line of an event to a text: its time, in nanoseconds since 1970, its level and its name, its numbers, how
-/// many of its kind were left out before it if any were, and a line feed, like `time=5 level=warn event=fusion_refused
-/// number=504`. Refuses only if it is out of memory; then the text may have a part of the line at its end.
+/// Adds the line of an event to a text: its time, given in nanoseconds since 1970 and written in UTC, its level and its
+/// name, its numbers, how many of its kind were left out before it if any were, and a line feed. As text it is like
+/// `time=2026-11-26T23:41:51.123456789Z level=warn event=fusion_refused number=504`, and as JSON like
+/// `{"time":"2026-11-26T23:41:51.123456789Z","level":"warn","event":"fusion_refused","number":504}`. Numbers of
+/// nanoseconds have names that end in `_ns`. Refuses only if it is out of memory; then the text may have a part of the
+/// line at its end.
 pub fn push_event(
     text: &mut String,
+    format: LogFormat,
     time: u64,
     event: Event,
     left_out: u64,
 ) -> Result<(), AllocError>
-    ensures written { OnOk result (string_bytes text.new ≡ string_bytes text.old ++ event_line time event left_out) }
+    ensures written { OnOk result ((date : Day) × IsDateOf time date
+        × (string_bytes text.new ≡ string_bytes text.old ++ event_line format date time event left_out)) }
 {
-    push_field(text, "time=", time)?;
-    text.push_str(" ")?;
-    text.push_str(event.name())?;
-    push_numbers(text, event)?;
+    push_dated(text, format, date_of(time), time, event, left_out)
+}
+
+/// Adds the line of an event, the date of whose time is given.
+fn push_dated(
+    text: &mut String,
+    format: LogFormat,
+    date: Date,
+    time: u64,
+    event: Event,
+    left_out: u64,
+) -> Result<(), AllocError>
+    ensures { OnOk result (string_bytes text.new ≡ string_bytes text.old ++ event_line format date time event left_out) }
+{
+    push_head(text, format, date, time, event)?;
+    push_numbers(text, format, event)?;
+    push_left_out(text, format, left_out)?;
+    push_end(text, format)
+}
+
+/// Adds how many lines of a kind were left out, if any were.
+fn push_left_out(text: &mut String, format: LogFormat, left_out: u64) -> Result<(), AllocError>
+    ensures { OnOk result (string_bytes text.new ≡ string_bytes text.old ++ left_out_text format left_out) }
+{
     if left_out > 0 {
-        push_field(text, " left_out=", left_out)?;
+        return push_field(text, format, "left_out", left_out);
     }
-    text.push_str("\n")
+    Ok(())
+}
+
+/// Adds the end of a line.
+fn push_end(text: &mut String, format: LogFormat) -> Result<(), AllocError>
+    ensures { OnOk result (string_bytes text.new ≡ string_bytes text.old ++ end_text format) }
+{
+    match format {
+        LogFormat::Text => text.push_str("\n"),
+        LogFormat::Json => text.push_str("}\n"),
+    }
+}
+
+/// Adds the time, the level and the name of an event.
+fn push_head(
+    text: &mut String,
+    format: LogFormat,
+    date: Date,
+    time: u64,
+    event: Event,
+) -> Result<(), AllocError>
+    ensures { OnOk result (string_bytes text.new ≡ string_bytes text.old ++ head_text format date time event) }
+{
+    match format {
+        LogFormat::Text => {
+            text.push_str("time=")?;
+            push_moment(text, date, time)?;
+            text.push_str(" level=")?;
+            text.push_str(event.level())?;
+            text.push_str(" event=")?;
+            text.push_str(event.name())
+        }
+        LogFormat::Json => {
+            text.push_str("{\"time\":\"")?;
+            push_moment(text, date, time)?;
+            text.push_str("\",\"level\":\"")?;
+            text.push_str(event.level())?;
+            text.push_str("\",\"event\":\"")?;
+            text.push_str(event.name())?;
+            text.push_str("\"")
+        }
+    }
 }
 
 /// Adds a name and its number.
-fn push_field(text: &mut String, name: &str, value: u64) -> Result<(), AllocError>
-    ensures { OnOk result (string_bytes text.new ≡ string_bytes text.old ++ field name.now value) }
+fn push_field(
+    text: &mut String,
+    format: LogFormat,
+    name: &str,
+    value: u64,
+) -> Result<(), AllocError>
+    ensures { OnOk result (string_bytes text.new ≡ string_bytes text.old ++ field format name.now value) }
 {
-    text.push_str(name)?;
-    write!(text, "{value}")
+    match format {
+        LogFormat::Text => write!(text, " {name}={value}"),
+        LogFormat::Json => write!(text, ",\"{name}\":{value}"),
+    }
 }
 
 /// Adds the numbers of an event.
-fn push_numbers(text: &mut String, event: Event) -> Result<(), AllocError>
-    ensures { OnOk result (string_bytes text.new ≡ string_bytes text.old ++ numbers_of event) }
+fn push_numbers(text: &mut String, format: LogFormat, event: Event) -> Result<(), AllocError>
+    ensures { OnOk result (string_bytes text.new ≡ string_bytes text.old ++ numbers_of format event) }
 {
     match event {
         Event::Started {
@@ -122,29 +243,28 @@ fn push_numbers(text: &mut String, event: Event) -> Result<(), AllocError>
             epoch,
             port,
         } => {
-            push_field(text, " machine=", machine)?;
-            push_field(text, " epoch=", epoch)?;
-            push_field(text, " port=", port)
+            push_field(text, format, "machine", machine)?;
+            push_field(text, format, "epoch", epoch)?;
+            push_field(text, format, "port", port)
         }
-        Event::FirstPublication { width } => push_field(text, " width=", width),
-        Event::SourceSilent { source } => push_field(text, " source=", source),
-        Event::SourceSuspect { source } => push_field(text, " source=", source),
-        Event::FusionRefused { number } | Event::MasterFailed { number } => {
-            push_field(text, " number=", number)
-        }
+        Event::FirstPublication { width } => push_field(text, format, "width_ns", width),
+        Event::SourceSilent { source } => push_field(text, format, "source", source),
+        Event::SourceSuspect { source } => push_field(text, format, "source", source),
+        Event::FusionRefused { reason } => push_field(text, format, "number", reason.number()),
+        Event::MasterFailed { number } => push_field(text, format, "number", number),
         Event::MasterStarted { source, port } => {
-            push_field(text, " source=", source)?;
-            push_field(text, " port=", port)
+            push_field(text, format, "source", source)?;
+            push_field(text, format, "port", port)
         }
-        Event::AnswersRefused { count } => push_field(text, " count=", count),
-        Event::RoundFailed { number } => push_field(text, " number=", number),
-        Event::SharingEnded { number } => push_field(text, " number=", number),
+        Event::AnswersRefused { count } => push_field(text, format, "count", count),
+        Event::RoundFailed { number } => push_field(text, format, "number", number),
+        Event::SharingEnded { number } => push_field(text, format, "number", number),
         Event::SocketRenewed { number, pause } => {
-            push_field(text, " number=", number)?;
-            push_field(text, " pause=", pause)
+            push_field(text, format, "number", number)?;
+            push_field(text, format, "pause_ns", pause)
         }
-        Event::PublicationSlow { nanoseconds } => push_field(text, " nanoseconds=", nanoseconds),
-        Event::SourceUnsent { source } => push_field(text, " source=", source),
+        Event::PublicationSlow { lasted } => push_field(text, format, "lasted_ns", lasted),
+        Event::SourceUnsent { source } => push_field(text, format, "source", source),
         Event::ClockBack
         | Event::SharingResumed
         | Event::StatusUnwritten

@@ -1,0 +1,33 @@
+use Rattle.std.specs.Prelude.{string_bytes, ◌++◌, [], ◌∷◌}
+use Rattle.tt_status.specs.Metric.{metric_text}
+use Rattle.tt_status.specs.Status.{build_metric, publication_metrics, known_metrics, source_metrics, round_metrics, refusals_metric, client_metrics, written_metrics}
+use Rattle.tt_status.proofs.Appending.{alone, more, more_on_ok}
+use Rattle.tt_status.proofs.statuses.push_status.Goals as goal
+
+pub returns : goal.returns
+returns c =
+    let s = c.args.status.now in
+    let text = metric_text s.machine in
+    let old = string_bytes c.args.text.now in
+    let build = build_metric ∷ [] in
+    let published = build ++ publication_metrics s in
+    let known = published ++ known_metrics s in
+    let sources = known ++ source_metrics s in
+    let rounds = sources ++ round_metrics s in
+    let refusals = rounds ++ (refusals_metric s ∷ []) in
+    let clients = refusals ++ client_metrics s in
+    record {
+      written = more_on_ok text c.push_written.result clients (written_metrics s) old _ _
+          (more text refusals (client_metrics s) old _ _
+          (more text rounds (refusals_metric s ∷ []) old _ _
+          (more text sources (round_metrics s) old _ _
+          (more text known (source_metrics s) old _ _
+          (more text published (known_metrics s) old _ _
+          (more text build (publication_metrics s) old _ _ (alone text build_metric old _ c.in_ok-push_build.ensures) c.in_ok-push_publication.ensures)
+          c.in_ok-push_known.ensures)
+          c.in_ok-push_sources.ensures)
+          c.in_ok-push_rounds.ensures)
+          (alone text (refusals_metric s) _ _ c.in_ok-push_refusals.ensures))
+          c.in_ok-push_clients.ensures)
+          c.push_written.ensures;
+    }

@@ -1,0 +1,184 @@
+//! Metrics in the text format of Prometheus, version 0.0.4.
+
+ghost use Rattle.std.specs.Prelude.{◌≡◌, ◌++◌, OnOk, string_bytes};
+ghost use Rattle.std.specs.List.{flat_map};
+ghost use Rattle.std.specs.Fmt.{decimal};
+ghost use Rattle.tt_status.specs.Metric.{kind_word, outcome_word, label_text, labels_text, value_text, head_text, sample_text, metric_text, single};
+
+use crate::digits::push_seconds;
+use crate::lines::RefusedFusion;
+use std::alloc::AllocError;
+
+/// The version of the program.
+pub const VERSION: &str = "0.2 (rattle-kit-13)";
+
+/// Whether a number may fall.
+#[derive(Clone, Copy)]
+pub(crate) enum Kind {
+    /// It may.
+    Gauge,
+    /// It never does in one life of the machine.
+    Counter,
+}
+
+impl Kind {
+    /// The word for it.
+    fn word(self) -> &'static str
+        ensures { result.now ≡ kind_word self }
+    {
+        match self {
+            Kind::Gauge => "gauge",
+            Kind::Counter => "counter",
+        }
+    }
+}
+
+/// The number of a sample.
+#[derive(Clone, Copy)]
+pub(crate) enum Value {
+    /// A count or an id.
+    Whole(u64),
+    /// Shown as 1 if it is so, otherwise as 0.
+    Flag(bool),
+    /// A time in nanoseconds, if there is one, which is shown in seconds.
+    Seconds(Option<u64>),
+}
+
+/// What became of a source in a round.
+#[derive(Clone, Copy)]
+pub(crate) enum Outcome {
+    Accepted,
+    Refused,
+    Silent,
+}
+
+impl Outcome {
+    /// The word for it.
+    fn word(self) -> &'static str
+        ensures { result.now ≡ outcome_word self }
+    {
+        match self {
+            Outcome::Accepted => "accepted",
+            Outcome::Refused => "refused",
+            Outcome::Silent => "silent",
+        }
+    }
+}
+
+/// What the number of a sample is of.
+#[derive(Clone, Copy)]
+pub(crate) enum Subject {
+    /// The machine.
+    Machine,
+    /// The version of the program.
+    Version,
+    /// The fusions that were refused for this reason.
+    Refusal(RefusedFusion),
+    /// This source.
+    Source(u64),
+    /// The rounds with this outcome of this source.
+    OutcomeOf(u64, Outcome),
+}
+
+/// A metric of one number of the machine: its name, what it says, whether it may fall, and the number.
+#[derive(Clone, Copy)]
+pub(crate) struct Row<'a> {
+    pub(crate) name: &'a str,
+    pub(crate) help: &'a str,
+    pub(crate) kind: Kind,
+    pub(crate) value: Value,
+}
+
+/// Adds the metrics of these numbers.
+pub(crate) fn push_rows(text: &mut String, machine: u64, rows: &[Row<'_>]) -> Result<(), AllocError>
+    ensures { OnOk result (string_bytes text.new ≡ string_bytes text.old
+        ++ flat_map (λ row. metric_text machine (single row.name.now row.help.now row.kind row.value)) rows.now) }
+{
+    for row in rows {
+        push_row(text, machine, row)?;
+    }
+    Ok(())
+}
+
+/// Adds the metric of one number.
+fn push_row(text: &mut String, machine: u64, row: &Row<'_>) -> Result<(), AllocError>
+    ensures { OnOk result (string_bytes text.new ≡ string_bytes text.old
+        ++ metric_text machine (single row.now.name.now row.now.help.now row.now.kind row.now.value)) }
+{
+    push_head(text, row.name, row.help, row.kind)?;
+    push_sample(text, row.name, machine, Subject::Machine, row.value)
+}
+
+/// Adds the two lines before the samples of a metric.
+pub(crate) fn push_head(
+    text: &mut String,
+    name: &str,
+    help: &str,
+    kind: Kind,
+) -> Result<(), AllocError>
+    ensures { OnOk result (string_bytes text.new ≡ string_bytes text.old ++ head_text name.now help.now kind) }
+{
+    let word = kind.word();
+    write!(text, "# HELP {name} {help}\n# TYPE {name} {word}\n")
+}
+
+/// Adds the line of a sample.
+pub(crate) fn push_sample(
+    text: &mut String,
+    name: &str,
+    machine: u64,
+    subject: Subject,
+    value: Value,
+) -> Result<(), AllocError>
+    ensures { OnOk result (string_bytes text.new ≡ string_bytes text.old
+        ++ sample_text name.now machine (record { subject = subject; value = value })) }
+{
+    write!(text, "{name}{{machine=\"{machine}\"")?;
+    push_labels(text, subject)?;
+    text.push_str("} ")?;
+    push_value(text, value)?;
+    text.push_str("\n")
+}
+
+/// Adds the labels of a sample behind that of its machine.
+fn push_labels(text: &mut String, subject: Subject) -> Result<(), AllocError>
+    ensures { OnOk result (string_bytes text.new ≡ string_bytes text.old ++ labels_text subject) }
+{
+    match subject {
+        Subject::Machine => Ok(()),
+        Subject::Version => push_word(text, "version", VERSION),
+        Subject::Refusal(reason) => push_number(text, "number", reason.number()),
+        Subject::Source(source) => push_number(text, "source", source),
+        Subject::OutcomeOf(source, outcome) => {
+            push_number(text, "source", source)?;
+            push_word(text, "outcome", outcome.word())
+        }
+    }
+}
+
+/// Adds a label whose value is a word.
+fn push_word(text: &mut String, name: &str, word: &str) -> Result<(), AllocError>
+    ensures { OnOk result (string_bytes text.new ≡ string_bytes text.old ++ label_text name.now word.now) }
+{
+    write!(text, ",{name}=\"{word}\"")
+}
+
+/// Adds a label whose value is a number.
+fn push_number(text: &mut String, name: &str, number: u64) -> Result<(), AllocError>
+    ensures { OnOk result (string_bytes text.new ≡ string_bytes text.old ++ label_text name.now (decimal number)) }
+{
+    write!(text, ",{name}=\"{number}\"")
+}
+
+/// Adds the number of a sample.
+fn push_value(text: &mut String, value: Value) -> Result<(), AllocError>
+    ensures { OnOk result (string_bytes text.new ≡ string_bytes text.old ++ value_text value) }
+{
+    match value {
+        Value::Whole(number) => write!(text, "{number}"),
+        Value::Flag(true) => text.push_str("1"),
+        Value::Flag(false) => text.push_str("0"),
+        Value::Seconds(Some(nanoseconds)) => push_seconds(text, nanoseconds),
+        Value::Seconds(None) => text.push_str("NaN"),
+    }
+}
