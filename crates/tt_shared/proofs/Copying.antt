@@ -8,7 +8,7 @@ use Rattle.tt_shared.specs.Writing.{index_word}
 use Rattle.tt_shared.specs.Seeing.{MaySee}
 use Rattle.tt_shared.proofs.Counting.{same_index}
 
-between : (a b c : ℕ) → a ≤ b → b ≤ c → a ≡ c → b ≡ a
+pub between : (a b c : ℕ) → a ≤ b → b ≤ c → a ≡ c → b ≡ a
 between a b c ab bc e = omega arith
 
 pub whole : (published : ℕ → SharedSpan) (first last slot : ℕ) (then bytes : ℕ → ℕ) → first < 2 ^ 64 → last < 2 ^ 64 →

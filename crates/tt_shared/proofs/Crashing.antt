@@ -62,7 +62,7 @@ out_of j at n i len offset e f (inr high) lt is = omega arith
 kept_apart : (write : Write) (at n : ℕ) (before after : List ℕ) (j : ℕ) → length write.bytes ≡ n → write.offset ≡ at → PartWritten write before after → (j < at) ⊎ (at + n ≤ j) → slice_index after j ≡ slice_index before j
 kept_apart write at n before after j e f part apart = kept write before after j part (λ i lt is. out_of j at n i (length write.bytes) write.offset e f apart lt is)
 
-slot_length : (index : ℕ) (p : SharedSpan) → length (slot_of index p) ≡ 64
+pub slot_length : (index : ℕ) (p : SharedSpan) → length (slot_of index p) ≡ 64
 unfolding slot_of
 slot_length index p = refl
 

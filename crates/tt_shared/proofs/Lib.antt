@@ -5,5 +5,6 @@ pub mod Counting
 pub mod Copying
 pub mod Copies
 pub mod Crashing
+pub mod Finding
 pub mod Putting
 pub mod Resuming

@@ -1,5 +1,5 @@
 -- What readers see of a file while it is written, and after its writer died.
-use Rattle.std.specs.Prelude.{ℕ, ◌≡◌, ◌+◌, ◌<◌, ◌%◌, ◌⊎◌, List, length, slice_index, slice_range}
+use Rattle.std.specs.Prelude.{ℕ, ◌≡◌, ◌+◌, ◌<◌, ◌≤◌, ◌%◌, ◌^◌, ◌⊎◌, List, length, slice_index, slice_range}
 use Rattle.tt_shared.specs.declared.slots.SharedSpan.{SharedSpan}
 use Rattle.tt_shared.specs.Slot.{slot_of}
 use Rattle.tt_shared.specs.Index.{index_at}
@@ -9,6 +9,16 @@ use Rattle.tt_shared.specs.Writing.{Write, index_word, slot_place, slot_write, i
 -- other one, which may be written at this time, it is any
 abbrev pub MaySee : (ℕ → SharedSpan) → ℕ → ℕ → ℕ → ℕ → Type 0
 MaySee published n slot i byte = n % 2 ≡ slot → byte ≡ slice_index (slot_of (index_word n) (published n)) i
+
+-- what a reader saw while the writers went on: the index of count n, then each byte of its slot at a moment of its own, and then an index again;
+-- the count did not fall meanwhile
+pub record IsSeen (published : ℕ → SharedSpan) (n : ℕ) (index bytes again : List ℕ) : Type 0 where
+  pub last : ℕ
+  pub fits : last < 2 ^ 64
+  pub forward : n ≤ last
+  pub first_index : index ≡ index_at n
+  pub last_index : again ≡ index_at last
+  pub each : (i : ℕ) → i < 64 → (at : ℕ) × (n ≤ at) × (at ≤ last) × MaySee published at (n % 2) i (slice_index bytes i)
 
 -- the index in the file is that of count n, and the slot that it names has these bytes: all that a reader looks at
 pub record Shows (file : List ℕ) (n : ℕ) (bytes : List ℕ) : Type 0 where

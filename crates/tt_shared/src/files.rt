@@ -79,15 +79,15 @@ fn boot_name<R: Files<File = File>>(rt: &R) -> io::Result<[u8; BOOT_LEN]> {
     Ok(name)
 }
 
-/// The index of an open file, if it is a shared file of this boot.
-fn index_of_file(file: &File, boot: &[u8; BOOT_LEN]) -> Option<[u8; 8]> {
-    let metadata = file.metadata().ok()?;
-    if metadata.len() != FILE_LEN as u64 {
-        return None;
+/// The index of an open file. None if it is not a shared file of this boot. This fails where its length or its head can't
+/// be read.
+fn index_of_file(file: &File, boot: &[u8; BOOT_LEN]) -> io::Result<Option<[u8; 8]>> {
+    if file.metadata()?.len() != FILE_LEN as u64 {
+        return Ok(None);
     }
     let mut head = [0; HEAD_LEN];
-    FileExt::read_exact_at(file, &mut head, 0).ok()?;
-    decode_head(&head, boot).ok()
+    FileExt::read_exact_at(file, &mut head, 0)?;
+    Ok(decode_head(&head, boot).ok())
 }
 
 /// Opens the file that was found, if it is a shared file of this boot. None where a new one is to take its place.
@@ -108,10 +108,12 @@ fn adopted_at<R: Files<File = File>>(
             return Err(error);
         }
     };
-    if is_same_file(found, &facts_of(&file)?) && index_of_file(&file, boot).is_some() {
-        Ok(Some(file))
-    } else {
-        Ok(None)
+    if !is_same_file(found, &facts_of(&file)?) {
+        return Ok(None);
+    }
+    match index_of_file(&file, boot) {
+        Ok(Some(_)) => Ok(Some(file)),
+        _ => Ok(None),
     }
 }
 
@@ -262,7 +264,7 @@ pub fn open_file<'a, R: Files<File = File>>(
     let Ok(file) = file_at(rt, &paths, &boot) else {
         return Err(WriteFault::CannotOpen);
     };
-    let Some(index) = index_of_file(&file, &boot) else {
+    let Ok(Some(index)) = index_of_file(&file, &boot) else {
         return Err(WriteFault::CannotOpen);
     };
     match place_of(rt, paths, file, lock) {
@@ -327,8 +329,9 @@ pub fn open_view<R: Files<File = File>>(
         Ok(file) => file,
         Err(error) => return Err(fault_of(error.kind())),
     };
-    if index_of_file(&file, &boot).is_none() {
-        return Err(SharedFault::BadFile);
+    match index_of_file(&file, &boot) {
+        Ok(Some(_)) => Ok(SharedReader::new(FileView { file })),
+        Ok(None) => Err(SharedFault::BadFile),
+        Err(_) => Err(SharedFault::CannotOpen),
     }
-    Ok(SharedReader::new(FileView { file }))
 }

@@ -95,6 +95,7 @@ impl<P: Place> SharedTeller<P> {
         // A call that refuses made no write, or its last write failed, and then no later call writes.
         ensures stopped { OnErr result ((self.new ≡ self.old) ⊎ (StopsShort P.does self.old.count shared.now self.old.place self.new.place × (self.new.broken ≡ true))) }
         ensures cause { IsErrOf result WriteFault.Failed → StopsShort P.does self.old.count shared.now self.old.place self.new.place × HasFailed (P.failed self.old.place) (P.failed self.new.place) }
+        ensures never { (IsErrOf result WriteFault.CannotOpen → ⊥) × (IsErrOf result WriteFault.Locked → ⊥) }
         ensures sound { OnOk result (P.failed self.new.place ≡ P.failed self.old.place) }
         ensures nothing { self.old.broken ≡ true → self.new ≡ self.old }
     {
