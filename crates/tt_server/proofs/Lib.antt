@@ -1,0 +1,5 @@
+pub mod Finding
+pub mod Closing
+pub mod Calls
+pub mod Numbers
+pub mod Living

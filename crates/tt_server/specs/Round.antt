@@ -1,6 +1,30 @@
--- How many turns a round has, and how long the pauses between rounds are.
-use Rattle.std.specs.Prelude.{ℕ, ◌*◌, ◌-◌, ◌/◌, ◌^◌, min, max, nat_eq, nat_lt, ◌&&◌, if◌then◌else◌, Bool, true, false}
-use Rattle.tt_server.specs.declared.tallies.Tally.{Tally}
+-- What a round of the daemon is, how many turns it has, and how long the pauses between rounds are.
+use Rattle.std.specs.Prelude.{◌≡◌, ◌≤◌, ℕ, ◌*◌, ◌-◌, ◌/◌, ◌^◌, min, max, nat_eq, nat_lt, ◌&&◌, if◌then◌else◌, Bool, true, false, List, [], map}
+use Rattle.tt_daemon.specs.Daemon.{DaemonState}
+use Rattle.tt_daemon.specs.Publication.{Publication}
+use Rattle.tt_publish.specs.Reading.{fused_span_of}
+use Rattle.tt_node.specs.Course.{rounds_of}
+use Rattle.tt_node.specs.Making.{Leads}
+use Rattle.tt_runs.specs.Calls.{AreInTurn, Rise, RiseIn, RoundsCall, kept_after}
+use Rattle.tt_runs.specs.CourseSteps.{kept_in}
+use Rattle.tt_runs.specs.Steps.{Kept}
+use Rattle.tt_server.specs.declared.records.Tally.{Tally}
+
+-- a daemon, and these publications as their readers see them
+abbrev pub kept_with : DaemonState → List Publication → Kept
+kept_with daemon items = record { daemon = daemon; published = map fused_span_of items }
+
+-- one call of the daemon's rounds led from what was kept before it to what is kept after it, by readings of which none is below one before it; they lie between what the clock showed before it and what it shows after it
+pub record MakesCall (before after : Kept) (shown shown' : ℕ) : Type 0 where
+  pub call : RoundsCall
+  pub leads : Leads (rounds_of call.rounds call.turns) call.given call.exchanges call.from call.to call.answer
+  pub begins : kept_in (call.from []) ≡ before
+  pub ends : kept_in (call.to call.exchanges) ≡ after
+  pub rises : (low high : ℕ) × (shown ≤ low) × Rise low call.given.readings high × (high ≤ shown')
+
+-- calls came one after another and left this, and no reading in them is below one before it
+abbrev pub CallsInTurn : Kept → Kept → ℕ → ℕ → Type 0
+CallsInTurn begun after shown shown' = (calls : List RoundsCall) × AreInTurn begun calls × (kept_after begun calls ≡ after) × RiseIn shown calls shown'
 
 -- how many turns a round has: more than one for each source
 abbrev pub turns_of : ℕ → ℕ

@@ -1,10 +1,14 @@
 -- What is shared with the other processes of the machine.
-use Rattle.std.specs.Prelude.{ℕ, ◌+◌, ◌-◌, ◌*◌, ◌^◌, min, max, nat_le, Bool, true, false, Option, Some, None}
+use Rattle.std.specs.Prelude.{ℕ, ◌≡◌, ◌⊎◌, ◌<◌, Result, Ok, Err, ◌+◌, ◌-◌, ◌*◌, ◌^◌, min, max, nat_le, Bool, true, false, Option, Some, None}
 use Rattle.tt_span.specs.Time.{max_time}
 use Rattle.tt_daemon.specs.Publication.{Publication}
 use Rattle.tt_publish.specs.Reading.{fused_span_of}
 use Rattle.tt_settings.specs.declared.plans.Pauses.{Pauses}
+use Rattle.tt_stream.specs.Counts.{HasFailed}
 use Rattle.tt_shared.specs.declared.slots.SharedSpan.{SharedSpan}
+use Rattle.tt_shared.specs.declared.faults.WriteFault.{WriteFault}
+use Rattle.tt_shared.specs.Fault.{write_number_of}
+use Rattle.tt_shared.specs.Writing.{Write, TellerState, Publishes, StopsShort}
 use Rattle.tt_status.specs.declared.lines.Event.{Event}
 use Rattle.tt_status.specs.declared.lines.Event.TheVariants.{SharingEnded, SharingResumed}
 use Rattle.tt_server.specs.declared.sharing.Break.{Break}
@@ -40,9 +44,38 @@ abbrev pub break_after : Option Break → ℕ → ℕ → Break
 break_after (Some broken) poll now = break_with (retry_after broken.pause poll) now
 break_after None poll now = break_with (retry_after 0 poll) now
 
+-- the break after a try: none where it did not fail
+abbrev pub broken_after : Option Break → Option ℕ → ℕ → ℕ → Option Break
+broken_after broken (Some number) poll now = Some (break_after broken poll now)
+broken_after broken None poll now = None
+
+-- the number of the fault of a try, if it failed
+abbrev pub number_in : Result (Unit {0}) WriteFault → Option ℕ
+number_in (Ok done) = None
+number_in (Err fault) = Some (write_number_of fault)
+
 -- that it ended is logged once, and that it goes on again once
 abbrev pub told_of : Bool → Option ℕ → Option Event
 told_of true (Some number) = None
 told_of false (Some number) = Some (SharingEnded number)
 told_of true None = Some SharingResumed
 told_of false None = None
+
+-- a writer wrote this publication into its place: by the two writes of it, and nothing else
+pub record Writes {P : Type 0} (does : P → Write → Bool → P → Type 0) (span : SharedSpan) (old new : TellerState P) : Type 0 where
+  pub published : Publishes does old.count span old.place new.place
+  pub counted : new.count ≡ old.count + 1
+  pub usable : new.broken ≡ false
+
+-- a writer can't write this publication: an earlier write failed, no count is left, its clock is above the greatest time, or a write of it failed
+abbrev pub CannotWrite : {P : Type 0} → (P → Write → Bool → P → Type 0) → (P → ℕ) → SharedSpan → TellerState P → Type 0
+CannotWrite {P} does failed span old =
+    (old.broken ≡ true)
+    ⊎ ((old.count + 1 ≡ 2 ^ 64)
+    ⊎ ((max_time < span.fused.clock)
+    ⊎ ((after : P) × StopsShort does old.count span old.place after × HasFailed (failed old.place) (failed after))))
+
+-- a writer that is open, or else one that may be opened
+abbrev pub IsOpen : {P : Type 0} → (TellerState P → Type 0) → Option (TellerState P) → TellerState P → Type 0
+IsOpen opens (Some held) teller = teller ≡ held
+IsOpen opens None teller = opens teller

@@ -1,6 +1,9 @@
 //! What the threads of a machine share.
 
-use crate::tallies::Work;
+ghost use Rattle.std.specs.Prelude.{◌≡◌};
+ghost use Rattle.tt_server.specs.Thread.{terms_in};
+
+use crate::records::Work;
 use mio::Waker;
 use std::alloc::Global;
 use std::sync::Wait;
@@ -10,8 +13,9 @@ use std::time::{Clock as SystemClock, Duration};
 use tt_connections::{Counts, Doors};
 use tt_daemon::Config;
 use tt_report::Reporter;
-use tt_settings::Pauses;
+use tt_settings::{Pauses, Settings};
 use tt_span::Span;
+use tt_station::Terms;
 use tt_status::Event;
 
 /// The number, the epoch and the settings of the machine in this life.
@@ -22,6 +26,31 @@ pub(crate) struct Life {
     pub(crate) config: Config,
     pub(crate) pauses: Pauses,
     pub(crate) lease: Span,
+}
+
+impl Life {
+    /// The life of this epoch, with these settings.
+    pub(crate) fn of(settings: &Settings, epoch: u64) -> Life
+        ensures value { result ≡ record { machine = settings.now.machine; epoch = epoch; config = settings.now.config; pauses = settings.now.pauses; lease = settings.now.lease } }
+    {
+        Life {
+            machine: settings.machine(),
+            epoch,
+            config: settings.config(),
+            pauses: settings.pauses(),
+            lease: settings.lease(),
+        }
+    }
+
+    /// The terms of the machine's stamps.
+    pub(crate) fn terms(&self) -> Terms
+        ensures value { result ≡ terms_in self.now }
+    {
+        Terms {
+            lease: self.lease,
+            ahead: self.pauses.floor_ahead,
+        }
+    }
 }
 
 /// What the threads of a machine share, besides the runtime handle.
@@ -40,7 +69,9 @@ pub(crate) struct Hall<'a> {
 
 impl<'a> Hall<'a> {
     /// The hall of a machine whose clients connect at these doors. `link` ends the waits of its daemon's link.
-    pub(crate) fn new(life: Life, doors: &'a Doors, reporter: Reporter, link: Waker) -> Hall<'a> {
+    pub(crate) fn new(life: Life, doors: &'a Doors, reporter: Reporter, link: Waker) -> Hall<'a>
+        ensures life { result.life ≡ life }
+    {
         Hall {
             life,
             doors,
@@ -68,13 +99,12 @@ impl<'a> Hall<'a> {
         self.pause.park_timeout(rt, Duration::from_nanos(pause));
     }
 
-    /// What the sessions have done so far, what waits, and what was left out. `unsent` packets could not be sent so far.
-    pub(crate) fn work(&self, unsent: u64) -> Work {
+    /// What the sessions have done so far, what waits, and what was left out.
+    pub(crate) fn work(&self) -> Work {
         Work {
             sessions: self.counts.sessions.load(Ordering::SeqCst),
             lines: self.counts.lines.load(Ordering::SeqCst),
             refused_lines: self.counts.refused.load(Ordering::SeqCst),
-            unsent,
             waiting: self.doors.waiting(),
             left_out: self.reporter.left_out(),
         }

@@ -21,34 +21,42 @@
 //! `tt_node` decides what a round does. This crate has the threads, and what is logged, written and shared after each
 //! round.
 //!
-//! - `servers`: [`serve`], which starts the threads and ends them. `starts`: the parts of a machine. `halls`: what the
-//!   threads share.
-//! - `rounds`: the thread of the daemon. `links`: its link, which remembers the peers that it heard. `paces`: the pauses
-//!   between rounds.
-//! - `tallies`: the outcomes of rounds, and the status. `shares`: what is shared. `sharing`: the shared file, and when it is
-//!   tried again. `modes`: who may write the files.
+//! - `servers`: [`serve`], which starts the threads and ends them. `lives`: [`LifeEnd`], how a life of a machine ended.
+//!   `starts`: the parts of a machine. `halls`: what the threads share.
+//! - `rounds`: the thread of the daemon. `paces`: the pauses between rounds.
+//! - `records`: what is counted, logged, shown and shared of a round, and the status. `shares`: what is shared. `sharing`: the
+//!   shared file, and when it is tried again. `modes`: who may write the files.
 //! - `workers`: the threads of the workers. `outlines`: [`outline`]. `faults`: why a machine does not serve.
 //!
 //! The functions over values are proved: the outline, the numbers of faults, statuses, file modes, what is shared and until
 //! when, and how long the pauses are before a round, before a socket is made anew and before a shared file is tried again.
-//! Nothing is claimed of the threads and their loops. Each turn of a loop is one call with a contract of its own.
+//! So are all records of a round, the writing of what is shared, over any place, and what a reading of it means
+//! ([`shared_laws`]).
+//!
+//! Of a life that ends in order, [`serve`] proves from what its threads hand back: the daemon began new, in the epoch that
+//! the store gave; its calls came one after the other, at readings of its clock that do not fall; each worker began with a
+//! new watch, by a clock with the drift of the settings, with the lease and the bound for floors of the settings; it served
+//! its sessions one after the other; and the workers read nothing but what this daemon published. Of a life that is killed
+//! each turn of a loop is one call with a contract of its own.
 #![tactic(auto)]
 
 mod faults;
 mod halls;
-mod links;
+mod lives;
 mod modes;
 mod outlines;
 mod paces;
+mod records;
 mod rounds;
 mod servers;
 mod shares;
 mod sharing;
 mod starts;
-mod tallies;
 mod workers;
 
 pub use faults::ServerFault;
+pub use lives::{LifeEnd, WorkerEnd};
 pub use outlines::outline;
 pub use servers::serve;
+pub use shares::shared_laws;
 pub use tt_connections::MachineClock;

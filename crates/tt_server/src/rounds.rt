@@ -1,106 +1,85 @@
 //! The daemon: one round after the other, and what is logged, shown and shared after each.
 
-ghost use Rattle.std.specs.Prelude.{◌≡◌};
+ghost use Rattle.std.specs.Prelude.{◌≡◌, ◌≤◌, List, [], map};
+ghost use Rattle.tt_publish.specs.Reading.{fused_span_of};
+ghost use Rattle.tt_runs.specs.Calls.{AreInTurn, RiseIn, RoundsCall, kept_after};
+ghost use Rattle.tt_server.specs.Round.{MakesCall, kept_with, renewal_after};
 
 use crate::halls::{Shared, say};
-use crate::links::{HearingLink, PEERS};
 use crate::paces::{pause_of, renewal_after, turns_of, waits_on};
-use crate::shares::{ended_at, shared_of};
-use crate::sharing::Share;
-use crate::tallies::{
-    Outcome, Shown, Tally, event_of, has_link_failed, refused_answers, shown_of, status_of,
+use crate::records::{
+    Machine, RoundRecords, RoundTerms, Shown, Tally, UnsentPackets, records_of, status_of,
 };
+use crate::shares::ended_at;
+use crate::sharing::Share;
 use std::fs::{File, Files};
 use std::net::{Ipv4Addr, Net, UdpSocket};
 use std::sync::Wait;
 use std::time::Clock as SystemClock;
 use tt_connections::MachineClock;
-use tt_daemon::{Daemon, Fused};
-use tt_fuse::suspects;
-use tt_node::{RoundLink, daemon_rounds};
+use tt_daemon::{Daemon, MAX_SOURCES};
+use tt_node::{NodeFault, RoundLink, RoundReport, Rounds, report_rounds};
 use tt_publish::{Clock, Teller};
 use tt_status::Event;
-
-/// The number of the fault of a link that failed.
-const LINK_FAILED: u64 = 1501;
 
 /// The state of the daemon's thread.
 #[derive(Drop)]
 pub(crate) struct Desk<'a, R> {
     daemon: Daemon,
-    link: HearingLink<RoundLink<'a, R>>,
+    link: RoundLink<'a, R>,
+    /// What the last round did.
+    report: RoundReport,
     tally: Tally,
+    /// The last publication.
     shown: Option<Shown>,
     share: Share<'a, R>,
     /// The pause before the socket is made anew, in nanoseconds; 0 if it is not.
     renewal: u64,
     /// For each source, how many packets to it could not be sent so far.
-    unsent: [u64; PEERS],
+    unsent: [u64; MAX_SOURCES],
 }
 
 impl<'a, R> Desk<'a, R> {
     /// The state of the daemon's thread at its start.
-    pub(crate) fn new(daemon: Daemon, link: RoundLink<'a, R>, share: Share<'a, R>) -> Desk<'a, R> {
+    pub(crate) fn new(daemon: Daemon, link: RoundLink<'a, R>, share: Share<'a, R>) -> Desk<'a, R>
+        ensures daemon { result.daemon ≡ daemon }
+    {
         Desk {
             daemon,
-            link: HearingLink::new(link),
+            link,
+            report: RoundReport::new(),
             tally: Tally::new(),
             shown: None,
             share,
             renewal: 0,
-            unsent: [0; PEERS],
+            unsent: [0; MAX_SOURCES],
         }
-    }
-
-    /// How many packets could not be sent so far, to all sources together.
-    fn unsent_total(&self) -> u64 {
-        let mut total = 0_u64;
-        for count in &self.unsent {
-            total = total.saturating_add(*count);
-        }
-        total
     }
 }
 
-/// Tells of a publication: logs its suspects, keeps what the status shows of it, and shares it.
-fn tell<R: Wait + SystemClock + Files<File = File>>(
-    shared: Shared<'_, R>,
-    desk: &mut Desk<'_, R>,
-    fused: &Fused,
-    now: u64,
-) -> Outcome {
-    let hall = shared.hall;
-    let against = suspects(fused.spans(), &fused.span());
-    for source in &against {
-        say(
-            shared,
-            Event::SourceSuspect {
-                source: u64::from(*source),
-            },
-        );
+/// What the clock shows, or the last time that it showed if it can't be read.
+fn now_of<R: SystemClock>(clock: &mut MachineClock<'_, R>) -> u64
+    ensures rises { clock.old.last ≤ clock.new.last }
+    ensures shown { result ≡ clock.new.last }
+{
+    match clock.read() {
+        Ok(now) => now,
+        Err(_) => clock.last(),
     }
-    let shown = shown_of(fused, against.len() as u64);
-    desk.shown = Some(shown);
-    let life = hall.life;
-    let number = desk.tally.published.saturating_add(1);
-    let drift = life.config.drift();
-    let span = shared_of(fused, life.epoch, number, &life.pauses, drift);
-    desk.share.put(shared, span, now);
-    Outcome::Published { width: shown.width }
 }
 
-/// Makes one round. Answers its outcome, and how many answers were refused in it.
-///
-/// The daemon and the clock are still as they were when the round fused. So the fusion that is made here again is the
-/// one that was published, or it is refused for the same reason.
-fn round<R: Wait + SystemClock + Files<File = File>>(
+/// Makes one round. It is one call of `report_rounds`.
+fn round<R: Wait + SystemClock>(
     shared: Shared<'_, R>,
     desk: &mut Desk<'_, R>,
     clock: &mut MachineClock<'_, R>,
     teller: &mut Teller,
-) -> (Outcome, u64) {
+) -> Result<Rounds, NodeFault>
+    ensures call { MakesCall (kept_with desk.old.daemon teller.old.items) (kept_with desk.new.daemon teller.new.items) clock.old.last clock.new.last }
+    ensures source { teller.new.source ≡ teller.old.source }
+{
     let turns = turns_of(desk.daemon.config().sources());
-    let did = daemon_rounds(
+    report_rounds(
         shared.rt,
         &mut desk.daemon,
         &mut desk.link,
@@ -108,50 +87,90 @@ fn round<R: Wait + SystemClock + Files<File = File>>(
         teller,
         1,
         turns,
-    );
-    match did {
-        Ok(did) => {
-            let outcome = match desk.daemon.fuse(clock.last()) {
-                Ok(fused) => tell(shared, desk, &fused, clock.last()),
-                Err(fault) => Outcome::Refused(fault),
-            };
-            (outcome, refused_answers(&did))
-        }
-        Err(fault) => (Outcome::Failed(fault), 0),
-    }
+        &mut desk.report,
+    )
 }
 
-/// Logs the sources that were silent in a round, and those to which a packet could not be sent.
-fn report_sources<R: Wait + SystemClock>(shared: Shared<'_, R>, desk: &mut Desk<'_, R>) {
-    for source in 0..desk.daemon.config().sources().min(PEERS) {
-        let number = source as u64;
-        if !desk.link.heard(source) {
-            say(shared, Event::SourceSilent { source: number });
-        }
-        let unsent = desk.link.inner().unsent(source as u8);
-        if unsent > desk.unsent[source] {
-            say(shared, Event::SourceUnsent { source: number });
-        }
-        desk.unsent[source] = unsent;
+/// For each source, how many packets to it could not be sent so far.
+fn unsent_by<R: SystemClock>(link: &RoundLink<'_, R>) -> [u64; MAX_SOURCES] {
+    let mut unsent = [0; MAX_SOURCES];
+    for source in 0..MAX_SOURCES {
+        unsent[source] = link.unsent(source as u8);
     }
-    desk.link.forget();
+    unsent
 }
 
-/// Logs a round: its outcome if the log has a line for it, the answers that were refused in it, and what became of its
-/// sources.
-fn report<R: Wait + SystemClock>(
+/// All records of the round that was made.
+fn records<R: SystemClock>(
+    shared: Shared<'_, R>,
+    desk: &Desk<'_, R>,
+    did: &Result<Rounds, NodeFault>,
+    unsent: [u64; MAX_SOURCES],
+) -> RoundRecords
+    ensures in_range { result.events.count ≤ 50 }
+{
+    let life = shared.hall.life;
+    let unsent = UnsentPackets {
+        before: desk.unsent,
+        after: unsent,
+    };
+    let terms = RoundTerms {
+        config: life.config,
+        epoch: life.epoch,
+        pauses: life.pauses,
+    };
+    records_of(did, &desk.report, &unsent, &desk.tally, &terms)
+}
+
+/// Hands on the records of a round: logs its events and shares its publication when the clock shows `now`, and keeps what
+/// it counts and shows. After the first publication clients are served.
+fn hand_on<R: Wait + SystemClock + Files<File = File>>(
     shared: Shared<'_, R>,
     desk: &mut Desk<'_, R>,
-    outcome: &Outcome,
-    refused: u64,
-) {
-    if let Some(event) = event_of(outcome, desk.tally.published) {
-        say(shared, event);
+    records: RoundRecords,
+    now: u64,
+)
+    requires in_range { records.events.count ≤ 50 }
+    ensures same { desk.new.daemon ≡ desk.old.daemon }
+    ensures tally { desk.new.tally ≡ records.tally }
+    ensures renewal { desk.new.renewal ≡ renewal_after records.link_failed desk.old.renewal }
+{
+    let RoundRecords {
+        events,
+        tally,
+        shown,
+        span,
+        link_failed,
+    } = records;
+    for event in events.as_slice() {
+        say(shared, *event);
     }
-    if refused > 0 {
-        say(shared, Event::AnswersRefused { count: refused });
+    if let Some(span) = span {
+        desk.share.put(shared, span, now);
     }
-    report_sources(shared, desk);
+    if desk.tally.published == 0 && tally.published > 0 {
+        shared.hall.doors.open();
+    }
+    desk.tally = tally;
+    desk.renewal = renewal_after(link_failed, desk.renewal);
+    if let Some(shown) = shown {
+        desk.shown = Some(shown);
+    }
+}
+
+/// Does all that follows a round, except the pause, when the clock shows `now`.
+fn settle<R: Wait + SystemClock + Files<File = File>>(
+    shared: Shared<'_, R>,
+    desk: &mut Desk<'_, R>,
+    did: &Result<Rounds, NodeFault>,
+    now: u64,
+)
+    ensures same { desk.new.daemon ≡ desk.old.daemon }
+{
+    let unsent = unsent_by(&desk.link);
+    let records = records(shared, desk, did, unsent);
+    desk.unsent = unsent;
+    hand_on(shared, desk, records, now);
 }
 
 /// Hands the status to the reporter.
@@ -159,54 +178,57 @@ fn show<R: Wait + SystemClock + Files<File = File>>(
     shared: Shared<'_, R>,
     desk: &Desk<'_, R>,
     clock: &mut MachineClock<'_, R>,
-) {
+)
+    ensures rises { clock.old.last ≤ clock.new.last }
+{
     let hall = shared.hall;
-    let now = clock.read().unwrap_or(clock.last());
-    let status = status_of(
-        hall.life.epoch,
-        desk.daemon.config().sources() as u64,
-        desk.daemon.known() as u64,
-        &desk.tally,
-        desk.shown,
-        desk.share.is_written(),
-        &hall.work(desk.unsent_total()),
-        now,
-    );
+    let now = now_of(clock);
+    let machine = Machine {
+        number: u64::from(hall.life.machine),
+        epoch: hall.life.epoch,
+        sources: desk.daemon.config().sources() as u64,
+        known: desk.daemon.known() as u64,
+        sharing: desk.share.is_written(),
+    };
+    let work = hall.work();
+    let status = status_of(&machine, &desk.tally, &desk.shown, &desk.unsent, &work, now);
     hall.reporter.show(shared.rt, status);
 }
 
-/// Makes one round and does all that follows it, except the pause. After the first publication clients are served.
+/// Makes one round and does all that follows it, except the pause.
 fn go_round<R: Wait + SystemClock + Files<File = File>>(
     shared: Shared<'_, R>,
     desk: &mut Desk<'_, R>,
     clock: &mut MachineClock<'_, R>,
     teller: &mut Teller,
-) {
+)
+    ensures call { MakesCall (kept_with desk.old.daemon teller.old.items) (kept_with desk.new.daemon teller.new.items) clock.old.last clock.new.last }
+    ensures source { teller.new.source ≡ teller.old.source }
+{
     let hall = shared.hall;
-    hall.reporter
-        .busy(clock.read().unwrap_or(clock.last()).max(1));
-    let (outcome, refused) = round(shared, desk, clock, teller);
+    hall.reporter.busy(now_of(clock).max(1));
+    let did = round(shared, desk, clock, teller);
     hall.reporter.idle();
-    report(shared, desk, &outcome, refused);
-    let before = desk.tally.published;
-    desk.tally = desk.tally.after(&outcome, refused);
-    if before == 0 && desk.tally.published > 0 {
-        hall.doors.open();
-    }
-    desk.renewal = renewal_after(has_link_failed(&outcome), desk.renewal);
+    settle(shared, desk, &did, clock.last());
     show(shared, desk, clock);
 }
 
-/// Makes the socket of the polls anew after it failed. If this fails too, the old one is kept, and the next round tells.
-fn renew<R: Wait + SystemClock + Net>(shared: Shared<'_, R>, desk: &mut Desk<'_, R>) {
+/// Makes the socket of the polls anew if it failed in the last round. If this fails too, the old one is kept, and the
+/// next round tells.
+fn renew<R: Wait + SystemClock + Net>(shared: Shared<'_, R>, desk: &mut Desk<'_, R>)
+    ensures same { desk.new.daemon ≡ desk.old.daemon }
+{
+    if desk.renewal == 0 {
+        return;
+    }
     let Ok(socket) = UdpSocket::bind(shared.rt, (Ipv4Addr::LOCALHOST, 0)) else {
         return;
     };
-    if desk.link.inner_mut().renew(socket).is_ok() {
+    if desk.link.renew(socket).is_ok() {
         say(
             shared,
             Event::SocketRenewed {
-                number: LINK_FAILED,
+                number: u64::from(NodeFault::LinkFailed.number()),
                 pause: desk.renewal,
             },
         );
@@ -218,24 +240,35 @@ fn end<R: Wait + SystemClock + Files<File = File>>(
     shared: Shared<'_, R>,
     desk: &mut Desk<'_, R>,
     clock: &mut MachineClock<'_, R>,
-) {
+)
+    ensures same { desk.new.daemon ≡ desk.old.daemon }
+    ensures rises { clock.old.last ≤ clock.new.last }
+{
     let Some(last) = desk.share.last() else {
         return;
     };
-    let now = clock.read().unwrap_or(clock.last());
+    let now = now_of(clock);
     desk.share.put(shared, ended_at(&last, now), now);
 }
 
 /// Makes the rounds of the daemon until the machine ends, each before a pause. After a round in which the socket failed,
-/// it is made anew after the pause.
+/// it is made anew after the pause. Requires: nothing is published yet.
 pub(crate) fn run_daemon<R: Wait + SystemClock + Files<File = File> + Net>(
     shared: Shared<'_, R>,
     desk: &mut Desk<'_, R>,
     clock: &mut MachineClock<'_, R>,
     teller: &mut Teller,
-) {
+)
+    requires nothing { teller.old.items ≡ [] }
+    // The rounds were calls one after another, and what they left of the daemon and the publications is what there is.
+    // No reading of the clock in them is below one before it.
+    ensures calls { (calls : List RoundsCall) × AreInTurn (record { daemon = desk.old.daemon; published = [] }) calls
+        × (kept_after (record { daemon = desk.old.daemon; published = [] }) calls ≡ record { daemon = desk.new.daemon; published = map fused_span_of teller.new.items })
+        × RiseIn clock.old.last calls clock.new.last }
+    ensures source { teller.new.source ≡ teller.old.source }
+{
     let (rt, hall) = (shared.rt, shared.hall);
-    let began = clock.read().unwrap_or(0);
+    let began = now_of(clock);
     for _ in rt.forever() {
         go_round(shared, desk, clock, teller);
         let waits = waits_on(&desk.tally, began, clock.last());
@@ -244,9 +277,7 @@ pub(crate) fn run_daemon<R: Wait + SystemClock + Files<File = File> + Net>(
             end(shared, desk, clock);
             return;
         }
-        if desk.renewal > 0 {
-            renew(shared, desk);
-        }
+        renew(shared, desk);
     }
     unreachable!()
 }

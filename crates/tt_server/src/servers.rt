@@ -1,16 +1,23 @@
 //! Runs a machine: starts its threads, and ends them in order.
 
-ghost use Rattle.std.specs.Prelude.{◌≡◌, ◌<◌, ◌≤◌, ◌+◌, IfErr};
+ghost use Rattle.std.specs.Prelude.{◌≡◌, ◌<◌, ◌≤◌, ◌+◌, [], All, IfOk, IfSome, IsTrue, Ok, vec_len, vec_capacity};
+ghost use mathlib.Core.List.{IsPrefix};
+ghost use Rattle.tt_epoch.specs.Course.{Takes, Reads};
+ghost use Rattle.tt_node.specs.Sharing.{new_watch};
+ghost use Rattle.tt_server.specs.Life.{ServerLife, HandsBack, TellsOf};
 ghost use Rattle.tt_server.specs.Round.{side_workers_of};
+ghost use Rattle.tt_server.specs.Thread.{AreReady, HasSettings, IsServing, terms_in};
 
 use crate::faults::ServerFault;
 use crate::halls::{Hall, Life, Shared, say};
+use crate::lives::{LifeEnd, WorkerEnd};
 use crate::modes::Loose;
 use crate::rounds::{Desk, run_daemon};
 use crate::starts::{
-    desk_of, front_of, link_to, publications_of, reporter_of, side_of, sights_of, watch_all,
+    acceptor_of, desk_of, front_of, link_to, publications_of, reporter_of, side_of, sights_of,
+    watch_all,
 };
-use crate::workers::{Place, places_of, start_worker};
+use crate::workers::{Place, WorkerHandle, places_of, start_worker};
 use mio::Waker;
 use std::alloc::Global;
 use std::fs::{File, Files};
@@ -21,9 +28,9 @@ use std::thread;
 use std::thread::{JoinHandle, Scope, Threads};
 use std::time::Clock as SystemClock;
 use tt_connections::{Acceptor, Doors, MachineClock, Sight, reading_of};
-use tt_epoch::{FolderStore, next_epoch};
+use tt_epoch::{FolderStore, Store, next_epoch};
 use tt_node::RoundLink;
-use tt_publish::{Teller, Watch};
+use tt_publish::{Teller, Told, Watch};
 use tt_report::Disk;
 use tt_settings::Settings;
 use tt_stamp::Sequencer;
@@ -48,31 +55,109 @@ struct Posts<'a> {
     sights: Vec<Sight>,
 }
 
-/// Starts the threads of all workers. Answers whether all were started.
+/// Room for the threads of `most` workers, and for what they hand back.
+#[derive(Drop)]
+struct Joins {
+    most: usize,
+    handles: Vec<WorkerHandle>,
+    ends: Vec<WorkerEnd>,
+    ghost no_handle: { vec_len handles ≡ 0 },
+    ghost handle_room: { most ≤ vec_capacity handles },
+    ghost no_end: { vec_len ends ≡ 0 },
+    ghost end_room: { most ≤ vec_capacity ends },
+}
+
+impl Joins {
+    /// Room for this many workers, none of which is started. None if it is out of memory.
+    fn new(alloc: Global, most: usize) -> Option<Joins>
+        ensures most { IfSome result (λ joins. joins.most ≡ most) }
+    {
+        let Ok(handles) = Vec::with_capacity(alloc, most) else {
+            return None;
+        };
+        let Ok(ends) = Vec::with_capacity(alloc, most) else {
+            return None;
+        };
+        Some(Joins {
+            most,
+            handles,
+            ends,
+        })
+    }
+}
+
+/// Starts the threads of all workers. Answers whether all were started. Each watch is a new one of the teller that told
+/// `_opened`.
 fn start_workers<'s, E, R: Wait + SystemClock + Sync>(
     scope: &Scope<'s, E>,
     shared: Shared<'s, R>,
     posts: Posts<'s>,
-) -> bool {
+    handles: &mut Vec<WorkerHandle>,
+    _opened: &Told,
+) -> bool
+    requires none { vec_len handles.old ≡ 0 }
+    requires room { vec_len posts.watches ≤ vec_capacity handles.old }
+    requires watches { All (λ watch. watch ≡ new_watch _opened.now.source shared.hall.now.life.config.drift) posts.watches.items }
+    ensures all { IsTrue result → vec_len handles.new ≡ vec_len posts.entry.watches }
+    ensures some { vec_len handles.new ≤ vec_len posts.entry.watches }
+    ensures each { All (λ handle. IsServing (new_watch _opened.now.source shared.entry.hall.now.life.config.drift) (terms_in shared.entry.hall.now.life) handle.promise) handles.new.items }
+{
     let Posts {
         mut places,
         mut watches,
         mut sights,
     } = posts;
     let doors = shared.hall.doors;
-    let side = side_workers_of(places.len(), doors.side.is_some());
-    for number in 0..places.len() {
-        let (Some(place), Some(watch)) = (places.pop(), watches.pop()) else {
-            return true;
-        };
-        let Some(sight) = sights.pop() else {
-            return true;
+    let side = side_workers_of(watches.len(), doors.side.is_some());
+    for number in 0..watches.len() {
+        let (Some(place), Some(watch), Some(sight)) = (places.pop(), watches.pop(), sights.pop())
+        else {
+            return false;
         };
         let entry = match &doors.side {
             Some(side_entry) if number < side => side_entry,
             _ => &doors.front,
         };
-        if start_worker(scope, shared, entry, place, watch, sight).is_none() {
+        let Some(handle) = start_worker(scope, shared, entry, place, watch, sight) else {
+            return false;
+        };
+        handles.push_reserved(handle);
+    }
+    true
+}
+
+/// Joins the workers that were started in this life. Answers how each ended. Each began with a new watch of the teller
+/// that told `_opened`.
+fn join_workers<R: Threads>(
+    rt: &R,
+    handles: Vec<WorkerHandle>,
+    ends: Vec<WorkerEnd>,
+    _opened: &Told,
+    _life: &Life,
+) -> Vec<WorkerEnd>
+    requires none { vec_len ends ≡ 0 }
+    requires room { vec_len handles ≤ vec_capacity ends }
+    requires each { All (λ handle. IsServing (new_watch _opened.now.source _life.now.config.drift) (terms_in _life.now) handle.promise) handles.items }
+    ensures all { vec_len result ≡ vec_len handles }
+    ensures each { All (HandsBack (new_watch _opened.now.source _life.now.config.drift) (terms_in _life.now)) result.items }
+{
+    let (mut handles, mut ends) = (handles, ends);
+    for _ in 0..handles.len() {
+        let Some(handle) = handles.pop() else {
+            return ends;
+        };
+        ends.push_reserved(handle.join(rt));
+    }
+    ends
+}
+
+/// Whether the workers read nothing but these publications.
+fn read_published(workers: &[WorkerEnd], published: &Told) -> bool
+    requires { All (λ end. end.seen.source ≡ published.now.source) workers.now }
+    ensures { IsTrue result → All (λ end. IsPrefix end.seen.items published.now.items) workers.now }
+{
+    for worker in workers {
+        if !worker.seen.is_within(published) {
             return false;
         }
     }
@@ -129,15 +214,25 @@ fn start_end<'s, E, I: Read + Send + Drop + 's, R: Wait + Sync>(
     scope.spawn(move || end_with_input(shared, input)).ok()
 }
 
-/// Starts all threads except the daemon's. Answers whether all were started.
+/// Starts all threads except the daemon's. Answers whether all were started. Each watch is a new one of the teller that
+/// told `opened`.
 fn start_all<'s, E, I: Read + Send + Drop + 's, R: Wait + SystemClock + Input<Reader = I> + Sync>(
     scope: &Scope<'s, E>,
     shared: Shared<'s, R>,
     acceptor: Acceptor,
     posts: Posts<'s>,
+    handles: &mut Vec<WorkerHandle>,
+    opened: &Told,
     until_eof: bool,
-) -> bool {
-    if !start_workers(scope, shared, posts) {
+) -> bool
+    requires none { vec_len handles.old ≡ 0 }
+    requires room { vec_len posts.watches ≤ vec_capacity handles.old }
+    requires watches { All (λ watch. watch ≡ new_watch opened.now.source shared.hall.now.life.config.drift) posts.watches.items }
+    ensures all { IsTrue result → vec_len handles.new ≡ vec_len posts.entry.watches }
+    ensures some { vec_len handles.new ≤ vec_len posts.entry.watches }
+    ensures each { All (λ handle. IsServing (new_watch opened.now.source shared.entry.hall.now.life.config.drift) (terms_in shared.entry.hall.now.life) handle.promise) handles.new.items }
+{
+    if !start_workers(scope, shared, posts, handles, opened) {
         return false;
     }
     if start_acceptor(scope, shared, acceptor).is_none() {
@@ -155,14 +250,16 @@ struct Parts<'a, R> {
     acceptor: Acceptor,
     link: RoundLink<'a, R>,
     posts: Posts<'a>,
+    joins: Joins,
 }
 
-/// Starts all other threads, and makes the rounds of the daemon until the machine ends. Answers whether all were started.
+/// Starts all other threads, makes the rounds of the daemon until the machine ends, and joins the workers.
 fn run_threads<
     's,
     E,
     I: Read + Send + Drop + 's,
-    R: Wait
+    R: Threads
+        + Wait
         + SystemClock
         + Input<Reader = I>
         + Sync
@@ -171,22 +268,60 @@ fn run_threads<
 >(
     scope: &Scope<'s, E>,
     shared: Shared<'s, R>,
-    desk: &mut Desk<'_, R>,
+    settings: &'s Settings,
+    parts: Parts<'s, R>,
     teller: &mut Teller,
-    acceptor: Acceptor,
-    posts: Posts<'s>,
-    listen: u16,
     until_eof: bool,
-) -> bool {
+) -> Result<LifeEnd, ServerFault>
+    requires nothing { teller.old.items ≡ [] }
+    requires meant { HasSettings settings.now shared.hall.now.life }
+    requires ready { AreReady settings.now teller.old.source parts.posts.watches.items parts.joins.most }
+    ensures epoch { IfOk result (λ end. end.epoch ≡ shared.entry.hall.now.life.epoch) }
+    ensures life { IfOk result (λ end. (life : ServerLife) × TellsOf settings.now end life) }
+{
     let (rt, hall) = (shared.rt, shared.hall);
-    let started = start_all(scope, shared, acceptor, posts, until_eof);
-    if started {
-        say_started(shared, listen);
-        let mut clock = MachineClock::new(rt);
-        run_daemon(shared, desk, &mut clock, teller);
+    let Parts {
+        acceptor,
+        link,
+        posts,
+        joins,
+    } = parts;
+    let Joins {
+        mut handles,
+        ends,
+        ..
+    } = joins;
+    let opened = teller.tell();
+    let mut desk = desk_of(rt, shared, settings, link);
+    if !start_all(
+        scope,
+        shared,
+        acceptor,
+        posts,
+        &mut handles,
+        &opened,
+        until_eof,
+    ) {
+        hall.end(rt);
+        drop(join_workers(rt, handles, ends, &opened, &hall.life));
+        return Err(ServerFault::NoThread);
     }
+    say_started(shared, settings.listen());
+    let mut clock = MachineClock::new(rt);
+    run_daemon(shared, &mut desk, &mut clock, teller);
     hall.end(rt);
-    started
+    let workers = join_workers(rt, handles, ends, &opened, &hall.life);
+    let published = teller.tell();
+    // The answer is always yes: a watch sees only what its teller shows, and the daemon has ended. But of a watch the
+    // proofs know only that it reads publications of this teller's source.
+    if !read_published(&workers, &published) {
+        return Err(ServerFault::Memory);
+    }
+    Ok(LifeEnd {
+        epoch: hall.life.epoch,
+        published,
+        workers,
+    })
 }
 
 /// Runs a machine whose epoch is taken. With `until_eof` it returns after the end of standard input.
@@ -206,26 +341,28 @@ fn run<
     parts: Parts<'n, R>,
     teller: &mut Teller,
     until_eof: bool,
-) -> Result<(), ServerFault> {
-    let rt = shared.rt;
-    let Parts {
-        acceptor,
-        link,
-        posts,
-    } = parts;
-    let mut desk = desk_of(rt, shared, settings, link);
-    let (lent_desk, lent, listen) = (&mut desk, teller, settings.listen());
-    let started = thread::scope(thread::scope_env(), rt, move |scope| -> bool {
-        run_threads(
-            scope, shared, lent_desk, lent, acceptor, posts, listen, until_eof,
-        )
-    });
-    if started {
+) -> Result<LifeEnd, ServerFault>
+    requires nothing { teller.old.items ≡ [] }
+    requires meant { HasSettings settings.now shared.hall.now.life }
+    requires ready { AreReady settings.now teller.old.source parts.posts.watches.items parts.joins.most }
+    ensures epoch { IfOk result (λ end. end.epoch ≡ shared.entry.hall.now.life.epoch) }
+    ensures life { IfOk result (λ end. (life : ServerLife) × TellsOf settings.now end life) }
+{
+    let (rt, lent) = (shared.rt, teller);
+    let ended = thread::scope(
+        thread::scope_env(),
+        rt,
+        move |scope| -> Result<LifeEnd, ServerFault>
+            requires { (lent.now.items ≡ []) × HasSettings settings.now shared.hall.now.life
+                × AreReady settings.now lent.now.source parts.posts.watches.items parts.joins.most }
+            ensures { IfOk result (λ end. end.epoch ≡ shared.entry.hall.now.life.epoch)
+                × IfOk result (λ end. (life : ServerLife) × TellsOf settings.entry.now end life) }
+        { run_threads(scope, shared, settings, parts, lent, until_eof) },
+    );
+    if ended.is_ok() {
         say(shared, Event::Ended);
-        Ok(())
-    } else {
-        Err(ServerFault::NoThread)
     }
+    ended
 }
 
 /// Logs that the machine has started. `listen` is the port that it asked for.
@@ -241,10 +378,18 @@ fn say_started<R: Wait + SystemClock>(shared: Shared<'_, R>, listen: u16) {
     );
 }
 
-/// Starts the reporter, takes the next epoch, and runs the machine of this life.
+/// What a machine is started with.
+#[derive(Drop)]
+struct Start<'a> {
+    settings: &'a Settings,
+    doors: &'a Doors,
+    waker: Waker,
+    until_eof: bool,
+}
+
+/// Starts the reporter, takes the next epoch from this store, and runs the machine of this life.
 fn run_life<
     'n,
-    'e,
     I: Read + Send + Drop,
     R: Threads
         + Wait
@@ -258,30 +403,34 @@ fn run_life<
         + Copy
         + Send
         + 'static,
+    S: Store,
 >(
     rt: &'n R,
     alloc: Global,
-    settings: &'n Settings,
-    doors: &'n Doors,
+    start: Start<'n>,
     parts: Parts<'n, R>,
-    waker: Waker,
-    store: &mut FolderStore<'e, R>,
+    store: &mut S,
     teller: &mut Teller,
-    until_eof: bool,
-) -> Result<(), ServerFault> {
+) -> Result<LifeEnd, ServerFault>
+    requires nothing { teller.old.items ≡ [] }
+    requires ready { AreReady start.settings.now teller.old.source parts.posts.watches.items parts.joins.most }
+    // The epoch of the life is the one that the store gave.
+    ensures epoch { IfOk result (λ end. Takes S.does Reads store.old store.new (Ok end.epoch)) }
+    ensures life { IfOk result (λ end. (life : ServerLife) × TellsOf start.entry.settings.now end life) }
+{
+    let Start {
+        settings,
+        doors,
+        waker,
+        until_eof,
+    } = start;
     let reporter = reporter_of(rt, alloc, settings)?;
     let loose = Loose::found(rt, alloc, settings);
     let epoch = match next_epoch(store) {
         Ok(epoch) => epoch,
         Err(fault) => return Err(ServerFault::Epoch(fault)),
     };
-    let life = Life {
-        machine: settings.machine(),
-        epoch,
-        config: settings.config(),
-        pauses: settings.pauses(),
-        lease: settings.lease(),
-    };
+    let life = Life::of(settings, epoch);
     reporter.watch_for(life.pauses.wait.saturating_add(SLOW));
     let hall = Hall::new(life, doors, reporter, waker);
     let shared = Shared {
@@ -315,22 +464,26 @@ fn run_behind<
 >(
     rt: &'n R,
     alloc: Global,
-    settings: &'n Settings,
-    doors: &'n Doors,
+    start: Start<'n>,
     acceptor: Acceptor,
-    link: (RoundLink<'n, R>, Waker),
+    link: RoundLink<'n, R>,
     store: &mut FolderStore<'e, R>,
-    until_eof: bool,
-) -> Result<(), ServerFault> {
-    watch_all(&acceptor, doors)?;
-    let (link, waker) = link;
-    let Ok((sequencer, seats)) = Sequencer::open(alloc, settings.config().workers()) else {
+) -> Result<LifeEnd, ServerFault>
+    ensures life { IfOk result (λ end. (life : ServerLife) × TellsOf start.entry.settings.now end life) }
+{
+    watch_all(&acceptor, start.doors)?;
+    let settings = start.settings;
+    let workers = settings.config().workers();
+    let Ok((sequencer, seats)) = Sequencer::open(alloc, workers) else {
         return Err(ServerFault::Memory);
     };
     let Some(places) = places_of(alloc, &sequencer, seats) else {
         return Err(ServerFault::Memory);
     };
-    let sights = sights_of(rt, alloc, settings.config().workers())?;
+    let sights = sights_of(rt, alloc, workers)?;
+    let Some(joins) = Joins::new(alloc, workers) else {
+        return Err(ServerFault::Memory);
+    };
     let (mut teller, watches) = publications_of(rt, alloc, settings)?;
     let parts = Parts {
         acceptor,
@@ -340,18 +493,9 @@ fn run_behind<
             watches,
             sights,
         },
+        joins,
     };
-    let ended = run_life(
-        rt,
-        alloc,
-        settings,
-        doors,
-        parts,
-        waker,
-        store,
-        &mut teller,
-        until_eof,
-    );
+    let ended = run_life(rt, alloc, start, parts, store, &mut teller);
     teller.close(rt);
     ended
 }
@@ -376,8 +520,10 @@ fn run_behind<
 /// the folder of the state, the file of the epoch or the shared file, as found at the start, that is logged too. The log
 /// and the status file are written by the reporter alone.
 ///
-/// At the end it wakes all threads, whatever they wait for, and removes the Unix socket if it is still the one that it
-/// made.
+/// At the end it wakes all threads, whatever they wait for, joins the workers, and removes the Unix socket if it is still
+/// the one that it made. Then it answers the epoch of the life, what its daemon published, and what each worker had seen
+/// of that. In contracts this is the end of a life with these settings: its daemon began new, its calls came one after the
+/// other, and its workers read nothing but what it published.
 pub fn serve<
     I: Read + Send + Drop,
     R: Threads
@@ -393,22 +539,26 @@ pub fn serve<
         + Copy
         + Send
         + 'static,
->(rt: &R, settings: &Settings, until_eof: bool) -> Result<(), ServerFault> {
+>(rt: &R, settings: &Settings, until_eof: bool) -> Result<LifeEnd, ServerFault>
+    ensures life { IfOk result (λ end. (life : ServerLife) × TellsOf settings.now end life) }
+{
     let alloc = rt.alloc();
     let front = front_of(rt, alloc, settings)?;
-    let Ok((acceptor, waker)) = Acceptor::new(rt, alloc) else {
-        return Err(ServerFault::CannotListen);
-    };
-    let link = link_to(rt, alloc, settings)?;
+    let (acceptor, waker) = acceptor_of(rt, alloc)?;
+    let (link, link_waker) = link_to(rt, alloc, settings)?;
     let mut store = match FolderStore::open(rt, alloc, settings.state()) {
         Ok(store) => store,
         Err(fault) => return Err(ServerFault::Epoch(fault)),
     };
     let side = side_of(rt, alloc, settings)?;
     let doors = Doors::new(front, side, waker);
-    let ended = run_behind(
-        rt, alloc, settings, &doors, acceptor, link, &mut store, until_eof,
-    );
+    let start = Start {
+        settings,
+        doors: &doors,
+        waker: link_waker,
+        until_eof,
+    };
+    let ended = run_behind(rt, alloc, start, acceptor, link, &mut store);
     if let (Some(side), Some(path)) = (&doors.side, settings.socket()) {
         side.door.remove(rt, path.as_str());
     }

@@ -1,8 +1,18 @@
 //! What is shared with the other processes of the machine.
 
-ghost use Rattle.std.specs.Prelude.{◌≡◌, ◌≤◌};
+ghost use Rattle.std.specs.Prelude.{◌≡◌, ◌≤◌, ◌<◌, ◌^◌, ℕ, List, ◌∷◌};
 ghost use Rattle.tt_span.specs.Time.{max_time};
-ghost use Rattle.tt_publish.specs.Reading.{fused_span_of};
+ghost use Rattle.tt_span.specs.Drift.{Moment, KeepsDrift, max_drift};
+ghost use Rattle.tt_span.specs.Interval.{IsInterval, Holds};
+ghost use Rattle.tt_daemon.specs.Publication.{Publication as Published};
+ghost use Rattle.tt_publish.specs.Reading.{CanBeReadAt, fused_span_of, reading_at};
+ghost use Rattle.tt_settings.specs.declared.plans.Pauses.{Pauses as ThePauses};
+ghost use Rattle.tt_shared.specs.declared.slots.SharedSpan.{SharedSpan as TheSpan};
+ghost use Rattle.tt_shared.specs.Looking.{word_of};
+ghost use Rattle.tt_shared.specs.Seeing.{IsSeen};
+ghost use Rattle.tt_shared.specs.Slot.{IsShared, IsSlotOf};
+ghost use Rattle.tt_runs.specs.Reads.{IsNoEarlier};
+ghost use Rattle.tt_runs.specs.Tale.{HeldTrueTime};
 ghost use Rattle.tt_server.specs.Share.{period_of, shared_of, fresh_until};
 
 use tt_daemon::Fused;
@@ -78,3 +88,36 @@ pub(crate) fn folder_and_name(path: &str) -> (&str, &str) {
         None => (".", path),
     }
 }
+
+/// Laws, not a call to make: what other processes read in the shared file of a machine.
+///
+/// `published n` is the publication with count n in the file, by whichever writer. A reader found `bytes` between two looks
+/// at `index`, as [`SharedReader::now`](tt_shared::SharedReader::now) answers it, and the slot of `found` in them. Its
+/// clock showed `clock`. There are two premises that no contract here gives. Each byte was seen as a writer had written it
+/// at one moment, and these moments are in the order of the looks (`IsSeen`): a file of the operating system claims nothing.
+/// And the publication with that count is one of this life: [`Share::put`] has its writer write what it is given, so this
+/// is so from the first publication of the life on, as long as no other process writes the file.
+pub fn shared_laws()
+    // What is shared of a publication in range can be written and read: its numbers are in range.
+    ensures in_range { (publication : Published) (epoch number : ℕ) (pauses : ThePauses) (drift : ℕ) →
+        publication.clock ≤ max_time → IsInterval publication.span → epoch < 2 ^ 64 → number < 2 ^ 64 → drift ≤ max_drift →
+        IsShared (shared_of publication epoch number pauses drift) }
+
+    // A reading by the file is the reading of the publication of the life that has the count of the index, aged by the
+    // drift of its machine up to what the reader's own clock showed.
+    ensures is_of_life { (published : ℕ → TheSpan) (n : ℕ) (index bytes : List ℕ) (found : TheSpan) (clock : ℕ)
+        (publication : Published) (epoch number : ℕ) (pauses : ThePauses) (drift : ℕ) →
+        IsSeen published n index bytes index → published n ≡ shared_of publication epoch number pauses drift →
+        IsShared (published n) → IsSlotOf (word_of index) found bytes →
+        reading_at found.drift found.fused clock ≡ reading_at drift (fused_span_of publication) clock }
+
+    // So it holds the true time, if the publication held it at a moment of the machine's life, the clock that the machine
+    // and the reader share keeps its drift bound over this moment and that of the reading, and the reading is no earlier.
+    ensures holds { (published : ℕ → TheSpan) (n : ℕ) (index bytes : List ℕ) (found : TheSpan) (clock time : ℕ)
+        (publication : Published) (epoch number : ℕ) (pauses : ThePauses) (drift : ℕ) (moments : List Moment) →
+        IsSeen published n index bytes index → published n ≡ shared_of publication epoch number pauses drift →
+        IsShared (published n) → IsSlotOf (word_of index) found bytes → CanBeReadAt found.fused clock →
+        HeldTrueTime moments (fused_span_of publication) → KeepsDrift drift (record { clock = clock; time = time } ∷ moments) →
+        IsNoEarlier moments (fused_span_of publication) time → time ≤ max_time →
+        Holds (reading_at found.drift found.fused clock) time }
+{}

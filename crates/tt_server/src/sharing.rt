@@ -1,14 +1,15 @@
 //! The shared file, as long as it can be written, and when it is tried again.
 
-ghost use Rattle.std.specs.Prelude.{◌≡◌, ◌≤◌};
-ghost use Rattle.tt_server.specs.Share.{is_due, break_after, told_of, retry_after};
+ghost use Rattle.std.specs.Prelude.{◌≡◌, ◌≤◌, ℕ, true, false, Some, None, is_some, IfOk, IfSome, IsSome, OnOk, OnErr};
+ghost use Rattle.tt_shared.specs.Writing.{TellerState};
+ghost use Rattle.tt_server.specs.Share.{CannotWrite, IsOpen, Writes, broken_after, number_in, is_due, break_after, told_of, retry_after};
 
 use crate::halls::{Shared, say};
 use std::alloc::Global;
 use std::fs::{File, Files};
 use std::sync::Wait;
 use std::time::Clock as SystemClock;
-use tt_shared::{FilePlace, SharedSpan, SharedTeller, open_file};
+use tt_shared::{FilePlace, Place, SharedSpan, SharedTeller, WriteFault, open_file};
 use tt_status::Event;
 
 /// The longest pause before the shared file is tried again, in nanoseconds: thirty seconds.
@@ -71,6 +72,143 @@ fn told_of(was_broken: bool, failed: Option<u16>) -> Option<Event>
     }
 }
 
+/// What came of a try to share a publication.
+#[derive(Clone, Copy, Debug, PartialEq, Eq)]
+pub(crate) struct Tried {
+    /// Whether the publication was written.
+    pub(crate) written: bool,
+    /// What is logged of it.
+    pub(crate) event: Option<Event>,
+}
+
+/// What opens the place of what is shared.
+pub(crate) trait Opener<P> {
+    /// The writers that it may open.
+    ghost opens: { Self → TellerState P → Type 0 };
+
+    /// The writer of the place. It may be opened again at any time.
+    fn open(&self) -> Result<SharedTeller<P>, WriteFault>
+        ensures { IfOk result (λ teller. opens self.now teller) };
+}
+
+/// The writer of a place as long as it can be written, the last publication that was written, and the break after a try
+/// that failed.
+#[derive(Drop)]
+pub(crate) struct Sharing<O, P> {
+    opener: O,
+    teller: Option<SharedTeller<P>>,
+    last: Option<SharedSpan>,
+    broken: Option<Break>,
+}
+
+impl<P: Place + Drop, O: Opener<P>> Sharing<O, P> {
+    /// The sharing into a place that is not opened yet.
+    fn new(opener: O) -> Sharing<O, P>
+        ensures { result ≡ record { opener = opener; teller = None; last = None; broken = None } }
+    {
+        Sharing {
+            opener,
+            teller: None,
+            last: None,
+            broken: None,
+        }
+    }
+
+    /// Takes the writer of the place, which is opened first if it is not open.
+    fn take(&mut self) -> Result<SharedTeller<P>, WriteFault>
+        ensures opened { IfOk result (λ teller. IsOpen (O.opens self.old.opener) self.old.teller teller) }
+        ensures refused { OnErr result (self.old.teller ≡ None) }
+        ensures taken { self.new ≡ record self.old { teller = None } }
+    {
+        match self.teller.take() {
+            Some(teller) => Ok(teller),
+            None => self.opener.open(),
+        }
+    }
+
+    /// Writes a publication into the place, which is opened first if it is not open. If it can't be written, the place is
+    /// closed.
+    fn write(&mut self, span: SharedSpan) -> Result<(), WriteFault>
+        ensures written { OnOk result ((before after : TellerState P) × IsOpen (O.opens self.old.opener) self.old.teller before
+            × Writes P.does span before after × (self.new ≡ record self.old { teller = Some after; last = Some span })) }
+        ensures unwritten { OnErr result (self.new ≡ record self.old { teller = None }) }
+        // A place that is open is not closed without a cause.
+        ensures cause { (before : TellerState P) → self.old.teller ≡ Some before → OnErr result (CannotWrite P.does P.failed span before) }
+    {
+        let mut teller = self.take()?;
+        teller.publish(&span)?;
+        self.teller = Some(teller);
+        self.last = Some(span);
+        Ok(())
+    }
+
+    /// Keeps when the place is tried again after a try at the clock reading `now` that failed with this number, or did not
+    /// fail. Answers what is logged of it. The first pause is `poll` nanoseconds.
+    fn settle(&mut self, failed: Option<u16>, poll: u64, now: u64) -> Option<Event>
+        ensures told { result ≡ told_of (is_some self.old.broken) failed }
+        ensures kept { self.new ≡ record self.old { broken = broken_after self.old.broken failed poll now } }
+    {
+        let event = told_of(self.broken.is_some(), failed);
+        self.broken = match failed {
+            Some(_) => Some(break_after(self.broken, poll, now)),
+            None => None,
+        };
+        event
+    }
+
+    /// Opens the place at the start. Answers what is logged of it.
+    fn begin(&mut self, poll: u64, now: u64) -> Option<Event> {
+        let failed = match self.take() {
+            Ok(teller) => {
+                self.teller = Some(teller);
+                None
+            }
+            Err(fault) => Some(fault.number()),
+        };
+        self.settle(failed, poll, now)
+    }
+
+    /// Shares a publication when the clock shows `now`: writes it into the place, which is opened again after a break once
+    /// its pause is over. The first pause is `poll` nanoseconds.
+    fn put(&mut self, span: SharedSpan, poll: u64, now: u64) -> Tried
+        // In a pause nothing is done.
+        ensures pause { is_due self.old.broken now ≡ false → (self.new ≡ self.old) × (result ≡ record { written = false; event = None }) }
+        // Where it answers that the publication was written, the place went on by its two writes, and by nothing else.
+        ensures written { result.written ≡ true → (before after : TellerState P) × IsOpen (O.opens self.old.opener) self.old.teller before
+            × Writes P.does span before after × (self.new ≡ record self.old { teller = Some after; last = Some span; broken = None })
+            × (result.event ≡ told_of (is_some self.old.broken) None) }
+        // Else the place is closed, and tried again after the pause.
+        ensures unwritten { result.written ≡ false → is_due self.old.broken now ≡ true → (number : ℕ)
+            × (self.new ≡ record self.old { teller = None; broken = Some (break_after self.old.broken poll now) })
+            × (result.event ≡ told_of (is_some self.old.broken) (Some number)) }
+        ensures cause { result.written ≡ false → is_due self.old.broken now ≡ true → (before : TellerState P) → self.old.teller ≡ Some before →
+            CannotWrite P.does P.failed span before }
+    {
+        if !is_due(self.broken, now) {
+            return Tried {
+                written: false,
+                event: None,
+            };
+        }
+        let failed = number_in(self.write(span));
+        let event = self.settle(failed, poll, now);
+        Tried {
+            written: failed.is_none(),
+            event,
+        }
+    }
+}
+
+/// The number of the fault of a try, if it failed.
+fn number_in(tried: Result<(), WriteFault>) -> Option<u16>
+    ensures { result ≡ number_in tried }
+{
+    match tried {
+        Ok(()) => None,
+        Err(fault) => Some(fault.number()),
+    }
+}
+
 /// The folder and the name of the shared file.
 #[derive(Clone, Copy)]
 pub(crate) struct SharePath<'a> {
@@ -78,112 +216,80 @@ pub(crate) struct SharePath<'a> {
     pub(crate) name: &'a str,
 }
 
-/// The writer of the shared file as long as it can be written, and the last publication in the file.
+/// Opens the shared file.
 #[derive(Drop)]
-pub(crate) struct Share<'a, R> {
+struct FileOpener<'a, R> {
     rt: &'a R,
     alloc: Global,
-    /// None if there is no shared file.
-    path: Option<SharePath<'a>>,
-    teller: Option<SharedTeller<FilePlace<'a, R>>>,
-    last: Option<SharedSpan>,
-    broken: Option<Break>,
+    path: SharePath<'a>,
+}
+
+impl<'a, R: Files<File = File>> Opener<FilePlace<'a, R>> for FileOpener<'a, R> {
+    ghost opens = { λ _ teller. teller.broken ≡ false };
+
+    fn open(&self) -> Result<SharedTeller<FilePlace<'a, R>>, WriteFault> {
+        open_file(self.rt, self.alloc, self.path.folder, self.path.name)
+    }
+}
+
+/// The sharing into the shared file, if there is one.
+#[derive(Drop)]
+pub(crate) struct Share<'a, R> {
+    sharing: Option<Sharing<FileOpener<'a, R>, FilePlace<'a, R>>>,
 }
 
 impl<'a, R: Files<File = File>> Share<'a, R> {
-    /// The sharing into the file at this path, which is not opened yet.
+    /// The sharing into the file at this path, which is not opened yet. None is shared without a path.
     pub(crate) fn new(rt: &'a R, alloc: Global, path: Option<SharePath<'a>>) -> Share<'a, R> {
         Share {
-            rt,
-            alloc,
-            path,
-            teller: None,
-            last: None,
-            broken: None,
+            sharing: match path {
+                Some(path) => Some(Sharing::new(FileOpener { rt, alloc, path })),
+                None => None,
+            },
         }
     }
 
     /// Whether the file is open and its last write went well.
     pub(crate) fn is_written(&self) -> bool {
-        self.teller.is_some()
+        match &self.sharing {
+            Some(sharing) => sharing.teller.is_some(),
+            None => false,
+        }
     }
 
     /// The last publication in the file, if the file is open.
     pub(crate) fn last(&self) -> Option<SharedSpan> {
-        if self.teller.is_some() {
-            self.last
-        } else {
-            None
-        }
-    }
-
-    /// Opens the file, if it is not open. Answers the number of the fault if it can't be opened.
-    fn open(&mut self, path: SharePath<'a>) -> Option<u16> {
-        if self.teller.is_some() {
-            return None;
-        }
-        match open_file(self.rt, self.alloc, path.folder, path.name) {
-            Ok(teller) => {
-                self.teller = Some(teller);
-                None
-            }
-            Err(fault) => Some(fault.number()),
-        }
-    }
-
-    /// Writes a publication into the file that is open. If it can't be written, the file is closed, and it answers the
-    /// number of the fault.
-    fn write(&mut self, span: SharedSpan) -> Option<u16> {
-        let Some(teller) = self.teller.as_mut() else {
-            return None;
-        };
-        match teller.publish(&span) {
-            Ok(()) => {
-                self.last = Some(span);
-                None
-            }
-            Err(fault) => {
-                self.teller = None;
-                Some(fault.number())
-            }
+        match &self.sharing {
+            Some(sharing) if sharing.teller.is_some() => sharing.last,
+            _ => None,
         }
     }
 }
 
 impl<'a, R: Wait + SystemClock + Files<File = File>> Share<'a, R> {
-    /// Logs what a try came to, and keeps when the file is tried again.
-    fn settle(&mut self, shared: Shared<'_, R>, failed: Option<u16>, now: u64) {
-        if let Some(event) = told_of(self.broken.is_some(), failed) {
-            say(shared, event);
-        }
-        self.broken = match failed {
-            Some(_) => Some(break_after(self.broken, shared.hall.life.pauses.poll, now)),
-            None => None,
-        };
-    }
-
     /// Opens the file at the start.
     pub(crate) fn begin(&mut self, shared: Shared<'_, R>, now: u64) {
-        let Some(path) = self.path else {
+        let Some(sharing) = &mut self.sharing else {
             return;
         };
-        let failed = self.open(path);
-        self.settle(shared, failed, now);
+        if let Some(event) = sharing.begin(shared.hall.life.pauses.poll, now) {
+            say(shared, event);
+        }
     }
 
     /// Shares a publication when the clock shows `now`: writes it into the file, which is opened again after a break once
-    /// its pause is over.
-    pub(crate) fn put(&mut self, shared: Shared<'_, R>, span: SharedSpan, now: u64) {
-        let Some(path) = self.path else {
-            return;
+    /// its pause is over. Answers whether it was written.
+    pub(crate) fn put(&mut self, shared: Shared<'_, R>, span: SharedSpan, now: u64) -> bool
+        ensures some { result ≡ true → IsSome self.new.sharing }
+        ensures written { result ≡ true → IfSome self.new.sharing (λ sharing. sharing.last ≡ Some span) }
+    {
+        let Some(sharing) = &mut self.sharing else {
+            return false;
         };
-        if !is_due(self.broken, now) {
-            return;
+        let tried = sharing.put(span, shared.hall.life.pauses.poll, now);
+        if let Some(event) = tried.event {
+            say(shared, event);
         }
-        let failed = match self.open(path) {
-            Some(number) => Some(number),
-            None => self.write(span),
-        };
-        self.settle(shared, failed, now);
+        tried.written
     }
 }

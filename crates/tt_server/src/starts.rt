@@ -1,5 +1,12 @@
 //! The parts of a machine, each made before its threads start.
 
+ghost use Rattle.std.specs.Prelude.{◌≡◌, ◌≢◌, ◌<◌, [], min, vec_len, All, IfOk};
+ghost use Rattle.std.specs.declared.io.ErrorKind.TheVariants.{OutOfMemory};
+ghost use Rattle.tt_daemon.specs.Config.{IsConfiguration};
+ghost use Rattle.tt_daemon.specs.Daemon.{new_daemon};
+ghost use Rattle.tt_node.specs.Sharing.{new_watch};
+ghost use Rattle.tt_server.specs.declared.faults.ServerFault.TheVariants.{Memory};
+
 use crate::faults::ServerFault;
 use crate::halls::Shared;
 use crate::rounds::Desk;
@@ -8,7 +15,7 @@ use crate::sharing::{Share, SharePath};
 use mio::Waker;
 use std::alloc::Global;
 use std::fs::{File, Files};
-use std::io::Eprint;
+use std::io::{Eprint, ErrorKind};
 use std::net::{IpAddr, Ipv4Addr, Net, SocketAddr, TcpListener, TcpStream, UdpSocket};
 use std::sync::Wait;
 use std::thread::Threads;
@@ -23,14 +30,34 @@ use tt_settings::Settings;
 /// The greatest number of a machine.
 const MAX_MACHINE: u8 = 7;
 
+/// The acceptor of connections, and what ends its waits.
+pub(crate) fn acceptor_of<R: Net>(rt: &R, alloc: Global) -> Result<(Acceptor, Waker), ServerFault> {
+    match Acceptor::new(rt, alloc) {
+        Ok(made) => Ok(made),
+        Err(error) => Err(fault_of(error.kind(), ServerFault::CannotListen)),
+    }
+}
+
+/// Why a part is not made where a call of the system failed with an error of this kind: out of memory, or else `fault`.
+fn fault_of(kind: ErrorKind, fault: ServerFault) -> ServerFault
+    ensures memory { kind ≡ OutOfMemory → result ≡ Memory }
+    ensures other { kind ≢ OutOfMemory → result ≡ fault }
+{
+    match kind {
+        ErrorKind::OutOfMemory => ServerFault::Memory,
+        _ => fault,
+    }
+}
+
 /// The link to the masters at the ports of the settings, and what ends its waits.
 pub(crate) fn link_to<'a, R: SystemClock + Net>(
     rt: &'a R,
     alloc: Global,
     settings: &Settings,
 ) -> Result<(RoundLink<'a, R>, Waker), ServerFault> {
-    let Ok(socket) = UdpSocket::bind(rt, (Ipv4Addr::LOCALHOST, 0)) else {
-        return Err(ServerFault::CannotPoll);
+    let socket = match UdpSocket::bind(rt, (Ipv4Addr::LOCALHOST, 0)) {
+        Ok(socket) => socket,
+        Err(error) => return Err(fault_of(error.kind(), ServerFault::CannotPoll)),
     };
     let mut masters = Vec::new(alloc);
     for port in settings.masters() {
@@ -42,7 +69,7 @@ pub(crate) fn link_to<'a, R: SystemClock + Net>(
     let wait = Duration::from_nanos(settings.pauses().wait);
     match RoundLink::new(rt, alloc, socket, masters, wait) {
         Ok(link) => Ok(link),
-        Err(_) => Err(ServerFault::CannotPoll),
+        Err(error) => Err(fault_of(error.kind(), ServerFault::CannotPoll)),
     }
 }
 
@@ -52,8 +79,9 @@ pub(crate) fn front_of<R: Net<Listener = TcpListener, Stream = TcpStream>>(
     alloc: Global,
     settings: &Settings,
 ) -> Result<Entry, ServerFault> {
-    let Ok(door) = Door::at_port(rt, settings.listen()) else {
-        return Err(ServerFault::CannotListen);
+    let door = match Door::at_port(rt, settings.listen()) {
+        Ok(door) => door,
+        Err(error) => return Err(fault_of(error.kind(), ServerFault::CannotListen)),
     };
     match Queue::new(alloc) {
         Ok(queue) => Ok(Entry { door, queue }),
@@ -82,12 +110,12 @@ pub(crate) fn side_of<R: Files + Net>(
 
 /// Has the acceptor wait for connections at all doors.
 pub(crate) fn watch_all(acceptor: &Acceptor, doors: &Doors) -> Result<(), ServerFault> {
-    if acceptor.watch(&doors.front.door).is_err() {
-        return Err(ServerFault::CannotListen);
+    if let Err(error) = acceptor.watch(&doors.front.door) {
+        return Err(fault_of(error.kind(), ServerFault::CannotListen));
     }
     if let Some(side) = &doors.side {
-        if acceptor.watch(&side.door).is_err() {
-            return Err(ServerFault::CannotListenSocket);
+        if let Err(error) = acceptor.watch(&side.door) {
+            return Err(fault_of(error.kind(), ServerFault::CannotListenSocket));
         }
     }
     Ok(())
@@ -101,8 +129,9 @@ pub(crate) fn sights_of<R: Net>(
 ) -> Result<Vec<Sight>, ServerFault> {
     let mut sights = Vec::new(alloc);
     for _ in 0..workers {
-        let Ok(sight) = Sight::new(rt, alloc) else {
-            return Err(ServerFault::CannotListen);
+        let sight = match Sight::new(rt, alloc) {
+            Ok(sight) => sight,
+            Err(error) => return Err(fault_of(error.kind(), ServerFault::CannotListen)),
         };
         if sights.push(sight).is_err() {
             return Err(ServerFault::Memory);
@@ -124,19 +153,23 @@ where
         Some(path) => Some(path.as_str()),
         None => None,
     };
-    match Reporter::start(rt, alloc, path) {
+    match Reporter::start(rt, alloc, settings.log(), path) {
         Ok(reporter) => Ok(reporter),
         Err(ReporterFault::NoThread) => Err(ServerFault::NoThread),
         Err(ReporterFault::Memory) => Err(ServerFault::Memory),
     }
 }
 
-/// The publications of a machine, with a reader for each worker.
+/// The publications of a machine, none so far, with a reader for each worker.
 pub(crate) fn publications_of<R: Wait>(
     rt: &R,
     alloc: Global,
     settings: &Settings,
-) -> Result<(Teller, Vec<Watch>), ServerFault> {
+) -> Result<(Teller, Vec<Watch>), ServerFault>
+    ensures nothing { IfOk result (λ opened. opened.0.items ≡ []) }
+    ensures count { IfOk result (λ opened. vec_len opened.1 ≡ settings.now.config.workers) }
+    ensures watches { IfOk result (λ opened. All (λ watch. watch ≡ new_watch opened.0.source settings.now.config.drift) opened.1.items) }
+{
     let config = settings.config();
     match open(rt, alloc, config.drift(), config.workers()) {
         Ok(opened) => Ok(opened),
@@ -144,14 +177,18 @@ pub(crate) fn publications_of<R: Wait>(
     }
 }
 
-/// The state of the daemon's thread at its start. The shared file is opened; if that fails, it is logged, and tried again
-/// later.
+/// The state of the daemon's thread at its start, with a new daemon of this life. The shared file is opened; if that
+/// fails, it is logged, and tried again later.
 pub(crate) fn desk_of<'a, R: Wait + SystemClock + Files<File = File>>(
     rt: &'a R,
     shared: Shared<'_, R>,
     settings: &'a Settings,
     link: RoundLink<'a, R>,
-) -> Desk<'a, R> {
+) -> Desk<'a, R>
+    requires first { 0 < shared.hall.now.life.epoch }
+    ensures daemon { result.daemon ≡ new_daemon (min shared.entry.hall.now.life.machine 7) shared.entry.hall.now.life.config shared.entry.hall.now.life.epoch }
+    ensures configured { IsConfiguration shared.entry.hall.now.life.config }
+{
     let hall = shared.hall;
     let path = match settings.shared() {
         Some(path) => {
@@ -163,9 +200,8 @@ pub(crate) fn desk_of<'a, R: Wait + SystemClock + Files<File = File>>(
     let mut share = Share::new(rt, shared.alloc, path);
     let mut clock = MachineClock::new(rt);
     share.begin(shared, clock.read().unwrap_or(0));
-    // An epoch that was taken is at least 1, and the machine's number in settings that were read is at most 7.
-    let epoch = hall.life.epoch.max(1);
+    // The machine's number in settings that were read is at most 7.
     let machine = hall.life.machine.min(MAX_MACHINE);
-    let daemon = Daemon::new(machine, &hall.life.config, epoch);
+    let daemon = Daemon::new(machine, &hall.life.config, hall.life.epoch);
     Desk::new(daemon, link, share)
 }

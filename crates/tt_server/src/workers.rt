@@ -1,15 +1,21 @@
 //! The threads of the workers: each serves one client after the other.
 
-ghost use Rattle.std.specs.Prelude.{◌≡◌, ◌≤◌, ◌+◌, ◌<◌, All};
+ghost use Rattle.std.specs.Prelude.{◌≡◌, ◌≤◌, ◌+◌, ◌<◌, All, IfSome};
+ghost use Rattle.tt_server.specs.Life.{ServesOne, HandsBack};
+ghost use Rattle.tt_server.specs.Thread.{IsServing, terms_in};
 
 use crate::halls::Shared;
+use crate::lives::WorkerEnd;
 use std::alloc::Global;
 use std::net::TcpStream;
+use std::snapshot::Snapshot;
 use std::sync::atomic::Ordering;
 use std::sync::{Mutex, Wait};
-use std::thread::{JoinHandle, Scope};
+use std::thread::{Promise, PromisedHandle, Scope};
 use std::time::Clock as SystemClock;
-use tt_connections::{Client, Entry, LineReader, MachineClock, ReplyWriter, Sight, deadline_at};
+use tt_connections::{
+    Client, Counts, Doors, Entry, LineReader, MachineClock, ReplyWriter, Sight, deadline_at,
+};
 use tt_publish::{Clock, Watch};
 use tt_session::{DeadlineReader, DeadlineWriter, Turns};
 use tt_stamp::{Seat, Sequencer};
@@ -25,6 +31,22 @@ pub(crate) struct Place<'a> {
     sequencer: &'a Sequencer,
     ghost of_it: { seat.table ≡ sequencer.now },
 }
+
+/// What the thread of a worker does: it serves one client after the other, with this watch and these terms.
+#[derive(Drop)]
+pub(crate) struct ServesClients {
+    watch: Snapshot<Watch>,
+    terms: Terms,
+}
+
+impl Promise<WorkerEnd> for ServesClients {
+    ghost use Rattle.tt_server.specs.Life.{HandsBack};
+
+    ghost kept_by = { λ p end. HandsBack p.watch.value p.terms end };
+}
+
+/// The thread of a worker.
+pub(crate) type WorkerHandle = PromisedHandle<WorkerEnd, ServesClients>;
 
 /// A seat with its sequencer.
 fn place_of<'a>(seat: Seat, sequencer: &'a Sequencer) -> Place<'a>
@@ -54,56 +76,68 @@ pub(crate) fn places_of<'a>(
     Some(places)
 }
 
-/// Serves one session. It gives back the post for the next session, whatever ended this one.
+/// What a worker borrows, and how long it waits for a client.
+#[derive(Drop)]
+struct Tools<'a, R> {
+    rt: &'a R,
+    alloc: Global,
+    doors: &'a Doors,
+    counts: &'a Counts,
+    idle: u64,
+}
+
+/// Serves one session. It gives back the post for the next session, whatever ended this one. No session is served if the
+/// clock gives no reading.
 fn serve_one<'a, R: Wait + SystemClock>(
-    shared: Shared<'a, R>,
+    tools: &Tools<'a, R>,
     post: Post<'a, R, MachineClock<'a, R>>,
     stream: &TcpStream,
     sight: &Mutex<Sight>,
-) -> Post<'a, R, MachineClock<'a, R>> {
-    let (rt, hall) = (shared.rt, shared.hall);
+) -> Post<'a, R, MachineClock<'a, R>>
+    ensures { ServesOne post.entry result }
+{
+    let (rt, doors, counts, idle) = (tools.rt, tools.doors, tools.counts, tools.idle);
     let mut clock = MachineClock::new(rt);
     let Ok(now) = clock.read() else {
         return post;
     };
-    let idle = hall.life.pauses.idle;
     let deadline = deadline_at(now, idle);
-    let device = LineReader::new(stream, &hall.doors.ended, MachineClock::new(rt), idle);
+    let device = LineReader::new(stream, &doors.ended, MachineClock::new(rt), idle);
     let mut reader = DeadlineReader::new(device, MachineClock::new(rt), deadline);
-    let device = ReplyWriter::new(stream, &hall.doors.ended, &hall.counts);
+    let device = ReplyWriter::new(stream, &doors.ended, counts);
     let mut writer = DeadlineWriter::new(device, clock, deadline);
-    let client = Client::new(rt, stream, &hall.doors.ended, idle, sight);
+    let client = Client::new(rt, stream, &doors.ended, idle, sight);
     let turns = Turns {
         reads: u32::MAX,
         waits: WAITS,
     };
     let (post, _served) = post.serve(&client, &mut reader, &mut writer, turns);
-    hall.counts.sessions.fetch_add(1, Ordering::SeqCst);
+    counts.sessions.fetch_add(1, Ordering::SeqCst);
     post
 }
 
-/// Serves one client of this entry after the other, until the machine ends.
+/// Serves one client of this entry after the other, until the machine ends. Then it hands back what the watch has seen.
 fn work<'a, R: Wait + SystemClock>(
-    shared: Shared<'a, R>,
+    tools: Tools<'a, R>,
     entry: &'a Entry,
     place: Place<'a>,
     watch: Watch,
     sight: Sight,
-) {
-    let (rt, hall) = (shared.rt, shared.hall);
+    terms: Terms,
+) -> WorkerEnd
+    ensures { HandsBack watch terms result }
+{
+    let rt = tools.rt;
     let Place { seat, sequencer } = place;
-    let terms = Terms {
-        lease: hall.life.lease,
-        ahead: hall.life.pauses.floor_ahead,
-    };
     let clock = MachineClock::new(rt);
     let sight = Mutex::new(sight);
-    let mut post = Post::new(rt, shared.alloc, watch, clock, seat, sequencer, terms);
+    let mut post = Post::new(rt, tools.alloc, watch, clock, seat, sequencer, terms);
     for _ in rt.forever() {
-        let Some(stream) = hall.doors.next(rt, entry) else {
-            return;
+        let Some(stream) = tools.doors.next(rt, entry) else {
+            let (watch, _seat) = post.into_parts();
+            return WorkerEnd { seen: watch.seen() };
         };
-        post = serve_one(shared, post, &stream, &sight);
+        post = serve_one(&tools, post, &stream, &sight);
     }
     unreachable!()
 }
@@ -116,8 +150,33 @@ pub(crate) fn start_worker<'s, E, R: Wait + SystemClock + Sync>(
     place: Place<'s>,
     watch: Watch,
     sight: Sight,
-) -> Option<JoinHandle<()>> {
+) -> Option<WorkerHandle>
+    ensures promise { IfSome result (λ handle. IsServing watch (terms_in shared.entry.hall.now.life) handle.promise) }
+{
+    let (rt, alloc, hall) = (shared.rt, shared.alloc, shared.hall);
+    let promise = ServesClients {
+        watch: Snapshot::of(&watch),
+        terms: hall.life.terms(),
+    };
+    let terms = hall.life.terms();
+    let (doors, counts, idle) = (hall.doors, &hall.counts, hall.life.pauses.idle);
+    let Place { seat, sequencer } = place;
     scope
-        .spawn(move || work(shared, entry, place, watch, sight))
+        .spawn_with(
+            promise,
+            move || -> WorkerEnd
+                requires { seat.table ≡ sequencer.now }
+                ensures { HandsBack watch terms result }
+            {
+                let tools = Tools {
+                    rt,
+                    alloc,
+                    doors,
+                    counts,
+                    idle,
+                };
+                work(tools, entry, place_of(seat, sequencer), watch, sight, terms)
+            },
+        )
         .ok()
 }

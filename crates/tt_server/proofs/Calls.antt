@@ -1,0 +1,95 @@
+-- The calls of the daemon's rounds, one after another.
+use Rattle.std.proofs.Common.{◌≡◌, ℕ, ◌≤◌, List, [], ◌∷◌, map, Option, Some, None, Result, Ok, Err, arith, refl, sym, ap, subst, ◌∙◌}
+use Rattle.tt_daemon.specs.Daemon.{DaemonState}
+use Rattle.tt_daemon.specs.Publication.{Publication}
+use Rattle.tt_publish.specs.Reading.{fused_span_of}
+use Rattle.tt_publish.specs.declared.readings.FusedSpan.{FusedSpan}
+use Rattle.tt_connections.specs.Clock.{ClockState, MachineGives}
+use Rattle.tt_node.specs.Course.{rounds_of}
+use Rattle.tt_node.specs.Fusing.{fusions_in}
+use Rattle.tt_node.specs.Link.{Call, Exchange, Gift, ClockGives, gifts_in}
+use Rattle.tt_node.specs.Making.{stand_of}
+use Rattle.tt_node.specs.Reports.{PartEvents, Report, Reports}
+use Rattle.tt_node.specs.declared.faults.NodeFault.{NodeFault}
+use Rattle.tt_node.specs.declared.tallies.Tally.{Tally}
+use Rattle.tt_runs.specs.Calls.{AreInTurn, Rise, RiseIn, RoundsCall, kept_after}
+use Rattle.tt_runs.specs.CourseSteps.{kept_in}
+use Rattle.tt_runs.specs.Steps.{Kept, fused_span}
+use Rattle.tt_server.specs.Round.{CallsInTurn, MakesCall, kept_with}
+
+-- ---- what is kept
+
+spans-of : (items : List Publication) → map fused_span (fusions_in items) ≡ map fused_span_of items
+spans-of [] = refl
+spans-of (item ∷ items) = ap (λ (spans : List FusedSpan). fused_span_of item ∷ spans) (spans-of items)
+
+pub kept_in-stand : (daemon : DaemonState) (items : List Publication) (tally : Tally) (exchanges : List Exchange) → kept_in (stand_of daemon (fusions_in items) tally exchanges) ≡ kept_with daemon items
+kept_in-stand daemon items tally exchanges = ap (λ (spans : List FusedSpan). record { daemon = daemon; published = spans }) (spans-of items)
+
+-- ---- readings of a machine's clock
+
+-- none that it gave is below one before it
+pub rises : (before after : ClockState) (readings : List (Option ℕ)) → ClockGives MachineGives before readings after → Rise before.last readings after.last
+rises before after [] gave = sym (ap (λ (c : ClockState). c.last) gave)
+rises before after (None ∷ readings) gave =
+    let (mid, one, more) = gave in subst (λ (n : ℕ). Rise n readings after.last) one (rises mid after readings more)
+rises before after (Some clock ∷ readings) gave =
+    let (mid, one, more) = gave in (one.0, subst (λ (n : ℕ). Rise n readings after.last) one.1 (rises mid after readings more))
+
+-- the clock may show more after the calls
+pub RiseIn-later : (from to later : ℕ) (calls : List RoundsCall) → RiseIn from calls to → to ≤ later → RiseIn from calls later
+RiseIn-later from to later [] rise le = omega (arith, rise, le)
+RiseIn-later from to later (call ∷ calls) rise le =
+    let (before, after, first, last, most) = rise in (before, after, first, last, omega (arith, most, le))
+
+-- ---- one call
+
+-- a call of rounds, by the clock of a machine
+pub reported-call : {L : Type 0} (does : L → Call → Gift → L → Type 0) (rounds turns : ℕ) (events : PartEvents) (clock clock' : ClockState) (link link' : L)
+    (daemon daemon' : DaemonState) (items items' : List Publication) (tally tally' : Tally) (answer : Result (Unit {0}) NodeFault) (old new : Report)
+    → Reports MachineGives does (rounds_of rounds turns) events clock clock' link link' (stand_of daemon (fusions_in items) tally) (stand_of daemon' (fusions_in items') tally') answer old new
+    → MakesCall (kept_with daemon items) (kept_with daemon' items') clock.last clock'.last
+reported-call does rounds turns events clock clock' link link' daemon daemon' items items' tally tally' answer old new made = record {
+  call = record {
+    rounds = rounds;
+    turns = turns;
+    given = record { readings = made.readings; gifts = gifts_in made.exchanges; grants = made.grants };
+    exchanges = made.exchanges;
+    from = stand_of daemon (fusions_in items) tally;
+    to = stand_of daemon' (fusions_in items') tally';
+    answer = answer;
+  };
+  leads = made.course;
+  begins = kept_in-stand daemon items tally [];
+  ends = kept_in-stand daemon' items' tally' made.exchanges;
+  rises = (clock.last, clock'.last, omega arith, rises clock clock' made.readings made.gave, omega arith);
+}
+
+-- the clock may have shown less before the call, and show more after it
+pub MakesCall-wider : (before after : Kept) (shown shown' first last : ℕ) → first ≤ shown → shown' ≤ last → MakesCall before after shown shown' → MakesCall before after first last
+MakesCall-wider before after shown shown' first last from to made =
+    let (low, high, least, rise, most) = made.rises in record {
+      call = made.call;
+      leads = made.leads;
+      begins = made.begins;
+      ends = made.ends;
+      rises = (low, high, omega (arith, least, from), rise, omega (arith, most, to));
+    }
+
+-- ---- all calls
+
+-- no call was made
+pub no-calls : (begun : Kept) (from to : ℕ) → from ≤ to → CallsInTurn begun begun from to
+no-calls begun from to le = ([], tt, refl, le)
+
+-- one more call was made
+pub one-more : (begun before after : Kept) (from shown shown' : ℕ) → CallsInTurn begun before from shown → MakesCall before after shown shown' → CallsInTurn begun after from shown'
+one-more begun before after from shown shown' did made =
+    let (calls, turn, kept, rise) = did in
+    let (low, high, least, rises, most) = made.rises in
+    (made.call ∷ calls, (made.leads, made.begins ∙ sym kept, turn), made.ends, (low, high, RiseIn-later from shown low calls rise least, rises, most))
+
+-- the clock may show more after the calls
+pub calls-later : (begun after : Kept) (from shown shown' : ℕ) → CallsInTurn begun after from shown → shown ≤ shown' → CallsInTurn begun after from shown'
+calls-later begun after from shown shown' did le =
+    let (calls, turn, kept, rise) = did in (calls, turn, kept, RiseIn-later from shown shown' calls rise le)

@@ -1,0 +1,308 @@
+-- Lives of the server: its epochs, its sessions, and what its threads hand back.
+use Rattle.std.specs.Prelude.{◌≡◌, ◌⊎◌, ◌<◌, ◌+◌, ◌^◌, ◌==◌, ℕ, Bool, true, false, if◌then◌else◌, List, [], ◌∷◌, length, map, min, All, Option, Result, Ok, Err, IfOk, IsErrOf}
+use Rattle.std.proofs.Common.{refl, sym, ap, ◌∙◌, subst, inl, inr, arith}
+use Rattle.std.proofs.lemmas.List.Elements.{All-nil, All-cons, All-head, All-tail, All-weaker}
+use mathlib.Core.List.{IsPrefix}
+use Rattle.tt_daemon.specs.Config.{IsConfiguration}
+use Rattle.tt_daemon.specs.Daemon.{DaemonState, new_daemon}
+use Rattle.tt_daemon.specs.Publication.{Publication}
+use Rattle.tt_publish.specs.Known.{Known, Source, WatchState, seen_of}
+use Rattle.tt_publish.specs.Reading.{fused_span_of}
+use Rattle.tt_session.specs.declared.faults.ServeFault.{ServeFault}
+use Rattle.tt_session.specs.declared.faults.ServeFault.TheVariants.{ReadFailed, WriteFailed}
+use Rattle.tt_session.specs.declared.serving.Served.{Served}
+use Rattle.tt_session.specs.Conversation.{Conversation}
+use Rattle.tt_session.specs.declared.calls.Call.{Call as Call'}
+use Rattle.tt_session.specs.declared.calls.Call.TheVariants as call
+use Rattle.tt_station.specs.Station.{PostState, StationState, Allows, ServesSession, BreaksSession, new_station}
+use Rattle.tt_station.specs.Sessions.{AreServedInTurn, post_after}
+use Rattle.tt_station.specs.declared.posts.Terms.{Terms}
+use Rattle.tt_connections.specs.Clock.{ClockState, MachineGives, ClientSays}
+use Rattle.tt_epoch.specs.Disk.{Call, Gift, Gave, NotOwn, Done, Broke, number_of}
+use Rattle.tt_epoch.specs.Course.{Stage, Reads, Writes, Syncs, Installs, Fixes, Answered, Over, step_of, stage_after, Takes}
+use Rattle.tt_epoch.specs.declared.faults.EpochFault.TheVariants.{UsedUp}
+use Rattle.tt_settings.specs.Settings.{Meaning}
+use Rattle.tt_settings.specs.declared.plans.Pauses.{Pauses}
+use Rattle.tt_node.specs.Sharing.{new_watch}
+use Rattle.tt_runs.specs.Calls.{RoundsCall, AreInTurn, RiseIn, kept_after}
+use Rattle.tt_runs.specs.Steps.{Kept}
+use Rattle.tt_consistency.specs.Lives.{IsLife, WorksIn}
+use Rattle.tt_server.specs.declared.faults.ServerFault.{ServerFault}
+use Rattle.tt_server.specs.declared.halls.Life.{Life as Current}
+use Rattle.tt_server.specs.declared.lives.LifeEnd.{LifeEnd}
+use Rattle.tt_server.specs.declared.lives.WorkerEnd.{WorkerEnd}
+use Rattle.tt_server.specs.Life.{ServerSession, ServerWorker, ServerLife, ServesOne, HandsBack, TellOfEach, TellsOf, clock_failures, max_waits}
+use Rattle.tt_server.specs.Thread.{HasSettings, terms_in}
+
+-- ---- epochs
+-- the number of a stage, if it has one, is not 0
+abbrev HasNumber : Stage → Type 0
+HasNumber Reads = Unit {0}
+HasNumber (Writes n) = 0 < n
+HasNumber (Syncs n) = 0 < n
+HasNumber (Installs n) = 0 < n
+HasNumber (Fixes n) = 0 < n
+HasNumber (Answered n) = 0 < n
+HasNumber (Over fault) = Unit {0}
+
+next-number : (n : ℕ) (b : Bool) → HasNumber (if b then Over UsedUp else Writes (n + 1))
+next-number n true = tt
+next-number n false = omega arith
+
+step-number : (stage : Stage) (gift : Gift) → HasNumber stage → HasNumber (step_of stage gift)
+step-number Reads (Gave file) has = next-number (number_of file) (number_of file == 18446744073709551615)
+step-number Reads NotOwn has = tt
+step-number Reads Done has = tt
+step-number Reads Broke has = tt
+step-number (Writes n) (Gave file) has = tt
+step-number (Writes n) NotOwn has = tt
+step-number (Writes n) Done has = has
+step-number (Writes n) Broke has = tt
+step-number (Syncs n) (Gave file) has = tt
+step-number (Syncs n) NotOwn has = tt
+step-number (Syncs n) Done has = has
+step-number (Syncs n) Broke has = tt
+step-number (Installs n) (Gave file) has = tt
+step-number (Installs n) NotOwn has = tt
+step-number (Installs n) Done has = has
+step-number (Installs n) Broke has = tt
+step-number (Fixes n) (Gave file) has = tt
+step-number (Fixes n) NotOwn has = tt
+step-number (Fixes n) Done has = has
+step-number (Fixes n) Broke has = tt
+step-number (Answered n) gift has = tt
+step-number (Over fault) gift has = tt
+
+steps-number : (stage : Stage) (gifts : List Gift) → HasNumber stage → HasNumber (stage_after stage gifts)
+steps-number stage [] has = has
+steps-number stage (gift ∷ gifts) has = steps-number (step_of stage gift) gifts (step-number stage gift has)
+
+-- an epoch that a store gave is not 0
+pub some-epoch : {S : Type 0} (does : S → Call → Gift → S → Type 0) (before after : S) (epoch : ℕ) → Takes does Reads before after (Ok epoch) → 0 < epoch
+some-epoch does before after epoch takes = subst HasNumber takes.2 (steps-number Reads takes.0 tt)
+
+-- a life that was made of these settings has them
+pub has-settings : (settings : Meaning) (epoch : ℕ) (made current : Current)
+    → made ≡ record { machine = settings.machine; epoch = epoch; config = settings.config; pauses = settings.pauses; lease = settings.lease } → current ≡ made → 0 < epoch → epoch < 2 ^ 64 → HasSettings settings current
+has-settings settings epoch made current is same some below =
+    let e = same ∙ is in
+    record {
+      machine = ap (λ (l : Current). l.machine) e;
+      config = ap (λ (l : Current). l.config) e;
+      pauses = ap (λ (l : Current). l.pauses) e;
+      lease = ap (λ (l : Current). l.lease) e;
+      first = subst (λ (n : ℕ). 0 < n) (sym (ap (λ (l : Current). l.epoch) e)) some;
+      last = subst (λ (n : ℕ). n < 2 ^ 64) (sym (ap (λ (l : Current). l.epoch) e)) below;
+    }
+
+-- the epoch of an end is the one that the store gave
+pub took-epoch : {S : Type 0} (does : S → Call → Gift → S → Type 0) (before after : S) (epoch current : ℕ) (result : Result LifeEnd ServerFault)
+    → current ≡ epoch → Takes does Reads before after (Ok epoch) → IfOk result (λ end. end.epoch ≡ current) → IfOk result (λ end. Takes does Reads before after (Ok end.epoch))
+took-epoch does before after epoch current (Ok end) same takes is = subst (λ (n : ℕ). Takes does Reads before after (Ok n)) (sym (is ∙ same)) takes
+took-epoch does before after epoch current (Err fault) same takes is = tt
+
+-- ---- sessions
+-- a call of `serve` is one session, whatever it answers
+pub one-session : (client : Unit {0}) (before after : PostState ClockState) (left left' taken taken' : Option (List ℕ)) (answer : Result Served ServeFault)
+    → IfOk answer (λ served. ServesSession MachineGives clock_failures ClientSays max_waits left left' taken taken' client before after served)
+    → (IsErrOf answer ReadFailed → (served : Served) × ServesSession MachineGives clock_failures ClientSays max_waits left left' taken taken' client before after served)
+    → (IsErrOf answer WriteFailed → BreaksSession MachineGives clock_failures ClientSays max_waits left left' taken taken' client before after)
+    → ServesOne before after
+one-session client before after left left' taken taken' (Ok served) ok read write =
+    inr (record { client = client; before = before; after = after; left = left; left' = left'; taken = taken; taken' = taken'; served = inl (served, ok) }, refl, refl)
+one-session client before after left left' taken taken' (Err ReadFailed) ok read write =
+    inr (record { client = client; before = before; after = after; left = left; left' = left'; taken = taken; taken' = taken'; served = inl (read refl) }, refl, refl)
+one-session client before after left left' taken taken' (Err WriteFailed) ok read write =
+    inr (record { client = client; before = before; after = after; left = left; left' = left'; taken = taken; taken' = taken'; served = inr (write refl) }, refl, refl)
+
+-- sessions led from the one post to the other
+abbrev pub HasServed : PostState ClockState → PostState ClockState → Type 0
+HasServed first now = (sessions : List ServerSession) × AreServedInTurn first sessions × (now ≡ post_after first sessions)
+
+pub served-none : (first : PostState ClockState) → HasServed first first
+served-none first = ([], tt, refl)
+
+pub served-next : (first before after : PostState ClockState) → HasServed first before → ServesOne before after → HasServed first after
+served-next first before after has (inl same) = (has.0, has.1, same ∙ has.2)
+served-next first before after has (inr (session, from, to)) = (session ∷ has.0, (from ∙ has.2, has.1), sym to)
+
+-- a worker that has served its sessions hands back what its watch has seen
+pub handed-back : (watch : WatchState) (terms : Terms) (first now : PostState ClockState) (end : WorkerEnd) → first.watch ≡ watch → first.lease ≡ terms.lease → first.ahead ≡ terms.ahead
+    → HasServed first now → end.seen ≡ seen_of now.watch → HandsBack watch terms end
+handed-back watch terms first now end watch_is lease_is ahead_is has seen = record {
+  worker = record { post = first; sessions = has.0 };
+  watch_is = watch_is;
+  lease_is = lease_is;
+  ahead_is = ahead_is;
+  in_turn = has.1;
+  seen_is = seen ∙ ap (λ (p : PostState ClockState). seen_of p.watch) has.2;
+}
+
+-- the same of an equal watch and equal terms
+pub handed-by : (watch watch' : WatchState) (terms terms' : Terms) (end : WorkerEnd) → watch' ≡ watch → terms' ≡ terms → HandsBack watch' terms' end → HandsBack watch terms end
+handed-by watch watch' terms terms' end same same' handed =
+    subst (λ (w : WatchState). HandsBack w terms end) same (subst (λ (t : Terms). HandsBack watch' t end) same' handed)
+
+-- ---- the source of a worker's watch
+abbrev Station : Type 0
+Station = StationState ClockState (Unit {0})
+
+source-call : (before : Station) (one : Call') (after : Station) → Allows MachineGives clock_failures ClientSays before one after → after.post.watch.source ≡ before.post.watch.source
+source-call before (call.Now answer) after allowed = allowed.looks.same.0
+source-call before (call.Begin number floor answer) after allowed = allowed.looks.same.0
+source-call before (call.Lease lo hi answer) after allowed = ap (λ (s : Station). s.post.watch.source) allowed.set
+source-call before (call.Pass number answer) after allowed = allowed.looks.same.0
+
+source-talked : (before : Station) (calls : List Call') (after : Station) → Conversation (Allows MachineGives clock_failures ClientSays) before calls after → after.post.watch.source ≡ before.post.watch.source
+source-talked before [] after talked = ap (λ (s : Station). s.post.watch.source) talked
+source-talked before (one ∷ calls) after talked = source-talked talked.0 calls after talked.2 ∙ source-call before one talked.0 talked.1
+
+source-served : (left left' taken taken' : Option (List ℕ)) (client : Unit {0}) (before after : PostState ClockState)
+    → ((served : Served) × ServesSession MachineGives clock_failures ClientSays max_waits left left' taken taken' client before after served) ⊎ BreaksSession MachineGives clock_failures ClientSays max_waits left left' taken taken' client before after
+    → after.watch.source ≡ before.watch.source
+source-served left left' taken taken' client before after (inl (served, s)) =
+    ap (λ (p : PostState ClockState). p.watch.source) (sym s.1) ∙ source-talked (new_station before client) s.2.session.calls s.0 s.2.session.talked
+source-served left left' taken taken' client before after (inr s) =
+    ap (λ (p : PostState ClockState). p.watch.source) (sym s.1) ∙ source-talked (new_station before client) s.2.breaks.session.calls s.0 s.2.breaks.session.talked
+
+source-after : (first : PostState ClockState) (sessions : List ServerSession) → AreServedInTurn first sessions → (post_after first sessions).watch.source ≡ first.watch.source
+source-after first [] in_turn = refl
+source-after first (session ∷ sessions) in_turn =
+    source-served session.left session.left' session.taken session.taken' session.client session.before session.after session.served
+    ∙ (ap (λ (p : PostState ClockState). p.watch.source) in_turn.0 ∙ source-after first sessions in_turn.1)
+
+-- ---- watches
+-- new watches of the same source, by a clock with the same drift
+pub new-watches : (source source' : Source) (drift drift' : ℕ) (watches : List WatchState) → source' ≡ source → drift' ≡ drift
+    → All (λ (w : WatchState). w ≡ new_watch source drift) watches → All (λ (w : WatchState). w ≡ new_watch source' drift') watches
+new-watches source source' drift drift' watches same same' all =
+    subst (λ (s : Source). All (λ (w : WatchState). w ≡ new_watch s drift') watches) (sym same)
+    (subst (λ (d : ℕ). All (λ (w : WatchState). w ≡ new_watch source d) watches) (sym same') all)
+
+-- ---- workers
+-- a worker handed this back, and its watch has seen the first ones of these publications
+record Fits (watch : WatchState) (terms : Terms) (published : List Publication) (worker : ServerWorker) : Type 0 where
+  pub watch_is : worker.post.watch ≡ watch
+  pub lease_is : worker.post.lease ≡ terms.lease
+  pub ahead_is : worker.post.ahead ≡ terms.ahead
+  pub in_turn : AreServedInTurn worker.post worker.sessions
+  pub seen : IsPrefix (post_after worker.post worker.sessions).watch.items published
+
+abbrev pub Handed : WatchState → Terms → WorkerEnd → Type 0
+Handed watch terms end = HandsBack watch terms end
+
+abbrev pub Begins : List Publication → WorkerEnd → Type 0
+Begins published end = IsPrefix end.seen.items published
+
+-- what a worker has seen is of the source of its watch
+pub source-handed : (watch : WatchState) (terms : Terms) (end : WorkerEnd) → Handed watch terms end → end.seen.source ≡ watch.source
+source-handed watch terms end handed =
+    ap (λ (k : Known). k.source) handed.seen_is ∙ (source-after handed.worker.post handed.worker.sessions handed.in_turn ∙ ap (λ (w : WatchState). w.source) handed.watch_is)
+
+pub sources-handed : (watch : WatchState) (terms : Terms) (ends : List WorkerEnd) → All (Handed watch terms) ends → All (λ (end : WorkerEnd). end.seen.source ≡ watch.source) ends
+sources-handed watch terms ends all =
+    All-weaker (Handed watch terms) (λ (end : WorkerEnd). end.seen.source ≡ watch.source) (source-handed watch terms) ends all
+
+record Told (watch : WatchState) (terms : Terms) (published : List Publication) (ends : List WorkerEnd) : Type 0 where
+  pub workers : List ServerWorker
+  pub each : TellOfEach ends workers
+  pub fit : All (Fits watch terms published) workers
+  pub len : length workers ≡ length ends
+
+told-of : (watch : WatchState) (terms : Terms) (published : List Publication) (ends : List WorkerEnd) → All (Handed watch terms) ends → All (Begins published) ends → Told watch terms published ends
+told-of watch terms published [] all begin = record { workers = []; each = tt; fit = All-nil (Fits watch terms published); len = refl }
+told-of watch terms published (end ∷ ends) all begin =
+    let here = All-head (Handed watch terms) end ends all in
+    let rest = told-of watch terms published ends (All-tail (Handed watch terms) end ends all) (All-tail (Begins published) end ends begin) in
+    let begins : IsPrefix (seen_of (post_after here.worker.post here.worker.sessions).watch).items published =
+    subst (λ (k : Known). IsPrefix k.items published) here.seen_is (All-head (Begins published) end ends begin) in
+    let fits : Fits watch terms published here.worker =
+    record { watch_is = here.watch_is; lease_is = here.lease_is; ahead_is = here.ahead_is; in_turn = here.in_turn; seen = begins } in
+    let len : length rest.workers ≡ length ends = rest.len in
+    record {
+      workers = here.worker ∷ rest.workers;
+      each = (here.seen_is, rest.each);
+      fit = All-cons (Fits watch terms published) here.worker rest.workers fits rest.fit;
+      len = omega arith;
+    }
+
+-- ---- a life
+-- the calls of a daemon that began so, up to what it has published
+abbrev pub HasCalled : DaemonState → DaemonState → List Publication → ℕ → Type 0
+HasCalled from to published shown = (calls : List RoundsCall) × AreInTurn (record { daemon = from; published = [] }) calls
+    × (kept_after (record { daemon = from; published = [] }) calls ≡ record { daemon = to; published = map fused_span_of published })
+    × RiseIn 0 calls shown
+
+-- the calls of a daemon whose clock began at 0, up to what its teller told
+pub has-called : (from to : DaemonState) (published told : List Publication) (first shown : ℕ) → first ≡ 0 → told ≡ published
+    → (calls : List RoundsCall) × AreInTurn (record { daemon = from; published = [] }) calls
+    × (kept_after (record { daemon = from; published = [] }) calls ≡ record { daemon = to; published = map fused_span_of published })
+    × RiseIn first calls shown
+    → HasCalled from to told shown
+has-called from to published told first shown none same called = subst (λ (items : List Publication). HasCalled from to items shown) (sym same) (
+  called.0,
+  called.1,
+  called.2,
+  subst (λ (n : ℕ). RiseIn n called.0 shown) none called.3,
+)
+
+-- what the workers handed back, as their watches are of the source that was told
+pub handed-of : (source source' : Source) (drift : ℕ) (terms : Terms) (ends : List WorkerEnd) → source' ≡ source → All (Handed (new_watch source drift) terms) ends → All (Handed (new_watch source' drift) terms) ends
+handed-of source source' drift terms ends same all = subst (λ (s : Source). All (Handed (new_watch s drift) terms) ends) (sym same) all
+
+-- a life that ended, from what its threads handed back
+pub life-ended : (settings : Meaning) (current : Current) (end : LifeEnd) (from to : DaemonState) (shown : ℕ)
+    → HasSettings settings current → IsConfiguration current.config → current.epoch < 2 ^ 64
+    → from ≡ new_daemon (min current.machine 7) current.config current.epoch
+    → HasCalled from to end.published.items shown
+    → All (Handed (new_watch end.published.source current.config.drift) (terms_in current)) end.workers.items
+    → All (Begins end.published.items) end.workers.items
+    → end.epoch ≡ current.epoch → length end.workers.items ≡ settings.config.workers
+    → (life : ServerLife) × TellsOf settings end life
+life-ended settings current end from to shown has configured below new called handed begin epoch count =
+    let watch = new_watch end.published.source current.config.drift in
+    let terms = terms_in current in
+    let published = end.published.items in
+    let told = told-of watch terms published end.workers.items handed begin in
+    let (calls, in_turn, kept, rise) = subst (λ (d : DaemonState). HasCalled d to published shown) new called in
+    let life : ServerLife = record {
+      config = current.config;
+      number = min current.machine 7;
+      epoch = current.epoch;
+      lease = current.lease;
+      ahead = current.pauses.floor_ahead;
+      calls = calls;
+      source = end.published.source;
+      published = published;
+      workers = told.workers;
+    } in
+    let works : (worker : ServerWorker) → Fits watch terms published worker → WorksIn life worker = λ worker fits. record {
+      watch = fits.watch_is;
+      lease = fits.lease_is;
+      ahead = fits.ahead_is;
+      in_turn = fits.in_turn;
+      seen = fits.seen;
+    } in
+    let is_life : IsLife life = record {
+      configured = configured;
+      first = has.first;
+      last = below;
+      in_turn = in_turn;
+      rising = (shown, rise);
+      published = sym (ap (λ (k : Kept). k.published) kept);
+      workers = All-weaker (Fits watch terms published) (WorksIn life) works told.workers told.fit;
+    } in (
+      life,
+      record {
+        is_life = is_life;
+        config = has.config;
+        number = ap (λ (n : ℕ). min n 7) has.machine;
+        lease = has.lease;
+        ahead = ap (λ (p : Pauses). p.floor_ahead) has.pauses;
+        epoch = sym epoch;
+        source = refl;
+        published = refl;
+        workers = told.len ∙ count;
+        ends = told.each;
+      },
+    )

@@ -1,0 +1,19 @@
+-- Each round is one more call.
+use Rattle.std.proofs.Common.{refl, ◌∙◌}
+use Rattle.tt_server.proofs.Calls.{calls-later, no-calls, one-more}
+use Rattle.tt_server.proofs.rounds.run_daemon.Goals as goal
+
+pub loop-init : goal.loop-init
+loop-init g c = record {
+  calls = rw c.requires.nothing (no-calls _ _ _ c.now_of-began.ensures.rises);
+  source = refl;
+}
+
+pub loop-preserved : goal.loop-preserved
+loop-preserved g c = record {
+  calls = rw c.renew.ensures.same (one-more _ _ _ _ _ _ c.loop.invariant.calls c.go_round.ensures.call);
+  source = c.go_round.ensures.source ∙ c.loop.invariant.source;
+}
+
+pub returns-then-has_ended-clause-calls : goal.returns-then-has_ended-clause-calls
+returns-then-has_ended-clause-calls g c = rw c.end.ensures.same (calls-later _ _ _ _ _ (one-more _ _ _ _ _ _ c.loop.invariant.calls c.go_round.ensures.call) c.end.ensures.rises)

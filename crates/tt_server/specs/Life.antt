@@ -1,0 +1,64 @@
+-- What is proved of a life of the server, from what its threads hand back.
+use Rattle.std.specs.Prelude.{◌≡◌, ◌⊎◌, ℕ, min, List, [], ◌∷◌, length}
+use Rattle.tt_publish.specs.Known.{Source, WatchState, seen_of}
+use Rattle.tt_station.specs.Station.{PostState}
+use Rattle.tt_station.specs.Sessions.{WorkerSession, AreServedInTurn, post_after}
+use Rattle.tt_station.specs.declared.posts.Terms.{Terms}
+use Rattle.tt_connections.specs.Clock.{ClockState, MachineGives, ClientSays}
+use Rattle.tt_settings.specs.Settings.{Meaning}
+use Rattle.tt_node.specs.Sharing.{new_watch}
+use Rattle.tt_consistency.specs.Lives.{Life, WorkerLife, IsLife}
+use Rattle.tt_server.specs.declared.lives.LifeEnd.{LifeEnd}
+use Rattle.tt_server.specs.declared.lives.WorkerEnd.{WorkerEnd}
+
+-- how often the clock of a machine has failed
+abbrev pub clock_failures : ClockState → ℕ
+clock_failures clock = clock.failures
+
+-- the most release steps of one line
+abbrev pub max_waits : ℕ
+max_waits = 10000
+
+-- a session of a worker of the server
+abbrev pub ServerSession : Type 0
+ServerSession = WorkerSession MachineGives clock_failures ClientSays max_waits
+
+-- a worker of the server
+abbrev pub ServerWorker : Type 0
+ServerWorker = WorkerLife MachineGives clock_failures ClientSays max_waits
+
+-- a life of the server
+abbrev pub ServerLife : Type 0
+ServerLife = Life MachineGives clock_failures ClientSays max_waits
+
+-- the post of a worker after it was given a client: a session went from the one post to the other, or there was none
+abbrev pub ServesOne : PostState ClockState → PostState ClockState → Type 0
+ServesOne before after = (after ≡ before) ⊎ ((session : ServerSession) × (session.before ≡ before) × (session.after ≡ after))
+
+-- what a worker handed back: it began with this watch and these terms, it served its sessions one after the other, and it tells what its watch had seen then
+pub record HandsBack (watch : WatchState) (terms : Terms) (end : WorkerEnd) : Type 0 where
+  pub worker : ServerWorker
+  pub watch_is : worker.post.watch ≡ watch
+  pub lease_is : worker.post.lease ≡ terms.lease
+  pub ahead_is : worker.post.ahead ≡ terms.ahead
+  pub in_turn : AreServedInTurn worker.post worker.sessions
+  pub seen_is : end.seen ≡ seen_of (post_after worker.post worker.sessions).watch
+
+-- each end tells what the watch of its worker had seen
+abbrev pub TellOfEach : List WorkerEnd → List ServerWorker → Type 0
+TellOfEach [] [] = Unit {0}
+TellOfEach (end ∷ ends) (worker ∷ workers) = (end.seen ≡ seen_of (post_after worker.post worker.sessions).watch) × TellOfEach ends workers
+TellOfEach _ _ = ⊥
+
+-- a life of a machine with these settings ended so; a machine has a number of at most 7
+pub record TellsOf (settings : Meaning) (end : LifeEnd) (life : ServerLife) : Type 0 where
+  pub is_life : IsLife life
+  pub config : life.config ≡ settings.config
+  pub number : life.number ≡ min settings.machine 7
+  pub lease : life.lease ≡ settings.lease
+  pub ahead : life.ahead ≡ settings.pauses.floor_ahead
+  pub epoch : life.epoch ≡ end.epoch
+  pub source : life.source ≡ end.published.source
+  pub published : life.published ≡ end.published.items
+  pub workers : length life.workers ≡ settings.config.workers
+  pub ends : TellOfEach end.workers.items life.workers

@@ -1,0 +1,231 @@
+-- The records of a round: what is counted, logged, shown and shared of it. And the status.
+use Rattle.std.specs.Prelude.{◌≡◌, ℕ, ◌-◌, ◌+◌, ◌^◌, ◌++◌, ◌∷◌, [], nat_eq, nat_lt, min, map, if◌then◌else◌, Bool, true, false, List, slice_index_or, Option, Some, None, Result, Ok, Err, option_map, take}
+use Rattle.std.specs.List.{filter, list_any, range_with_len}
+use Rattle.tt_fuse.specs.Suspect.{AreSuspects}
+use Rattle.tt_daemon.specs.declared.faults.DaemonFault.{DaemonFault}
+use Rattle.tt_daemon.specs.declared.faults.DaemonFault.TheVariants as daemon
+use Rattle.tt_daemon.specs.Publication.{Publication}
+use Rattle.tt_publish.specs.declared.faults.PublishFault.TheVariants as publishing
+use Rattle.tt_node.specs.Fault.{number_of as node_number_of}
+use Rattle.tt_node.specs.Tallies.{packets_in}
+use Rattle.tt_node.specs.declared.faults.NodeFault.{NodeFault}
+use Rattle.tt_node.specs.declared.faults.NodeFault.TheVariants as node
+use Rattle.tt_node.specs.declared.reports.SourceOutcome.{SourceOutcome}
+use Rattle.tt_node.specs.declared.reports.SourceOutcome.TheVariants as source
+use Rattle.tt_node.specs.declared.reports.SourceReport.{SourceReport}
+use Rattle.tt_node.specs.declared.rounds.Rounds.{Rounds}
+use Rattle.tt_node.specs.Reports.{silent as silent_report}
+use Rattle.tt_shared.specs.declared.slots.SharedSpan.{SharedSpan}
+use Rattle.tt_status.specs.declared.lines.Event.{Event}
+use Rattle.tt_status.specs.declared.lines.Event.TheVariants.{AnswersRefused, FirstPublication, ClockBack, FusionRefused, RoundFailed, SourceSilent, SourceSuspect, SourceUnsent}
+use Rattle.tt_status.specs.declared.lines.RefusedFusion.TheVariants as refusal
+use Rattle.tt_status.specs.declared.statuses.SourceStatus.{SourceStatus}
+use Rattle.tt_status.specs.declared.statuses.Status.{Status}
+use Rattle.tt_server.specs.Share.{shared_of}
+use Rattle.tt_server.specs.declared.records.About.{About}
+use Rattle.tt_server.specs.declared.records.About.TheVariants.{Silent, Suspect, Unsent}
+use Rattle.tt_server.specs.declared.records.Events.{Events}
+use Rattle.tt_server.specs.declared.records.Machine.{Machine}
+use Rattle.tt_server.specs.declared.records.Outcome.{Outcome}
+use Rattle.tt_server.specs.declared.records.Outcome.TheVariants.{Published, Refused, Failed, Nothing}
+use Rattle.tt_server.specs.declared.records.RoundTerms.{RoundTerms}
+use Rattle.tt_server.specs.declared.records.Shown.{Shown}
+use Rattle.tt_server.specs.declared.records.SourceTally.{SourceTally}
+use Rattle.tt_server.specs.declared.records.Tally.{Tally}
+use Rattle.tt_server.specs.declared.records.UnsentPackets.{UnsentPackets}
+use Rattle.tt_server.specs.declared.records.Work.{Work}
+
+-- one more, up to the greatest number of 64 bits
+abbrev pub one_more : ℕ → ℕ
+one_more n = min (n + 1) (2 ^ 64 - 1)
+
+-- ---- what a round came to
+
+-- the publication of a round, if it made one: what it fused is published where no fault ended it
+abbrev pub published_in : Result Rounds NodeFault → Option (Result Publication DaemonFault) → Option Publication
+published_in (Ok did) (Some (Ok p)) = Some p
+published_in did fusion = None
+
+-- the width of a publication
+abbrev pub width_of : Publication → ℕ
+width_of p = p.span.hi - p.span.lo
+
+-- what a round came to
+abbrev pub outcome_of : Result Rounds NodeFault → Option (Result Publication DaemonFault) → Outcome
+outcome_of (Err fault) fusion = Failed fault
+outcome_of (Ok did) (Some (Ok p)) = Published (width_of p)
+outcome_of (Ok did) (Some (Err fault)) = Refused fault
+outcome_of (Ok did) None = Nothing
+
+-- how many packets a round refused, where no fault ended it
+abbrev pub refused_answers : Result Rounds NodeFault → ℕ
+refused_answers (Ok did) = min (packets_in did.tally.packets) (2 ^ 64 - 1)
+refused_answers (Err fault) = 0
+
+-- the round ended because its link failed
+abbrev pub has_link_failed : Outcome → Bool
+has_link_failed (Failed node.LinkFailed) = true
+has_link_failed outcome = false
+
+-- ---- what is counted
+
+-- nothing is counted of a source
+abbrev pub no_source_tally : SourceTally
+no_source_tally = record { accepted = 0; refused = 0; silent = 0 }
+
+-- what came of a source in one more round is counted
+abbrev pub counted_source : SourceOutcome → SourceTally → SourceTally
+counted_source source.Silent t = record t { silent = one_more t.silent }
+counted_source (source.Accepted received) t = record t { accepted = one_more t.accepted }
+counted_source (source.Refused received fault) t = record t { refused = one_more t.refused }
+
+-- what is reported of a source
+abbrev pub report_at : List SourceReport → ℕ → SourceReport
+report_at sources k = slice_index_or sources k silent_report
+
+-- what is counted of a source
+abbrev pub tally_at : List SourceTally → ℕ → SourceTally
+tally_at each k = slice_index_or each k no_source_tally
+
+-- what is counted of each source after one more round
+unfoldable pub each_after : List SourceTally → List SourceReport → List SourceTally
+each_after each sources = map (λ k. counted_source (report_at sources k).outcome (tally_at each k)) (range_with_len 0 16)
+
+-- a round, and the answers that were refused in it
+abbrev pub with_round : Tally → ℕ → List SourceReport → Tally
+with_round t refused sources = record t { rounds = one_more t.rounds; refused_answers = min (t.refused_answers + refused) (2 ^ 64 - 1); each = each_after t.each sources }
+
+-- what the round came to is counted
+abbrev pub counted : Tally → Outcome → Tally
+counted t (Published width) = record t { published = one_more t.published }
+counted t (Refused daemon.NoPoint) = record t { no_point = one_more t.no_point }
+counted t (Refused daemon.Unknown) = record t { too_few = one_more t.too_few }
+counted t (Refused daemon.ClockBack) = t
+counted t (Failed fault) = t
+counted t Nothing = t
+
+-- what is counted after one more round
+abbrev pub tally_after : Tally → Outcome → ℕ → List SourceReport → Tally
+tally_after t outcome refused sources = counted (with_round t refused sources) outcome
+
+-- ---- what is shown and shared
+
+-- what is shown of a publication: its clock reading, its width and its suspects; and nothing where there is none
+abbrev pub Shows : Option Publication → Option Shown → Type 0
+Shows None shown = shown ≡ None
+Shows (Some p) None = ⊥
+Shows (Some p) (Some shown) = (shown.clock ≡ p.clock) × (shown.width ≡ width_of p) × AreSuspects p.spans p.span shown.suspects.items
+
+-- the suspects of what is shown
+abbrev pub suspects_in : Option Shown → List ℕ
+suspects_in (Some shown) = shown.suspects.items
+suspects_in None = []
+
+-- what other processes read of the publication of a round: it has the number after those before it
+abbrev pub span_of : Option Publication → Tally → RoundTerms → Option SharedSpan
+span_of published t terms = option_map (λ p. shared_of p terms.epoch (one_more t.published) terms.pauses terms.config.drift) published
+
+-- ---- what is logged
+
+-- the events in a list of them
+abbrev pub events_in : Events → List Event
+events_in events = take events.count events.all
+
+-- the numbers below n for which a test holds, ascending
+abbrev pub numbers_where : (ℕ → Bool) → ℕ → List ℕ
+numbers_where test n = filter test (range_with_len 0 n)
+
+-- no packet came from it
+abbrev pub is_silent : SourceOutcome → Bool
+is_silent source.Silent = true
+is_silent outcome = false
+
+-- a packet to a source could not be sent since the last round
+abbrev pub has_unsent : UnsentPackets → ℕ → Bool
+has_unsent unsent k = nat_lt (slice_index_or unsent.before k 0) (slice_index_or unsent.after k 0)
+
+-- what is logged of a source
+abbrev pub event_about : About → ℕ → Event
+event_about Suspect k = SourceSuspect k
+event_about Silent k = SourceSilent k
+event_about Unsent k = SourceUnsent k
+
+-- what is logged of a fusion that was refused
+abbrev pub refusal_event : DaemonFault → Event
+refusal_event daemon.ClockBack = ClockBack
+refusal_event daemon.NoPoint = FusionRefused refusal.NoPoint
+refusal_event daemon.Unknown = FusionRefused refusal.TooFewKnown
+
+-- what is logged of what a round came to, after so many publications
+abbrev pub event_of : Outcome → ℕ → Option Event
+event_of (Published width) published = if nat_eq published 0 then Some (FirstPublication width) else None
+event_of (Refused fault) published = Some (refusal_event fault)
+event_of (Failed node.ClockFailed) published = Some ClockBack
+event_of (Failed (node.Publish publishing.ClockBack)) published = Some ClockBack
+event_of (Failed fault) published = Some (RoundFailed (node_number_of fault))
+event_of Nothing published = None
+
+-- the answers that were refused are logged, if there are any
+abbrev pub refused_event : ℕ → Option Event
+refused_event refused = if nat_lt 0 refused then Some (AnswersRefused refused) else None
+
+-- an event, if there is one
+abbrev pub some_event : Option Event → List Event
+some_event (Some event) = event ∷ []
+some_event None = []
+
+-- what is logged of a round, in this order: the suspects of its fusion, what it came to, the answers that were refused, the sources that were silent, and those to which a packet could not be sent
+abbrev pub events_of : List ℕ → Option Event → Option Event → List ℕ → List ℕ → List Event
+events_of suspects outcome refused silent unsent =
+    map (event_about Suspect) suspects ++ some_event outcome ++ some_event refused ++ map (event_about Silent) silent ++ map (event_about Unsent) unsent
+
+-- ---- the status
+
+-- a number is among these
+abbrev pub is_among : ℕ → List ℕ → Bool
+is_among k numbers = list_any (λ n. nat_eq n k) numbers
+
+-- how wide what is shown is
+abbrev pub width_in : Option Shown → Option ℕ
+width_in (Some shown) = Some shown.width
+width_in None = None
+
+-- how long ago it was fused
+abbrev pub age_in : Option Shown → ℕ → Option ℕ
+age_in (Some shown) now = Some (now - shown.clock)
+age_in None now = None
+
+-- what became of source k
+abbrev pub source_status : Option Shown → SourceTally → ℕ → ℕ → SourceStatus
+source_status shown t unsent k = record { suspect = is_among k (suspects_in shown); accepted = t.accepted; refused = t.refused; silent = t.silent; unsent = unsent }
+
+-- nothing became of a source
+abbrev pub no_source_status : SourceStatus
+no_source_status = record { suspect = false; accepted = 0; refused = 0; silent = 0; unsent = 0 }
+
+-- what became of each source
+unfoldable pub each_status : Option Shown → List SourceTally → List ℕ → List SourceStatus
+each_status shown each unsent = map (λ k. source_status shown (tally_at each k) (slice_index_or unsent k 0) k) (range_with_len 0 16)
+
+-- the status of a machine when its clock shows this
+abbrev pub status_of : Machine → Tally → Option Shown → List ℕ → Work → ℕ → Status
+status_of machine t shown unsent work now = record {
+  machine = machine.number;
+  epoch = machine.epoch;
+  width = width_in shown;
+  age = age_in shown now;
+  known = machine.known;
+  sources = machine.sources;
+  each = each_status shown t.each unsent;
+  rounds = t.rounds;
+  published = t.published;
+  refused_answers = t.refused_answers;
+  no_point = t.no_point;
+  too_few = t.too_few;
+  sharing = machine.sharing;
+  sessions = work.sessions;
+  lines = work.lines;
+  refused_lines = work.refused_lines;
+  waiting = work.waiting;
+  left_out = work.left_out;
+}

@@ -1,0 +1,32 @@
+-- What the threads of the server promise.
+use Rattle.std.specs.Prelude.{◌≡◌, ℕ, ◌<◌, ◌^◌, List, length, All}
+use Rattle.tt_publish.specs.Known.{Source, WatchState}
+use Rattle.tt_station.specs.declared.posts.Terms.{Terms}
+use Rattle.tt_settings.specs.Settings.{Meaning}
+use Rattle.tt_node.specs.Sharing.{new_watch}
+use Rattle.tt_server.specs.declared.halls.Life.{Life as Current}
+use Rattle.tt_server.specs.declared.workers.ServesClients.{ServesClients}
+
+-- the terms of a life
+abbrev pub terms_in : Current → Terms
+terms_in life = record { lease = life.lease; ahead = life.pauses.floor_ahead }
+
+-- the thread of a worker serves clients with this watch and these terms
+pub record IsServing (watch : WatchState) (terms : Terms) (promise : ServesClients) : Type 0 where
+  pub watch_is : promise.watch.value ≡ watch
+  pub terms_are : promise.terms ≡ terms
+
+-- new watches of this source, and room, for as many workers as these settings have
+pub record AreReady (settings : Meaning) (source : Source) (watches : List WatchState) (most : ℕ) : Type 0 where
+  pub count : length watches ≡ settings.config.workers
+  pub room : most ≡ settings.config.workers
+  pub new : All (λ watch. watch ≡ new_watch source settings.config.drift) watches
+
+-- this life has an epoch of 64 bits that is not 0, and the number, the configuration, the pauses and the lease of these settings
+pub record HasSettings (settings : Meaning) (life : Current) : Type 0 where
+  pub machine : life.machine ≡ settings.machine
+  pub config : life.config ≡ settings.config
+  pub pauses : life.pauses ≡ settings.pauses
+  pub lease : life.lease ≡ settings.lease
+  pub first : 0 < life.epoch
+  pub last : life.epoch < 2 ^ 64

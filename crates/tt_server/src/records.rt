@@ -1,0 +1,624 @@
+//! The records of a round: what is counted, logged, shown and shared of it. And the status.
+
+ghost use Rattle.std.specs.Prelude.{◌≡◌, ◌+◌, ◌<◌, ◌≤◌, ◌++◌, ◌∷◌, [], Some, map, length};
+ghost use Rattle.tt_span.specs.Sources.{max_sources};
+ghost use Rattle.tt_server.specs.Records.{Shows, age_in, counted_source, each_after, each_status, event_about, event_of, events_in, events_of, has_link_failed, has_unsent, is_among, is_silent, numbers_where, outcome_of, published_in, refusal_event, refused_answers, refused_event, report_at, some_event, source_status, span_of, status_of, suspects_in, tally_after, width_in};
+
+use crate::shares::shared_of;
+use arrayvec::ArrayVec;
+use tt_daemon::{Config, DaemonFault, Fused, MAX_SOURCES};
+use tt_fuse::suspects;
+use tt_node::{NodeFault, RoundReport, Rounds, SourceOutcome, SourceReport};
+use tt_publish::PublishFault;
+use tt_settings::Pauses;
+use tt_shared::SharedSpan;
+use tt_status::{Event, RefusedFusion, SourceStatus, Status};
+
+/// The most events of one round: three of each source, one of what the round came to, and one of its refused answers.
+const MAX_EVENTS: usize = 50;
+
+/// What a round came to.
+#[derive(Clone, Copy, Debug, PartialEq, Eq)]
+pub(crate) enum Outcome {
+    /// A fusion was published, of this width in nanoseconds.
+    Published { width: u64 },
+    /// The fusion was refused.
+    Refused(DaemonFault),
+    /// The round ended with a fault: a device failed, or the fusion was not published.
+    Failed(NodeFault),
+    /// There was no round.
+    Nothing,
+}
+
+/// In how many rounds a source was heard or not. Each count stays at 2^64 - 1 once it is reached.
+#[derive(Clone, Copy, Debug, PartialEq, Eq)]
+pub(crate) struct SourceTally {
+    /// An answer was accepted.
+    pub(crate) accepted: u64,
+    /// Answers came, and all were refused.
+    pub(crate) refused: u64,
+    /// No answer came.
+    pub(crate) silent: u64,
+}
+
+/// Counts of what the rounds of a life have done so far. Each count stays at 2^64 - 1 once it is reached.
+#[derive(Clone, Copy, Debug, PartialEq, Eq)]
+pub(crate) struct Tally {
+    pub(crate) rounds: u64,
+    pub(crate) published: u64,
+    pub(crate) refused_answers: u64,
+    pub(crate) no_point: u64,
+    pub(crate) too_few: u64,
+    /// By the number of the source.
+    pub(crate) each: [SourceTally; MAX_SOURCES],
+}
+
+/// A publication, as the status shows it.
+#[derive(Drop)]
+pub(crate) struct Shown {
+    /// The clock reading of its fusion, in nanoseconds.
+    pub(crate) clock: u64,
+    /// Its width, in nanoseconds.
+    pub(crate) width: u64,
+    /// The numbers of its suspects, ascending.
+    pub(crate) suspects: ArrayVec<u8, MAX_SOURCES>,
+}
+
+/// For each source, how many packets to it could not be sent before a round and after it.
+#[derive(Clone, Copy, Debug, PartialEq, Eq)]
+pub(crate) struct UnsentPackets {
+    pub(crate) before: [u64; MAX_SOURCES],
+    pub(crate) after: [u64; MAX_SOURCES],
+}
+
+/// What the rounds of a life have in common.
+#[derive(Clone, Copy)]
+pub(crate) struct RoundTerms {
+    pub(crate) config: Config,
+    pub(crate) epoch: u64,
+    pub(crate) pauses: Pauses,
+}
+
+/// What is logged about a source.
+#[derive(Clone, Copy, Debug, PartialEq, Eq)]
+pub(crate) enum About {
+    /// It is a suspect of the fusion.
+    Suspect,
+    /// No answer came from it.
+    Silent,
+    /// A packet to it could not be sent.
+    Unsent,
+}
+
+impl About {
+    /// The event of this source.
+    fn event(self, source: u8) -> Event
+        ensures { result ≡ event_about self source }
+    {
+        let source = u64::from(source);
+        match self {
+            About::Suspect => Event::SourceSuspect { source },
+            About::Silent => Event::SourceSilent { source },
+            About::Unsent => Event::SourceUnsent { source },
+        }
+    }
+}
+
+/// The events of a round, in order.
+#[derive(Drop)]
+pub(crate) struct Events {
+    all: [Event; MAX_EVENTS],
+    count: usize,
+}
+
+impl Events {
+    /// No events.
+    fn new() -> Events
+        ensures none { events_in result ≡ [] }
+        ensures count { result.count ≡ 0 }
+    {
+        Events {
+            all: [Event::ClockBack; MAX_EVENTS],
+            count: 0,
+        }
+    }
+
+    /// Adds an event. Requires: there is room.
+    fn push(&mut self, event: Event)
+        requires room { self.old.count < 50 }
+        ensures events { events_in self.new ≡ events_in self.old ++ event ∷ [] }
+        ensures count { self.new.count ≡ self.old.count + 1 }
+    {
+        self.all[self.count] = event;
+        self.count += 1;
+    }
+
+    /// Adds an event, if there is one. Requires: there is room.
+    fn push_some(&mut self, event: Option<Event>)
+        requires room { self.old.count < 50 }
+        ensures events { events_in self.new ≡ events_in self.old ++ some_event event }
+        ensures count { self.new.count ≤ self.old.count + 1 }
+    {
+        if let Some(event) = event {
+            self.push(event);
+        }
+    }
+
+    /// Adds an event about each of these sources. Requires: there is room.
+    fn push_each(&mut self, about: About, sources: &[u8])
+        requires room { self.old.count + length sources.now ≤ 50 }
+        ensures events { events_in self.new ≡ events_in self.old ++ map (event_about about) sources.now }
+        ensures count { self.new.count ≡ self.old.count + length sources.now }
+    {
+        for source in sources {
+            self.push(about.event(*source));
+        }
+    }
+
+    /// The events. Requires: there are not more than have room.
+    pub(crate) fn as_slice(&self) -> &[Event]
+        requires in_range { self.now.count ≤ 50 }
+        ensures value { result.now ≡ events_in self.now }
+    {
+        &self.all[..self.count]
+    }
+}
+
+/// The records of a round.
+#[derive(Drop)]
+pub(crate) struct RoundRecords {
+    /// What is logged.
+    pub(crate) events: Events,
+    /// What is counted, after the round.
+    pub(crate) tally: Tally,
+    /// What the status shows of its publication, if it made one.
+    pub(crate) shown: Option<Shown>,
+    /// What other processes read of its publication, if it made one.
+    pub(crate) span: Option<SharedSpan>,
+    /// Whether the socket failed, so that it has to be made anew.
+    pub(crate) link_failed: bool,
+}
+
+/// What a round came to.
+fn outcome_of(did: &Result<Rounds, NodeFault>, report: &RoundReport) -> Outcome
+    ensures value { result ≡ outcome_of did.now report.now.fusion }
+{
+    match did {
+        Err(fault) => Outcome::Failed(*fault),
+        Ok(_) => match &report.fusion {
+            Some(Ok(fused)) => {
+                let span = fused.span();
+                Outcome::Published {
+                    width: span.hi() - span.lo(),
+                }
+            }
+            Some(Err(fault)) => Outcome::Refused(*fault),
+            None => Outcome::Nothing,
+        },
+    }
+}
+
+/// How many packets were refused in a round, at most 2^64 - 1; 0 if a fault ended the round.
+fn refused_answers(did: &Result<Rounds, NodeFault>) -> u64
+    ensures value { result ≡ refused_answers did.now }
+{
+    match did {
+        Ok(did) => {
+            let packets = &did.tally.packets;
+            packets
+                .no_source
+                .saturating_add(packets.clock_back)
+                .saturating_add(packets.nonces_used_up)
+                .saturating_add(packets.bad_message)
+                .saturating_add(packets.not_mine)
+                .saturating_add(packets.not_outstanding)
+                .saturating_add(packets.other_epoch)
+        }
+        Err(_) => 0,
+    }
+}
+
+/// Whether the socket failed in a round, so that it has to be made anew.
+fn has_link_failed(outcome: &Outcome) -> bool
+    ensures { result ≡ has_link_failed outcome.now }
+{
+    matches!(outcome, Outcome::Failed(NodeFault::LinkFailed))
+}
+
+impl SourceTally {
+    /// The counts after one more round, in which this came of the source.
+    fn after(&self, outcome: SourceOutcome) -> SourceTally
+        ensures value { result ≡ counted_source outcome self.now }
+    {
+        let mut next = *self;
+        match outcome {
+            SourceOutcome::Silent => next.silent = next.silent.saturating_add(1),
+            SourceOutcome::Accepted { .. } => next.accepted = next.accepted.saturating_add(1),
+            SourceOutcome::Refused { .. } => next.refused = next.refused.saturating_add(1),
+        }
+        next
+    }
+}
+
+/// The counts of each source after one more round with this report.
+fn each_after(
+    each: &[SourceTally; MAX_SOURCES],
+    sources: &[SourceReport; MAX_SOURCES],
+) -> [SourceTally; MAX_SOURCES]
+    ensures value { result ≡ each_after each.now sources.now }
+{
+    let mut next = *each;
+    for source in 0..MAX_SOURCES {
+        next[source] = each[source].after(sources[source].outcome);
+    }
+    next
+}
+
+/// No round of the source is counted.
+const NO_ROUND: SourceTally = SourceTally {
+    accepted: 0,
+    refused: 0,
+    silent: 0,
+};
+
+impl Tally {
+    /// The counts at the start: all 0.
+    pub(crate) fn new() -> Tally
+        ensures nothing { result.published ≡ 0 }
+    {
+        Tally {
+            rounds: 0,
+            published: 0,
+            refused_answers: 0,
+            no_point: 0,
+            too_few: 0,
+            each: [NO_ROUND; MAX_SOURCES],
+        }
+    }
+
+    /// The counts after one more round, in which `refused` answers were refused.
+    fn after(&self, outcome: &Outcome, refused: u64, sources: &[SourceReport; MAX_SOURCES]) -> Tally
+        ensures { result ≡ tally_after self.now outcome.now refused sources.now }
+    {
+        let mut next = *self;
+        next.each = each_after(&self.each, sources);
+        next.rounds = next.rounds.saturating_add(1);
+        next.refused_answers = next.refused_answers.saturating_add(refused);
+        match outcome {
+            Outcome::Published { .. } => next.published = next.published.saturating_add(1),
+            Outcome::Refused(DaemonFault::NoPoint) => {
+                next.no_point = next.no_point.saturating_add(1)
+            }
+            Outcome::Refused(DaemonFault::Unknown) => {
+                next.too_few = next.too_few.saturating_add(1)
+            }
+            Outcome::Refused(DaemonFault::ClockBack) | Outcome::Failed(_) | Outcome::Nothing => {}
+        }
+        next
+    }
+}
+
+/// What the status shows of a publication.
+fn shown_of(fused: &Fused) -> Shown
+    ensures value { Shows (Some fused.now) (Some result) }
+{
+    let span = fused.span();
+    Shown {
+        clock: fused.clock(),
+        width: span.hi() - span.lo(),
+        suspects: suspects(fused.spans(), &span),
+    }
+}
+
+/// What is shown and shared of the publication of a round that comes after these rounds, if it made one. What it fused
+/// is published where no fault ended it.
+fn publication_of(
+    did: &Result<Rounds, NodeFault>,
+    report: &RoundReport,
+    tally: &Tally,
+    terms: &RoundTerms,
+) -> (Option<Shown>, Option<SharedSpan>)
+    ensures shown { Shows (published_in did.now report.now.fusion) result.0 }
+    ensures span { result.1 ≡ span_of (published_in did.now report.now.fusion) tally.now terms.now }
+{
+    match did {
+        Err(_) => (None, None),
+        Ok(_) => match &report.fusion {
+            Some(Ok(fused)) => {
+                let number = tally.published.saturating_add(1);
+                let drift = terms.config.drift();
+                let span = shared_of(fused, terms.epoch, number, &terms.pauses, drift);
+                (Some(shown_of(fused)), Some(span))
+            }
+            Some(Err(_)) => (None, None),
+            None => (None, None),
+        },
+    }
+}
+
+/// The suspects of what is shown.
+fn suspects_in(shown: &Option<Shown>) -> &[u8]
+    ensures value { result.now ≡ suspects_in shown.now }
+    ensures few { length result.now ≤ max_sources }
+{
+    match shown {
+        Some(shown) => shown.suspects.as_slice(),
+        None => &[],
+    }
+}
+
+/// The event of a fusion that was refused.
+fn refusal_event(fault: DaemonFault) -> Event
+    ensures { result ≡ refusal_event fault }
+{
+    match fault {
+        DaemonFault::ClockBack => Event::ClockBack,
+        DaemonFault::NoPoint => Event::FusionRefused {
+            reason: RefusedFusion::NoPoint,
+        },
+        DaemonFault::Unknown => Event::FusionRefused {
+            reason: RefusedFusion::TooFewKnown,
+        },
+    }
+}
+
+/// The event of what a round came to, after `published` publications.
+fn event_of(outcome: &Outcome, published: u64) -> Option<Event>
+    ensures { result ≡ event_of outcome.now published }
+{
+    match outcome {
+        Outcome::Published { width } => {
+            if published == 0 {
+                Some(Event::FirstPublication { width: *width })
+            } else {
+                None
+            }
+        }
+        Outcome::Refused(fault) => Some(refusal_event(*fault)),
+        Outcome::Failed(NodeFault::ClockFailed) => Some(Event::ClockBack),
+        Outcome::Failed(NodeFault::Publish(PublishFault::ClockBack)) => Some(Event::ClockBack),
+        Outcome::Failed(fault) => Some(Event::RoundFailed {
+            number: u64::from(fault.number()),
+        }),
+        Outcome::Nothing => None,
+    }
+}
+
+/// The event of the answers that were refused in a round, if there were any.
+fn refused_event(refused: u64) -> Option<Event>
+    ensures { result ≡ refused_event refused }
+{
+    if refused > 0 {
+        Some(Event::AnswersRefused { count: refused })
+    } else {
+        None
+    }
+}
+
+/// Whether no packet came from a source.
+fn is_silent(outcome: &SourceOutcome) -> bool
+    ensures { result ≡ is_silent outcome.now }
+{
+    matches!(outcome, SourceOutcome::Silent)
+}
+
+/// Those of the first `count` sources from which no packet came.
+fn silent_sources(sources: &[SourceReport; MAX_SOURCES], count: usize) -> ArrayVec<u8, MAX_SOURCES>
+    requires few { count ≤ max_sources }
+    ensures value { result.items ≡ numbers_where (λ k. is_silent (report_at sources.now k).outcome) count }
+{
+    let mut silent = ArrayVec::new();
+    for source in 0..count {
+        if is_silent(&sources[source].outcome) {
+            silent.push(source as u8);
+        }
+    }
+    silent
+}
+
+/// Those of the first `count` sources to which a packet could not be sent in a round.
+fn unsent_sources(unsent: &UnsentPackets, count: usize) -> ArrayVec<u8, MAX_SOURCES>
+    requires few { count ≤ max_sources }
+    ensures value { result.items ≡ numbers_where (has_unsent unsent.now) count }
+{
+    let mut lost = ArrayVec::new();
+    for source in 0..count {
+        if unsent.before[source] < unsent.after[source] {
+            lost.push(source as u8);
+        }
+    }
+    lost
+}
+
+/// What is logged of a round: its suspects, what it came to, its refused answers, its silent sources, and those to which
+/// a packet could not be sent.
+fn events_of(
+    suspects: &[u8],
+    outcome: Option<Event>,
+    refused: Option<Event>,
+    silent: &[u8],
+    unsent: &[u8],
+) -> Events
+    requires few_suspects { length suspects.now ≤ max_sources }
+    requires few_silent { length silent.now ≤ max_sources }
+    requires few_unsent { length unsent.now ≤ max_sources }
+    ensures value { events_in result ≡ events_of suspects.now outcome refused silent.now unsent.now }
+    ensures in_range { result.count ≤ 50 }
+{
+    let mut events = Events::new();
+    events.push_each(About::Suspect, suspects);
+    events.push_some(outcome);
+    events.push_some(refused);
+    events.push_each(About::Silent, silent);
+    events.push_each(About::Unsent, unsent);
+    events
+}
+
+/// All records of a round that comes after the rounds of `tally`: of what the call of the round answered, what it
+/// reported, and the packets that could not be sent.
+///
+/// What the round fused counts as published only if the call answered no fault.
+pub(crate) fn records_of(
+    did: &Result<Rounds, NodeFault>,
+    report: &RoundReport,
+    unsent: &UnsentPackets,
+    tally: &Tally,
+    terms: &RoundTerms,
+) -> RoundRecords
+    ensures events { events_in result.events ≡ events_of (suspects_in result.shown)
+        (event_of (outcome_of did.now report.now.fusion) tally.now.published)
+        (refused_event (refused_answers did.now))
+        (numbers_where (λ k. is_silent (report_at report.now.sources k).outcome) terms.now.config.sources)
+        (numbers_where (has_unsent unsent.now) terms.now.config.sources) }
+    ensures in_range { result.events.count ≤ 50 }
+    ensures tally { result.tally ≡ tally_after tally.now (outcome_of did.now report.now.fusion) (refused_answers did.now) report.now.sources }
+    ensures shown { Shows (published_in did.now report.now.fusion) result.shown }
+    ensures span { result.span ≡ span_of (published_in did.now report.now.fusion) tally.now terms.now }
+    ensures link_failed { result.link_failed ≡ has_link_failed (outcome_of did.now report.now.fusion) }
+{
+    let outcome = outcome_of(did, report);
+    let refused = refused_answers(did);
+    let (shown, span) = publication_of(did, report, tally, terms);
+    let sources = terms.config.sources();
+    let silent = silent_sources(&report.sources, sources);
+    let lost = unsent_sources(unsent, sources);
+    let events = events_of(
+        suspects_in(&shown),
+        event_of(&outcome, tally.published),
+        refused_event(refused),
+        silent.as_slice(),
+        lost.as_slice(),
+    );
+    RoundRecords {
+        events,
+        tally: tally.after(&outcome, refused, &report.sources),
+        shown,
+        span,
+        link_failed: has_link_failed(&outcome),
+    }
+}
+
+/// Counts of what the sessions and the log have done so far, and of what waits.
+#[derive(Clone, Copy, Debug, PartialEq, Eq)]
+pub(crate) struct Work {
+    pub(crate) sessions: u64,
+    pub(crate) lines: u64,
+    pub(crate) refused_lines: u64,
+    /// The connections that wait for a worker.
+    pub(crate) waiting: u64,
+    /// The records that did not fit into the reporter's queue.
+    pub(crate) left_out: u64,
+}
+
+/// What the status says of the machine itself.
+#[derive(Clone, Copy, Debug, PartialEq, Eq)]
+pub(crate) struct Machine {
+    pub(crate) number: u64,
+    pub(crate) epoch: u64,
+    /// How many sources are asked.
+    pub(crate) sources: u64,
+    /// How many of them have made a statement.
+    pub(crate) known: u64,
+    /// Whether a shared file is written.
+    pub(crate) sharing: bool,
+}
+
+/// Whether this number is among these.
+fn is_among(number: u8, numbers: &[u8]) -> bool
+    ensures { result ≡ is_among number numbers.now }
+{
+    for other in numbers {
+        if *other == number {
+            return true;
+        }
+    }
+    false
+}
+
+/// What became of one source. `unsent` packets to it could not be sent.
+fn source_status(
+    shown: &Option<Shown>,
+    counts: &SourceTally,
+    unsent: u64,
+    source: u8,
+) -> SourceStatus
+    ensures value { result ≡ source_status shown.now counts.now unsent source }
+{
+    SourceStatus {
+        suspect: is_among(source, suspects_in(shown)),
+        accepted: counts.accepted,
+        refused: counts.refused,
+        silent: counts.silent,
+        unsent,
+    }
+}
+
+/// The status of a source of which nothing is known.
+const NO_STATUS: SourceStatus = SourceStatus {
+    suspect: false,
+    accepted: 0,
+    refused: 0,
+    silent: 0,
+    unsent: 0,
+};
+
+/// What became of each source.
+fn each_status(
+    shown: &Option<Shown>,
+    each: &[SourceTally; MAX_SOURCES],
+    unsent: &[u64; MAX_SOURCES],
+) -> [SourceStatus; MAX_SOURCES]
+    ensures value { result ≡ each_status shown.now each.now unsent.now }
+{
+    let mut statuses = [NO_STATUS; MAX_SOURCES];
+    for source in 0..MAX_SOURCES {
+        statuses[source] = source_status(shown, &each[source], unsent[source], source as u8);
+    }
+    statuses
+}
+
+/// The width of what is shown, and how long ago it was fused when the clock shows `now`.
+fn width_and_age(shown: &Option<Shown>, now: u64) -> (Option<u64>, Option<u64>)
+    ensures width { result.0 ≡ width_in shown.now }
+    ensures age { result.1 ≡ age_in shown.now now }
+{
+    match shown {
+        Some(shown) => (Some(shown.width), Some(now.saturating_sub(shown.clock))),
+        None => (None, None),
+    }
+}
+
+/// The status of a machine when its clock shows `now`, in nanoseconds: of what its rounds have counted, of its last
+/// publication, of the packets to each source that could not be sent, and of its sessions.
+pub(crate) fn status_of(
+    machine: &Machine,
+    tally: &Tally,
+    shown: &Option<Shown>,
+    unsent: &[u64; MAX_SOURCES],
+    work: &Work,
+    now: u64,
+) -> Status
+    ensures value { result ≡ status_of machine.now tally.now shown.now unsent.now work.now now }
+{
+    let (width, age) = width_and_age(shown, now);
+    Status {
+        machine: machine.number,
+        epoch: machine.epoch,
+        width,
+        age,
+        known: machine.known,
+        sources: machine.sources,
+        each: each_status(shown, &tally.each, unsent),
+        rounds: tally.rounds,
+        published: tally.published,
+        refused_answers: tally.refused_answers,
+        no_point: tally.no_point,
+        too_few: tally.too_few,
+        sharing: machine.sharing,
+        sessions: work.sessions,
+        lines: work.lines,
+        refused_lines: work.refused_lines,
+        waiting: work.waiting,
+        left_out: work.left_out,
+    }
+}
