@@ -2,3 +2,5 @@ pub mod Fault
 pub mod Plan
 pub mod Notes
 pub mod Replies
+pub mod Clock
+pub mod Running

@@ -4,7 +4,9 @@ ghost use Rattle.std.specs.Prelude.{◌≡◌, ◌+◌, ◌<◌, ◌≤◌, None
 ghost use Rattle.std.specs.Duration.{as_nanos};
 ghost use Rattle.tt_span.specs.Time.{max_time};
 ghost use Rattle.tt_stream.specs.Counts.{HasFailed};
+ghost use Rattle.tt_live.specs.Clock.{LiveGives, new_clock};
 
+use std::marker::Model;
 use std::sync::atomic::{AtomicBool, Ordering};
 use std::time::{Clock as SystemClock, Duration, Instant};
 use tt_master::{RefFault, Reference};
@@ -37,20 +39,35 @@ fn time_after(base: u64, elapsed: Duration) -> Option<u64>
 /// clock. All clocks of one run show the same time. The masters use it as their reference, and the daemon and the
 /// workers as their clock.
 ///
-/// It fails if the system's clock can't be read, and above [`MAX_TIME`]. Nothing is claimed about what it shows.
+/// It fails if the system's clock can't be read, above [`MAX_TIME`], and below its last reading. So no reading is below
+/// one before it. Nothing else is claimed about what it shows. In contracts the clock is its last reading and its
+/// failures.
 #[derive(Drop)]
 pub(crate) struct LiveClock<'a, R> {
     rt: &'a R,
     origin: Origin,
+    /// The last reading, in nanoseconds; 0 before the first.
+    last: u64,
     failures: u64,
+}
+
+impl<'a, R> Model for LiveClock<'a, R> {
+    ghost use Rattle.tt_live.specs.Clock.{LiveState};
+
+    ghost Value = { LiveState };
+
+    ghost view = { λ clock. record { last = clock.last; failures = clock.failures } };
 }
 
 impl<'a, R: SystemClock> LiveClock<'a, R> {
     /// A clock of the run with this origin.
-    pub(crate) fn new(rt: &'a R, origin: Origin) -> Self {
+    pub(crate) fn new(rt: &'a R, origin: Origin) -> Self
+        ensures new { result ≡ new_clock }
+    {
         LiveClock {
             rt,
             origin,
+            last: 0,
             failures: 0,
         }
     }
@@ -58,12 +75,16 @@ impl<'a, R: SystemClock> LiveClock<'a, R> {
     /// The time, in nanoseconds. None where the clock fails, and then the failure is counted.
     fn time(&mut self) -> Option<u64>
         ensures in_time { IfSome result (λ time. time ≤ max_time) }
+        ensures gave { LiveGives self.old result self.new }
         ensures sound { OnSome result (self.new.failures ≡ self.old.failures) }
         ensures cause { result ≡ None → HasFailed self.old.failures self.new.failures }
     {
         if let Ok(elapsed) = self.origin.start.elapsed(self.rt) {
             if let Some(time) = time_after(self.origin.base, elapsed) {
-                return Some(time);
+                if self.last <= time {
+                    self.last = time;
+                    return Some(time);
+                }
             }
         }
         self.failures = self.failures.saturating_add(1);
@@ -72,9 +93,11 @@ impl<'a, R: SystemClock> LiveClock<'a, R> {
 }
 
 impl<'a, R: SystemClock> Clock for LiveClock<'a, R> {
-    ghost gives = { λ _ _ _. Unit {0} };
+    ghost use Rattle.tt_live.specs.Clock.{LiveGives, failures_of};
 
-    ghost failed = { λ clock. clock.failures };
+    ghost gives = { LiveGives };
+
+    ghost failed = { failures_of };
 
     fn read(&mut self) -> Result<u64, ClockFault> {
         match self.time() {
@@ -89,9 +112,11 @@ impl<'a, R: SystemClock> Clock for LiveClock<'a, R> {
 }
 
 impl<'a, R: SystemClock> Reference for LiveClock<'a, R> {
-    ghost gives = { λ _ _ _. Unit {0} };
+    ghost use Rattle.tt_live.specs.Clock.{LiveGives, failures_of};
 
-    ghost failed = { λ clock. clock.failures };
+    ghost gives = { LiveGives };
+
+    ghost failed = { failures_of };
 
     fn read(&mut self) -> Result<u64, RefFault> {
         match self.time() {

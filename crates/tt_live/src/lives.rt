@@ -4,8 +4,11 @@ ghost use Rattle.std.specs.Prelude.{◌≡◌, ◌<◌, ◌≤◌, Some, None, E
 ghost use Rattle.tt_poll.specs.Message.{max_source};
 ghost use Rattle.tt_publish.specs.Known.{max_watches};
 ghost use Rattle.tt_node.specs.declared.faults.NodeFault.{NodeFault};
-ghost use Rattle.tt_live.specs.Fault.{EndsRun, IsEndFault, IsLiveFault};
+ghost use Rattle.tt_node.specs.declared.nodes.NodeEnd.{NodeEnd};
+ghost use Rattle.tt_live.specs.Clock.{new_clock};
+ghost use Rattle.tt_live.specs.Fault.{EndsRun, IsEndFault, IsLiveFault, IsSocketFault};
 ghost use Rattle.tt_live.specs.Plan.{refusal_of};
+ghost use Rattle.tt_live.specs.Running.{IsNodeOf, IsRunOf, RunsScript, TellsNode};
 
 use crate::clients::talk;
 use crate::clocks::{LiveClock, Origin};
@@ -224,6 +227,7 @@ fn clocks_of<'s, R: SystemClock>(
     workers: usize,
 ) -> Result<Clocks<LiveClock<'s, R>>, NodeFault>
     ensures all { IfOk result (λ clocks. vec_len clocks.workers ≡ workers) }
+    ensures new { IfOk result (λ clocks. clocks.daemon ≡ new_clock) }
     ensures fault { IfErr result (λ fault. fault ≡ NodeFault.Memory) }
 {
     let mut clocks = Vec::new(shared.alloc);
@@ -254,6 +258,9 @@ fn run_streams<'s, R: Threads + Wait + SystemClock + Sync>(
     requires some { 0 < vec_len streams }
     requires few { vec_len streams ≤ max_watches }
     requires each { vec_len clocks.workers ≡ vec_len streams }
+    requires all { vec_len streams ≡ config.workers }
+    requires new { clocks.daemon ≡ new_clock }
+    ensures node { IfOk result (IsNodeOf live.now config) }
     ensures fault { IfErr result EndsRun }
 {
     if !started {
@@ -295,6 +302,8 @@ fn run_threads<'s, E, R: Threads + Wait + SystemClock + Sync>(
 ) -> Result<NodeEnd, NodeFault>
     requires some { 0 < vec_len sessions.workers }
     requires few { vec_len sessions.workers ≤ max_watches }
+    requires all { vec_len sessions.workers ≡ config.workers }
+    ensures node { IfOk result (IsNodeOf live.now config) }
     ensures fault { IfErr result EndsRun }
 {
     let Links {
@@ -316,11 +325,29 @@ fn run_threads<'s, E, R: Threads + Wait + SystemClock + Sync>(
     Ok(end)
 }
 
+/// The answer of a run whose node ended so. Refuses with 1501 `LinkFailed` if a session broke off, and with 1 `Memory`.
+fn end_of(alloc: Global, node: &NodeEnd) -> Result<LiveEnd, NodeFault>
+    ensures tells { IfOk result (TellsNode node.now) }
+    ensures fault { IfErr result IsSocketFault }
+{
+    if node.workers.iter().any(|worker| worker.served.is_err()) {
+        return Err(NodeFault::LinkFailed);
+    }
+    match report_of(alloc, &node.workers) {
+        Ok(report) => Ok(LiveEnd {
+            report,
+            rounds: node.rounds,
+        }),
+        Err(_) => Err(NodeFault::Memory),
+    }
+}
+
 /// Runs a machine live.
 fn run<
     'a,
     R: Threads + Wait + SystemClock + Sync + Net<Listener = TcpListener, Stream = TcpStream>,
 >(rt: &'a R, alloc: Global, config: Config, live: &'a Live) -> Result<LiveEnd, NodeFault>
+    ensures run { IfOk result (λ end. (node : NodeEnd) × IsRunOf live.now config end node) }
     ensures fault { IfErr result EndsRun }
 {
     let (ended, daemon_failed) = (AtomicBool::new(false), AtomicBool::new(false));
@@ -346,20 +373,11 @@ fn run<
         thread::scope_env(),
         rt,
         move |scope| -> Result<NodeEnd, NodeFault>
-            requires { (0 < vec_len sessions.workers) × (vec_len sessions.workers ≤ max_watches) }
-            ensures { IfErr result EndsRun }
+            requires { (0 < vec_len sessions.workers) × (vec_len sessions.workers ≤ max_watches) × (vec_len sessions.workers ≡ config.workers) }
+            ensures { IfOk result (IsNodeOf live.entry.now config) × IfErr result EndsRun }
         { run_threads(scope, shared, config, live, links, sessions) },
     )?;
-    if end.workers.iter().any(|worker| worker.served.is_err()) {
-        return Err(NodeFault::LinkFailed);
-    }
-    match report_of(alloc, &end.workers) {
-        Ok(report) => Ok(LiveEnd {
-            report,
-            rounds: end.rounds,
-        }),
-        Err(_) => Err(NodeFault::Memory),
-    }
+    end_of(alloc, &end)
 }
 
 /// Runs the machine of a script live, by the script's part for a run in threads, and judges its readings. Answers how
@@ -375,14 +393,18 @@ fn run<
 /// Refuses, in this order: 1302 `NoLive` where the script has no such part; 1303 `Unfit` where it does not have exactly
 /// one machine, one master for each source, and one session for each worker; then the fault of the node. This is one of
 /// these: 1 `Memory` where an allocation failed or a thread was not started, 1501 `LinkFailed` where a socket failed or
-/// a session broke off, 1502 `ClockFailed` and 304 `ReferenceFailed` where the clock failed, 802 where a fusion was not
-/// published, 804 where no reader slot is free. No clause excludes 804, and no run has shown it.
+/// a session broke off, 1502 `ClockFailed` and 304 `ReferenceFailed` where the clock failed or went back, 802 where a
+/// fusion was not published, 804 where no reader slot is free. No clause excludes 804, and no run has shown it.
 pub fn live<
     R: Threads + Wait + SystemClock + Sync + Net<Listener = TcpListener, Stream = TcpStream>,
 >(rt: &R, alloc: Global, script: &Script) -> Result<LiveEnd, LiveFault>
     ensures refused { IfSome (refusal_of script.now.configs script.now.live) (λ fault. result ≡ Err fault) }
     ensures run { refusal_of script.now.configs script.now.live ≡ None → IfErr result (λ fault. (node : NodeFault) × (fault ≡ LiveFault.Node node)) }
     ensures fault { IfErr result IsLiveFault }
+    // The node did what the script says: the rounds and turns of its live part, on a new daemon of machine 0 in epoch 1
+    // with the configuration of its machine; all workers stamped in the lease of the live part, and read nothing but what
+    // this daemon published. The answer tells the rounds of this node, and counts the readings of its workers.
+    ensures node { IfOk result (RunsScript script.now.configs script.now.live) }
 {
     let config = machine_of(script)?;
     let Some(live) = script.live() else {
