@@ -37,12 +37,12 @@ UNCERTAINTY, SOURCE, POLLS = 1_000_000, 5, 4
 LEASE = "0 4000000000000000000"
 COUNT = struct.Struct("24sQ")
 POLL, ANSWER = struct.Struct(">4s4BQQ"), struct.Struct(">4s4BQQQQ")
-LOG_LINE = re.compile(rb"time=[0-9]+ level=(info|warn) event=[a-z_]+( [a-z_]+=[0-9]+)*\Z|ttd: ")
+LOG_LINE = re.compile(rb"time=[-0-9]{10}T[:0-9]{8}\.[0-9]{9}Z level=(info|warn) event=[a-z_]+( [a-z_]+=[0-9]+)*\Z|ttd: ")
 DEVICES = {803, 1501, 1604, 1605, 1701, 1807, 1808, 1809, 1811, 1812}
 
-# What may be refused at the start where a call of this kind fails. Memory that a descriptor's call or a thread wants may show as theirs.
+# What may be refused at the start where a call of this kind fails. Memory that a thread wants may show as 1816.
 SERVE = {
-    "REFUSE": {1, 1807, 1808, 1816}, "FAIL_READ": {1604, 1811}, "FAIL_WRITE": {1812}, "FAIL_OPEN": {1604, 1811, 1812},
+    "REFUSE": {1, 1816}, "FAIL_READ": {1604, 1811}, "FAIL_WRITE": {1812}, "FAIL_OPEN": {1604, 1811, 1812},
     "FAIL_STATX": {1604, 1809, 1811, 1812}, "FAIL_MKDIR": {1812}, "FAIL_FLOCK": {1812}, "FAIL_FSYNC": {1812}, "FAIL_RENAME": {1812},
     "FAIL_UNLINK": {1809, 1812}, "FAIL_SOCKET": {1807, 1808, 1809}, "FAIL_BIND": {1807, 1808, 1809}, "FAIL_LISTEN": {1807, 1809},
     "FAIL_CONNECT": {1809}, "FAIL_SETSOCKOPT": {1807}, "FAIL_IOCTL": {1807, 1808, 1809}, "FAIL_EPOLL_CREATE1": {1807, 1808},
@@ -57,16 +57,6 @@ READ = {"REFUSE": {1}, "FAIL_OPEN": {1604, 1701}, "FAIL_CLOCK_GETTIME": {803}, "
 TOLD = {"REFUSE": {1}, "FAIL_CLOCK_GETTIME": {803}}
 # Where it is not known that the Unix socket is its own, or it cannot be removed, it stays.
 SOCKET_STAYS = "FAIL_STATX", "FAIL_UNLINK"
-# Faults that are known and are not counted as wrong: the kind of the call, the number that is told, and why.
-KNOWN = {
-    ("REFUSE", 1601): "no memory for the list of the arguments is told as 1601, with status 2",
-    ("FAIL_CLOCK_GETTIME", 1822): "a clock that fails while a commit waits is told as 1822, as if its client had left",
-    ("FAIL_RECV!", 1501): "ask gives up with 1501 where it is stopped and goes on while it waits for a reply",
-    ("FAIL_STATX", 1702): "a shared file whose head cannot be read is told as 1702, with status 2, and not as 1701",
-    ("FAIL_PREAD", 1702): "a shared file whose head cannot be read is told as 1702, with status 2, and not as 1701",
-}
-# And the kinds of calls behind whose failure a start that is refused leaves its Unix socket.
-KNOWN_SOCKETS = "FAIL_LISTEN", "FAIL_IOCTL"
 
 
 class Counts:
@@ -120,7 +110,6 @@ class Outcome:
     told: str = ""
     wrong: list = dataclasses.field(default_factory=list)
     late: list = dataclasses.field(default_factory=list)  # what a busy host may have caused
-    known: list = dataclasses.field(default_factory=list)
     seen: Seen = dataclasses.field(default_factory=Seen)
 
     def is_lasting(self):
@@ -129,22 +118,16 @@ class Outcome:
     def is_ended_by_signal(self):
         return self.number.endswith("!")
 
-    def known_as(self, number):
-        """Why the program is known to tell this number where nothing is wrong in it, or nothing."""
-        return KNOWN.get((self.kind + "!" * self.is_ended_by_signal(), number))
-
     def keep_refusal(self, number, allowed, status, errors):
         """It refused with this number; these are allowed by the kind of call that failed."""
         self.told = f"refused {number}"
         allowed = () if self.is_ended_by_signal() else allowed.get(self.kind, allowed.get("else", ()))
-        if self.known_as(number):
-            self.known.append(self.known_as(number))
-        elif number not in allowed and (self.kind, number) != ("FAIL_WRITE", 1605):
+        if number not in allowed and (self.kind, number) != ("FAIL_WRITE", 1605):
             self.wrong.append(f"refused {number}")
         if status != status_of(number):
             self.wrong.append(f"status {status} behind refused {number}")
-        # Where writing fails for good, or no memory is left before the command is known, the sentence stays out.
-        if b"ttd: refused %d: " % number not in errors and not (self.is_lasting() and self.kind in ("REFUSE", "FAIL_WRITE")):
+        # Where writing fails for good, the sentence stays out.
+        if b"ttd: refused %d: " % number not in errors and not (self.is_lasting() and self.kind == "FAIL_WRITE"):
             self.wrong.append(f"standard error is {errors[-200:]!r} behind refused {number}")
 
 
@@ -179,8 +162,7 @@ class Trying:
             self.outcome.wrong.append(f"status {status}, {output[:80]!r} and {errors[-200:]!r}")
 
     def look_at_log(self, errors):
-        if not self.outcome.known:
-            self.outcome.wrong += [f"in the log: {line!r}" for line in errors.splitlines() if not LOG_LINE.match(line)]
+        self.outcome.wrong += [f"in the log: {line!r}" for line in errors.splitlines() if not LOG_LINE.match(line)]
 
 
 class Life(Machine):
@@ -256,9 +238,7 @@ class Life(Machine):
                 return True
         except truetime.Refused as refused:
             self.seen.refused[refused.number] += 1
-            if self.outcome.known_as(refused.number):
-                self.outcome.known.append(self.outcome.known_as(refused.number))
-            elif refused.number not in TOLD.get(self.outcome.kind, ()) and refused.number != 801:
+            if refused.number not in TOLD.get(self.outcome.kind, ()) and refused.number != 801:
                 self.outcome.wrong.append(f"a client was told {refused.number}")
         except ConnectionRefusedError:
             raise
@@ -318,9 +298,7 @@ class Life(Machine):
         if epoch not in self.epochs or self.outcome.told == "went on" and epoch != self.epochs[1]:
             self.outcome.wrong.append(f"the epoch is {epoch!r}")
         if os.path.exists(self.path("socket")) and self.outcome.kind not in SOCKET_STAYS:
-            if self.outcome.kind in KNOWN_SOCKETS and self.outcome.told == "refused 1809":
-                self.outcome.known.append("a start that is refused with 1809 behind its binding leaves its Unix socket")
-            elif self.outcome.service == "serve" or self.outcome.told == "went on":
+            if self.outcome.service == "serve" or self.outcome.told == "went on":
                 self.outcome.wrong.append("the Unix socket is still there")
 
 
@@ -540,8 +518,6 @@ def tell_all(service, outcomes, left_out, late):
     violations, refused = service.judge(commits), sum(sum(one.refused.values()) for one in seen)
     print(f"services: {sum(one.readings for one in seen)} readings, {len(commits)} commits, {violations} of them out of order; {refused} calls of "
           f"clients refused, {sum(one.lost for one in seen)} lost; {len(late)} tried once more, {left_out} left out, since there was no time")
-    for known, number in collections.Counter(known for outcome in outcomes for known in set(outcome.known)).items():
-        print(f"services: {number} times left out as known: {known}")
     return sum(bool(outcome.wrong) for outcome in outcomes) + violations
 
 

@@ -1,7 +1,7 @@
 //! The calls that take memory.
 
 use crate::outcomes::Outcome;
-use crate::{commits, nodes, publications, texts, worlds};
+use crate::{commits, nodes, publications, services, texts, worlds};
 use std::alloc::Global;
 use std::sync::Wait;
 use std::thread::Threads;
@@ -27,10 +27,15 @@ pub(crate) enum Call {
     NowOfWorker,
     BeginOfWorker,
     RunNode,
+    ReadSettings,
+    NextEpoch,
+    PushEvent,
+    NewQueue,
+    ServeAtPost,
 }
 
 /// All calls, in the order in which they are made.
-pub(crate) const CALLS: [Call; 18] = [
+pub(crate) const CALLS: [Call; 23] = [
     Call::WriteText,
     Call::ReadScript,
     Call::Audit,
@@ -49,6 +54,11 @@ pub(crate) const CALLS: [Call; 18] = [
     Call::NowOfWorker,
     Call::BeginOfWorker,
     Call::RunNode,
+    Call::ReadSettings,
+    Call::NextEpoch,
+    Call::PushEvent,
+    Call::NewQueue,
+    Call::ServeAtPost,
 ];
 
 impl Call {
@@ -73,6 +83,11 @@ impl Call {
             Call::NowOfWorker => "tt_node::Worker::now",
             Call::BeginOfWorker => "tt_node::Worker::begin",
             Call::RunNode => "tt_node::run_node",
+            Call::ReadSettings => "tt_settings::read",
+            Call::NextEpoch => "tt_epoch::next_epoch",
+            Call::PushEvent => "tt_status::push_event",
+            Call::NewQueue => "tt_connections::Queue::new",
+            Call::ServeAtPost => "tt_station::Post::serve",
         }
     }
 
@@ -101,6 +116,11 @@ impl Call {
             Call::NowOfWorker => commits::worker_now(rt, alloc),
             Call::BeginOfWorker => commits::worker_begin(rt, alloc),
             Call::RunNode => nodes::node(rt, alloc),
+            Call::ReadSettings => services::settings(alloc),
+            Call::NextEpoch => services::epoch(),
+            Call::PushEvent => services::event(alloc),
+            Call::NewQueue => services::queue(alloc),
+            Call::ServeAtPost => services::session(rt, alloc),
         }
     }
 }

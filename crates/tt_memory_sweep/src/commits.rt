@@ -20,7 +20,7 @@ const MANY: u64 = 40;
 const CLOCK: [u64; 400] = [0; 400];
 
 /// A watch that has seen the publication [100, 200], made at clock 0. Its teller is closed.
-fn watch_of<R: Wait>(rt: &R, alloc: Global) -> Option<Watch> {
+pub(crate) fn watch_of<R: Wait>(rt: &R, alloc: Global) -> Option<Watch> {
     let (fused, drift) = (tt_scenes::fused(100, 200)?, Drift::new(0)?);
     let Ok((mut teller, mut watches)) = open(rt, alloc, drift, 1) else {
         return None;

@@ -165,3 +165,48 @@ impl<'a, R: Wait> ByteWriter for PageWriter<'a, R> {
         0
     }
 }
+
+/// A writer to a sheet of its own. What has no room is left out.
+#[derive(Drop)]
+pub(crate) struct SheetWriter {
+    bytes: ArrayVec<u8, 256>,
+}
+
+impl SheetWriter {
+    /// A writer to an empty sheet.
+    pub(crate) fn new() -> SheetWriter {
+        SheetWriter {
+            bytes: ArrayVec::new(),
+        }
+    }
+
+    /// What was written.
+    pub(crate) fn written(self) -> ArrayVec<u8, 256> {
+        self.bytes
+    }
+}
+
+impl ByteWriter for SheetWriter {
+    ghost taken = { λ _. None };
+
+    ghost failed = { λ _. 0 };
+
+    ghost flushed = { λ _. true };
+
+    fn write(&mut self, bytes: &[u8]) -> Result<usize, DeviceFault> {
+        for byte in bytes {
+            if !self.bytes.is_full() {
+                self.bytes.push(*byte);
+            }
+        }
+        Ok(bytes.len())
+    }
+
+    fn flush(&mut self) -> Result<(), DeviceFault> {
+        Ok(())
+    }
+
+    fn failures(&self) -> u64 {
+        0
+    }
+}

@@ -10,7 +10,7 @@
 //! `tools/sweep` runs it with each allocation failing in turn, until no allocation of a run fails.
 //!
 //! - `calls`: the calls, in their order. `outcomes`: the possible outcomes of a call.
-//! - `texts`, `worlds`, `publications`, `commits` and `nodes` make the calls. `replies`: the replies of a run, for
+//! - `texts`, `worlds`, `publications`, `commits`, `nodes` and `services` make the calls. `replies`: the replies of a run, for
 //!   comparison.
 //! - `devices`: links, gates and writers that allocate nothing.
 #![tactic(auto)]
@@ -22,6 +22,7 @@ mod nodes;
 mod outcomes;
 mod publications;
 mod replies;
+mod services;
 mod texts;
 mod worlds;
 

@@ -1,11 +1,13 @@
 //! The arguments with which the program was started.
 
-ghost use Rattle.std.specs.Prelude.{◌≡◌, ◌≢◌, ◌⊎◌, IfOk, Some, map, string_bytes};
+ghost use Rattle.std.specs.Prelude.{◌≡◌, ◌≢◌, ◌⊎◌, IfOk, Ok, Err, OnErr, Some, None, is_some, map, string_bytes};
 ghost use Rattle.clap.specs.Walk.{texts};
 ghost use Rattle.tt_live.specs.declared.faults.LiveFault.{LiveFault};
 ghost use Rattle.tt_stream.specs.Counts.{HasFailed};
 ghost use Rattle.tt_stream.specs.DeviceBytes.{ReadsOn};
-ghost use Rattle.ttd_commands.specs.Run.{IsWritten, memory_answer, output_of};
+ghost use Rattle.ttd_commands.specs.Answer.{answer_of};
+ghost use Rattle.ttd_commands.specs.Run.{Gives, IsWritten, memory_answer, output_of};
+ghost use Rattle.ttd_services.specs.CommandLine.{names_service as does_name_service};
 
 use std::alloc::{AllocError, Global};
 use std::env;
@@ -24,6 +26,9 @@ use ttd_services::{names_service, run};
 
 /// The message for standard error if the answer could not be written.
 const UNWRITTEN: &[u8] = b"ttd: refused 1605: writing failed\n";
+
+/// The message for standard error if the program is out of memory. It takes no memory.
+const NO_MEMORY: &[u8] = b"ttd: refused 1: out of memory\n";
 
 /// The arguments after the program's name. This fails if one of them is not UTF-8.
 fn words_or_error(rt: &(impl Env + AllocGlobal)) -> io::Result<Vec<String>> {
@@ -75,8 +80,8 @@ pub(crate) fn main_from<
     }
 }
 
-/// Runs the service that these arguments name, and answers how it ended. None if they name no service, or if it is out
-/// of memory before that is known.
+/// Runs the service that these arguments name, and answers how it ended. None if they name no service. Then, and if it is
+/// out of memory before that is known, nothing is read and nothing is written.
 pub(crate) fn service_from<
     S: Read + Send + Drop,
     H: AllocGlobal
@@ -94,13 +99,31 @@ pub(crate) fn service_from<
         + 'static,
     R: ByteReader,
     W: ByteWriter,
->(rt: &H, words: &[String], input: &mut R, output: &mut W) -> Option<ttd_services::Status> {
-    match as_texts(rt.alloc(), words) {
-        Ok(texts) if names_service(texts.as_slice()) => {
-            Some(run(rt, texts.as_slice(), input, output))
-        }
-        _ => None,
+>(
+    rt: &H,
+    words: &[String],
+    input: &mut R,
+    output: &mut W,
+) -> Result<Option<ttd_services::Status>, AllocError>
+    ensures named { IfOk result (λ status. is_some status ≡ does_name_service (map string_bytes words.now)) }
+    ensures unnamed { result ≡ Ok None → (input.new ≡ input.old) × (output.new ≡ output.old) }
+    ensures unread { OnErr result ((input.new ≡ input.old) × (output.new ≡ output.old)) }
+{
+    let texts = as_texts(rt.alloc(), words)?;
+    if !names_service(texts.as_slice()) {
+        return Ok(None);
     }
+    Ok(Some(run(rt, texts.as_slice(), input, output)))
+}
+
+/// Ends the program that is out of memory before it is known what the arguments ask for: it writes the refusal to the
+/// output, and then its sentence. This takes no memory.
+pub(crate) fn end_without_memory<O: ByteWriter, E: Write>(output: &mut O, errors: &mut E) -> Status
+    ensures { Gives (answer_of (Err Fault.Memory)) (output_of O.ByteWriter output.old) (output_of O.ByteWriter output.new) result }
+{
+    let ended = give(output, Err(Fault::Memory));
+    let _ = errors.write_all(NO_MEMORY);
+    ended.status
 }
 
 /// Writes a sentence that says what was refused. For invalid arguments it also writes which of them is wrong. Then it
@@ -113,6 +136,9 @@ pub(crate) fn say<W: Write>(
     notes: &str,
 ) {
     match ended.refusal {
+        Some(Fault::Memory) => {
+            let _ = errors.write_all(NO_MEMORY);
+        }
         Some(refusal) => {
             explain(alloc, errors, &refusal);
             if refusal == Fault::BadWords {

@@ -6,31 +6,26 @@
 
 mod arguments;
 
-use arguments::{main_from, say, service_from, words_given};
+use arguments::{end_without_memory, main_from, say, service_from, words_given};
 use std::alloc::AllocError;
 use std::process::ExitCode;
 use tt_stream::Counted;
-use ttd_commands::{Fault, give};
 
 fn main(rt: HostRuntime) -> ExitCode {
     let mut input = Counted::new(rt.stdin());
     let mut output = Counted::new(rt.stdout());
-    let ended = match words_given(&rt) {
-        Ok(words) => {
-            let words = words.as_slice();
-            if let Some(status) = service_from(&rt, words, &mut input, &mut output) {
-                return ExitCode::from(status);
-            }
+    let Ok(words) = words_given(&rt) else {
+        return ExitCode::from(end_without_memory(&mut output, &mut rt.stderr()));
+    };
+    let words = words.as_slice();
+    match service_from(&rt, words, &mut input, &mut output) {
+        Ok(Some(status)) => ExitCode::from(status),
+        Ok(None) => {
             let mut notes = String::new(rt.alloc());
             let ended = main_from(&rt, words, &mut input, &mut output, &mut notes);
             say(rt.alloc(), &mut rt.stderr(), words, &ended, notes.as_str());
-            ended
+            ExitCode::from(ended.status)
         }
-        Err(AllocError) => {
-            let ended = give(&mut output, Err(Fault::Memory));
-            say(rt.alloc(), &mut rt.stderr(), &[], &ended, "");
-            ended
-        }
-    };
-    ExitCode::from(ended.status)
+        Err(AllocError) => ExitCode::from(end_without_memory(&mut output, &mut rt.stderr())),
+    }
 }

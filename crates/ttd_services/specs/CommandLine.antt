@@ -22,6 +22,10 @@ offset_rule = record (new_rule (codes "offset")) { long = Some (codes "offset");
 abbrev pub act_rule : Rule
 act_rule = record (new_rule (codes "act")) { long = Some (codes "act"); value_names = 1; action = Some Append }
 
+-- The option `--log FORM`, which is `text` where it is not given.
+abbrev pub log_rule : Rule
+log_rule = record (new_rule (codes "log")) { long = Some (codes "log"); value_names = 1; defaults = codes "text" ∷ [] }
+
 -- The option `--retry N`, which is 50 where it is not given.
 abbrev pub retry_rule : Rule
 retry_rule = record (number_rule (codes "retry") 9999) { defaults = codes "50" ∷ [] }
@@ -45,7 +49,7 @@ plain_master_app = with_rule (with_rule (with_rule (new_app (codes "master")) (n
 
 -- The command `master` with its options.
 abbrev pub master_app : App
-master_app = with_rule (with_rule plain_master_app offset_rule) act_rule
+master_app = with_rule (with_rule (with_rule plain_master_app offset_rule) act_rule) log_rule
 
 -- The command `serve` with its file and its flags.
 abbrev pub serve_app : App

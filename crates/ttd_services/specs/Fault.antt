@@ -1,8 +1,14 @@
 -- The numbers of the refusals, and how the program ends.
-use Rattle.std.specs.Prelude.{ℕ, nat_eq, ◌||◌, if◌then◌else◌, Result, Ok, Err}
+use Rattle.std.specs.Prelude.{ℕ, Result, Ok, Err}
 use Rattle.tt_settings.specs.Fault.{number_of as settings_number}
 use Rattle.tt_shared.specs.Fault.{shared_number_of}
 use Rattle.tt_server.specs.Fault.{number_of as server_number}
+use Rattle.tt_epoch.specs.declared.faults.EpochFault.{EpochFault}
+use Rattle.tt_epoch.specs.declared.faults.EpochFault.TheVariants as epoch
+use Rattle.tt_publish.specs.declared.faults.PublishFault.{PublishFault}
+use Rattle.tt_publish.specs.declared.faults.PublishFault.TheVariants as publish
+use Rattle.tt_server.specs.declared.faults.ServerFault.{ServerFault}
+use Rattle.tt_server.specs.declared.faults.ServerFault.TheVariants as server
 use Rattle.tt_shared.specs.declared.faults.SharedFault.{SharedFault}
 use Rattle.tt_shared.specs.declared.faults.SharedFault.TheVariants as shared
 use Rattle.tt_settings.specs.declared.faults.SettingsFault.{SettingsFault}
@@ -35,12 +41,28 @@ abbrev pub status_of_settings : SettingsFault → Status
 status_of_settings settings.Memory = NoMemory
 status_of_settings _ = Bad
 
--- How the program ends where a machine does not serve, by the number: as at a failed device for its sockets (1807 to 1809) and the folder of its epoch
--- (1811, 1812).
-abbrev pub status_of_server : ℕ → Status
-status_of_server number =
-    if nat_eq number 1 then NoMemory
-    else (if nat_eq number 1807 || (nat_eq number 1808 || (nat_eq number 1809 || (nat_eq number 1811 || nat_eq number 1812))) then Device else Bad)
+-- How the program ends where a machine has no epoch: as at a failed device where its file can't be read or written (1811, 1812).
+abbrev pub status_of_epoch : EpochFault → Status
+status_of_epoch epoch.ReadFailed = Device
+status_of_epoch epoch.WriteFailed = Device
+status_of_epoch epoch.Memory = NoMemory
+status_of_epoch _ = Bad
+
+-- How the program ends where nothing can be published.
+abbrev pub status_of_publish : PublishFault → Status
+status_of_publish publish.Memory = NoMemory
+status_of_publish _ = Bad
+
+-- How the program ends where a machine does not serve: as at a failed device where it has not its sockets (1807 to 1809), and by what is wrong with
+-- its epoch and its publications.
+abbrev pub status_of_server : ServerFault → Status
+status_of_server server.CannotListen = Device
+status_of_server server.CannotPoll = Device
+status_of_server server.CannotListenSocket = Device
+status_of_server (server.Epoch fault) = status_of_epoch fault
+status_of_server (server.Publish fault) = status_of_publish fault
+status_of_server server.Memory = NoMemory
+status_of_server _ = Bad
 
 -- How the program ends after each refusal.
 abbrev pub status_of : ServiceFault → Status
@@ -48,7 +70,7 @@ status_of ReadFailed = Device
 status_of LinkFailed = Device
 status_of (Settings fault) = status_of_settings fault
 status_of (Shared fault) = status_of_shared fault
-status_of (Server fault) = status_of_server (server_number fault)
+status_of (Server fault) = status_of_server fault
 status_of Memory = NoMemory
 status_of _ = Bad
 

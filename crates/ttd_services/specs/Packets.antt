@@ -1,4 +1,4 @@
--- What a failed receipt means for a link.
+-- What a failed receipt means for a link or a connection.
 use Rattle.std.specs.Prelude.{Bool, true, false}
 use Rattle.std.specs.declared.io.ErrorKind.{ErrorKind}
 use Rattle.std.specs.declared.io.ErrorKind.TheVariants.{ConnectionRefused, ConnectionReset, HostUnreachable, NetworkUnreachable, NetworkDown, WouldBlock, Interrupted}
@@ -13,3 +13,8 @@ is_passing NetworkDown = true
 is_passing WouldBlock = true
 is_passing Interrupted = true
 is_passing _ = false
+
+-- a signal ended it: nothing was received, and nothing is lost
+abbrev pub is_ended_by_signal : ErrorKind → Bool
+is_ended_by_signal Interrupted = true
+is_ended_by_signal _ = false

@@ -10,7 +10,9 @@ use Rattle.tt_poll.specs.Message.{max_source}
 use Rattle.tt_master.specs.declared.acts.Act.{Act}
 use Rattle.tt_master.specs.declared.acts.Act.TheVariants.{Honest}
 use Rattle.tt_script.specs.Acts.{act_in}
+use Rattle.tt_status.specs.declared.lines.LogFormat.{LogFormat}
 use Rattle.tt_settings.specs.Address.{port_of}
+use Rattle.tt_settings.specs.Form.{log_format_of}
 use Rattle.tt_settings.specs.Numeral.{number_of as time_of}
 use Rattle.ttd_cli.specs.Reading.{number_at, is_help, all_and_some}
 use Rattle.ttd_services.specs.CommandLine.{faults_of, named_by}
@@ -38,14 +40,14 @@ place_of (peer.Path path) = AtPath path.now
 
 -- What a service is to do, without its memory.
 pub data Meaning : Type 0 where
-  Master : ℕ → ℕ → ℕ → Offset → List Act → Meaning
+  Master : ℕ → ℕ → ℕ → Offset → List Act → LogFormat → Meaning
   Serve : Text → Bool → Bool → Meaning
   Ask : Place → Option Text → ℕ → Meaning
   Read : Text → Meaning
 
 -- What a service is to do.
 abbrev pub meaning_of : Service → Meaning
-meaning_of (service.Master source port uncertainty offset acts) = Master source port uncertainty offset acts.items
+meaning_of (service.Master source port uncertainty offset acts log) = Master source port uncertainty offset acts.items log
 meaning_of (service.Serve file check until_eof) = Serve file.now check until_eof
 meaning_of (service.Ask peer line retry) = Ask (place_of peer) (option_map string_bytes line) retry
 meaning_of (service.Read file) = Read file.now
@@ -115,6 +117,12 @@ offset_at id rows = do
   text ← text_at id rows
   offset_in text
 
+-- The form of the log that was given for an option.
+abbrev pub log_at : Text → List Row → Result LogFormat ServiceFault
+log_at id rows = do
+  text ← text_at id rows
+  ok_or (log_format_of text) BadWords
+
 -- The act that a script's word is.
 abbrev pub act_of : {E : Type 0} → Result Act E → Result Act ServiceFault
 act_of (Ok act) = Ok act
@@ -144,8 +152,9 @@ master_of rows = do
   port ← port_at (codes "listen") rows
   uncertainty ← number_to (codes "uncertainty") max_time rows
   offset ← offset_at (codes "offset") rows
+  log ← log_at (codes "log") rows
   acts ← acts_at (all_of (codes "act") rows)
-  Ok (Master source port uncertainty offset acts)
+  Ok (Master source port uncertainty offset acts log)
 
 -- The command `serve` by what was found.
 abbrev pub serve_of : List Row → Result Meaning ServiceFault

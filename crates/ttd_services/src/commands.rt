@@ -7,7 +7,7 @@ ghost use Rattle.clap.specs.declared.builder.command.Command.TheViews.{out-Comma
 ghost use Rattle.tt_span.specs.Time.{max_time};
 ghost use Rattle.tt_poll.specs.Message.{max_source};
 ghost use Rattle.ttd_cli.specs.CommandLine.{text_rule};
-ghost use Rattle.ttd_services.specs.CommandLine.{act_rule, ask_app, bare_app, flag_rule, master_app, needed_rule, offset_rule, place_rule, plain_master_app, read_app, retry_rule, serve_app, servers_app, services_app, words_rule};
+ghost use Rattle.ttd_services.specs.CommandLine.{act_rule, ask_app, bare_app, flag_rule, log_rule, master_app, needed_rule, offset_rule, place_rule, plain_master_app, read_app, retry_rule, serve_app, servers_app, services_app, words_rule};
 
 use crate::asking::MOST_RETRY;
 use crate::help::{ABOUT_ASK, ABOUT_MASTER, ABOUT_READ, ABOUT_SERVE};
@@ -88,6 +88,18 @@ fn act_option<'a>(alloc: Global) -> Arg<'a>
         )
 }
 
+/// The option `--log FORM`.
+fn log_option<'a>(alloc: Global) -> Arg<'a>
+    ensures rule { rule_of result ≡ log_rule }
+    ensures local { result.global ≡ false }
+{
+    Arg::new(alloc, "log")
+        .long("log")
+        .value_name("FORM")
+        .default_value("text")
+        .help("The form of its log: text or json")
+}
+
 /// The option `--retry N`: at most [`MOST_RETRY`].
 fn retry_option<'a>(alloc: Global) -> Arg<'a>
     ensures rule { rule_of result ≡ retry_rule }
@@ -157,7 +169,8 @@ fn master_command<'a>(alloc: Global) -> Result<Command<'a>, AllocError>
 {
     let plain = plain_master_command(alloc)?;
     let with_offset = plain.arg(offset_option(alloc))?;
-    with_offset.arg(act_option(alloc))
+    let with_act = with_offset.arg(act_option(alloc))?;
+    with_act.arg(log_option(alloc))
 }
 
 /// The command `serve`.

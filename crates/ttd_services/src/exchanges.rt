@@ -2,6 +2,7 @@
 
 ghost use Rattle.std.specs.Prelude.{◌≡◌, ◌≤◌, length};
 ghost use Rattle.ttd_services.specs.Asking.{kept, left_until, step_of};
+ghost use Rattle.ttd_services.specs.Packets.{is_ended_by_signal};
 
 use arrayvec::ArrayVec;
 use std::io::{self, ErrorKind, Read, Write};
@@ -69,7 +70,9 @@ pub(crate) fn exchange<H: SystemClock>(
     let until = clock_of(rt)?.saturating_add(REPLY_WAIT);
     let mut reply = Reply::new();
     for _ in 0..u64::MAX {
-        let byte = read_byte(rt, stream, until)?;
+        let Some(byte) = read_byte(rt, stream, until)? else {
+            continue;
+        };
         match take(&mut reply, byte) {
             Step::More => {}
             Step::Whole => return Ok(reply),
@@ -79,15 +82,25 @@ pub(crate) fn exchange<H: SystemClock>(
     Err(io::Error::from(ErrorKind::InvalidData))
 }
 
-/// The next byte, which has to come until a time.
-fn read_byte<H: SystemClock>(rt: &H, stream: &mut TcpStream, until: u64) -> io::Result<u8> {
+/// Whether a failed read says only that a signal ended it. No byte is lost, and the connection is as good as before.
+fn is_ended_by_signal(kind: ErrorKind) -> bool
+    ensures { result ≡ is_ended_by_signal kind }
+{
+    matches!(kind, ErrorKind::Interrupted)
+}
+
+/// The next byte, which has to come until a time. None if a signal ended the wait for it: then it is to be waited for
+/// again.
+fn read_byte<H: SystemClock>(rt: &H, stream: &mut TcpStream, until: u64) -> io::Result<Option<u8>> {
     let Some(left) = left_until(until, clock_of(rt)?) else {
         return Err(io::Error::from(ErrorKind::TimedOut));
     };
     stream.set_read_timeout(Some(Duration::from_nanos(left)))?;
     let mut byte = [0];
-    if stream.read(&mut byte)? == 0 {
-        return Err(io::Error::from(ErrorKind::UnexpectedEof));
+    match stream.read(&mut byte) {
+        Ok(0) => Err(io::Error::from(ErrorKind::UnexpectedEof)),
+        Ok(_) => Ok(Some(byte[0])),
+        Err(error) if is_ended_by_signal(error.kind()) => Ok(None),
+        Err(error) => Err(error),
     }
-    Ok(byte[0])
 }

@@ -2,12 +2,14 @@
 
 ghost use Rattle.std.specs.Prelude.{◌≡◌};
 ghost use Rattle.std.specs.Process.{exit_status};
-ghost use Rattle.ttd_services.specs.Fault.{code_of, number_of, status_of, status_of_server, status_of_settings, status_of_shared};
+ghost use Rattle.ttd_services.specs.Fault.{code_of, number_of, status_of, status_of_epoch, status_of_publish, status_of_server, status_of_settings, status_of_shared};
 ghost use Rattle.ttd_services.specs.declared.faults.ServiceFault.TheVariants.{Memory};
 
 use std::alloc::{AllocError, AllocFailed};
 use std::process::ExitCode;
 use thiserror::Error;
+use tt_epoch::EpochFault;
+use tt_publish::PublishFault;
 use tt_server::ServerFault;
 use tt_settings::SettingsFault;
 use tt_shared::SharedFault;
@@ -110,7 +112,7 @@ impl ServiceFault {
             ServiceFault::ReadFailed | ServiceFault::LinkFailed => Status::Device,
             ServiceFault::Settings(fault) => status_of_settings(*fault),
             ServiceFault::Shared(fault) => status_of_shared(*fault),
-            ServiceFault::Server(fault) => status_of_server(fault.number()),
+            ServiceFault::Server(fault) => status_of_server(*fault),
             ServiceFault::Memory => Status::Memory,
             _ => Status::Bad,
         }
@@ -137,14 +139,39 @@ fn status_of_shared(fault: SharedFault) -> Status
     }
 }
 
-/// How the program ends if a machine does not serve, by the number of the refusal. For its sockets (1807 to 1809) and
-/// the folder of its epoch (1811, 1812) it ends as after a failed device.
-fn status_of_server(number: u16) -> Status
-    ensures { result ≡ status_of_server number }
+/// How the program ends if a machine has no epoch: as after a failed device where its file can't be read or written.
+fn status_of_epoch(fault: EpochFault) -> Status
+    ensures { result ≡ status_of_epoch fault }
 {
-    match number {
-        1 => Status::Memory,
-        1807 | 1808 | 1809 | 1811 | 1812 => Status::Device,
+    match fault {
+        EpochFault::ReadFailed | EpochFault::WriteFailed => Status::Device,
+        EpochFault::Memory => Status::Memory,
+        _ => Status::Bad,
+    }
+}
+
+/// How the program ends if nothing can be published.
+fn status_of_publish(fault: PublishFault) -> Status
+    ensures { result ≡ status_of_publish fault }
+{
+    match fault {
+        PublishFault::Memory => Status::Memory,
+        _ => Status::Bad,
+    }
+}
+
+/// How the program ends if a machine does not serve: as after a failed device where it has not its sockets, and by what
+/// is wrong with its epoch and its publications.
+fn status_of_server(fault: ServerFault) -> Status
+    ensures { result ≡ status_of_server fault }
+{
+    match fault {
+        ServerFault::CannotListen | ServerFault::CannotPoll | ServerFault::CannotListenSocket => {
+            Status::Device
+        }
+        ServerFault::Epoch(fault) => status_of_epoch(fault),
+        ServerFault::Publish(fault) => status_of_publish(fault),
+        ServerFault::Memory => Status::Memory,
         _ => Status::Bad,
     }
 }

@@ -20,7 +20,7 @@ use tt_poll::MAX_SOURCE;
 use tt_report::{Disk, Reporter, ReporterFault};
 use tt_server::ServerFault;
 use tt_span::MAX_TIME;
-use tt_status::Event;
+use tt_status::{Event, LogFormat};
 
 /// How long a master waits after a failure before it goes on, in milliseconds.
 const PAUSE: u64 = 100;
@@ -33,6 +33,7 @@ pub(crate) struct MasterPlan<'a> {
     pub(crate) uncertainty: u64,
     pub(crate) offset: Offset,
     pub(crate) acts: &'a [Act],
+    pub(crate) log: LogFormat,
 }
 
 /// Answers polls by this computer's clock until the process is ended. For each poll that comes it does one act, in the
@@ -51,6 +52,7 @@ pub(crate) fn serve_polls<
         uncertainty,
         offset,
         acts,
+        log,
     } = plan;
     if source > u64::from(MAX_SOURCE) || uncertainty > MAX_TIME || acts.is_empty() {
         return Err(ServiceFault::BadWords);
@@ -61,7 +63,7 @@ pub(crate) fn serve_polls<
     let Ok(address) = socket.local_addr() else {
         return Err(ServiceFault::LinkFailed);
     };
-    let reporter = match Reporter::start(rt, rt.alloc(), None) {
+    let reporter = match Reporter::start(rt, rt.alloc(), log, None) {
         Ok(reporter) => reporter,
         Err(ReporterFault::NoThread) => return Err(ServiceFault::Server(ServerFault::NoThread)),
         Err(ReporterFault::Memory) => return Err(ServiceFault::Memory),

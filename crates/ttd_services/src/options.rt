@@ -6,7 +6,7 @@ ghost use Rattle.clap.specs.Words.{found_of, rows_of};
 ghost use Rattle.ttd_cli.specs.Reading.{number_at};
 ghost use Rattle.tt_span.specs.Time.{max_time};
 ghost use Rattle.tt_settings.specs.Numeral.{number_of as number_in};
-ghost use Rattle.ttd_services.specs.Reading.{act_of, acts_at, acts_in, flag_at, line_at, number_to, offset_at, offset_by, offset_in, place_at, place_in, place_of, port_at, text_at, time_behind};
+ghost use Rattle.ttd_services.specs.Reading.{act_of, acts_at, acts_in, flag_at, line_at, log_at, number_to, offset_at, offset_by, offset_in, place_at, place_in, place_of, port_at, text_at, time_behind};
 ghost use Rattle.tt_script.specs.Acts.{act_in as act_in_script};
 
 use crate::faults::ServiceFault;
@@ -15,8 +15,9 @@ use clap::ArgMatches;
 use std::alloc::Global;
 use tt_master::Act;
 use tt_script::act_in;
-use tt_settings::{number_of, port_of};
+use tt_settings::{log_format_of, number_of, port_of};
 use tt_span::MAX_TIME;
+use tt_status::LogFormat;
 
 /// The number that was given for an option, or its default.
 fn number_given(matches: &ArgMatches<'_>, id: &str) -> Option<u64>
@@ -123,6 +124,16 @@ pub(crate) fn offset_at(matches: &ArgMatches<'_>, id: &str) -> Result<Offset, Se
     ensures { result ≡ offset_at id.now (rows_of (found_of matches.now)) }
 {
     offset_in(text_at(matches, id)?)
+}
+
+/// The form of the log that was given for an option, or its default.
+pub(crate) fn log_at(matches: &ArgMatches<'_>, id: &str) -> Result<LogFormat, ServiceFault>
+    ensures { result ≡ log_at id.now (rows_of (found_of matches.now)) }
+{
+    match log_format_of(text_at(matches, id)?) {
+        Some(format) => Ok(format),
+        None => Err(ServiceFault::BadWords),
+    }
 }
 
 /// The act in this text.

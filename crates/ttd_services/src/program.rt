@@ -23,9 +23,9 @@ use std::time::Clock;
 use tt_report::Disk;
 use tt_stream::{ByteReader, ByteWriter};
 
-/// The message for arguments that clap takes, but in which an offset or an act is invalid.
+/// The message for arguments that clap takes, but in which an offset, an act or a form is invalid.
 const OTHER_MISTAKE: &str =
-    "error: invalid value for '--offset <NS>' or '--act <ACT>'\n\nFor more information, try '--help'.\n";
+    "error: invalid value for '--offset <NS>', '--act <ACT>' or '--log <FORM>'\n\nFor more information, try '--help'.\n";
 
 /// Whether the arguments are for a service: the first argument names one, or the first is `help` and the next names
 /// one.
@@ -154,6 +154,7 @@ fn serve<
             uncertainty,
             offset,
             acts,
+            log,
         } => {
             let plan = MasterPlan {
                 source: *source,
@@ -161,6 +162,7 @@ fn serve<
                 uncertainty: *uncertainty,
                 offset: *offset,
                 acts: acts.as_slice(),
+                log: *log,
             };
             serve_polls(rt, plan)?;
             Ok(())

@@ -84,7 +84,7 @@ pub(crate) fn run_server<
     let settings = settings_of(rt, rt.alloc(), file)?;
     if !check {
         return match serve(rt, &settings, until_eof) {
-            Ok(()) => Ok(()),
+            Ok(_end) => Ok(()),
             Err(ServerFault::Memory) => Err(Stop::Refused(ServiceFault::Memory)),
             Err(fault) => Err(Stop::Refused(ServiceFault::Server(fault))),
         };

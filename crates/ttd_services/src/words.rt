@@ -10,13 +10,16 @@ ghost use Rattle.ttd_services.specs.Reading.{AreForHelp, AreMistaken, AreTaken, 
 use crate::asking::MOST_RETRY;
 use crate::commands::services_command;
 use crate::faults::ServiceFault;
-use crate::options::{acts_at, flag_at, line_at, number_to, offset_at, peer_at, port_at, text_at};
+use crate::options::{
+    acts_at, flag_at, line_at, log_at, number_to, offset_at, peer_at, port_at, text_at,
+};
 use clap::error::ErrorKind;
 use clap::{ArgMatches, Error};
 use std::alloc::{AllocError, Global};
 use tt_master::Act;
 use tt_poll::MAX_SOURCE;
 use tt_span::MAX_TIME;
+use tt_status::LogFormat;
 
 /// How far a master's clock is off on purpose, in nanoseconds.
 #[derive(Clone, Copy, Debug, PartialEq, Eq)]
@@ -51,6 +54,8 @@ pub enum Service<'a> {
         offset: Offset,
         /// Its acts: one for each poll in order, and the last one for all further polls.
         acts: Vec<Act>,
+        /// The form of its log.
+        log: LogFormat,
     },
     /// `serve`: runs a machine until it is ended.
     Serve {
@@ -94,6 +99,7 @@ fn master_asked<'a>(alloc: Global, matches: &ArgMatches<'a>) -> Result<Service<'
     let port = port_at(matches, "listen")?;
     let uncertainty = number_to(matches, "uncertainty", MAX_TIME)?;
     let offset = offset_at(matches, "offset")?;
+    let log = log_at(matches, "log")?;
     let acts = acts_at(alloc, matches, "act")?;
     Ok(Service::Master {
         source,
@@ -101,6 +107,7 @@ fn master_asked<'a>(alloc: Global, matches: &ArgMatches<'a>) -> Result<Service<'
         uncertainty,
         offset,
         acts,
+        log,
     })
 }
 
@@ -158,11 +165,12 @@ fn parsed<'a>(alloc: Global, words: &'a [&'a str]) -> Result<ArgMatches<'a>, Err
 /// What the arguments after the program's name ask for. The first of them names a service.
 ///
 /// A number is read as `u64` reads it: decimal digits, with one `+` in front or none; leading zeros are allowed. An
-/// offset is decimal digits without leading zeros, behind a `+`, a `-` or nothing. An act is as in a script. An address
+/// offset is decimal digits without leading zeros, behind a `+`, a `-` or nothing. An act is as in a script. A form of the log
+/// is `text` or `json`. An address
 /// is `127.0.0.1:` and a port. Where `ask` is given a text with a `/`, or one that has no `:` and is not empty, that is
 /// the path of a Unix socket.
 ///
-/// Rejects with 1601 `BadWords` arguments that the command line does not take, and an invalid offset or act; with
+/// Rejects with 1601 `BadWords` arguments that the command line does not take, and an invalid offset, act or form; with
 /// 1805 `NotLocal` another address; and with 1 `Memory` where an allocation failed.
 pub fn read_words<'a>(alloc: Global, words: &'a [&'a str]) -> Result<Asked<'a>, ServiceFault>
     ensures taken { AreTaken (texts words.entry.now) → IsAsked (texts words.entry.now) result }

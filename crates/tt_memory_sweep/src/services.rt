@@ -1,0 +1,159 @@
+//! What a machine that serves is made of: its settings, its epoch, its log, its queues and its sessions.
+
+use crate::commits::watch_of;
+use crate::devices::SheetWriter;
+use crate::outcomes::{MEMORY, Outcome};
+use arrayvec::ArrayVec;
+use std::alloc::{AllocError, Global};
+use std::sync::Wait;
+use tt_connections::Queue;
+use tt_epoch::{MemoryStore, next_epoch};
+use tt_publish::MemoryClock;
+use tt_session::Turns;
+use tt_settings::read;
+use tt_span::Span;
+use tt_stamp::Sequencer;
+use tt_station::{AlwaysThere, Post, Terms};
+use tt_status::{Event, LogFormat, RefusedFusion, push_event};
+use tt_stream::MemoryReader;
+
+/// The settings of a machine with three masters, one of which may be faulty, and four paths.
+const SETTINGS: &str = "machine = 3
+masters = [\"127.0.0.1:5701\", \"127.0.0.1:5702\", \"127.0.0.1:5703\"]
+listen = \"127.0.0.1:5601\"
+state = \"state\"
+socket = \"socket\"
+shared = \"run/time\"
+status = \"run/status\"
+";
+
+/// The line of a log.
+const LINE: &str =
+    "time=1970-01-01T00:00:00.000000005Z level=warn event=fusion_refused number=504 left_out=2\n";
+
+/// What a client sends.
+const LINES: &[u8] = b"now\ncommit 1 0\nnow\n";
+
+/// The replies to these lines.
+const REPLIES: &[u8] = b"now 100 200\nwaiting 1 200\nnow 100 200\n";
+
+/// The replies if there is no memory for its commit.
+const REFUSED: &[u8] = b"now 100 200\nrefused 1\nnow 100 200\n";
+
+/// The replies in the next session. The stamp that was refused is lost.
+const AGAIN: &[u8] = b"now 100 200\nwaiting 1 201\nnow 100 200\n";
+
+/// What the clocks show.
+const CLOCK: [u64; 64] = [0; 64];
+
+/// Reads the settings.
+pub(crate) fn settings(alloc: Global) -> Outcome {
+    match Outcome::at_once(read_settings(alloc)) {
+        Some(outcome) => outcome,
+        None => Outcome::again(read_settings(alloc)),
+    }
+}
+
+fn read_settings(alloc: Global) -> Result<bool, u16> {
+    let settings = match read(alloc, SETTINGS) {
+        Ok(settings) => settings,
+        Err(fault) => return Err(fault.number()),
+    };
+    let is_shared = match settings.shared() {
+        Some(path) => path.as_str() == "run/time",
+        None => false,
+    };
+    let masters: &[u16] = &[5701, 5702, 5703];
+    Ok(
+        settings.machine() == 3
+            && settings.masters() == masters
+            && settings.config().faulty() == 1
+            && settings.state() == "state"
+            && is_shared,
+    )
+}
+
+/// Takes the epoch after 6. This takes no memory.
+pub(crate) fn epoch() -> Outcome {
+    let mut store = MemoryStore::new(Some(6), None);
+    Outcome::of(next_epoch(&mut store) == Ok(7), false)
+}
+
+/// Writes the line of an event.
+pub(crate) fn event(alloc: Global) -> Outcome {
+    match Outcome::at_once(write_event(alloc)) {
+        Some(outcome) => outcome,
+        None => Outcome::again(write_event(alloc)),
+    }
+}
+
+fn write_event(alloc: Global) -> Result<bool, u16> {
+    let mut text = String::new(alloc);
+    match push_event(
+        &mut text,
+        LogFormat::Text,
+        5,
+        Event::FusionRefused {
+            reason: RefusedFusion::NoPoint,
+        },
+        2,
+    ) {
+        Ok(()) => Ok(text.as_str() == LINE),
+        Err(AllocError) => Err(MEMORY),
+    }
+}
+
+/// Makes a queue in which connections wait for a worker.
+pub(crate) fn queue(alloc: Global) -> Outcome {
+    match Outcome::at_once(make_queue(alloc)) {
+        Some(outcome) => outcome,
+        None => Outcome::again(make_queue(alloc)),
+    }
+}
+
+fn make_queue(alloc: Global) -> Result<bool, u16> {
+    match Queue::new(alloc) {
+        Ok(queue) => Ok(queue.waiting() == 0 && queue.has_room()),
+        Err(AllocError) => Err(MEMORY),
+    }
+}
+
+/// Serves a session with two readings and a commit. If its commit is refused for memory, the next session of the same post
+/// has the replies worked out by hand.
+pub(crate) fn session<R: Wait>(rt: &R, alloc: Global) -> Outcome {
+    let Some(watch) = watch_of(rt, alloc) else {
+        return Outcome::Unprepared;
+    };
+    let Ok((sequencer, mut seats)) = Sequencer::open(alloc, 1) else {
+        return Outcome::Unprepared;
+    };
+    let Some(seat) = seats.pop() else {
+        return Outcome::Wrong;
+    };
+    let terms = Terms {
+        lease: Span::whole(),
+        ahead: 0,
+    };
+    let clock = MemoryClock::new(&CLOCK, None);
+    let post = Post::new(rt, alloc, watch, clock, seat, &sequencer, terms);
+    let (post, replies) = serve_one(post);
+    if replies.as_slice() != REFUSED {
+        return Outcome::of(replies.as_slice() == REPLIES, false);
+    }
+    let (_post, replies) = serve_one(post);
+    Outcome::of(replies.as_slice() == AGAIN, true)
+}
+
+/// Serves one session, in which nothing but the post takes memory. Answers the post, and the replies.
+fn serve_one<'a, 'c, R: Wait>(
+    post: Post<'a, R, MemoryClock<'c>>,
+) -> (Post<'a, R, MemoryClock<'c>>, ArrayVec<u8, 256>) {
+    let mut reader = MemoryReader::new(LINES, 64, None);
+    let mut writer = SheetWriter::new();
+    let turns = Turns {
+        reads: 100,
+        waits: 1,
+    };
+    let (post, _) = post.serve(&AlwaysThere, &mut reader, &mut writer, turns);
+    (post, writer.written())
+}
