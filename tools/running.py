@@ -2,15 +2,19 @@
 
 All is on ports of the loopback and in a folder of the caller's, and ends with the `with` block, each process by its id.
 """
+import calendar
 import contextlib
 import json
 import os
 import random
+import re
 import signal
 import socket
 import subprocess
 import sys
 import time
+
+from metrics import numbers_in
 
 TOP = os.path.dirname(os.path.dirname(os.path.realpath(__file__)))
 sys.path.insert(0, os.path.join(TOP, "clients/python"))
@@ -39,6 +43,27 @@ def free_port(kind):
             PORTS_TAKEN.append(name)
             return port
     raise Fault("no port is free")
+
+
+def read_text(path):
+    with open(path, encoding="utf-8", errors="replace") as file:
+        return file.read()
+
+
+def nanoseconds_of(moment):
+    """A time like 2026-11-26T23:41:51.123456789Z, in nanoseconds since 1970."""
+    whole, fraction = re.fullmatch(r"([0-9]{4}-[0-9]{2}-[0-9]{2}T[0-9]{2}:[0-9]{2}:[0-9]{2})\.([0-9]{9})Z", moment).groups()
+    return calendar.timegm(time.strptime(whole, "%Y-%m-%dT%H:%M:%S")) * 1_000_000_000 + int(fraction)
+
+
+def fields_of(line):
+    """The fields of a line of a log, in either form, as texts, but for the time in nanoseconds since 1970. No fields for another line."""
+    fields = {}
+    if line.startswith("time=") and line.endswith("\n"):
+        fields = dict(part.partition("=")[::2] for part in line.split())
+    elif line.startswith('{"time":') and line.endswith("\n"):
+        fields = {name: str(value) for name, value in json.loads(line).items()}
+    return fields and fields | {"time": nanoseconds_of(fields["time"])}
 
 
 class Service:
@@ -101,8 +126,7 @@ class Process:
     def said(self, event):
         """The fields of each line of the log that tells of this event, over all lives."""
         with open(self.log, encoding="utf-8", errors="replace") as log:
-            lines = [dict(part.partition("=")[::2] for part in line.split()) for line in log if line.startswith("time=")]
-        return [fields for fields in lines if fields.get("event") == event]
+            return [fields for fields in map(fields_of, log) if fields.get("event") == event]
 
 
 class Master(Process):
@@ -160,9 +184,9 @@ class Machine(Process):
         return truetime.Client(self.path("shared"), os.geteuid())
 
     def status(self):
-        """The numbers of its status file by their names."""
+        """The numbers of its status file by their names and labels, but for that of the machine."""
         with open(self.path("status"), encoding="utf-8") as file:
-            return {name: int(value) for name, value in map(str.split, file)}
+            return numbers_in(file.read())
 
     def resources(self):
         """Its memory in KiB, its descriptors and its threads: the least of some looks, since a file is open while it is written."""

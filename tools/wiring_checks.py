@@ -1,28 +1,37 @@
 """What tools/wiring checks, by the names of docs/FORMATS.md, and what its scenarios share."""
 import contextlib
 import os
+import re
+import shutil
 import subprocess
 import time
 import typing
 
-from running import Process, truetime
-from trouble import REQUEST, SPAN, Fake, Trial, honest, write
+from metrics import faults_in
+from running import Process, fields_of, read_text, truetime
+from trouble import REQUEST, SECOND, SPAN, Fake, Trial, honest, write
 
 # The names. One that changes is changed here; that of a setting or of an event also where a scenario gives or awaits it.
 
-SETTINGS = "machine masters faulty workers drift poll wait floor_ahead idle lease_lo lease_hi listen state socket shared status".split()
-OPTIONS = "source listen uncertainty offset act".split()
+SETTINGS = "machine masters faulty workers drift poll wait floor_ahead idle lease_lo lease_hi listen log state socket shared status".split()
+OPTIONS = "source listen uncertainty offset act log".split()
 ACTS = "honest ahead behind silent garbage repeat".split()
 
-# The numbers of the status in their order, by the names that the checks use.
-STATUS = {
-    "epoch": "truetime_epoch", "width": "truetime_width_nanoseconds", "fusion_age": "truetime_fusion_age_nanoseconds",
-    "sources": "truetime_sources", "known": "truetime_sources_known", "suspects": "truetime_sources_suspect",
+# The numbers of the status in their order, by the names that the checks use: those before the ones of each source, these, and the others.
+FIRST = {
+    "epoch": "truetime_epoch", "width": "truetime_width_seconds", "fusion_age": "truetime_fusion_age_seconds",
+    "sources": "truetime_sources", "known": "truetime_sources_known",
+}
+OF_SOURCES = {
+    "suspect": 'truetime_source_suspect{source="%d"}', "accepted": 'truetime_source_rounds_total{source="%d",outcome="accepted"}',
+    "refused": 'truetime_source_rounds_total{source="%d",outcome="refused"}',
+    "silent": 'truetime_source_rounds_total{source="%d",outcome="silent"}', "unsent": 'truetime_source_packets_unsent_total{source="%d"}',
+}
+LAST = {
     "rounds": "truetime_rounds_total", "publications": "truetime_publications_total", "answers_refused": "truetime_answers_refused_total",
     "fusions_504": 'truetime_fusions_refused_total{number="504"}', "fusions_701": 'truetime_fusions_refused_total{number="701"}',
-    "sharing": "truetime_sharing", "sessions": "truetime_sessions_total", "lines": "truetime_lines_total",
-    "lines_refused": "truetime_lines_refused_total", "unsent": "truetime_packets_unsent_total",
-    "waiting": "truetime_connections_waiting", "left_out": "truetime_records_left_out_total",
+    "sessions": "truetime_sessions_total", "lines": "truetime_lines_total", "lines_refused": "truetime_lines_refused_total",
+    "waiting": "truetime_connections_waiting", "sharing": "truetime_sharing", "left_out": "truetime_records_left_out_total",
 }
 
 # The numbers of a publication in the shared file, as clients/python names them.
@@ -30,16 +39,23 @@ SHARED = truetime.Publication._fields
 
 # The level and the numbers of each event of the log.
 EVENTS = {
-    "started": "info machine epoch port", "first_publication": "info width", "sharing_resumed": "info", "ended": "info",
+    "started": "info machine epoch port", "first_publication": "info width_ns", "sharing_resumed": "info", "ended": "info",
     "master_started": "info source port", "source_silent": "warn source", "source_suspect": "warn source", "source_unsent": "warn source",
-    "fusion_refused": "warn number", "round_failed": "warn number", "sharing_ended": "warn number", "socket_renewed": "warn number pause",
-    "publication_slow": "warn nanoseconds", "clock_back": "warn", "status_unwritten": "warn", "not_accepted": "warn",
+    "fusion_refused": "warn number", "round_failed": "warn number", "sharing_ended": "warn number", "socket_renewed": "warn number pause_ns",
+    "publication_slow": "warn lasted_ns", "clock_back": "warn", "status_unwritten": "warn", "not_accepted": "warn",
     "state_loose": "warn", "epoch_loose": "warn", "shared_loose": "warn", "answers_refused": "warn count", "master_failed": "warn number",
+}
+
+# The forms of a line.
+MOMENT = r"[0-9]{4}-[0-9]{2}-[0-9]{2}T[0-9]{2}:[0-9]{2}:[0-9]{2}\.[0-9]{9}Z"
+FORMS = {
+    "text": re.compile(rf"time={MOMENT} level=[a-z]+ event=[a-z_]+( [a-z_]+=[0-9]+)*\n"),
+    "json": re.compile(rf'\{{"time":"{MOMENT}","level":"[a-z]+","event":"[a-z_]+"(,"[a-z_]+":[0-9]+)*\}}\n'),
 }
 
 # The names of all checks that are to be made.
 NAMES = [*(f"setting {name}" for name in SETTINGS), *(f"option {name}" for name in OPTIONS), *(f"act {name}" for name in ACTS),
-         *(f"status {name}" for name in STATUS), *(f"shared {name}" for name in SHARED), *(f"log {name}" for name in EVENTS)]
+         *(f"status {name}" for name in ("build_info", "form", *FIRST, *OF_SOURCES, *LAST)), *(f"shared {name}" for name in SHARED), *(f"log {name}" for name in EVENTS)]
 
 
 def eventually(call, seconds=6.0, pause_s=0.02):
@@ -98,8 +114,14 @@ class Checks(Trial):
         for name in os.listdir(self.room):
             if name.endswith(".log"):
                 with open(os.path.join(self.room, name), encoding="utf-8", errors="replace") as log:
-                    for event in {word[6:] for line in log for word in line.split() if word.startswith("event=")} - EVENTS.keys():
+                    for event in {fields["event"] for fields in map(fields_of, log) if fields} - EVENTS.keys():
                         self.check(f"log {event}", False, "tools/wiring_checks.py has no such event")
+
+    def has_form(self, name, process, form):
+        """Each line of a log has this form."""
+        lines = read_text(process.log).splitlines(keepends=True)
+        wrong = [line for line in lines if not FORMS[form].fullmatch(line)]
+        self.check(name, lines and not wrong, f"lines of another form than {form}: {wrong[:3]} of {len(lines)}")
 
     def process(self, *words):
         """A command of the program that runs until the scenario ends."""
@@ -132,10 +154,34 @@ def spoiled(folder, kind):
         os.remove(path)
 
 
+def number_of(numbers, name):
+    """A number of a status; that of a name in seconds is in nanoseconds. None where it is not there or `NaN`."""
+    value = numbers.get(name)
+    return int(value * SECOND) if value is not None and "_seconds" in name else value
+
+
 def status_of(node):
-    """The numbers of its status by the names of `STATUS`; a number that is not there is None."""
+    """The numbers of its status by the names above, and those of each source as lists."""
     numbers = node.status()
-    return {name: numbers.get(line) for name, line in STATUS.items()}
+    found = {name: number_of(numbers, line) for name, line in (FIRST | LAST).items()}
+    return found | {name: [numbers.get(line % source) for source in range(found["sources"] or 0)] for name, line in OF_SOURCES.items()}
+
+
+def names_of(sources, version):
+    """The names of the numbers of a status with so many sources, in their order."""
+    of_sources = [line % source for lines in (["suspect"], ["accepted", "refused", "silent"], ["unsent"])
+                  for source in range(sources) for line in map(OF_SOURCES.get, lines)]
+    return [f'truetime_build_info{{version="{version}"}}', *FIRST.values(), *of_sources, *LAST.values()]
+
+
+def look_at_form(trial, node):
+    """Its status has the form that Prometheus reads, and each number the label of the machine."""
+    text = read_text(node.path("status"))
+    unmarked = [line for line in text.splitlines() if line[0] != "#" and '{machine="3"' not in line]
+    trial.equal("status form", (faults_in(text), unmarked), ([], []))
+    if shutil.which("promtool"):
+        said = subprocess.run(["promtool", "check", "metrics"], input=text, capture_output=True, text=True, timeout=20)
+        trial.equal("status form", said.stdout + said.stderr, "")
 
 
 def published(node, number=1, seconds=6.0):

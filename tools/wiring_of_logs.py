@@ -13,6 +13,7 @@ def loose_files(trial):
     """A start finds what others may write."""
     node = trial.running_node(trial.scripts(honest))
     trial.logs(node, "started", epoch=1)
+    trial.has_form("setting log", node, "text")
     for event in ("state_loose", "epoch_loose", "shared_loose"):
         trial.equal(f"log {event}", node.said(event), [])
     for event, name in (("state_loose", "state"), ("epoch_loose", "state/epoch"), ("shared_loose", "shared")):
@@ -78,7 +79,7 @@ def no_descriptors(trial):
 def left_out_lines(trial):
     """Within ten seconds of a line those of its kind are counted, and the next one tells how many there were."""
     masters = trial.scripts(honest, silent, honest)
-    node = trial.running_node(masters, poll="200ms")
+    node = trial.running_node(masters, poll="200ms", log="json")
 
     def look():
         lines = [line for line in node.said("source_silent") if line["source"] == "1"]
@@ -89,6 +90,7 @@ def left_out_lines(trial):
     trial.between("log source_silent", 10 * SECOND, last - first, 14 * SECOND)
     polls = sum(first <= moment <= last for moment in masters[1].times)
     trial.between("log source_silent", polls - 2, int(lines[-1].get("left_out", -9)), polls + 1)
+    trial.has_form("setting log", node, "json")
 
 
 @scenario()
@@ -101,11 +103,11 @@ def calls_that_fail(trial):
         time.sleep(1)
     time.sleep(0.3)
     unsent = len(masters[0].polls) - len(masters[1].polls)
-    trial.between("status unsent", max(1, unsent - 1), status_of(node)["unsent"], unsent + 1)
+    trial.between("status unsent", max(1, unsent - 1), status_of(node)["unsent"][1], unsent + 1)
     trial.equal("log source_unsent", {line["source"] for line in node.said("source_unsent")}, {"1"})
     with spoiled(folder, "receive"):
         trial.logs(node, "round_failed", number=1501)
-        trial.logs(node, "socket_renewed", number=1501, pause=SECOND // 10)
+        trial.logs(node, "socket_renewed", number=1501, pause_ns=SECOND // 10)
     with spoiled(folder, "clock"):
         trial.logs(node, "clock_back")
     rounds = status_of(node)["rounds"]
@@ -127,4 +129,4 @@ def calls_that_last(trial):
     trial.between("status left_out", max(1, made - 3), status["left_out"], made + 12)
     with spoiled(folder, "sending"):
         line = trial.logs(node, "publication_slow", 12)
-    trial.between("log publication_slow", 4 * SECOND, int(line.get("nanoseconds", 0)), 12 * SECOND)
+    trial.between("log publication_slow", 4 * SECOND, int(line.get("lasted_ns", 0)), 12 * SECOND)

@@ -87,6 +87,15 @@ def acts_of_masters(trial):
 
 
 @scenario()
+def logs_of_masters(trial):
+    """In either form."""
+    for form in ("text", "json"):
+        asked = Asked(trial, 4, uncertainty=[5], log=[form])
+        trial.logs(asked.process, "master_started", source=4)
+        trial.has_form("option log", asked.process, form)
+
+
+@scenario()
 def master_without_time(trial):
     """Its clock would show a time before 1970, and nothing is answered."""
     asked = Asked(trial, 1, uncertainty=[5], offset=[-2_000_000_000 * SECOND])

@@ -2,11 +2,12 @@
 that tell of rounds."""
 import contextlib
 import os
+import subprocess
 import time
 
 from running import truetime
 from trouble import SECOND, honest, scenario, silent, write
-from wiring_checks import STATUS, eventually, forges, lies, other, published, status_of
+from wiring_checks import eventually, forges, lies, look_at_form, names_of, other, published, status_of
 
 # The epoch of the life before, and the times of the rounds.
 EPOCH = 41
@@ -45,9 +46,9 @@ def rounds(trial):
     trial.logs(node, "started", machine=3, epoch=EPOCH + 1, port=node.address[1])
     made = TOO_FEW + NO_POINT + 1 + len(REFUSED)
     eventually(lambda: len(masters[0].polls) > made, 15)
-    wanted = {"epoch": EPOCH + 1, "sources": 7, "known": 6, "suspects": len(LIARS), "answers_refused": sum(map(len, REFUSED)),
+    wanted = {"epoch": EPOCH + 1, "sources": 7, "known": 6, "suspect": [int(source in LIARS) for source in range(7)], "answers_refused": sum(map(len, REFUSED)),
               "fusions_701": TOO_FEW, "fusions_504": NO_POINT, "sharing": 1,
-              **dict.fromkeys(("unsent", "waiting", "left_out", "sessions", "lines", "lines_refused"), 0)}
+              "refused": [0] * 7, "unsent": [0] * 7, **dict.fromkeys(("waiting", "left_out", "sessions", "lines", "lines_refused"), 0)}
     seen = {}
 
     def look():
@@ -56,7 +57,8 @@ def rounds(trial):
         since_s = (time.time_ns() - masters[0].times[-1]) / SECOND
         if not WAIT_S < since_s < WAIT_S + POLL_S or polls < len(masters[0].polls):
             return False
-        wanted.update(rounds=polls, publications=polls - TOO_FEW - NO_POINT, width=shared.hi_ns - shared.lo_ns)
+        silent_in = [polls if source == SILENT else 0 if source in LIARS else TOO_FEW for source in range(7)]
+        wanted.update(silent=silent_in, accepted=[polls - rounds for rounds in silent_in], rounds=polls, publications=polls - TOO_FEW - NO_POINT, width=shared.hi_ns - shared.lo_ns)
         seen.update(status, shared=shared)
         return all(status[name] == value for name, value in wanted.items())
 
@@ -66,7 +68,9 @@ def rounds(trial):
     trial.between("status fusion_age", 0, seen["fusion_age"], SECOND // 2)
     trial.equal("shared number", seen["shared"].number, wanted["publications"])
     trial.equal("shared epoch", seen["shared"].epoch, EPOCH + 1)
-    trial.equal("status names", list(node.status()), list(STATUS.values()))
+    said = subprocess.run([trial.program, "--version"], capture_output=True, text=True, check=True).stdout
+    trial.equal("status build_info", list(node.status()), names_of(7, said.strip().partition(" ")[2]))
+    look_at_form(trial, node)
     trial.logs(node, "answers_refused", count=len(REFUSED[0]))
     for number in (701, 504):
         trial.logs(node, "fusion_refused", number=number)
@@ -85,7 +89,7 @@ def first_publication(trial):
     shared, after = published(node), (time.monotonic_ns(), time.time_ns())
     trial.equal("shared number", shared.number, 1)
     trial.between("log started", before[1], int(trial.logs(node, "started").get("time", 0)), time.time_ns())
-    trial.logs(node, "first_publication", width=shared.hi_ns - shared.lo_ns)
+    trial.logs(node, "first_publication", width_ns=shared.hi_ns - shared.lo_ns)
     trial.between("shared clock_ns", before[0], shared.clock_ns, after[0])
     trial.between("shared lo_ns", before[1] - SECOND, shared.lo_ns, after[1])
     trial.between("shared hi_ns", before[1], shared.hi_ns, after[1] + SECOND)
@@ -100,6 +104,21 @@ def first_publication(trial):
     trial.between("shared valid_until_ns", began, ended.valid_until_ns, time.monotonic_ns())
     trial.check("setting socket", not os.path.exists(node.path("socket")), "it is there after the end")
     trial.logs(node, "ended")
+
+
+@scenario()
+def refused_sources(trial):
+    """A source whose answers are all refused is neither accepted nor silent."""
+    masters = trial.scripts(honest, lambda fake, poll: fake.send(b"x"), honest)
+    node = trial.running_node(masters, poll="300ms", wait="100ms")
+    seen = []
+
+    def look():
+        status, polls = status_of(node), len(masters[1].polls)
+        seen.append([status[name] for name in ("accepted", "refused", "silent")])
+        return polls > 3 and seen[-1] == [[polls, 0, polls], [0, polls, 0], [0, 0, 0]]
+
+    trial.check("status refused", eventually(look), f"accepted, refused and silent are {seen[-3:]}")
 
 
 @scenario()
@@ -157,7 +176,7 @@ def nothing_published(trial):
     with eventually(lambda: truetime.Session(node.address, 10)) as session:
         trial.equal("status publications", session.ask("now"), "refused 801")
     trial.between("the first answer", 1.9, time.monotonic() - node.began, 6)
-    trial.numbers(node, lines=1, lines_refused=1, sessions=1, sources=2, known=0, suspects=0, width=0, fusion_age=0, publications=0,
+    trial.numbers(node, lines=1, lines_refused=1, sessions=1, sources=2, known=0, suspect=[0, 0], width=None, fusion_age=None, publications=0,
                   fusions_504=0, sharing=0)
     seen = []
 
