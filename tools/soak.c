@@ -1,4 +1,4 @@
-/* A client of the time service for tools/soak: reads and commits on one machine until its time is over.
+/* A client of the time service for the suite `soak`: reads and commits on one machine until its time is over.
  *
  *     soak SECONDS SEED PORT SOCKET SHARED
  *

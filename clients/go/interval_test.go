@@ -2,7 +2,7 @@ package truetime
 
 import "testing"
 
-// TestFresh is fresh up to the last clock reading at which it is. What is read is worked out by hand in tools/clients.
+// TestFresh is fresh up to the last clock reading at which it is. What is read is worked out by hand in tools/suites/clients.py.
 func TestFresh(t *testing.T) {
 	p := Publication{Clock: 10, Hi: MaxTime, ValidUntil: 20, Epoch: 3, Number: 4}
 	for clock, want := range map[uint64]bool{10: true, 20: true, 21: false, MaxTime: false} {

@@ -9,7 +9,7 @@ import (
 )
 
 // These ask a running machine whose masters have the time of this host: TRUETIME_ADDRESS and TRUETIME_SOCKET name where it
-// is asked, and TRUETIME_FILE the file that it shares. tools/clients starts one.
+// is asked, and TRUETIME_FILE the file that it shares. tools/check starts one.
 
 func dialMachine(t testing.TB) map[string]*Session {
 	t.Helper()

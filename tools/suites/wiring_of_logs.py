@@ -1,14 +1,17 @@
-"""Scenarios of tools/wiring: each kind of line of the log, and the numbers of the status that rise when something fails."""
+"""Scenarios of the suite `wiring`: each kind of line of the log, and the numbers of the status that rise when something fails."""
 import os
 import shutil
 import socket
 import time
 
-from trouble import SECOND, hold_lock, honest, scenario, silent, write
-from wiring_checks import eventually, published, spoiled, status_of
+from harness.processes import SECOND
+from harness.program import write
+from harness.trouble import hold_lock, honest, silent
+from suites.wiring import suite
+from suites.wiring_checks import eventually, published, spoiled, status_of
 
 
-@scenario()
+@suite.case()
 def loose_files(trial):
     """A start finds what others may write."""
     node = trial.running_node(trial.scripts(honest))
@@ -27,7 +30,7 @@ def loose_files(trial):
         trial.equal(f"log {event}", len(node.said(event)), 1)
 
 
-@scenario()
+@suite.case()
 def shared_file_that_fails(trial):
     """Its folder is there only later, its lock is held for a while, and it is removed."""
     place = os.path.join(trial.room, "place")
@@ -53,7 +56,7 @@ def shared_file_that_fails(trial):
     trial.logs(node, "sharing_resumed", 10)
 
 
-@scenario()
+@suite.case()
 def status_that_fails(trial):
     """A folder lies where it is written, and later does not."""
     node = trial.running_node(trial.scripts(honest))
@@ -66,7 +69,7 @@ def status_that_fails(trial):
     trial.check("status rounds", eventually(lambda: status_of(node)["rounds"] > rounds), "it stays as it was")
 
 
-@scenario()
+@suite.case()
 def no_descriptors(trial):
     """None is left for a connection."""
     node = trial.running_node(trial.scripts(honest))
@@ -75,7 +78,7 @@ def no_descriptors(trial):
         trial.logs(node, "not_accepted")
 
 
-@scenario()
+@suite.case()
 def left_out_lines(trial):
     """Within ten seconds of a line those of its kind are counted, and the next one tells how many there were."""
     masters = trial.scripts(honest, silent, honest)
@@ -93,7 +96,7 @@ def left_out_lines(trial):
     trial.has_form("setting log", node, "json")
 
 
-@scenario()
+@suite.case()
 def calls_that_fail(trial):
     """No packet goes to one master; then none is received; then the clock goes back."""
     masters = trial.scripts(*[honest] * 3)
@@ -114,7 +117,7 @@ def calls_that_fail(trial):
     trial.check("status rounds", eventually(lambda: status_of(node)["rounds"] > rounds + 1), "no rounds once the clock is right again")
 
 
-@scenario()
+@suite.case()
 def calls_that_last(trial):
     """A rename of the status lasts for a second, and then sending a poll lasts until it is logged: a second more than `wait`."""
     masters = trial.scripts(*[honest] * 3)

@@ -1,4 +1,4 @@
-"""Clients of the time service, good and bad ones, for the tools."""
+"""Clients of the time service, good and bad ones."""
 import collections
 import contextlib
 import dataclasses
@@ -7,7 +7,7 @@ import random
 import socket
 import time
 
-from running import truetime
+from harness.processes import truetime
 
 
 @dataclasses.dataclass
@@ -106,6 +106,17 @@ def come_in_turn(address, number, timeout_s):
         except OSError:
             seen.lost += 1
     return seen
+
+
+def reply_to(session, line):
+    """The reply to a line, which is sent again while it waits."""
+    while (reply := session.ask(line)).startswith("waiting"):
+        pass
+    return reply
+
+
+def latest_of(session):
+    return int(reply_to(session, "now").split()[2])
 
 
 # Bad clients. Each gives what is wrong: it has to have an answer, or a closed connection, within so many seconds.

@@ -1,29 +1,22 @@
-#!/usr/bin/env python3
 """Runs the commands that the documents show, with the built program, and compares what it answers with what they say.
 
-usage: tools/examples PROGRAM
-
 Read are the commands of README.md, docs/PROVED.md and examples/README.md with the lines below them, the tables of the last, and the picture
-docs/commit-wait.svg. Then standard error has to say where an input is refused, and why. Ends with status 1 where an answer
-differs. `tools/cases` tries the cases of tests/.
+docs/commit-wait.svg. Then standard error has to say where an input is refused, and why.
 """
 import os
 import re
 import subprocess
-import sys
 
-HERE = os.path.dirname(os.path.dirname(os.path.realpath(__file__)))
+from harness.program import TOP, read_text, run
+from harness.suite import Suite
+
+suite = Suite(__name__, at_once=os.cpu_count() or 1)
 COUNTS = ["events", "refused", "fusions", "readings", "wrong", "released", "violations"]
-
-
-def read(name):
-    with open(os.path.join(HERE, name), encoding="utf-8") as file:
-        return file.read()
 
 
 def shown_in(document):
     """Each command of a document with its answer; the status is that of its last program."""
-    lines = read(document).splitlines()
+    lines = read_text(document).splitlines()
     for at, line in enumerate(lines):
         if line.startswith("    $ ./ttd "):
             answer = []
@@ -36,7 +29,7 @@ def shown_in(document):
 
 def rows_below(heading):
     """The cells of the tables in this part of examples/README.md."""
-    part = read("examples/README.md").split(f"\n## {heading}\n")[1].split("\n## ")[0]
+    part = read_text("examples/README.md").split(f"\n## {heading}\n")[1].split("\n## ")[0]
     for line in part.splitlines():
         if line.startswith("| `"):
             yield [cell.strip() for cell in line.strip("|").split(" | ")]
@@ -51,11 +44,11 @@ def shown_in_examples():
         answer = [f"{name} {count}" for name, count in zip(COUNTS, counts.split(", "))] + re.findall("`([^`]*)`", last)
         yield f"ttd run < examples/{file.strip('`')}", answer, 3 if answer[-1].startswith("premise broken") else 0
     for file, trace in rows_below("Traces"):
-        yield f"ttd trace < examples/{file.strip('`')}", read(f"examples/{trace.strip('`')}").splitlines(), 0
+        yield f"ttd trace < examples/{file.strip('`')}", read_text(f"examples/{trace.strip('`')}").splitlines(), 0
     for side, _, last in rows_below("Twins"):
         yield f"ttd twin --event 11 --side {side.strip('`')} < examples/any-may-lie.toml | tail -n 1", [last.strip("`")], 0
     yield "ttd twin --event 9 --side low < examples/any-may-lie.toml", ["refused 1401"], 2
-    yield "ttd picture < examples/commit-wait.toml", read("docs/commit-wait.svg").splitlines(), 0
+    yield "ttd picture < examples/commit-wait.toml", read_text("docs/commit-wait.svg").splitlines(), 0
 
 
 # Words and input, where the answer goes, and what standard error has to say.
@@ -72,40 +65,41 @@ SAID = [
     (["run"], "machine = [{ sources = 1, faulty = 0 }]\n", None, ["ttd: refused 1302", "machine 0", "workers"]),
     (["run"], "machine = [{ sources = 1, faulty = 0, workers = 1 }]\nevents = []\n", None, ["warning", "events"]),
     (["trace"], "machine = [{ sources = 1, faulty = 0, workers = 1 }]\nevent = [{ do = \"answer\", at = 1, packet = 0, lo = 9, hi = 5 }]\n",
-     None, ["ttd: refused 1303", "event 0 (answer)", "9"]),
+     None, ["ttd: refused 1303", "event 0 (answer): hi", "not below lo"]),
     (["run"], "a =\n", None, ["ttd: refused 1301", "line 1"]),
-    (["check"], read("examples/three-wrong.check"), None, ["ttd: refused 601", "source 0 is named twice"]),
+    (["check"], read_text("examples/three-wrong.check"), None, ["ttd: refused 601", "source 0 is named twice"]),
 ]
 
 
-def errors_tried(program):
-    """What standard error does not say though it should."""
-    faults = []
-    for words, given, target, wanted in SAID:
-        with open(target or os.devnull, "wb") as output:
-            ran = subprocess.run([program, *words], input=given, stdout=output, stderr=subprocess.PIPE, text=True)
-        faults += [f"ttd {' '.join(words)}: standard error lacks {text!r}: {ran.stderr!r}" for text in wanted if text not in ran.stderr]
-    return faults
+def try_command(trial, command, answer, status):
+    """A command that a document shows."""
+    ran = run(["bash", "-c", f'ttd() {{ "$TTD" "$@"; }}; {command}'], seconds=120, cwd=TOP, env={**os.environ, "TTD": trial.program},
+              stderr=subprocess.DEVNULL)
+    trial.holds((ran.said.splitlines(), ran.status) == (answer, status), f"it ends with status {ran.status} and answers\n{ran.said}")
+    trial.count(commands=1)
 
 
-def main():
-    if len(sys.argv) != 2:
-        sys.exit(__doc__.split("\n\n")[1])
-    program = os.path.realpath(sys.argv[1])
-    commands = [*shown_in("README.md"), *shown_in("docs/PROVED.md"), *shown_in("examples/README.md"), *shown_in_examples()]
-    wrong = 0
-    for command, answer, status in commands:
-        run = subprocess.run(["bash", "-c", f'ttd() {{ "$TTD" "$@"; }}; {command}'], cwd=HERE, timeout=120, check=False,
-                             env={**os.environ, "TTD": program}, stdout=subprocess.PIPE, stderr=subprocess.DEVNULL)
-        if (run.stdout.decode().splitlines(), run.returncode) != (answer, status):
-            print(f"`{command}` ends with status {run.returncode} and answers")
-            print(run.stdout.decode(), end="")
-            wrong += 1
-    unsaid = errors_tried(program)
-    print("".join(f"{fault}\n" for fault in unsaid), end="")
-    print(f"examples: {len(commands)} commands of the documents, {wrong} wrong; {len(SAID)} texts on standard error, {len(unsaid)} wrong")
-    sys.exit(wrong != 0 or bool(unsaid))
+def try_error(trial, words, given, target, wanted):
+    """What standard error says of a refusal."""
+    with open(target or os.devnull, "wb") as output:
+        ran = run([trial.program, *words], given.encode(), stdout=output)
+    for text in wanted:
+        trial.holds(text in ran.error, f"standard error lacks {text!r}: {ran.error!r}")
+    trial.count(texts=1)
 
 
-if __name__ == "__main__":
-    main()
+@suite.family
+def all_cases():
+    for command, answer, status in [*shown_in("README.md"), *shown_in("docs/PROVED.md"), *shown_in("examples/README.md"), *shown_in_examples()]:
+        yield command, try_command, command, answer, status
+    for words, *rest in SAID:
+        yield f"standard error of ttd {' '.join(words)}".strip(), try_error, words, *rest
+
+
+@suite.last_line
+def last_line(results):
+    told = []
+    for kind, what in (("commands", "commands of the documents"), ("texts", "texts on standard error")):
+        of_kind = [result for result in results if result.counts[kind]]
+        told.append(f"{len(of_kind)} {what}, {sum(len(result.wrong) for result in of_kind)} wrong")
+    return "; ".join(told)

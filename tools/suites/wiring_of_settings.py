@@ -1,4 +1,4 @@
-"""Scenarios of tools/wiring: each setting of a machine has its effect."""
+"""Scenarios of the suite `wiring`: each setting of a machine has its effect."""
 import contextlib
 import os
 import socket
@@ -6,17 +6,19 @@ import statistics
 import subprocess
 import time
 
-from running import free_port, truetime
-from trouble import SECOND, honest, read, scenario, silent
-from users import is_closed_within, never_read
-from wiring_checks import eventually, late, latest_of, lies, published, reply_to, status_of
+from harness.processes import SECOND, free_port, truetime
+from harness.program import read, write
+from harness.trouble import honest, late, silent
+from harness.users import is_closed_within, latest_of, never_read, reply_to
+from suites.wiring import suite
+from suites.wiring_checks import eventually, lies, published, status_of
 
 MILLISECOND = SECOND // 1000
 # The greatest drift, which shows soonest.
 DRIFT = 100_000
 
 
-@scenario()
+@suite.case()
 def lease(trial):
     """It begins in two seconds and is over after its first stamp."""
     lo = time.time_ns() + 2 * SECOND
@@ -26,7 +28,7 @@ def lease(trial):
         trial.equal("setting lease_hi", reply_to(session, "commit 2 0"), "refused 903")
 
 
-@scenario()
+@suite.case()
 def floor_ahead(trial):
     """Beyond it a floor and a lease are refused, and within it a floor is taken."""
     node = trial.running_node(trial.scripts(honest), floor_ahead="300ms")
@@ -53,7 +55,7 @@ def fits(node, session):
     return before.read_at(clock)[:2] == (earliest, latest)
 
 
-@scenario()
+@suite.case()
 def drift(trial):
     """It widens old statements, readings of sessions, and those of the shared file. The master answers once."""
     node = trial.running_node(trial.scripts([honest, silent]), drift=DRIFT, poll="600ms", wait="200ms")
@@ -88,7 +90,7 @@ def close_one_side(door):
     door.shutdown(socket.SHUT_WR)
 
 
-@scenario()
+@suite.case()
 def idle(trial):
     """Clients that say nothing, send slowly, close one side, or never read are let go then, and neither at once nor much later."""
     node = trial.running_node(trial.scripts(honest), idle="1s", floor_ahead="10s")
@@ -122,7 +124,7 @@ def has_reply(door, seconds):
         return False
 
 
-@scenario()
+@suite.case()
 def workers(trial):
     """Of five, three serve `listen` and two `socket`. One more client at each waits until another leaves."""
     node = trial.running_node(trial.scripts(honest), workers=5)
@@ -146,7 +148,7 @@ def pause_between(times):
     return statistics.median((second - first) / SECOND for first, second in zip(times[-4:], times[-3:]))
 
 
-@scenario()
+@suite.case()
 def polls(trial):
     """What masters see: the machine, each its own source, the epoch of each life, and a poll each 0.3 seconds."""
     masters = trial.scripts(*[honest] * 3)
@@ -167,7 +169,7 @@ def polls(trial):
             node.run()
 
 
-@scenario()
+@suite.case()
 def first_rounds(trial):
     """They follow each other quickly until the first publication, and clients are served as soon as that is made."""
     masters = trial.scripts([*[silent] * 3, honest])
@@ -180,7 +182,7 @@ def first_rounds(trial):
     trial.equal("setting poll", len(masters[0].polls), 4)
 
 
-@scenario()
+@suite.case()
 def wait(trial):
     """With a silent master a round lasts so long, and one that answers after more than half of it is heard."""
     masters = trial.scripts(honest, late(0.4), silent)
@@ -195,7 +197,7 @@ def wait(trial):
 FAULTY = [(None, 2, True), (1, 2, False), (1, 1, True), (0, 1, False)]
 
 
-@scenario()
+@suite.case()
 def faulty(trial):
     """More than so many liars leave nothing to fuse."""
     good, liars = trial.scripts(*[honest] * 5), trial.scripts(lies(5 * SECOND), lies(-7 * SECOND))
@@ -209,7 +211,7 @@ def faulty(trial):
         trial.check("setting faulty", fusions == [is_fused, not is_fused], f"{most} of 5, and {lying} lie: {status}")
 
 
-@scenario()
+@suite.case()
 def files(trial):
     """Each is where its setting says, and nothing else is there."""
     node = trial.running_node(trial.scripts(honest), "A", socket=None, shared=None, status=None)
@@ -237,7 +239,7 @@ def files(trial):
     trial.equal("setting state", set(os.listdir(node.folder)) - {"status.new"}, there)
 
 
-@scenario()
+@suite.case()
 def end_of_input(trial):
     """It ends a machine that is told so, and no other."""
     for name, is_told in (("A", True), ("B", False)):
@@ -253,7 +255,7 @@ def end_of_input(trial):
             trial.check("--until-eof", node.running.poll() is None, "it ends without being told")
 
 
-@scenario()
+@suite.case()
 def outline(trial):
     """What `--check` says of settings none of which is a default."""
     ports = [free_port(socket.SOCK_DGRAM) for _ in range(4)]
@@ -266,5 +268,70 @@ def outline(trial):
     lines = ["machine 6", f"listen 127.0.0.1:{node.address[1]}", *(f"master {master}" for master in masters),
              *(f"{name} {value}" for name, value in numbers.items()),
              *(f"{name} {node.path(name)}" for name in ("state", "socket", "shared", "status"))]
-    status, said, _ = trial.command("serve", "--check", node.path("node.toml"))
+    said, status = trial.command("serve", "--check", node.path("node.toml")).answer
     trial.equal("--check", (status, said.splitlines()), (0, lines))
+
+
+# The keys that have to be there, each with a value as a file writes it.
+NEEDED = {"machine": "0", "masters": '["127.0.0.1:1"]', "listen": '"127.0.0.1:0"', "state": '"state"'}
+
+# What a file has besides, or (if it is empty) has not, the number that refuses it, and what is said of the first key that is named.
+REFUSED = [
+    ({"machine": "8"}, 1804, "machine: 8 is above 7"),
+    ({"machine": "-1"}, 1804, "machine: -1 is below 0"),
+    ({"machine": "1.5"}, 1804, "machine: 1.5: a whole number from 0 to 7"),
+    ({"machine": '"8"'}, 1804, 'machine: "8": a whole number from 0 to 7'),
+    ({"machine": ""}, 1803, "machine: missing: a whole number from 0 to 7"),
+    ({"masters": ""}, 1803, "masters: missing: from 1 to 16 addresses of this host"),
+    ({"masters": "3"}, 1804, "masters: 3: from 1 to 16 addresses of this host, in brackets"),
+    ({"masters": "[]"}, 1804, "masters: 0 addresses: from 1 to 16 addresses of this host"),
+    ({"masters": str([f"127.0.0.1:{port}" for port in range(1, 18)])}, 1804, "masters: 17 addresses: from 1 to 16 addresses of this host"),
+    ({"masters": '["127.0.0.1:1", 2]'}, 1804, "masters: 2: an address of this host, as 127.0.0.1:7001, in quotes"),
+    ({"masters": '["127.0.0.1:1", "127.0.0.1:02"]'}, 1805, 'masters: "127.0.0.1:02": an address of this host, as 127.0.0.1:7001'),
+    ({"masters": '["127.0.0.1:1", "127.0.0.1:0"]'}, 1804, 'masters: "127.0.0.1:0": no master answers at port 0'),
+    ({"masters": '["127.0.0.1:1", "127.0.0.1:2", "127.0.0.1:1"]'}, 1818, 'masters: "127.0.0.1:1" is named twice'),
+    ({"faulty": "1"}, 1806, "faulty: 1 is above 0, the most of 1 masters"),
+    ({"workers": "0"}, 1804, "workers: 0 is below 1"),
+    ({"workers": "33"}, 1804, "workers: 33 is above 32"),
+    ({"workers": "1", "socket": '"socket"'}, 1810, "workers: 1 is below 2, since socket takes one of its own"),
+    ({"drift": "100001"}, 1804, "drift: 100001 is above 100000"),
+    ({"poll": '"0.5s"'}, 1804, 'poll: "0.5s": a whole number and ns, us, ms or s'),
+    ({"poll": "5"}, 1804, "poll: 5: a whole number and ns, us, ms or s, in quotes"),
+    ({"poll": '"999us"'}, 1804, 'poll: "999us" is below 1ms'),
+    ({"poll": '"3601s"'}, 1804, 'poll: "3601s" is above 3600s'),
+    ({"wait": '"11s"'}, 1804, 'wait: "11s" is above 10s'),
+    ({"floor_ahead": '"11s"'}, 1804, 'floor_ahead: "11s" is above 10s'),
+    ({"idle": '"999ms"'}, 1804, 'idle: "999ms" is below 1s'),
+    ({"idle": '"86401s"'}, 1804, 'idle: "86401s" is above 86400s'),
+    ({"lease_lo": "4000000000000000001"}, 1804, "lease_lo: 4000000000000000001 is above 4000000000000000000"),
+    ({"lease_lo": "36", "lease_hi": "35"}, 1804, "lease_hi: 35 is below lease_lo"),
+    ({"listen": '"10.0.0.1:1"'}, 1805, 'listen: "10.0.0.1:1": an address of this host, as 127.0.0.1:7001'),
+    ({"log": '"Json"'}, 1804, 'log: "Json": "text" or "json"'),
+    ({"state": '""'}, 1804, 'state: "": a path'),
+    ({"socket": "7"}, 1804, "socket: 7: a path, in quotes"),
+    ({"shared": '["a"]'}, 1804, "shared: a list: a path, in quotes"),
+    ({"status": '"./state/epoch\\n"', "shared": '"state/epoch\\n"'}, 1817,
+     'status: "./state/epoch\\n": the path, its draft or its lock has another purpose as well'),
+    ({"lisen": "1"}, 1802, "lisen: unknown key; did you mean listen?"),
+    ({"drfit": "1"}, 1802, "drfit: unknown key; did you mean drift?"),
+    ({"lease-lo": "1"}, 1802, "lease-lo: unknown key; did you mean lease_lo?"),
+    ({"port": "1"}, 1802, "port: unknown key"),
+    ({'"a b"': "1"}, 1802, '"a b": unknown key'),
+    ({"idle": "= 1"}, 1801, "not TOML: "),
+]
+
+
+@suite.case()
+def refused(trial):
+    """What is said of settings that are refused: the line, the key, the value, and what would be right."""
+    path = os.path.join(trial.room, "node.toml")
+    for changed, number, message in REFUSED:
+        lines = {key: value for key, value in (NEEDED | changed).items() if value}
+        write(path, "".join(f"{key} = {value}\n" for key, value in lines.items()).encode())
+        key = "idle" if number == 1801 else message.split(": ")[0]
+        place = f"{path}:{list(lines).index(key) + 1}" if key in lines else path
+        ran = trial.command("serve", "--check", path)
+        trial.equal("--check", ran.answer, (f"refused {number}\n", 2))
+        shown, wanted = ran.error.split("\n")[0], f"{place}: {message}"
+        is_right = shown.startswith(wanted) if number == 1801 else shown == wanted
+        trial.check("--check", is_right, f"{shown!r} is said, and not {wanted!r}")

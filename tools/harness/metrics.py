@@ -1,7 +1,6 @@
 """Reads a text of metrics, in the text format of Prometheus (version 0.0.4), and says what is wrong with it."""
 import collections
 import re
-import sys
 from decimal import Decimal
 
 NAME = r"[a-zA-Z_:][a-zA-Z0-9_:]*"
@@ -92,9 +91,3 @@ def numbers_in(text):
             rest = ",".join(f'{label}="{given}"' for label, given in labels.items() if label != "machine")
             found[f"{name}{{{rest}}}" if rest else name] = value
     return found
-
-
-if __name__ == "__main__":
-    FAULTS = faults_in(sys.stdin.read())
-    print(*FAULTS, sep="\n", end="\n" if FAULTS else "")
-    sys.exit(bool(FAULTS))

@@ -1,13 +1,10 @@
-#!/usr/bin/env python3
 """Tests the readers and sessions of clients/: each is compiled without a warning, gives the answers that are wanted for the same
 vectors, the same files, mapped and not, a file that becomes shorter, and the same conversations with a stand-in for the service, and the C
 reader is put beside a writer that never pauses, also with the compiler's checks of addresses, undefined behaviour and threads. Go has
 tests of its own, too, which are run in each way in which it is built, with checks of races, and beside a machine.
 
-usage: tools/clients [SECONDS]
-
-SECONDS is how long the readers run beside writers, 10 where it is left out. A language whose compiler is not here is left out,
-with a line that says so. Everything is built in a temporary folder. Ends with status 1 where something is wrong.
+The readers run beside writers for 10 seconds, or as many as --seconds says. A language whose compiler is not here is left out, with a line
+that says so. Everything is built in a temporary folder.
 """
 import contextlib
 import os
@@ -24,13 +21,12 @@ import threading
 import time
 from concurrent.futures import ThreadPoolExecutor
 
-import running
+from harness.program import WARNINGS, in_top, run
+from harness.suite import Suite
 
-HERE = os.path.dirname(os.path.dirname(os.path.realpath(__file__)))
-CLIENTS = os.path.join(HERE, "clients")
-GO = os.path.join(CLIENTS, "go")
+suite = Suite(__name__)
+CLIENTS, GO = in_top("clients"), in_top("clients/go")
 MAX = 4_000_000_000_000_000_000
-WARNINGS = ["-Wall", "-Wextra", "-Wpedantic", "-Wshadow", "-Wconversion", "-Werror", "-O2"]
 
 
 def reading_at(clock, lo, hi, drift, now):
@@ -272,19 +268,13 @@ def serve(listener, wrong):
 
 def said_of(words, calls):
     """What a probe says of the calls of sessions, by lines."""
-    pipes = {"stdin": subprocess.PIPE, "stdout": subprocess.PIPE, "stderr": subprocess.STDOUT}
-    with subprocess.Popen([*words, "session"], **pipes, encoding="latin-1") as probe:
-        try:
-            said, _ = probe.communicate("\n".join(calls) + "\n", timeout=60)
-        except subprocess.TimeoutExpired:
-            probe.kill()
-            said = probe.communicate()[0] + "and no end"
-    return said.splitlines() + [f"status {probe.returncode}"] * (probe.returncode != 0)
+    ran = run([*words, "session"], "".join(f"{call}\n" for call in calls).encode("latin-1"), 60, stderr=subprocess.STDOUT)
+    return ran.out.decode("latin-1").splitlines() + [f"status {ran.status}"] * (ran.status != 0)
 
 
-def try_sessions(name, words, room):
-    """The number of conversations of a probe that are wrong, over TCP and over a Unix socket."""
-    wrong, tried = [], 0
+def try_sessions(trial, name, words):
+    """The conversations of a probe, over TCP and over a Unix socket."""
+    wrong, tried, room = [], 0, trial.room
     with socket.socket() as tcp, socket.socket(socket.AF_UNIX) as unix, socket.socket() as nobody:
         nobody.bind(("127.0.0.1", 0))
         tcp.bind(("127.0.0.1", 0))
@@ -310,20 +300,25 @@ def try_sessions(name, words, room):
                 service.join(0.01)
         said = said_of(words, [f"open tcp {nobody.getsockname()[1]} 1000", f"open unix {room}/nobody 1000"])
         wrong += [f"nobody listens: {said}"] * (said != ["failed", "failed"])
-    for what in wrong[:10]:
-        print(f"clients: {name}: {what}")
-    print(f"clients: {name}: {tried} sessions, {len(wrong)} wrong")
-    return len(wrong)
+    for what in wrong:
+        trial.check(name, False, what)
+    trial.note(f"{name}: {tried} sessions, {len(wrong)} wrong")
 
 
 def build_c(room, compiler, name, *flags):
     """Compiles the probe, or the stress test, of the C reader; no answer where the compiler is not here."""
-    if shutil.which(compiler) is None:
-        print(f"clients: {name} is left out: {compiler} is not here")
+    if not is_here(compiler, name):
         return None
     made = os.path.join(room, name)
-    subprocess.run([compiler, *WARNINGS, *flags, "-o", made], check=True)
+    subprocess.run([compiler, *WARNINGS, "-O2", *flags, "-o", made], check=True)
     return made
+
+
+def is_here(program, what):
+    """Whether a compiler is here; what stays out without it is printed."""
+    if shutil.which(program) is None:
+        print(f"clients: {what} is left out: {program} is not here", flush=True)
+    return shutil.which(program) is not None
 
 
 def probes(room):
@@ -337,22 +332,18 @@ def probes(room):
     if made:
         yield "C++ by g++", [made]
     yield "Python", [sys.executable, "-W", "error", os.path.join(CLIENTS, "python", "test", "probe.py")]
-    if shutil.which("rustc"):
+    if is_here("rustc", "Rust"):
         rust = os.path.join(CLIENTS, "rust")
         flags = ["--edition", "2021", "-O", "-D", "warnings"]
         subprocess.run(["rustc", *flags, "--crate-type", "lib", "--crate-name", "truetime", f"{rust}/src/lib.rs", "--out-dir", room], check=True)
         made = os.path.join(room, "probe-rust")
         subprocess.run(["rustc", *flags, f"{rust}/examples/probe.rs", "--extern", f"truetime={room}/libtruetime.rlib", "-o", made], check=True)
         yield "Rust", [made]
-    else:
-        print("clients: Rust is left out: rustc is not here")
-    if shutil.which("javac"):
+    if is_here("javac", "Java"):
         java = os.path.join(CLIENTS, "java")
         sources = [f"{java}/{name}.java" for name in ("TrueTime", "Session", "test/Probe")]
         subprocess.run(["javac", "-Xlint:all", "-Werror", "-d", room, *sources], check=True)
         yield "Java", ["java", "-Xshare:auto", "-cp", room, "Probe"]
-    else:
-        print("clients: Java is left out: javac is not here")
     if has_go():
         made = os.path.join(room, "probe-go")
         subprocess.run(["go", "build", "-o", made, "./internal/probe"], cwd=GO, env=go_in(room), check=True)
@@ -361,8 +352,7 @@ def probes(room):
 
 def has_go():
     """Whether there is a Go that is new enough."""
-    if shutil.which("go") is None:
-        print("clients: Go is left out: go is not here")
+    if not is_here("go", "Go"):
         return False
     with open(os.path.join(GO, "go.mod"), encoding="utf-8") as file:
         wanted = next(line.split()[1] for line in file if line.startswith("go "))
@@ -402,52 +392,36 @@ GO_TESTS = [
 ]
 
 
-@contextlib.contextmanager
-def machine_for_go(room):
-    """A machine for Go's tests, as the environment that names it; nothing where the program is not built."""
-    if not os.path.exists(running.PROGRAM):
-        print("clients: Go: no machine is asked: crates/ttd/out/ttd is not built")
-        yield {}
+def machine_for_go(trial):
+    """A machine for Go's tests, as the environment that names it."""
+    machine = trial.fleet({"A": trial.masters(3)}, poll="200ms")["A"]
+    host, port = machine.address
+    return {"TRUETIME_ADDRESS": f"{host}:{port}", "TRUETIME_SOCKET": machine.path("socket"), "TRUETIME_FILE": machine.path("shared")}
+
+
+@suite.case(programs=("go",))
+def tests_of_go(trial):
+    """The tests of Go. All of it takes a minute at most; checks of races that take longer are left out."""
+    if not any(name == "Go" for name, _ in trial.shared):
         return
-    with running.Service(running.PROGRAM, tempfile.mkdtemp(dir=room)) as service:
-        machine = service.machine("A", 0, [service.master(source).address for source in range(3)], poll="200ms")
-        machine.wait_until_ready()
-        host, port = machine.address
-        yield {"TRUETIME_ADDRESS": f"{host}:{port}", "TRUETIME_SOCKET": machine.path("socket"), "TRUETIME_FILE": machine.path("shared")}
-
-
-def try_go(room):
-    """The tests of Go; how many runs are wrong. All of it takes a minute at most; checks of races that take longer are left out."""
-    if not os.path.exists(os.path.join(room, "probe-go")):
-        return 0
-    with machine_for_go(room) as named:
-        return try_go_beside(room, named)
-
-
-def try_go_beside(room, named):
-    """As try_go, where the environment names the machine."""
-    end, wrong = time.monotonic() + 60, 0
+    room, named, end = trial.room, machine_for_go(trial), time.monotonic() + 60
     if shutil.which("gofmt"):
-        bad = subprocess.run(["gofmt", "-l", GO], capture_output=True, text=True, check=True, timeout=60).stdout.split()
-        wrong += len(bad)
-        print("".join(f"clients: Go: gofmt writes {name} otherwise\n" for name in bad), end="")
+        for name in run(["gofmt", "-l", GO], seconds=60).said.split():
+            yield f"Go: gofmt writes {name} otherwise"
     _, here = go(room, 60, "list", "-tags=truetime_nofile", "-f={{.GoFiles}}", ".")
     for system in ("darwin", "windows"):
         _, there = go(room, 60, "list", "-f={{.GoFiles}}", ".", GOOS=system)
         if there != here or "shared_other.go" not in there:
-            wrong += 1
-            print(f"clients: Go: on {system} other files are built than are tested here: {there}")
+            yield f"Go: on {system} other files are built than are tested here: {there}"
     for what, words in GO_TESTS:
         began = time.monotonic()
         status, said = go(room, end - began, "test", "-v", "-timeout=60s", *words, **named)
-        races = "-race" in words
-        if races and (status is None or said.startswith("go: -race")):
-            print(f"clients: Go: {what}: left out: {said.splitlines()[0] if status else 'no time is left'}")
+        if "-race" in words and (status is None or said.startswith("go: -race")):
+            trial.note(f"Go: {what}: left out: {said.splitlines()[0] if status else 'no time is left'}")
             continue
-        passed, failed = said.count("\n--- PASS: ") + said.startswith("--- PASS: "), status != 0
-        wrong += failed
-        print((said if failed else "") + f"clients: Go: {what}: {passed} passed, {int(failed)} wrong, {time.monotonic() - began:.1f} seconds")
-    return wrong
+        passed = said.count("\n--- PASS: ") + said.startswith("--- PASS: ")
+        trial.holds(status == 0, f"Go: {what}:\n{said}")
+        trial.note(f"Go: {what}: {passed} passed, {int(status != 0)} wrong, {time.monotonic() - began:.1f} seconds")
 
 
 class Reader:
@@ -471,12 +445,12 @@ class Reader:
 
 def said_of_file(words, reader, path):
     """What the reader of a mapped file says of this one, and that of one that is not mapped."""
-    return [subprocess.run([*words, "open", path], capture_output=True, text=True, timeout=60).stdout.strip(), reader.say(f"open {path}")]
+    return [run([*words, "open", path], seconds=60).said.strip(), reader.say(f"open {path}")]
 
 
-def try_files(name, words, reader, path):
-    """The number of files, and how many are read otherwise than they should be."""
-    tried = wrong = 0
+def try_files(trial, name, words, reader, path):
+    """Files, good and bad, and what is no file; their number."""
+    tried = 0
     for what, content, mode, answer in files():
         with open(path, "wb") as file:
             file.write(content)
@@ -484,25 +458,21 @@ def try_files(name, words, reader, path):
         said = said_of_file(words, reader, path)
         os.remove(path)
         tried += 1
-        if said != [answer, answer]:
-            print(f"clients: {name}: {what}: {said} in place of {answer!r}")
-            wrong += 1
+        trial.check(name, said == [answer, answer], f"{what}: {said} in place of {answer!r}")
     for what, make, remove in [("no file", lambda _: None, lambda _: None), ("a link", lambda at: os.symlink("/proc/self/stat", at), os.remove),
                                ("a folder", os.mkdir, os.rmdir), ("a FIFO", os.mkfifo, os.remove)]:
         make(path)
         said = said_of_file(words, reader, path)
         remove(path)
         tried += 1
-        if not set(said) <= {"refused 1701", "refused 1702"}:
-            print(f"clients: {name}: {what}: {said}")
-            wrong += 1
-    return tried, wrong
+        trial.check(name, set(said) <= {"refused 1701", "refused 1702"}, f"{what}: {said}")
+    return tried
 
 
-def try_shrinking(name, reader, path):
-    """A file that becomes shorter after it was opened, and is whole again; the number of lengths, and how many are read otherwise than
-    they should be. The count is odd, so the last 64 bytes are the slot that is read."""
-    whole, wrong = next(content for what, content, *_ in files() if what == "count 1"), 0
+def try_shrinking(trial, name, reader, path):
+    """A file that becomes shorter after it was opened, and is whole again; the number of lengths. The count is odd, so the last 64 bytes are
+    the slot that is read."""
+    whole = next(content for what, content, *_ in files() if what == "count 1")
     with open(path, "wb") as file:
         file.write(whole)
     os.chmod(path, 0o644)
@@ -513,83 +483,72 @@ def try_shrinking(name, reader, path):
         with open(path, "r+b") as file:
             file.write(whole)
         again = reader.say("again")
-        if not good.startswith("published ") or (shorter, again) != ("refused 1701", good):
-            print(f"clients: {name}: {length} bytes: {shorter!r}, then {again!r}, and {good!r} at first")
-            wrong += 1
+        trial.check(name, good.startswith("published ") and (shorter, again) == ("refused 1701", good),
+                    f"{length} bytes: {shorter!r}, then {again!r}, and {good!r} at first")
     os.remove(path)
-    return len(lengths), wrong
+    return len(lengths)
 
 
-def try_probe(name, words, lines, wanted, room):
-    """The number of answers of a probe that are wrong."""
-    given = subprocess.run([*words, "vectors"], input=lines, capture_output=True, text=True, check=True, timeout=300).stdout.splitlines()
-    wrong = sum(a != b for a, b in zip(given, wanted)) + abs(len(given) - len(wanted))
-    path = os.path.join(room, "time")
-    with Reader(words) as reader:
-        tried, bad = try_files(name, words, reader, path)
-        lengths, bad_lengths = try_shrinking(name, reader, path)
-    wrong += bad + bad_lengths
-    print(f"clients: {name}: {len(wanted)} vectors, {tried} files, each mapped and not, {lengths} shorter ones, {wrong} wrong")
-    return wrong
+@suite.shares
+def languages(trial):
+    """The probes of all languages."""
+    yield list(probes(trial.room))
+
+
+@suite.case()
+def readers(trial):
+    """Ageing by vectors, files and files that become shorter, in each language."""
+    tried = [numbers for numbers, _ in BY_HAND] + list(vectors(1, 20_000))
+    lines = "".join(" ".join(map(str, numbers)) + "\n" for numbers in tried)
+    wanted = [reading_at(*numbers) for numbers in tried]
+    for numbers, answer in BY_HAND:
+        trial.check("by hand", answer == reading_at(*numbers), f"{numbers}: {answer} by hand, and {reading_at(*numbers)}")
+    for name, words in trial.shared:
+        before = len(trial.result.wrong)
+        answers = run([*words, "vectors"], lines.encode(), 300).said.splitlines()
+        trial.check(name, len(answers) == len(wanted), f"{len(answers)} answers to {len(wanted)} vectors")
+        for numbers, came, answer in zip(tried, answers, wanted):
+            trial.check(name, came == answer, f"{numbers}: {came} in place of {answer}")
+        with Reader(words) as reader:
+            path = os.path.join(trial.room, "time")
+            files_tried, lengths = try_files(trial, name, words, reader, path), try_shrinking(trial, name, reader, path)
+        trial.note(f"{name}: {len(wanted)} vectors, {files_tried} files, each mapped and not, {lengths} shorter ones, "
+                   f"{len(trial.result.wrong) - before} wrong")
+
+
+@suite.case()
+def sessions(trial):
+    """Conversations in each language. They wait more than they compute, so all languages run at once."""
+    with ThreadPoolExecutor() as pool:
+        list(pool.map(lambda probe: try_sessions(trial, *probe), trial.shared))
 
 
 WAYS = ("pwrite", "pieces", "stores", "bytes", "killed")
 
 
-def stress(room, seconds):
-    """Runs the C reader beside writers; the number of runs that ended otherwise than they should."""
+@suite.case()
+def stress(trial):
+    """The C reader beside writers."""
     flags = ["-std=gnu11", "-pthread", os.path.join(CLIENTS, "c", "test", "stress.c")]
-    made = build_c(room, os.environ.get("CC", "gcc"), "stress", *flags)
+    made = build_c(trial.room, os.environ.get("CC", "gcc"), "stress", *flags)
     if not made:
-        return 0
-    folder = tempfile.mkdtemp(dir="/dev/shm" if os.path.isdir("/dev/shm") else None)
-    path = os.path.join(folder, "time")
-    wrong = 0
-    try:
+        return
+    with tempfile.TemporaryDirectory(dir="/dev/shm" if os.path.isdir("/dev/shm") else None) as folder:
+        path = os.path.join(folder, "time")
         for way in WAYS:
-            reads = 100_000
-            left = seconds / 5
+            reads, left = 100_000, (trial.options.seconds or 10) / 5
             while left > 0:
-                ran = subprocess.run([made, path, way, "3", str(reads)], capture_output=True, text=True, timeout=600)
-                wrong += ran.returncode != 0
-                if ran.returncode:
-                    print(f"clients: {ran.stdout}{ran.stderr}", end="")
+                ran = run([made, path, way, "3", str(reads)], seconds=600)
+                trial.holds(ran.status == 0, ran.said + ran.error)
                 left -= max(reads / 2_000_000, 0.2)
-        print(f"clients: the C reader beside writers of five kinds: {wrong} runs wrong; the last one: {ran.stdout}", end="")
+        trial.note(f"the C reader beside writers of five kinds: {len(trial.result.wrong)} runs wrong; the last one: {ran.said.strip()}")
         for checks in ("address,undefined", "thread"):
             try:
-                made = build_c(room, "gcc", f"stress-{checks}", f"-fsanitize={checks}", "-fno-sanitize-recover=all", *flags)
+                made = build_c(trial.room, "gcc", f"stress-{checks}", f"-fsanitize={checks}", "-fno-sanitize-recover=all", *flags)
             except subprocess.CalledProcessError:
-                print(f"clients: the C reader is not tried with checks of {checks}: gcc has no library for them here")
+                trial.note(f"the C reader is not tried with checks of {checks}: gcc has no library for them here")
                 continue
-            checked = [subprocess.run([made, path, way, "3", "20000"], capture_output=True, text=True, timeout=600) for way in WAYS if made]
-            faults = [ran.stdout + ran.stderr for ran in checked if ran.returncode]
-            wrong += len(faults)
-            print("".join(faults) + f"clients: the same with checks of {checks}: {len(checked)} runs, {len(faults)} wrong")
-    finally:
-        shutil.rmtree(folder)
-    return wrong
-
-
-def main():
-    if len(sys.argv) > 2:
-        sys.exit(__doc__.split("\n\n")[1])
-    seconds = float(sys.argv[1]) if len(sys.argv) == 2 else 10
-    tried = [numbers for numbers, _ in BY_HAND] + list(vectors(1, 20_000))
-    lines = "".join(" ".join(map(str, numbers)) + "\n" for numbers in tried)
-    wanted = [reading_at(*numbers) for numbers in tried]
-    wrong = sum(answer != reading_at(*numbers) for numbers, answer in BY_HAND)
-    with tempfile.TemporaryDirectory() as room:
-        made = list(probes(room))
-        for name, words in made:
-            wrong += try_probe(name, words, lines, wanted, room)
-        # Sessions wait more than they compute, so all languages run at once.
-        with ThreadPoolExecutor() as pool:
-            wrong += sum(pool.map(lambda probe: try_sessions(*probe, room), made))
-        wrong += try_go(room) + stress(room, seconds)
-    print(f"clients: {wrong} wrong")
-    sys.exit(wrong != 0)
-
-
-if __name__ == "__main__":
-    main()
+            checked = [run([made, path, way, "3", "20000"], seconds=600) for way in WAYS if made]
+            for ran in checked:
+                trial.holds(ran.status == 0, ran.said + ran.error)
+            trial.note(f"the same with checks of {checks}: {len(checked)} runs, {sum(ran.status != 0 for ran in checked)} wrong")

@@ -1,13 +1,15 @@
-"""Scenarios of tools/wiring: each number of the status and of the shared file is that of what was done, and so are the lines of the log
+"""Scenarios of the suite `wiring`: each number of the status and of the shared file is that of what was done, and so are the lines of the log
 that tell of rounds."""
 import contextlib
 import os
 import subprocess
 import time
 
-from running import truetime
-from trouble import SECOND, honest, scenario, silent, write
-from wiring_checks import eventually, forges, lies, look_at_form, names_of, other, published, status_of
+from harness.processes import SECOND, truetime
+from harness.program import write
+from harness.trouble import honest, silent
+from suites.wiring import suite
+from suites.wiring_checks import eventually, forges, lies, look_at_form, names_of, other, published, status_of
 
 # The epoch of the life before, and the times of the rounds.
 EPOCH = 41
@@ -36,7 +38,7 @@ def acts_of(source):
     return [*first, *([honest, *(forges(*packets) for packets in REFUSED)] if source == 0 else ()), honest]
 
 
-@scenario()
+@suite.case()
 def rounds(trial):
     """Rounds by what became of them."""
     masters = trial.scripts(*(acts_of(source) for source in range(7)))
@@ -80,7 +82,7 @@ def rounds(trial):
     trial.logs(node, "first_publication")
 
 
-@scenario()
+@suite.case()
 def first_publication(trial):
     """Its width is that of the shared file, whose other numbers are those of the fusion; the end is in the log and in the file."""
     before = time.monotonic_ns(), time.time_ns()
@@ -106,7 +108,7 @@ def first_publication(trial):
     trial.logs(node, "ended")
 
 
-@scenario()
+@suite.case()
 def refused_sources(trial):
     """A source whose answers are all refused is neither accepted nor silent."""
     masters = trial.scripts(honest, lambda fake, poll: fake.send(b"x"), honest)
@@ -121,7 +123,7 @@ def refused_sources(trial):
     trial.check("status refused", eventually(look), f"accepted, refused and silent are {seen[-3:]}")
 
 
-@scenario()
+@suite.case()
 def no_more_fusions(trial):
     """The age grows with the time since the last one."""
     node = trial.running_node(trial.scripts(*([honest, honest, lies(ahead)] for ahead in (0, 10 * SECOND, -10 * SECOND))))
@@ -149,7 +151,7 @@ LINES = [("now", "now "), ("after 0", "yes"), ("before 0", "no"), ("commit 5 0",
          ("commit 6 0", "refused 903"), ("now", "now ")]
 
 
-@scenario()
+@suite.case()
 def sessions_and_lines(trial):
     """Lines are counted once they are answered, sessions once they have ended."""
     node = trial.node(trial.scripts(honest), poll="50ms")
@@ -167,7 +169,7 @@ def sessions_and_lines(trial):
     trial.numbers(node, lines=lines, lines_refused=refused, sessions=4)
 
 
-@scenario()
+@suite.case()
 def nothing_published(trial):
     """No master answers: there is no width and no age, and clients get 801. Nothing is shared where nothing is to be."""
     masters = trial.scripts(silent, silent)

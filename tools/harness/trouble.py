@@ -1,97 +1,24 @@
-"""What can go wrong round a machine of the time service: masters that lie, floods, networks, pipes and files; for the scenarios of
-tools/faults."""
+"""What can go wrong round a machine of the time service: masters that lie, floods, networks, pipes and files."""
 import contextlib
 import fcntl
 import multiprocessing
 import os
 import resource
-import shutil
 import socket
 import struct
 import subprocess
 import threading
 import time
-import typing
 
-from running import Fault, Machine, Service, free_port, truetime
+from harness.processes import Fault, Machine, free_port, truetime
 
 NOBODY = 65534
 POLL_S, WAIT_S = 0.1, 0.1
-SECOND = 1_000_000_000
 REQUEST, SPAN = struct.Struct(">4s4BQQ"), struct.Struct(">QQ")
-
-
-class Scenario(typing.NamedTuple):
-    """A call that gives what is wrong, one after the other, and what it wants: root, programs, much time, or that little else runs."""
-    call: typing.Callable
-    root: bool
-    programs: tuple
-    long: bool
-    quiet: bool
-
-    def left_out(self, has_time):
-        """Why it cannot run here, or nothing."""
-        if self.root and os.geteuid() != 0:
-            return "it wants root"
-        if missing := [program for program in self.programs if not shutil.which(program)]:
-            return f"it wants {' and '.join(missing)}"
-        return "it takes long" if self.long and not has_time else None
-
-
-SCENARIOS = {}
-
-
-def scenario(root=False, programs=(), long=False, quiet=False):
-    def register(call):
-        SCENARIOS[call.__name__] = Scenario(call, root, programs, long, quiet)
-        return call
-    return register
-
-
-class Trial(Service):
-    """The processes of one scenario, and what it measured."""
-
-    def __init__(self, program, room):
-        super().__init__(program, room)
-        self.notes = []
-
-    def keep(self, resource_of_it):
-        """Closes it with the scenario."""
-        return self.processes.enter_context(contextlib.closing(resource_of_it))
-
-    def masters(self, number):
-        return [self.master(source) for source in range(number)]
-
-    def fakes(self, *acts):
-        """Masters of this script, each with what it does with a poll."""
-        return [self.keep(Fake(act)) for act in acts]
-
-    def node(self, masters, name="A", **settings):
-        """A machine that is not started yet; masters are processes, fakes or addresses."""
-        settings = {"poll": f"{POLL_S * 1000:.0f}ms", "wait": f"{WAIT_S * 1000:.0f}ms", "workers": 4, **settings}
-        return self.keep(Node(self, name, 0, [getattr(master, "address", master) for master in masters], settings))
-
-    def running_node(self, masters, name="A", **settings):
-        """A machine that has published."""
-        node = self.node(masters, name, **settings)
-        node.run()
-        node.wait_until_ready()
-        return node
-
-    def command(self, *words, **how):
-        """Runs a command of the program: its status, and what it wrote to standard output and error. A status of None: it does not end."""
-        how = {"stdin": subprocess.DEVNULL, "timeout": 10, **how}
-        try:
-            ran = subprocess.run([self.program, *words], stdout=subprocess.PIPE, stderr=subprocess.PIPE, text=True, check=False, **how)
-            return ran.returncode, ran.stdout, ran.stderr
-        except subprocess.TimeoutExpired:
-            return None, "", ""
 
 
 class Node(Machine):
     """A machine that a scenario starts in a way of its own."""
-
-    running = None
 
     def start(self):
         """It is started by `run`."""
@@ -102,15 +29,6 @@ class Node(Machine):
         with open(self.log, "ab") as log:
             how = {"stdin": subprocess.PIPE, "stdout": log, "stderr": log, **how}
             self.running = subprocess.Popen([*prefix, self.program, *self.words], **how)
-
-    def kill(self):
-        if self.running:
-            self.running.kill()
-            self.running.wait()
-            if self.running.stdin:
-                self.running.stdin.close()
-
-    close = kill
 
     def again(self):
         self.kill()
@@ -251,10 +169,14 @@ class Fake(threading.Thread):
             self.door.sendto(packet, self.machine)
 
     def answer(self, poll, nonce_ahead=0):
-        """The answer to a poll by this host's clock; ahead of its nonce where it is to be refused."""
-        nonce = int.from_bytes(poll[8:16], "big") + nonce_ahead
-        now = time.time_ns()
-        self.send(poll[:4] + b"\2" + poll[5:8] + nonce.to_bytes(8, "big") + poll[16:24] + SPAN.pack(now - 1_000_000, now + 1_000_000))
+        """Answers a poll; ahead of its nonce where it is to be refused."""
+        self.send(self.answer_to(poll, nonce_ahead))
+
+    @staticmethod
+    def answer_to(poll, nonce_ahead=0):
+        """The answer to a poll by this host's clock."""
+        nonce, now = int.from_bytes(poll[8:16], "big") + nonce_ahead, time.time_ns()
+        return poll[:4] + b"\2" + poll[5:8] + nonce.to_bytes(8, "big") + poll[16:24] + SPAN.pack(now - 1_000_000, now + 1_000_000)
 
 
 def silent(*_):
@@ -265,9 +187,12 @@ def honest(fake, poll):
     fake.answer(poll)
 
 
-def honest_10ms_away(fake, poll):
-    time.sleep(0.01)
-    fake.answer(poll)
+def late(seconds):
+    """It answers so late."""
+    def act(fake, poll):
+        time.sleep(seconds)
+        fake.answer(poll)
+    return act
 
 
 def junk(fake, _):
@@ -407,16 +332,6 @@ def full_pipe():
             os.write(writing, bytes(512))
     os.set_blocking(writing, True)
     return reading, writing
-
-
-def write(path, content):
-    with open(path, "wb") as file:
-        file.write(content)
-
-
-def read(path):
-    with open(path, "rb") as file:
-        return file.read()
 
 
 @contextlib.contextmanager

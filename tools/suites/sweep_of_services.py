@@ -1,4 +1,4 @@
-"""The services for tools/sweep: lives of `serve` and `master`, and runs of `ask` and `read`, in each of which calls of one kind fail.
+"""The services for the suite `sweep`: lives of `serve` and `master`, and runs of `ask` and `read`, in each of which calls of one kind fail.
 
 `serve` has clients over TCP and its Unix socket, each with readings, commits and a lease, then readers of its shared file, and is ended by the
 end of its input; `serve again` begins with the files of a life that was killed. Where one call fails, the start may refuse by a number that
@@ -22,8 +22,9 @@ import tempfile
 import time
 from concurrent.futures import ProcessPoolExecutor
 
-from running import Fault, Machine, Service, truetime
-from users import Seen
+from harness.processes import Fault, Machine, Service, truetime
+from harness.program import read, run as run_once
+from harness.users import Seen
 
 # How many run at once, how long one may take, and after how long no more is begun, in seconds.
 AT_ONCE, LONGEST_S, ALL_S = 8, 10, 18
@@ -150,8 +151,7 @@ class Trying:
     def written(self):
         """What it wrote to standard output and error. Its calls are counted then."""
         self.outcome.counts = self.counts.read()
-        with open(self.output, "rb") as output, open(self.errors, "rb") as errors:
-            return output.read(), errors.read()
+        return read(self.output), read(self.errors)
 
     def look_at_refusal(self, allowed, status, output, errors):
         found = re.fullmatch(rb"(?:refused ([0-9]+)\n)?", output)
@@ -268,10 +268,10 @@ class Life(Machine):
     def is_read(self):
         """Whether `ttd read` reads the shared file."""
         before = time.time_ns()
-        done = subprocess.run([self.program, "read", self.path("shared")], capture_output=True, timeout=LONGEST_S, check=False)
-        if self.last == (0, 0) and (done.returncode, done.stdout) in ((2, b"refused 801\n"), (4, b"refused 1701\n")):
+        done = run_once([self.program, "read", self.path("shared")], seconds=LONGEST_S)
+        if self.last == (0, 0) and done[:2] in ((b"refused 801\n", 2), (b"refused 1701\n", 4)):
             return False
-        if done.returncode != 0 or not is_reply(done.stdout, b"now", before, time.time_ns()):
+        if done.status != 0 or not is_reply(done.out, b"now", before, time.time_ns()):
             self.outcome.wrong.append(f"ttd read: {done}")
         return True
 
@@ -293,8 +293,8 @@ class Life(Machine):
     def look_at_files(self):
         """The epoch is that of the last life or of this one, and the Unix socket is gone."""
         epoch = b""
-        with contextlib.suppress(FileNotFoundError), open(self.path("state/epoch"), "rb") as file:
-            epoch = file.read()
+        with contextlib.suppress(FileNotFoundError):
+            epoch = read(self.path("state/epoch"))
         if epoch not in self.epochs or self.outcome.told == "went on" and epoch != self.epochs[1]:
             self.outcome.wrong.append(f"the epoch is {epoch!r}")
         if os.path.exists(self.path("socket")) and self.outcome.kind not in SOCKET_STAYS:
@@ -460,20 +460,17 @@ def what_came(outcomes):
     return f"{refused} refused, {went_on} went on{by_input}; {sum(bool(outcome.wrong) for outcome in outcomes)} wrong"
 
 
-def tell(service, counts, outcomes, seed):
-    """Prints what came of the lives or runs of a service, which makes so many calls of each kind."""
-    lasting = [outcome for outcome in outcomes if outcome.is_lasting()]
-    ended = [outcome for outcome in outcomes if outcome.is_ended_by_signal()]
-    single = [outcome for outcome in outcomes if outcome.number.isdigit()]
-    allocations = [outcome for outcome in single if outcome.kind == "REFUSE"]
-    others = [outcome for outcome in single if outcome.kind != "REFUSE"]
-    print(f"{service}: {counts['REFUSE']} allocations, {len(allocations)} tried by seed {seed}: {what_came(allocations)}")
+def tell(trial, service, counts, outcomes):
+    """Notes what came of the lives or runs of a service, which makes so many calls of each kind."""
     kinds = ", ".join(f"{kind.removeprefix('FAIL_').lower()} {count}" for kind, count in counts.items() if count and kind != "REFUSE")
-    print(f"{service}: {kinds}: {len(others)} of these tried, and byte by byte: {what_came(others)}")
-    if lasting:
-        print(f"{service}: {len(lasting)} where one of these and all behind it fail: {what_came(lasting)}")
-    if ended:
-        print(f"{service}: {len(ended)} where a signal ends one of these: {what_came(ended)}")
+    single = [outcome for outcome in outcomes if outcome.number.isdigit()]
+    for what, chosen in (
+            (f"{counts['REFUSE']} allocations, of which were tried", [outcome for outcome in single if outcome.kind == "REFUSE"]),
+            (f"{kinds}: of these were tried, and byte by byte", [outcome for outcome in single if outcome.kind != "REFUSE"]),
+            ("one of these and all behind it fail", [outcome for outcome in outcomes if outcome.is_lasting()]),
+            ("a signal ends one of these", [outcome for outcome in outcomes if outcome.is_ended_by_signal()])):
+        if chosen:
+            trial.note(f"{service}: {what}: {len(chosen)}: {what_came(chosen)}")
 
 
 def try_plain(place, service):
@@ -484,8 +481,8 @@ def try_plain(place, service):
     return outcome
 
 
-def try_all(place, service_of_all, seed, until):
-    """Tries all services; how many outcomes are wrong."""
+def try_all(trial, place, seed, until):
+    """Tries all services."""
     chance = random.Random(seed)
     plain = {service: try_plain(place, service) for service in LIVES}
     for service, allowed in ("serve again", SERVE), ("master", MASTER):
@@ -504,28 +501,26 @@ def try_all(place, service_of_all, seed, until):
         outcomes.append(attempt(place, outcome.service, outcome.kind, outcome.number))
         outcomes[-1].wrong += outcomes[-1].late
     for service, outcome in plain.items():
-        tell(service, outcome.counts, [other for other in outcomes if other.service == service], seed)
+        tell(trial, service, outcome.counts, [other for other in outcomes if other.service == service])
     for outcome in outcomes:
-        for fault in outcome.wrong:
-            print(f"{outcome.service}: {outcome.kind}={outcome.number}: {outcome.told}: {fault}")
-    return tell_all(service_of_all, outcomes, len(planned) - len(outcomes), late)
+        trial.check(f"{outcome.service}: {outcome.kind}={outcome.number}: {outcome.told}", not outcome.wrong, "; ".join(outcome.wrong))
+    tell_all(trial, outcomes, len(planned) - len(outcomes), late)
 
 
-def tell_all(service, outcomes, left_out, late):
-    """Prints what the clients of all lives saw; how many outcomes are wrong, and commits out of order."""
+def tell_all(trial, outcomes, left_out, late):
+    """Notes what the clients of all lives saw, and judges their commits."""
     seen = [outcome.seen for outcome in outcomes]
     commits = [commit[1:] for one in seen for commit in one.commits]
-    violations, refused = service.judge(commits), sum(sum(one.refused.values()) for one in seen)
-    print(f"services: {sum(one.readings for one in seen)} readings, {len(commits)} commits, {violations} of them out of order; {refused} calls of "
-          f"clients refused, {sum(one.lost for one in seen)} lost; {len(late)} tried once more, {left_out} left out, since there was no time")
-    return sum(bool(outcome.wrong) for outcome in outcomes) + violations
+    violations, refused = trial.judge(commits), sum(sum(one.refused.values()) for one in seen)
+    trial.holds(not violations, f"{violations} commits are out of order")
+    trial.note(f"{sum(one.readings for one in seen)} readings, {len(commits)} commits, {violations} of them out of order; {refused} calls "
+               f"of clients refused, {sum(one.lost for one in seen)} lost; {len(late)} tried once more, {left_out} left out, since there was no time")
 
 
 def begin(service, library):
     """The place for all lives and runs."""
     masters = [service.master(source).address for source in range(3)]
-    machine = service.machine("kept", 1, masters)
-    machine.wait_until_ready()
+    machine = service.fleet({"kept": masters})["kept"]
     machine.kill()
     earlier = shutil.copytree(machine.folder, os.path.join(service.room, "earlier"), ignore=shutil.ignore_patterns("socket"))
     machine.restart()
@@ -535,14 +530,15 @@ def begin(service, library):
                  earlier, check.stdout)
 
 
-def sweep_services(program, library, seed):
-    """How often a call that fails gives something wrong in the services. Where nothing fails and yet it does not go well, another program
-    may have taken a port: once it is begun anew."""
-    until = time.monotonic() + ALL_S
-    for _ in range(2):
-        with tempfile.TemporaryDirectory() as room, Service(program, room) as service:
+def sweep_services(trial, library):
+    """Lets calls of the services fail. Where nothing fails and yet it does not go well, another program may have taken a port: once it is
+    begun anew."""
+    until, seed = time.monotonic() + ALL_S, trial.seed()
+    for is_last in (False, True):
+        with tempfile.TemporaryDirectory() as room, Service(trial.program, room) as service:
             try:
-                return try_all(begin(service, library), service, seed, until)
+                return try_all(trial, begin(service, library), seed, until)
             except Fault as fault:
-                print(f"services: {fault}")
-    return 1
+                trial.note(str(fault))
+                trial.holds(not is_last, str(fault))
+    return None

@@ -1,10 +1,11 @@
-"""Scenarios of tools/wiring: each option and each act of `master` has its effect, and its log."""
+"""Scenarios of the suite `wiring`: each option and each act of `master` has its effect, and its log."""
 import contextlib
 import socket
 import time
 
-from running import free_port
-from trouble import REQUEST, SECOND, SPAN, scenario
+from harness.processes import SECOND, free_port
+from harness.trouble import REQUEST, SPAN
+from suites.wiring import suite
 
 # The source, the offset and the uncertainty.
 OPTIONS = [(0, 0, 1_000), (3, 5 * SECOND, 123_456_789), (15, -7 * SECOND, 0)]
@@ -46,7 +47,7 @@ def is_span(asked, packet, before, after, ahead, uncertainty):
     return high - low == 2 * uncertainty and before + ahead <= (low + high) // 2 <= after + ahead
 
 
-@scenario()
+@suite.case()
 def options_of_masters(trial):
     """It answers polls of its source alone, with its clock and twice its uncertainty."""
     for source, offset, uncertainty in OPTIONS:
@@ -68,7 +69,7 @@ ACTS = [("honest", 0), ("ahead 7000000000", 7 * SECOND), ("behind 9000000000", -
         ("repeat", GARBAGE), ("honest", 0), ("repeat", "last"), ("ahead 3000000000", 3 * SECOND), (None, 3 * SECOND), (None, 3 * SECOND)]
 
 
-@scenario()
+@suite.case()
 def acts_of_masters(trial):
     """One for each poll in turn, and none for what is no poll of its source."""
     asked = Asked(trial, 2, uncertainty=[5], act=[word for word, _ in ACTS if word])
@@ -86,7 +87,7 @@ def acts_of_masters(trial):
         last = packet or last
 
 
-@scenario()
+@suite.case()
 def logs_of_masters(trial):
     """In either form."""
     for form in ("text", "json"):
@@ -95,7 +96,7 @@ def logs_of_masters(trial):
         trial.has_form("option log", asked.process, form)
 
 
-@scenario()
+@suite.case()
 def master_without_time(trial):
     """Its clock would show a time before 1970, and nothing is answered."""
     asked = Asked(trial, 1, uncertainty=[5], offset=[-2_000_000_000 * SECOND])

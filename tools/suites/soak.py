@@ -1,10 +1,7 @@
-#!/usr/bin/env python3
 """Runs the time service under faults, and judges all that its clients saw by the real-time clock.
 
-usage: tools/soak [SECONDS [SEED [CLIENTS]]]
-
-SECONDS is 60, SEED is drawn, and CLIENTS, the clients in Python, are 8 where they are left out; the same seed makes the same faults. TTD names another built program than the
-one of this repository. Five masters run on loopback, of which two may lie, and two machines. A relay between them loses, delays, repeats,
+It goes on for a minute, or as many seconds as --seconds says; --number of its clients are in Python, 8 where it is left out. The same seed
+makes the same faults. Five masters run on loopback, of which two may lie, and two machines. A relay between them loses, delays, repeats,
 reorders and spoils packets. Clients in Python and C read and commit on both machines, over TCP, the Unix sockets and the shared
 files. All the while, by the seed,
 
@@ -16,35 +13,31 @@ files. All the while, by the seed,
 
 Each reading has to hold a time between two looks at the real-time clock around it, each stamp to lie between them, no commit may be out
 of order (`ttd judge`), no stamp and no epoch of a machine may come twice, each client has to have an answer or a closed
-connection, and memory, descriptors and threads have to be those of a fresh start in the end. Ends with status 1 where that is not so.
+connection, and memory, descriptors and threads have to be those of a fresh start in the end.
 """
 import collections
 import contextlib
 import errno
 import os
 import random
-import secrets
 import signal
 import socket
 import subprocess
-import sys
-import tempfile
 import threading
 import time
 from concurrent.futures import ProcessPoolExecutor, ThreadPoolExecutor
 
-sys.dont_write_bytecode = True
-from relay import Relay  # noqa: E402
-from running import PROGRAM, TOP, Fault, Service, truetime  # noqa: E402
-from users import come_in_turn, never_read, places_for, read_shared, say_nothing, send_slowly, use  # noqa: E402
+from harness.program import WARNINGS, compile_c, read, read_text, run
+from harness.relay import Relay
+from harness.suite import Suite, seeds, wrong_in
+from harness.users import come_in_turn, never_read, places_for, read_shared, say_nothing, send_slowly, use
 
+suite = Suite(__name__)
 SOURCES, LIARS = 5, 2
 UNCERTAINTY = 1_000_000
 IDLE_S, LONGEST_STOP_S = 5, 5
 # A commit may wait for a stop, then as long again, since an answer that came across the stop is as wide, and then for one more stop.
 TIMEOUT_S = 5 * LONGEST_STOP_S
-MORE_MEMORY_KIB = 4096
-WARNINGS = ["-Wall", "-Wextra", "-Wpedantic", "-Wshadow", "-Wconversion", "-Werror"]
 
 
 def plan_of(chance, seconds, liars):
@@ -127,20 +120,16 @@ class Faults:
 
     def start_a_second(self, machine, *_):
         """A second process with the same configuration has to end at once, with a refusal, while the first one runs."""
-        first = machine.running
-        second = subprocess.Popen([machine.program, *machine.words], stdin=subprocess.PIPE, stdout=subprocess.PIPE, stderr=subprocess.STDOUT)
+        first, second = machine.running, run([machine.program, *machine.words], seconds=10, stderr=subprocess.STDOUT)
+        if second.status is None:
+            self.wrong.append("a second process with the same configuration does not end")
+        if second.status == 0 and first.poll() is None:
+            self.wrong.append(f"a second process ran beside the first: {second.said}")
         try:
-            said = second.communicate(timeout=10)[0]
-            if second.returncode == 0 and first.poll() is None:
-                self.wrong.append(f"a second process ran beside the first: {said}")
             with socket.socket(socket.AF_UNIX) as door:
                 door.connect(machine.path("socket"))
         except OSError as fault:
             self.wrong.append(f"a second process took the socket of the first: {fault}")
-        except subprocess.TimeoutExpired:
-            second.kill()
-            second.communicate()
-            self.wrong.append("a second process with the same configuration does not end")
 
     def fill_disk(self, *_):
         """Starts the machine on the small disk again while that is full. Where it ends, its epoch has to stand as it was."""
@@ -168,18 +157,14 @@ class Faults:
                                             send_slowly, connect_often, start_a_second, fill_disk)}
 
 
-def read(path):
-    with open(path, "rb") as file:
-        return file.read()
-
-
-def mount_small_disk(stack, place):
-    """Mounts a tmpfs of 64 KiB, until the stack ends; its place, where that can be done."""
+def mount_small_disk(trial):
+    """Mounts a tmpfs of 64 KiB, until the case ends; its place, where that can be done."""
+    place = os.path.join(trial.room, "disk")
     os.mkdir(place)
-    if subprocess.run(["mount", "-t", "tmpfs", "-o", "size=64k", "none", place], capture_output=True, check=False).returncode != 0:
-        print("soak: no disk will be full: a tmpfs cannot be mounted")
+    if run(["mount", "-t", "tmpfs", "-o", "size=64k", "none", place]).status != 0:
+        trial.note("no disk will be full: a tmpfs cannot be mounted")
         return None
-    stack.callback(subprocess.run, ["umount", place], check=True)
+    trial.processes.callback(subprocess.run, ["umount", place], check=True)
     return place
 
 
@@ -190,15 +175,13 @@ class Clients:
         pause_s = min(0.02, seconds / 200_000)
         self.sessions = [processes.submit(use, places_for(client, machines), seed + client, end, TIMEOUT_S, pause_s) for client in range(number)]
         self.sessions += [processes.submit(read_shared, machine.path("shared"), end) for machine in machines]
-        self.made = os.path.join(room, "soak")
-        subprocess.run([os.environ.get("CC", "cc"), *WARNINGS, "-O2", "-std=gnu11", "-o", self.made, os.path.join(TOP, "tools/soak.c")], check=True)
-        self.in_c = {}
+        self.made, self.in_c = compile_c("soak", room, *WARNINGS, "-std=gnu11"), {}
         for machine in machines:
             words = [self.made, str(int(end - time.monotonic())), str(seed), str(machine.address[1]), machine.path("socket"), machine.path("shared")]
             with open(f"{self.made}-{machine.name}", "wb") as said:
                 self.in_c[machine.name] = subprocess.Popen(words, stdout=said)
 
-    def end(self):
+    def end(self, trial):
         """The commits of all as the machine, began, ended and stamp, and what is wrong."""
         commits, wrong, readings, lost, refused = [], [], 0, 0, collections.Counter()
         for client in self.sessions:
@@ -208,15 +191,14 @@ class Clients:
             readings, lost, refused = readings + seen.readings, lost + seen.lost, refused + seen.refused
         for name, client in self.in_c.items():
             client.wait(60)
-            with open(f"{self.made}-{name}", encoding="ascii") as said:
-                for word, *rest in map(str.split, said):
-                    if word == "commit":
-                        commits.append((name, *map(int, rest)))
-                    elif word == "readings":
-                        readings, lost = readings + int(rest[0]), lost + int(rest[2])
-                    else:
-                        wrong.append("C: " + " ".join(rest))
-        print(f"soak: {readings} readings, {len(commits)} commits, {lost} sessions lost, refused {dict(refused)}")
+            for word, *rest in map(str.split, read_text(f"{self.made}-{name}").splitlines()):
+                if word == "commit":
+                    commits.append((name, *map(int, rest)))
+                elif word == "readings":
+                    readings, lost = readings + int(rest[0]), lost + int(rest[2])
+                else:
+                    wrong.append("C: " + " ".join(rest))
+        trial.note(f"{readings} readings, {len(commits)} commits, {lost} sessions lost, refused {dict(refused)}")
         return commits, wrong
 
 
@@ -226,71 +208,56 @@ def repeated(commits):
     return [f"machine {machine} gave the stamp {stamp} {number} times" for (machine, stamp), number in counts.items() if number > 1]
 
 
-def judge_machine(machine):
+def judge_machine(trial, machine):
     """Compares what a machine holds with what it holds after a new start, and looks at its epochs; what is wrong."""
     used = machine.resources()
     machine.restart()
     machine.use_all_workers()
-    fresh = machine.resources()
+    said, is_more = machine.keeps_more(machine.resources(), used)
     epochs = [int(fields["epoch"]) for fields in machine.said("started")]
-    said = (f"{name} {first}, fresh {then}" for name, first, then in zip(("KiB", "descriptors", "threads"), used, fresh))
-    print(f"soak: machine {machine.name}: {len(epochs)} lives, epochs {epochs[0]} to {epochs[-1]}; {'; '.join(said)}")
-    wrong = [f"machine {machine.name}: epoch {second} behind {first}" for first, second in zip(epochs, epochs[1:]) if second <= first]
-    if used[1:] != fresh[1:] or used[0] > fresh[0] + MORE_MEMORY_KIB:
-        wrong.append(f"machine {machine.name} keeps memory, descriptors or threads")
-    return wrong
+    trial.note(f"{said} before that; {len(epochs)} lives, epochs {epochs[0]} to {epochs[-1]}")
+    trial.holds(not is_more, f"machine {machine.name} keeps memory, descriptors or threads")
+    return [f"machine {machine.name}: epoch {second} behind {first}" for first, second in zip(epochs, epochs[1:]) if second <= first]
 
 
-def soak(program, seconds, seed, number, room):
-    """Runs all of it, with so many clients in Python; what is wrong."""
+def start_all(trial, relay, liars, chance):
+    """The masters, and the machines, each with ways of its own to the masters."""
+    disk, masters, machines = mount_small_disk(trial), [trial.master(source, 0, UNCERTAINTY) for source in range(SOURCES)], []
+    for place, (name, state) in enumerate({"A": {"state": disk} if disk else {}, "B": {}}.items()):
+        channels = [relay.channel(master.address, source in liars, chance.random()) for source, master in enumerate(masters)]
+        machines.append(trial.machine(name, place, [channel.address for channel in channels], poll="100ms", idle=f"{IDLE_S}s", **state))
+        machines[-1].channels = channels
+    for machine in machines:
+        machine.use_all_workers()
+    return disk, masters, machines
+
+
+@suite.case()
+def all_faults(trial):
+    seconds, seed, number = trial.options.seconds or 60, trial.seed(), trial.options.number or 8
     chance = random.Random(seed)
     liars = chance.sample(range(SOURCES), LIARS)
-    with contextlib.ExitStack() as stack:
-        disk = mount_small_disk(stack, os.path.join(room, "disk"))
-        service, relay = stack.enter_context(Service(program, room)), stack.enter_context(Relay())
-        masters = [service.master(source, 0, UNCERTAINTY) for source in range(SOURCES)]
-        machines = []
-        for place, (name, state) in enumerate({"A": {"state": disk} if disk else {}, "B": {}}.items()):
-            channels = [relay.channel(master.address, source in liars, chance.random()) for source, master in enumerate(masters)]
-            machines.append(service.machine(name, place, [channel.address for channel in channels], poll="100ms", idle=f"{IDLE_S}s", **state))
-            machines[-1].channels = channels
-        for machine in machines:
-            machine.use_all_workers()
+    with Relay() as relay:
+        disk, masters, machines = start_all(trial, relay, liars, chance)
         begun = time.monotonic()
         with ProcessPoolExecutor(number + 2) as processes, ThreadPoolExecutor(64) as threads:
-            clients = Clients(processes, room, machines, begun + seconds, seconds, seed, number)
+            clients = Clients(processes, trial.room, machines, begun + seconds, seconds, seed, number)
             faults = Faults(masters, machines, disk, threads)
             for at, *fault in plan_of(chance, seconds, liars):
                 time.sleep(max(0, begun + at - time.monotonic()))
                 faults.do(*fault)
-            wrong = faults.end()
-            commits, more = clients.end()
-        print(f"soak: {', '.join(f'{name} {number}' for name, number in sorted(faults.counts.items()))}")
-        wrong += more + repeated(commits)
-        if violations := service.judge([commit[1:] for commit in commits]):
-            wrong.append(f"{violations} commits are out of order")
+            yield from faults.end()
+            commits, wrong = clients.end(trial)
+        trial.note(", ".join(f"{name} {number}" for name, number in sorted(faults.counts.items())))
+        yield from [*wrong, *repeated(commits)]
+        if violations := trial.judge([commit[1:] for commit in commits]):
+            yield f"{violations} commits are out of order"
         if len(commits) < 10 * seconds:
-            wrong.append(f"{len(commits)} commits are few")
-        return wrong + [fault for machine in machines for fault in judge_machine(machine)]
+            yield f"{len(commits)} commits are few"
+        for machine in machines:
+            yield from judge_machine(trial, machine)
 
 
-def main():
-    if len(sys.argv) > 4:
-        sys.exit(__doc__.split("\n\n")[1])
-    seconds = float(sys.argv[1]) if len(sys.argv) > 1 else 60
-    seed = int(sys.argv[2]) if len(sys.argv) > 2 else secrets.randbelow(10**6)
-    number = int(sys.argv[3]) if len(sys.argv) > 3 else 8
-    print(f"soak: seed {seed}", flush=True)
-    with tempfile.TemporaryDirectory() as room:
-        try:
-            wrong = soak(os.environ.get("TTD", PROGRAM), seconds, seed, number, room)
-        except (Fault, OSError, truetime.Refused, subprocess.SubprocessError) as fault:
-            wrong = [str(fault)]
-    for fault in wrong[:20]:
-        print(f"soak: {fault}")
-    print(f"soak: seed {seed}: {len(wrong)} wrong")
-    sys.exit(bool(wrong))
-
-
-if __name__ == "__main__":
-    main()
+@suite.last_line
+def last_line(results):
+    return f"{seeds(results)}{wrong_in(results)} wrong"

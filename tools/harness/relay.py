@@ -1,4 +1,5 @@
 """A relay between machines and masters, which loses, delays, repeats, reorders and spoils packets by a seed."""
+import contextlib
 import heapq
 import random
 import selectors
@@ -6,7 +7,7 @@ import socket
 import threading
 import time
 
-from running import free_port
+from harness.processes import free_port
 
 # How often, of a hundred packets.
 LOST, REPEATED, SPOILED, DELAYED = 10, 5, 5, 30
@@ -74,7 +75,8 @@ class Relay:
                 self.take(key.fileobj, *key.data)
             while self.due and self.due[0][0] <= time.monotonic():
                 _, _, door, packet, address = heapq.heappop(self.due)
-                send(door, packet, address)
+                with contextlib.suppress(OSError):  # whoever is there is down
+                    door.sendto(packet, address)
 
     def take(self, door, channel, is_request):
         try:
@@ -91,10 +93,3 @@ class Relay:
         for delay, spoiled in channel.fates(packet):
             self.order += 1
             heapq.heappush(self.due, (time.monotonic() + delay, self.order, way[0], spoiled, way[1]))
-
-
-def send(door, packet, address):
-    try:
-        door.sendto(packet, address)
-    except OSError:
-        pass  # whoever is there is down

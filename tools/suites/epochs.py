@@ -1,83 +1,58 @@
-#!/usr/bin/env python3
 """Kills a machine at each system call that touches its epoch, and starts it on epoch files that it did not write.
 
-usage: tools/epochs PROGRAM [SEED]
-
-PROGRAM is the built ttd; SEED, for the files of chance, is drawn where it is left out. A master in this script answers each poll, and keeps
-the epoch that the poll carries. By tools/stop_at.c the machine is killed before and behind each of its calls on the folder of its state,
+A master in this script answers each poll, and keeps the epoch that the poll carries. By tools/stop_at.c the machine is killed before and behind each of its calls on the folder of its state,
 from a folder that is not there and from one that is. After each, the next start has to answer, in a greater epoch than any that a poll or a
 client saw, and no stamp may come twice.
 
 Then the file holds each prefix of its text, the text with each byte changed, other versions and chance; is a folder, or another user's; and
 the draft holds each prefix of its text. A start has to read the file exactly, or to refuse it by its number and leave it as it is. Of
-two machines on one file the second has to be refused. Ends with status 1 where that is not so.
+two machines on one file the second has to be refused. The files of chance are by the seed.
 """
 import contextlib
 import os
 import random
 import re
-import secrets
 import shutil
-import socket
 import subprocess
-import sys
-import tempfile
-import threading
 import time
 
-sys.dont_write_bytecode = True
-from running import Fault, TOP, free_port, truetime  # noqa: E402
+from harness.processes import truetime
+from harness.program import WARNINGS, compile_c, read, read_text, run, write
+from harness.suite import Suite
+from harness.trouble import NOBODY, Fake, honest
 
-WARNINGS = ["-Wall", "-Wextra", "-Wpedantic", "-Wshadow", "-Wconversion", "-Werror"]
+suite = Suite(__name__)
 MOST_EPOCHS = 2**64 - 1
-NOBODY = 65534
 SPELLED = re.compile(rb"tt-epoch 1 (0|[1-9][0-9]*)\n")
 
 
-class Master(threading.Thread):
-    """Answers each poll by this host's clock, and keeps the greatest epoch that one carried."""
+class Keeper(Fake):
+    """An honest master, which keeps the greatest epoch that a poll carried."""
 
     def __init__(self):
-        super().__init__(daemon=True)
-        self.door = socket.socket(socket.AF_INET, socket.SOCK_DGRAM)
-        self.door.bind(("127.0.0.1", 0))
-        self.address, self.greatest = "127.0.0.1:%d" % self.door.getsockname()[1], 0
+        self.greatest = 0
+        super().__init__(Keeper.keep)
 
-    def run(self):
-        while True:
-            packet, sender = self.door.recvfrom(2048)
-            self.greatest = max(self.greatest, int.from_bytes(packet[16:24], "big"))
-            now = time.time_ns()
-            ends = (end.to_bytes(8, "big") for end in (now - 1_000_000, now + 1_000_000))
-            self.door.sendto(packet[:4] + b"\2" + packet[5:24] + b"".join(ends), sender)
+    def keep(self, poll):
+        self.greatest = max(self.greatest, int.from_bytes(poll[16:24], "big"))
+        honest(self, poll)
 
 
 class Epochs:
     """A machine whose epoch is tried, and what was seen of it."""
 
-    def __init__(self, program, room, master):
-        self.program, self.room, self.master = os.path.realpath(program), os.path.realpath(room), master
-        self.state, self.epoch, self.draft = (os.path.join(self.room, name) for name in ("state", "state/epoch", "state/epoch.new"))
-        self.shared = os.path.join(self.room, "time")
-        self.address, self.settings = ("127.0.0.1", free_port(socket.SOCK_STREAM)), os.path.join(self.room, "node.toml")
-        self.serve = [self.program, "serve", self.settings, "--until-eof"]
-        with open(self.settings, "w", encoding="ascii") as file:
-            file.write(f'machine = 0\nmasters = ["{master.address}"]\nlisten = "127.0.0.1:{self.address[1]}"\nstate = "{self.state}"\n'
-                       f'shared = "{self.shared}"\nwait = "10ms"\npoll = "10ms"\nworkers = 2\n')
+    def __init__(self, trial):
+        self.program, self.room, self.master = trial.program, os.path.realpath(trial.room), trial.keep(Keeper())
+        node = trial.node([self.master], wait="10ms", poll="10ms", workers=2, socket=None, status=None)
+        self.state, self.epoch, self.draft, self.shared = map(node.path, ("state", "state/epoch", "state/epoch.new", "shared"))
+        self.address, self.settings, self.serve = node.address, node.path("node.toml"), [self.program, *node.words]
         self.umask = os.umask(0o022)
         os.umask(self.umask)
-        self.made, self.stamps, self.greatest, self.wrong = os.path.join(self.room, "stop_at"), set(), 0, []
-        subprocess.run([os.environ.get("CC", "cc"), *WARNINGS, "-O2", "-std=gnu11", "-o", self.made, os.path.join(TOP, "tools/stop_at.c")], check=True)
+        self.stops, self.stamps, self.greatest, self.wrong = compile_c("stop_at", trial.room, *WARNINGS, "-std=gnu11"), set(), 0, []
 
     def start(self, **how):
-        """Starts the machine and ends it with its input: its status and what it wrote."""
-        ran = subprocess.run(self.serve, stdin=subprocess.DEVNULL, capture_output=True, timeout=20, check=False, **how)
-        return ran.returncode, ran.stdout, ran.stderr
-
-    def stop_at(self, number):
-        """Kills the machine at this stop; what the tool says of it."""
-        return subprocess.run([self.made, str(number), self.state, *self.serve], stdin=subprocess.DEVNULL, stdout=subprocess.PIPE,
-                              stderr=subprocess.DEVNULL, text=True, timeout=20, check=True).stdout.split()
+        """Starts the machine and ends it with its input: what it wrote, and its status."""
+        return run(self.serve, **how)
 
     def live(self, what):
         """A life with a client, who commits twice. Its epoch and its stamps have to be new."""
@@ -107,23 +82,21 @@ class Epochs:
                     raise
             time.sleep(0.005)
 
-    def stop_everywhere(self):
-        """Kills it at each stop, without and with a folder."""
-        for is_there in (False, True):
-            kinds, number = [], 0
-            while not kinds or kinds[-1][0] != "ended":
-                number += 1
-                if not is_there:
-                    shutil.rmtree(self.state, ignore_errors=True)
-                    self.master.greatest = self.greatest = 0
-                kinds.append(self.stop_at(number))
-                self.live(f"{' '.join(kinds[-1])}, stop {number}")
-            if kinds[-1] != ["ended", "0", str(number - 1)]:
-                self.wrong.append(f"unstopped it ends so: {kinds[-1]}")
-            calls = sorted({kind[2] for kind in kinds[:-1]})
-            print(f"epochs: {'a folder' if is_there else 'no folder'}: killed at {number - 1} stops, the entries and exits of {' '.join(calls)}")
+    def stop_everywhere(self, is_there):
+        """Kills it at each stop, with a folder of its state or without; how many there are, and the calls that have them."""
+        kinds, number = [], 0
+        while not kinds or kinds[-1][:1] not in (["ended"], []):
+            number += 1
+            if not is_there:
+                shutil.rmtree(self.state, ignore_errors=True)
+                self.master.greatest = self.greatest = 0
+            kinds.append(run([self.stops, str(number), self.state, *self.serve]).said.split())
+            self.live(f"{' '.join(kinds[-1])}, stop {number}")
+        if kinds[-1] != ["ended", "0", str(number - 1)]:
+            self.wrong.append(f"unstopped it ends so: {kinds[-1]}")
+        return number - 1, sorted({kind[2] for kind in kinds[:-1]})
 
-    def judge(self, what, text, status, said):
+    def judge(self, what, text, said, status):
         """What a start did of a file of this text has to be what its text says."""
         spelled = SPELLED.fullmatch(text)
         epoch = int(spelled[1]) if spelled and int(spelled[1]) <= MOST_EPOCHS else None
@@ -149,16 +122,13 @@ class Epochs:
     def be_a_folder(self):
         os.remove(self.epoch)
         os.mkdir(self.epoch)
-        status, said, _ = self.start()
+        said, status, _ = self.start()
         if status not in (2, 4) or said not in (b"refused 1811\n", b"refused 1813\n") or os.listdir(self.epoch):
             self.wrong.append(f"a folder: status {status}, {said!r}")
         os.rmdir(self.epoch)
 
     def be_anothers(self):
         """Files of root, for a machine of another user: one that it may read, and one that it may not."""
-        if os.geteuid() != 0:
-            print("epochs: no file is another user's: that takes root")
-            return
         os.chmod(self.room, 0o755)
         os.chown(self.state, NOBODY, NOBODY)
         shutil.copy(self.program, os.path.join(self.room, "ttd"))
@@ -171,7 +141,7 @@ class Epochs:
                 os.remove(self.epoch)
             write(self.epoch, b"tt-epoch 1 41\n")
             os.chmod(self.epoch, mode)
-            status, said, _ = self.start(user=NOBODY, group=NOBODY, extra_groups=[])
+            said, status, _ = self.start(user=NOBODY, group=NOBODY, extra_groups=[])
             if (status, said, read(self.epoch)) != wanted:
                 self.wrong.append(f"a file of another user of mode {mode:o}: status {status}, {said!r}, and then {read(self.epoch)!r}")
         self.serve = serve
@@ -182,20 +152,18 @@ class Epochs:
         with subprocess.Popen(self.serve, stdin=subprocess.PIPE, stdout=subprocess.DEVNULL, stderr=subprocess.DEVNULL) as first:
             self.commit_twice(first)
             before, second = read(self.epoch), os.path.join(self.room, "second.toml")
-            with open(self.settings, encoding="ascii") as file:
-                text = file.read().replace(f"127.0.0.1:{self.address[1]}", "127.0.0.1:0")
-            with open(second, "w", encoding="ascii") as file:
-                file.write(text)
-            ran = subprocess.run([self.program, "serve", second, "--until-eof"], stdin=subprocess.DEVNULL, capture_output=True, timeout=20, check=False)
-            if (ran.returncode, ran.stdout, read(self.epoch)) != (2, b"refused 1815\n", before):
-                self.wrong.append(f"a second machine: status {ran.returncode}, {ran.stdout!r}")
+            write(second, read_text(self.settings).replace(f"127.0.0.1:{self.address[1]}", "127.0.0.1:0").encode())
+            ran = run([self.program, "serve", second, "--until-eof"])
+            if (ran.status, ran.out, read(self.epoch)) != (2, b"refused 1815\n", before):
+                self.wrong.append(f"a second machine: status {ran.status}, {ran.out!r}")
             self.commit_twice(first)
             first.communicate(timeout=10)
 
     def be_loose(self):
         """The log has to say which files others may write, and nothing of them where nobody else may."""
         shutil.rmtree(self.state, ignore_errors=True)
-        os.remove(self.shared)
+        with contextlib.suppress(FileNotFoundError):
+            os.remove(self.shared)
         wanted = {self.state: 0o700, self.epoch: 0o600, os.path.join(self.state, "lock"): 0o600, self.shared: 0o644}
         self.start()
         for path, mode in wanted.items():
@@ -208,16 +176,6 @@ class Epochs:
             if found != ([name.encode()] if name != "none" else []):
                 self.wrong.append(f"the log of a start with {name} loose: {found}")
             os.chmod(path, wanted[path])
-
-
-def read(path):
-    with open(path, "rb") as file:
-        return file.read()
-
-
-def write(path, text):
-    with open(path, "wb") as file:
-        file.write(text)
 
 
 def texts(chance):
@@ -236,39 +194,46 @@ def texts(chance):
         yield "chance", chance.randbytes(chance.choice((1, 14, 31, 32, 33, 1000)))
 
 
-def try_all(program, seed, room):
-    """Does all of it; what is wrong."""
-    master = Master()
-    master.start()
-    epochs = Epochs(program, room, master)
-    epochs.stop_everywhere()
-    os.makedirs(epochs.state, exist_ok=True)
-    all_texts = list(texts(random.Random(seed)))
-    epochs.read_texts(all_texts)
-    epochs.leave_drafts()
-    epochs.be_a_folder()
-    epochs.be_anothers()
-    epochs.be_two()
-    epochs.be_loose()
-    print(f"epochs: {len(all_texts)} texts, 18 drafts, {len(epochs.stamps)} stamps")
-    return epochs.wrong
+@suite.shares
+def epochs(trial):
+    yield Epochs(trial)
 
 
-def main():
-    if len(sys.argv) not in (2, 3):
-        sys.exit(__doc__.split("\n\n")[1])
-    seed = int(sys.argv[2]) if len(sys.argv) > 2 else secrets.randbelow(10**6)
-    print(f"epochs: seed {seed}", flush=True)
-    with tempfile.TemporaryDirectory() as room:
-        try:
-            wrong = try_all(sys.argv[1], seed, room)
-        except (Fault, OSError, truetime.Refused, subprocess.SubprocessError) as fault:
-            wrong = [str(fault)]
-    for fault in wrong[:20]:
-        print(f"epochs: {fault}")
-    print(f"epochs: {len(wrong)} wrong")
-    sys.exit(bool(wrong))
+def stops(trial, is_there):
+    os.makedirs(trial.shared.state, exist_ok=True)
+    trial.shared.wrong.clear()
+    number, calls = trial.shared.stop_everywhere(is_there)
+    trial.note(f"killed at {number} stops, the entries and exits of {' '.join(calls)}; {len(trial.shared.stamps)} stamps so far")
+    yield from trial.shared.wrong
 
 
-if __name__ == "__main__":
-    main()
+def on_an_epoch(trial, act, *words):
+    """An act that begins with an epoch in the file."""
+    shared = trial.shared
+    os.makedirs(shared.state, exist_ok=True)
+    write(shared.epoch, b"tt-epoch 1 41\n")
+    shared.wrong.clear()
+    act(shared, *words)
+    yield from shared.wrong
+
+
+def files_of_all_texts(trial):
+    """Files of each text."""
+    all_texts = list(texts(random.Random(trial.seed())))
+    trial.note(f"{len(all_texts)} texts")
+    return on_an_epoch(trial, Epochs.read_texts, all_texts)
+
+
+@suite.family
+def all_cases():
+    yield "stops without a folder", stops, False
+    yield "stops with a folder", stops, True
+    yield "texts", files_of_all_texts
+    for name, act in (("drafts", Epochs.leave_drafts), ("folder", Epochs.be_a_folder), ("two machines", Epochs.be_two),
+                      ("loose files", Epochs.be_loose)):
+        yield name, on_an_epoch, act
+
+
+@suite.case(root=True)
+def files_of_another_user(trial):
+    return on_an_epoch(trial, Epochs.be_anothers)

@@ -1,4 +1,4 @@
-"""Scenarios of tools/faults: sources that cannot be reached, lie or flood, how long a round waits for them, and masters that are flooded."""
+"""Scenarios of the suite `faults`: sources that cannot be reached, lie or flood, how long a round waits for them, and masters that are flooded."""
 import contextlib
 import signal
 import socket
@@ -6,9 +6,10 @@ import statistics
 import subprocess
 import time
 
-import trouble
-from running import free_port
-from trouble import Network, flooded, scenario
+from harness import trouble
+from harness.processes import free_port
+from harness.trouble import Network, flooded
+from suites.faults import suite
 
 IN_NETWORK = {"root": True, "programs": ("ip", "unshare", "nsenter")}
 
@@ -38,17 +39,16 @@ def lives_without(node, network, lost, heard):
         yield f"the log names {sorted(told)}, and {lost} cannot be reached"
     if node.said("round_failed"):
         yield "the log says round_failed"
-    yield from node.ends()
 
 
-@scenario(**IN_NETWORK)
+@suite.case(**IN_NETWORK)
 def no_route_to_one_of_three(trial):
     network, masters, node = start_in_network(trial, 3)
     network.refuse(masters[2], "unreachable")
     yield from lives_without(node, network, [2], [0, 1])
 
 
-@scenario(**IN_NETWORK)
+@suite.case(**IN_NETWORK)
 def no_route_to_two_of_five(trial):
     network, masters, node = start_in_network(trial, 5)
     network.refuse(masters[0], "prohibit")
@@ -56,7 +56,7 @@ def no_route_to_two_of_five(trial):
     yield from lives_without(node, network, [0, 3], [1, 2, 4])
 
 
-@scenario(root=True, programs=("ip", "unshare", "nsenter", "nft"))
+@suite.case(root=True, programs=("ip", "unshare", "nsenter", "nft"))
 def firewall_before_two_of_five(trial):
     network, masters, node = start_in_network(trial, 5)
     network.drop(masters[1])
@@ -64,7 +64,7 @@ def firewall_before_two_of_five(trial):
     yield from lives_without(node, network, [1, 4], [0, 2, 3])
 
 
-@scenario(**IN_NETWORK)
+@suite.case(**IN_NETWORK)
 def interface_down(trial):
     """For 1.5 seconds no packet can be sent at all. Then all goes on."""
     network, masters, node = start_in_network(trial, 3)
@@ -75,10 +75,9 @@ def interface_down(trial):
     network.do("ip", "link", "set", "lo", "up")
     time.sleep(0.5)
     yield from node.goes_on()
-    yield from node.ends()
 
 
-@scenario(root=True, programs=("ss",))
+@suite.case(root=True, programs=("ss",))
 def poll_socket_is_aborted(trial):
     """The kernel ends the socket of the polls (ECONNABORTED), again and again."""
     masters = trial.fakes(*[trouble.honest] * 3)
@@ -88,10 +87,9 @@ def poll_socket_is_aborted(trial):
         time.sleep(0.3)
     yield from node.goes_on()
     yield from node.hears(0, 1, 2)
-    yield from node.ends()
 
 
-@scenario()
+@suite.case()
 def port_closed_and_process_stopped(trial):
     masters = trial.masters(5)
     masters[1].kill()
@@ -106,33 +104,32 @@ def port_closed_and_process_stopped(trial):
 
 def floods(trial, *acts):
     """Sources 0 and 1 lie, and those behind them are honest and 10 ms away."""
-    masters = trial.fakes(*acts, *[trouble.honest_10ms_away] * 3)
+    masters = trial.fakes(*acts, *[trouble.late(0.01)] * 3)
     node = trial.node(masters)
     node.run()
     yield from node.publishes_within(1)
     yield from node.goes_on(2)
     yield from node.hears(2, 3, 4)
     yield from node.answers()
-    yield from node.ends()
 
 
-@scenario()
+@suite.case()
 def junk_from_two_of_five(trial):
     """60 packets to each poll from f masters."""
     yield from floods(trial, trouble.junk, trouble.junk_then_answer)
 
 
-@scenario()
+@suite.case()
 def empty_packets_from_two_of_five(trial):
     """4,000 empty packets a second from one of them, and junk from the other."""
     yield from floods(trial, trouble.empty_packets, trouble.junk)
 
 
-@scenario()
+@suite.case()
 def strangers_flood_the_machine(trial):
     """With 10,000 empty packets and 10,000 of an answer's length a second all sources are heard. With as many as go, answers are lost
     before the machine sees them, and it publishes and serves all the same."""
-    masters = trial.fakes(*[trouble.honest_10ms_away] * 3)
+    masters = trial.fakes(*[trouble.late(0.01)] * 3)
     node = trial.running_node(masters)
     with flooded(masters[0].machine[1], 0, 40, pause_s=0.005):
         yield from node.goes_on(2)
@@ -140,10 +137,9 @@ def strangers_flood_the_machine(trial):
     with flooded(masters[0].machine[1], 0, 40):
         yield from node.goes_on()
         yield from node.answers()
-    yield from node.ends()
 
 
-@scenario()
+@suite.case()
 def forged_before_true(trial):
     """An answer that is refused does not end the wait for the true one: with f = 0 all have to be heard."""
     masters = trial.fakes(trouble.forged_then_answer, trouble.honest, trouble.forged_then_answer)
@@ -154,7 +150,6 @@ def forged_before_true(trial):
     yield from node.hears(0, 1, 2)
     if (status := node.status_or_none()) and status["truetime_answers_refused_total"] == 0:
         yield "no answer was refused"
-    yield from node.ends()
 
 
 def exact(trial, wait_ms):
@@ -171,22 +166,22 @@ def exact(trial, wait_ms):
         yield f"{len(lengths)} rounds in {25 * wait_ms * 3 / 1000:.0f} seconds"
         return
     median = statistics.median(lengths)
-    trial.notes.append(f"a round lasts {median:.1f} ms")
+    trial.note(f"a round lasts {median:.1f} ms")
     if not abs(median - wait_ms) <= 5:
         yield f"a round lasts {median:.1f} ms, and wait is {wait_ms}"
 
 
-@scenario(quiet=True)
+@suite.case(quiet=True)
 def wait_is_50_ms(trial):
     yield from exact(trial, 50)
 
 
-@scenario(quiet=True)
+@suite.case(quiet=True)
 def wait_is_250_ms(trial):
     yield from exact(trial, 250)
 
 
-@scenario(quiet=True)
+@suite.case(quiet=True)
 def all_have_answered(trial):
     """Then a round ends at once, also where `wait` is long."""
     masters = trial.fakes(*[trouble.honest] * 3)
@@ -197,7 +192,7 @@ def all_have_answered(trial):
         yield f"{rounds} rounds in a second, with a pause of 10 ms"
 
 
-@scenario(quiet=True)
+@suite.case(quiet=True)
 def idle_cost(trial):
     """The processor time of a machine with 16 masters, one of them dead, and of one with all alive: a poll a second, no client."""
     masters = trial.masters(16)
@@ -208,8 +203,8 @@ def idle_cost(trial):
     before, seconds = {name: node.processor_ns() for name, node in nodes.items()}, 6
     time.sleep(seconds)
     costs = {name: (node.processor_ns() - before[name]) / seconds / 1e6 for name, node in nodes.items()}
-    trial.notes += [f"{cost:.2f} ms of processor time a second where {name}" for name, cost in costs.items()]
     for name, cost in costs.items():
+        trial.note(f"{cost:.2f} ms of processor time a second where {name}")
         if cost > 1:
             yield f"{cost:.2f} ms of processor time a second where {name}, and 1 is the most"
 
@@ -227,15 +222,22 @@ def poll_master(door, port, nonce):
     return None
 
 
-@scenario(root=True)
-def packets_from_port_0(trial):
-    """They cannot be answered, and cost nothing."""
-    master = trial.master(0)
-    port = int(master.address.split(":")[1])
+@contextlib.contextmanager
+def polling(port):
+    """A socket for polls of a master that answers."""
     with socket.socket(socket.AF_INET, socket.SOCK_DGRAM) as door:
         door.settimeout(0.2)
         while poll_master(door, port, 1) is None:
             pass
+        yield door
+
+
+@suite.case(root=True)
+def packets_from_port_0(trial):
+    """They cannot be answered, and cost nothing."""
+    master = trial.master(0)
+    port = int(master.address.split(":")[1])
+    with polling(port) as door:
         request = trouble.REQUEST.pack(b"TTP2", 1, 0, 0, 0, 7, 1)
         slow = []
         for nonce in range(2, 12):
@@ -250,10 +252,7 @@ def flood_master(trial, size):
     """Honest polls are answered while packets of this size come as fast as they go."""
     master = trial.master(0)
     port = int(master.address.split(":")[1])
-    with socket.socket(socket.AF_INET, socket.SOCK_DGRAM) as door:
-        door.settimeout(0.2)
-        while poll_master(door, port, 1) is None:
-            pass
+    with polling(port) as door:
         with flooded(port, size, size):
             time.sleep(0.2)
             end, nonce, took = time.monotonic() + 2, 1, []
@@ -261,16 +260,16 @@ def flood_master(trial, size):
                 nonce += 1
                 took.append(poll_master(door, port, nonce))
     answered = [one for one in took if one is not None]
-    trial.notes.append(f"{len(answered)} of {len(took)} polls answered, {1000 * statistics.median(answered or [0]):.2f} ms each")
+    trial.note(f"{len(answered)} of {len(took)} polls answered, {1000 * statistics.median(answered or [0]):.2f} ms each")
     if len(answered) < len(took) * 0.5 or len(answered) < 100:
         yield f"{len(answered)} of {len(took)} polls are answered in 2 seconds"
 
 
-@scenario()
+@suite.case()
 def master_under_empty_packets(trial):
     yield from flood_master(trial, 0)
 
 
-@scenario()
+@suite.case()
 def master_under_packets_of_64_bytes(trial):
     yield from flood_master(trial, 64)

@@ -1,16 +1,12 @@
-#!/usr/bin/env python3
 """Gives the built program inputs that are changed by chance, and looks for answers that no format has.
 
-usage: tools/fuzz PROGRAM [SECONDS [SEED]]
-
-PROGRAM is the built ttd. SECONDS is 10, and SEED is drawn, where they are left out. The inputs begin with those of examples/ and tests/,
-are changed with a dictionary of the formats' words and numbers, and are kept where they brought an answer of a new shape. They are scripts,
+It goes on for 10 seconds, or as many as --seconds says. The inputs begin with those of examples/ and tests/, are changed with a dictionary of the formats' words and numbers, and are kept where they brought an answer of a new shape. They are scripts,
 spans, certificates, histories, answers in hex, settings, shared files and epoch files; and, for a service that runs, session lines, the
 packets of strangers and the answers of a master.
 
 Found is a status but 0, 2, 3 and 4, an end by a signal, a line on standard output that no format has, a run of more than five seconds, a reply
 that is none, a reading that does not hold a time between two looks at the real-time clock around it, and a service that ends or does not
-answer. The inputs that were found are left in a folder. Ends with status 1 where there is one.
+answer. The inputs that were found are left in a folder.
 """
 import collections
 import contextlib
@@ -18,20 +14,19 @@ import glob
 import os
 import random
 import re
-import secrets
 import shutil
-import signal
 import socket
-import subprocess
-import sys
 import tempfile
 import threading
 import time
 import tomllib
 
-sys.dont_write_bytecode = True
-from running import Fault, Service, TOP, truetime  # noqa: E402
+from harness.processes import Fault, truetime
+from harness.program import in_top, read, run, write
+from harness.suite import Suite, seeds, total, wrong_in
+from harness.trouble import Fake
 
+suite = Suite(__name__)
 LONGEST_S, LONGEST_BYTES, MOST_KEPT = 5, 20_000, 2000
 NUMBERS = [0, 1, 2, 7, 8, 9, 10, 15, 16, 17, 31, 32, 33, 63, 64, 65, 127, 128, 255, 256, 4095, 4096, 65535, 65536, 99_999, 100_000, 100_001, 10**9,
            2**31 - 1, 2**32 - 1, 2**32, 2**63 - 1, 2**63, 4 * 10**18 - 1, 4 * 10**18, 4 * 10**18 + 1, 2**64 - 1, 2**64]
@@ -57,11 +52,6 @@ FORMATS = {
     "age": rf"aged {N} {N}\n", "twin": rf"([a-z]+( \w*)*\n)*reading {N} {N} truth {N}\n", "serve": r"([^\n]+\n)+", "read": rf"now {N} {N}\n", "epoch": "",
 }
 OPTIONS = {"age": ["--sent", "500", "--got", "900", "--clock", "30000000900"], "twin": ["--event", "10", "--side", "low"]}
-
-
-def read(path):
-    with open(path, "rb") as file:
-        return file.read()
 
 
 class Corpus:
@@ -121,14 +111,14 @@ class Corpus:
 def first_texts():
     """The inputs of each command that stand in the repository."""
     texts = collections.defaultdict(list)
-    scripts = [read(path) for pattern in ("examples/*.toml", "tests/cases/*/script.toml") for path in sorted(glob.glob(os.path.join(TOP, pattern)))]
+    scripts = [read(path) for pattern in ("examples/*.toml", "tests/cases/*/script.toml") for path in sorted(glob.glob(in_top(pattern)))]
     for command in ("run", "trace", "picture", "twin"):
         texts[command] += scripts
     for command, pattern in (("fuse", "*.spans"), ("judge", "*.history"), ("age", "*.hex")):
-        texts[command] += [read(path) for path in sorted(glob.glob(os.path.join(TOP, "examples", pattern)))]
-    spans = read(os.path.join(TOP, "examples/three.spans"))
+        texts[command] += [read(path) for path in sorted(glob.glob(in_top(f"examples/{pattern}")))]
+    spans = read("examples/three.spans")
     texts["check"] = [spans + b"claim 5 15\nleft 0 1\nright 1 2\nbelow 0 4 1\nabove 16 20 1\nabove 21 4000000000000000000 0\n"]
-    for path in sorted(glob.glob(os.path.join(TOP, "tests/commands/*.toml"))):
+    for path in sorted(glob.glob(in_top("tests/commands/*.toml"))):
         for case in tomllib.loads(read(path).decode()).get("case", ()):
             if case["words"] and case["words"][0] in FORMATS and isinstance(case.get("input"), str):
                 texts[case["words"][0]].append(case["input"].encode())
@@ -139,57 +129,46 @@ def first_texts():
     return texts
 
 
-class LyingMaster(threading.Thread):
+class LyingMaster(Fake):
     """Answers the polls of the machine by packets that are changed by chance, at times by an honest one."""
 
     def __init__(self, chance):
-        super().__init__(daemon=True)
-        self.chance, self.door, self.answered = chance, socket.socket(socket.AF_INET, socket.SOCK_DGRAM), 0
-        self.door.bind(("127.0.0.1", 0))
-        self.address = "127.0.0.1:%d" % self.door.getsockname()[1]
+        self.chance, self.answered, self.corpus = chance, 0, Corpus(chance, [bytes(40)], is_text=False)
+        super().__init__(LyingMaster.lie)
 
-    def run(self):
-        corpus = Corpus(self.chance, [bytes(40)], is_text=False)
-        while True:
-            packet, sender = self.door.recvfrom(2048)
-            now = time.time_ns()
-            answer = packet[:4] + b"\2" + packet[5:24] + (now - 1_000_000).to_bytes(8, "big") + (now + 1_000_000).to_bytes(8, "big")
-            corpus.texts[0] = answer
-            for _ in range(20):
-                with contextlib.suppress(OSError):
-                    self.door.sendto(corpus.draw()[:1400], sender)
-                    self.answered += 1
-            if self.chance.random() < 0.3:
-                self.door.sendto(answer, sender)
+    def lie(self, poll):
+        self.corpus.texts[0] = honest = self.answer_to(poll)
+        for _ in range(20):
+            self.send(self.corpus.draw()[:1400])
+            self.answered += 1
+        if self.chance.random() < 0.3:
+            self.send(honest)
 
 
 class Fuzz:
     """What is tried, and what was found."""
 
-    def __init__(self, program, chance, room, service):
-        self.program, self.chance, self.room, self.service = program, chance, room, service
+    def __init__(self, trial, chance):
+        self.program, self.chance, self.room = trial.program, chance, trial.room
         self.counts, self.found, self.kept = collections.Counter(), [], tempfile.mkdtemp(prefix="fuzz-")
         texts = first_texts()
         self.corpora = {name: Corpus(chance, texts[name]) for name in FORMATS if name != "read"}
-        self.liar = LyingMaster(random.Random(chance.random()))
-        self.liar.start()
-        masters = [service.master(source) for source in range(2)]
+        self.liar = trial.keep(LyingMaster(random.Random(chance.random())))
+        masters = trial.masters(2)
         self.packets = [("127.0.0.1", int(master.address.split(":")[1])) for master in masters]
-        self.machine = service.machine("M", 0, [*(master.address for master in masters), self.liar.address], poll="20ms", wait="10ms", idle="2s")
-        self.machine.wait_until_ready()
+        self.machine = trial.fleet({"M": [*masters, self.liar]}, poll="20ms", wait="10ms", idle="2s")["M"]
         self.processes = [*masters, self.machine]
         self.corpora["read"] = Corpus(chance, [read(self.machine.path("shared"))], is_text=False)
         self.lines = Corpus(chance, [b"now\n", b"after 5\nbefore 1\n", b"commit 1 0\ncommit 1 0\n", b"commit 7 4000000000000000000\nnow\n"])
         self.polls = Corpus(chance, [bytes.fromhex("54545032010000000000000000000001000000000000000" + "1"), b"TTP1\1\0\0\0" + bytes(7) + b"\1", bytes(40)], is_text=False)
-        self.epoch = os.path.join(room, "state/epoch")
+        self.epoch = os.path.join(self.room, "state/epoch")
         os.mkdir(os.path.dirname(self.epoch))
-        with open(os.path.join(room, "epoch.toml"), "w", encoding="ascii") as file:
-            file.write(f'machine = 0\nmasters = ["{masters[0].address}"]\nlisten = "127.0.0.1:0"\nstate = "{room}/state"\nwait = "10ms"\npoll = "10ms"\nworkers = 1\n')
+        write(os.path.join(self.room, "epoch.toml"), f'machine = 0\nmasters = ["{masters[0].address}"]\nlisten = "127.0.0.1:0"\nstate = "{self.room}/state"\n'
+              'wait = "10ms"\npoll = "10ms"\nworkers = 1\n'.encode())
 
     def report(self, name, text, why):
         path = os.path.join(self.kept, f"{name}-{len(self.found)}")
-        with open(path, "wb") as file:
-            file.write(text)
+        write(path, text)
         self.found.append(f"{name}: {why}; {path}")
 
     def command(self, name):
@@ -204,19 +183,17 @@ class Fuzz:
         else:
             given = text
         if words[-1].endswith("given") or name in ("serve", "epoch"):
-            with open(self.epoch if name == "epoch" else os.path.join(self.room, "given"), "wb") as file:
-                file.write(text)
-        try:
-            ran = subprocess.run(words, input=given, capture_output=True, timeout=LONGEST_S, check=False)
-        except subprocess.TimeoutExpired:
+            write(self.epoch if name == "epoch" else os.path.join(self.room, "given"), text)
+        ran = run(words, given, LONGEST_S)
+        said, status = ran.answer
+        if status is None:
             self.report(name, text, f"runs for more than {LONGEST_S} seconds")
             return
-        said = ran.stdout.decode(errors="replace")
-        is_answer = re.fullmatch(FORMATS[name], said) if ran.returncode in (0, 3) else re.fullmatch(REFUSED, said)
-        if ran.returncode not in (0, 2, 3, 4) or not is_answer:
-            self.report(name, text, f"status {ran.returncode}, {said[-200:]!r}")
+        is_answer = re.fullmatch(FORMATS[name], said) if status in (0, 3) else re.fullmatch(REFUSED, said)
+        if status not in (0, 2, 3, 4) or not is_answer:
+            self.report(name, text, f"status {status}, {said[-200:]!r}")
         numbers = re.sub(r"\d+", lambda number: number[0] if said.startswith("refused") else "N" * min(len(number[0]), 3), said[:2000])
-        corpus.keep(text, (ran.returncode, numbers, re.sub(rb"\d+", b"", ran.stderr[:60])))
+        corpus.keep(text, (status, numbers, re.sub(rb"\d+", b"", ran.err[:60])))
 
     def session(self):
         """Lines of a session, and as many replies as there are line feeds."""
@@ -274,28 +251,20 @@ def send_all(door, text):
         door.shutdown(socket.SHUT_WR)
 
 
-def main():
-    if len(sys.argv) not in (2, 3, 4):
-        sys.exit(__doc__.split("\n\n")[1])
-    seconds = float(sys.argv[2]) if len(sys.argv) > 2 else 10
-    seed = int(sys.argv[3]) if len(sys.argv) > 3 else secrets.randbelow(10**6)
-    print(f"fuzz: seed {seed}", flush=True)
-    signal.signal(signal.SIGPIPE, signal.SIG_IGN)
-    with tempfile.TemporaryDirectory() as room, Service(sys.argv[1], room) as service:
-        fuzz = Fuzz(os.path.realpath(sys.argv[1]), random.Random(seed), room, service)
-        try:
-            fuzz.go_on(seconds)
-        except (Fault, OSError, truetime.Refused) as fault:
-            fuzz.found.append(f"the service: {fault}")
-    for found in fuzz.found:
-        print(f"fuzz: {found}")
+@suite.case()
+def inputs(trial):
+    fuzz = Fuzz(trial, random.Random(trial.seed()))
+    try:
+        fuzz.go_on(trial.options.seconds or 10)
+    except (Fault, OSError, truetime.Refused) as fault:
+        fuzz.found.append(f"the service: {fault}")
     if not fuzz.found:
         shutil.rmtree(fuzz.kept)
-    shapes = sum(len(corpus.shapes) for corpus in fuzz.corpora.values())
-    print(f"fuzz: {', '.join(f'{name} {number}' for name, number in sorted(fuzz.counts.items()))}, answers of the lying master {fuzz.liar.answered}")
-    print(f"fuzz: seed {seed}: {sum(fuzz.counts.values())} inputs, {shapes} shapes of answers, {len(fuzz.found)} found")
-    sys.exit(bool(fuzz.found))
+    trial.note(f"{', '.join(f'{name} {number}' for name, number in sorted(fuzz.counts.items()))}, answers of the lying master {fuzz.liar.answered}")
+    trial.count(inputs=sum(fuzz.counts.values()), shapes=sum(len(corpus.shapes) for corpus in fuzz.corpora.values()))
+    return fuzz.found
 
 
-if __name__ == "__main__":
-    main()
+@suite.last_line
+def last_line(results):
+    return f"{seeds(results)}{total(results, 'inputs')} inputs, {total(results, 'shapes')} shapes of answers, {wrong_in(results)} found"

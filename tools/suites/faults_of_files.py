@@ -1,4 +1,4 @@
-"""Scenarios of tools/faults: standard error, the status, drafts and locks, settings, and the shared file."""
+"""Scenarios of the suite `faults`: standard error, the status, drafts and locks, settings, and the shared file."""
 import json
 import os
 import shutil
@@ -6,9 +6,11 @@ import socket
 import time
 from concurrent.futures import ThreadPoolExecutor
 
-import trouble
-from running import free_port
-from trouble import as_nobody, full_listener, full_pipe, hold_lock, read, scenario, write
+from harness import trouble
+from harness.processes import free_port
+from harness.program import read, write
+from harness.trouble import as_nobody, full_listener, full_pipe, hold_lock
+from suites.faults import suite
 
 # Log and status.
 
@@ -17,7 +19,7 @@ def says_much(trial, **settings):
     return trial.node([*trial.masters(3), f"127.0.0.1:{free_port(socket.SOCK_DGRAM)}"], **settings)
 
 
-@scenario()
+@suite.case()
 def full_pipe_as_standard_error(trial):
     node = says_much(trial)
     reading, writing = full_pipe()
@@ -27,7 +29,7 @@ def full_pipe_as_standard_error(trial):
     os.close(reading)
 
 
-@scenario()
+@suite.case()
 def broken_pipe_as_standard_error(trial):
     node = says_much(trial)
     reading, writing = os.pipe()
@@ -37,14 +39,14 @@ def broken_pipe_as_standard_error(trial):
     yield from node.serves()
 
 
-@scenario()
+@suite.case()
 def standard_error_is_closed(trial):
     node = says_much(trial)
     node.run(["sh", "-c", 'exec "$@" 2>&-', "sh"])
     yield from node.serves()
 
 
-@scenario()
+@suite.case()
 def all_standard_descriptors_are_closed(trial):
     """Nothing of the log may go to the files and sockets that are opened next."""
     masters = trial.fakes(*[trouble.honest] * 3, trouble.silent)
@@ -64,7 +66,7 @@ def all_standard_descriptors_are_closed(trial):
         yield f"descriptors 0 to 2 are {kinds}"
 
 
-@scenario()
+@suite.case()
 def fifo_as_status(trial):
     node = trial.node(trial.masters(3))
     os.mkfifo(node.path("status"))
@@ -72,7 +74,7 @@ def fifo_as_status(trial):
     yield from node.serves()
 
 
-@scenario()
+@suite.case()
 def fifo_as_draft_of_status(trial):
     node = trial.node(trial.masters(3))
     os.mkfifo(node.path("status.new"))
@@ -82,7 +84,7 @@ def fifo_as_draft_of_status(trial):
     yield from node.serves()
 
 
-@scenario()
+@suite.case()
 def folder_as_draft_of_status(trial):
     """The status cannot be written, and the log says so."""
     node = trial.node(trial.masters(3))
@@ -93,7 +95,7 @@ def folder_as_draft_of_status(trial):
         yield "the log does not say status_unwritten"
 
 
-@scenario()
+@suite.case()
 def no_folder_for_status(trial):
     """It is removed and made again: lines of the log, and then a status as before."""
     node = trial.node(trial.masters(3), status=os.path.join(trial.room, "kept/status"))
@@ -108,7 +110,6 @@ def no_folder_for_status(trial):
     time.sleep(1)
     if not os.path.exists(os.path.join(trial.room, "kept/status")):
         yield "no status though its folder is there again"
-    yield from node.ends()
 
 
 # Files.
@@ -124,7 +125,7 @@ def link_all(node, folder, names):
     return places
 
 
-@scenario()
+@suite.case()
 def symlinks_at_drafts(trial):
     """What they name is neither written nor made."""
     masters = trial.masters(3)
@@ -143,7 +144,7 @@ def symlinks_at_drafts(trial):
                 yield f"what the symlink at {name} names was made"
 
 
-@scenario()
+@suite.case()
 def symlinks_at_locks(trial):
     """It may run or refuse, but leaves alone what they name."""
     for name, is_there in (("A", True), ("B", False)):
@@ -152,7 +153,7 @@ def symlinks_at_locks(trial):
         places = link_all(node, victims, ("state/lock", "shared.lock"))
         for place in places.values() if is_there else ():
             write(place, b"keep\n")
-        status, _, _ = trial.command("serve", node.path("node.toml"), "--until-eof")
+        _, status = trial.command("serve", node.path("node.toml"), "--until-eof").answer
         if status is None:
             yield "it does not end"
         for name, place in places.items():
@@ -170,7 +171,7 @@ def refuses_or_serves(node):
     return [] if is_refusal else [f"status {node.running.returncode}"]
 
 
-@scenario()
+@suite.case()
 def fifos_at_every_file(trial):
     """It runs or refuses, and waits for none of them. All of these machines run at once."""
     masters, nodes = trial.masters(3), {}
@@ -185,13 +186,13 @@ def fifos_at_every_file(trial):
                 yield f"a FIFO at {name}: {fault}"
 
 
-@scenario()
+@suite.case()
 def fifo_as_file(trial):
     fifo = os.path.join(trial.room, "fifo")
     os.mkfifo(fifo)
     for words in (["serve", fifo], ["serve", "--check", fifo], ["read", fifo]):
         began = time.monotonic()
-        status, said, _ = trial.command(*words, timeout=3)
+        said, status = trial.command(*words, seconds=3).answer
         if status not in (2, 4) or not said.startswith("refused") or time.monotonic() - began > 1:
             yield f"{words[0]} of a FIFO: status {status}, {said!r}"
 
@@ -199,14 +200,14 @@ def fifo_as_file(trial):
 def refused_by_start(trial, node, number, statuses):
     """A start refuses with this number, within a second, and takes no epoch."""
     began = time.monotonic()
-    status, said, _ = trial.command("serve", node.path("node.toml"), "--until-eof", timeout=5, cwd=node.folder)
+    said, status = trial.command("serve", node.path("node.toml"), "--until-eof", seconds=5, cwd=node.folder).answer
     if status not in statuses or said != f"refused {number}\n" or time.monotonic() - began > 1.5:
         yield f"status {status} and {said!r}, and {number} is wanted"
     if os.path.exists(node.path("state/epoch")):
         yield "an epoch was taken"
 
 
-@scenario()
+@suite.case()
 def file_at_socket(trial):
     node = trial.node(trial.masters(1))
     write(node.path("socket"), b"keep\n")
@@ -215,16 +216,15 @@ def file_at_socket(trial):
         yield "the file at socket is gone"
 
 
-@scenario()
+@suite.case()
 def stale_socket(trial):
     """One that a killed machine left is taken over."""
     node = trial.running_node(trial.masters(1))
     node.again()
     yield from node.answers(node.path("socket"))
-    yield from node.ends()
 
 
-@scenario()
+@suite.case()
 def full_backlog_at_socket(trial):
     """A foreign listener is not waited for, and stays."""
     node = trial.node(trial.masters(1))
@@ -234,7 +234,7 @@ def full_backlog_at_socket(trial):
             yield "the foreign socket is gone"
 
 
-@scenario()
+@suite.case()
 def address_in_use(trial):
     node = trial.node(trial.masters(1))
     with socket.create_server(node.address):
@@ -257,14 +257,14 @@ def settings_are_refused(trial, number, settings, refusal):
     name, what = f"{number}", json.dumps(settings)
     settings = {key: value.replace("HERE", os.path.join(trial.room, name)) if isinstance(value, str) else value for key, value in settings.items()}
     node = trial.node(settings.pop("masters", ["127.0.0.1:5701"]), name, **settings)
-    status, said, _ = trial.command("serve", "--check", node.path("node.toml"))
+    said, status = trial.command("serve", "--check", node.path("node.toml")).answer
     if (status, said) != (2, f"refused {refusal}\n"):
         yield f"--check with {what}: status {status}, {said[:20]!r}, and {refusal} is wanted"
     for fault in refused_by_start(trial, node, refusal, (2,)):
         yield f"a start with {what}: {fault}"
 
 
-@scenario()
+@suite.case()
 def settings_that_are_refused(trial):
     """By --check and by the start."""
     with ThreadPoolExecutor(len(REFUSED)) as threads:
@@ -276,9 +276,9 @@ def settings_that_are_refused(trial):
 
 def is_read(trial, node):
     """`ttd read` has a fresh reading, and the status says that the file is written."""
-    status, said, error = trial.command("read", node.path("shared"))
-    if status != 0 or not said.startswith("now ") or "stale" in error:
-        yield f"read: status {status}, {said!r} {error!r}"
+    ran = trial.command("read", node.path("shared"))
+    if ran.status != 0 or not ran.said.startswith("now ") or "stale" in ran.error:
+        yield f"read: status {ran.status}, {ran.said!r} {ran.error!r}"
     yield from node.comes_to("sharing", 1, 1)
 
 
@@ -291,15 +291,14 @@ def comes_back(trial, node, seconds=5):
     yield from [] if faults else node.goes_on()
 
 
-@scenario()
+@suite.case()
 def shared_file_is_removed(trial):
     node = trial.running_node(trial.masters(3))
     os.remove(node.path("shared"))
     yield from comes_back(trial, node)
-    yield from node.ends()
 
 
-@scenario()
+@suite.case()
 def shared_file_is_replaced(trial):
     """By a file that is none, and that stays as it is where it was moved away."""
     node = trial.running_node(trial.masters(3))
@@ -310,19 +309,17 @@ def shared_file_is_replaced(trial):
     yield from comes_back(trial, node)
     if read(os.path.join(trial.room, "kept")) != b"x" * 192:
         yield "the foreign file was written"
-    yield from node.ends()
 
 
-@scenario()
+@suite.case()
 def shared_file_is_shortened(trial):
     node = trial.running_node(trial.masters(3))
     os.truncate(node.path("shared"), 0)
     yield from comes_back(trial, node)
     yield from node.answers()
-    yield from node.ends()
 
 
-@scenario()
+@suite.case()
 def shared_folder_comes_later(trial):
     """A file stands where its folder should be, and goes away."""
     place = os.path.join(trial.room, "place")
@@ -334,10 +331,9 @@ def shared_folder_comes_later(trial):
     os.remove(place)
     yield from node.comes_to("sharing", 1, 6)
     yield from node.answers()
-    yield from node.ends()
 
 
-@scenario()
+@suite.case()
 def shared_lock_is_taken_by_another(trial):
     """Its lock file is removed, and a second machine writes the same file: just one of them may."""
     masters = trial.masters(3)
@@ -357,10 +353,9 @@ def shared_lock_is_taken_by_another(trial):
         yield f"publications of both are in the file: {numbers}"
     for node in (first, second):
         yield from node.answers()
-        yield from node.ends()
 
 
-@scenario()
+@suite.case()
 def shared_lock_is_removed(trial):
     """It goes on, and a second machine may not write the file beside it."""
     masters = trial.masters(3)
@@ -373,7 +368,7 @@ def shared_lock_is_removed(trial):
     yield from first.comes_to("sharing", 1, 1)
 
 
-@scenario(root=True)
+@suite.case(root=True)
 def locks_held_by_another_user(trial):
     """Who may only read cannot hold a lock, so a new start shares."""
     node = trial.running_node(trial.masters(3))
@@ -391,7 +386,7 @@ def locks_held_by_another_user(trial):
             os.close(number)
 
 
-@scenario(root=True)
+@suite.case(root=True)
 def shared_file_prepared_by_another(trial):
     """It is not taken for the machine's own."""
     folder = os.path.join(trial.room, "open")
@@ -414,4 +409,3 @@ def shared_file_prepared_by_another(trial):
         yield f"sharing is {sharing}, and the file is of user {os.stat(path).st_uid}"
     os.close(kept)
     yield from node.answers()
-    yield from node.ends()

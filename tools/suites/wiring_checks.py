@@ -1,15 +1,16 @@
-"""What tools/wiring checks, by the names of docs/FORMATS.md, and what its scenarios share."""
+"""What the suite `wiring` checks, by the names of docs/FORMATS.md, and what its scenarios share."""
 import contextlib
 import os
 import re
 import shutil
-import subprocess
 import time
 import typing
 
-from metrics import faults_in
-from running import Process, fields_of, read_text, truetime
-from trouble import REQUEST, SECOND, SPAN, Fake, Trial, honest, write
+from harness.metrics import faults_in
+from harness.processes import SECOND, Process, fields_of, truetime
+from harness.program import compile_c, read_text, run, write
+from harness.trial import Trial
+from harness.trouble import REQUEST, SPAN, Fake, honest
 
 # The names. One that changes is changed here; that of a setting or of an event also where a scenario gives or awaits it.
 
@@ -71,20 +72,7 @@ def eventually(call, seconds=6.0, pause_s=0.02):
 
 
 class Checks(Trial):
-    """The processes of one scenario, and its checks: the name of each, and what is wrong if anything is."""
-
-    def __init__(self, program, room):
-        super().__init__(program, room)
-        self.checked = []
-
-    def check(self, name, is_right, what):
-        self.checked.append((name, "" if is_right else what))
-
-    def equal(self, name, got, wanted):
-        self.check(name, got == wanted, f"{got!r}, and {wanted!r} is wanted")
-
-    def between(self, name, low, got, high):
-        self.check(name, got is not None and low <= got <= high, f"{got}, and {low} to {high} is wanted")
+    """A scenario, and its checks by the names above."""
 
     def numbers(self, node, seconds=6.0, **wanted):
         """The status comes to have these numbers, all of them at once."""
@@ -109,13 +97,13 @@ class Checks(Trial):
         self.check(f"log {event}", fits, f"no line with level {level} and {wanted or numbers}, only {process.said(event)[:3]}")
         return fits[0] if fits else {}
 
-    def look_at_events(self):
+    def finish(self):
         """Each event in the logs of this scenario has its name here."""
         for name in os.listdir(self.room):
             if name.endswith(".log"):
-                with open(os.path.join(self.room, name), encoding="utf-8", errors="replace") as log:
-                    for event in {fields["event"] for fields in map(fields_of, log) if fields} - EVENTS.keys():
-                        self.check(f"log {event}", False, "tools/wiring_checks.py has no such event")
+                lines = read_text(os.path.join(self.room, name)).splitlines(keepends=True)
+                for event in {fields["event"] for fields in map(fields_of, lines) if fields} - EVENTS.keys():
+                    self.check(f"log {event}", False, "wiring_checks.py has no such event")
 
     def has_form(self, name, process, form):
         """Each line of a log has this form."""
@@ -133,10 +121,8 @@ class Checks(Trial):
 
     def spoilable(self, masters, **settings):
         """A machine that has published, and a folder in which a file spoils its calls, as tools/spoil_calls.c says."""
-        folder, library = os.path.join(self.room, "spoil"), os.path.join(self.room, "spoil_calls.so")
+        folder, library = os.path.join(self.room, "spoil"), compile_c("spoil_calls", self.room, "-shared", "-fPIC")
         os.mkdir(folder)
-        source = os.path.join(os.path.dirname(os.path.realpath(__file__)), "spoil_calls.c")
-        subprocess.run([os.environ.get("CC", "cc"), "-O2", "-shared", "-fPIC", "-o", library, source], check=True)
         node = self.node(masters, **settings)
         node.run(env=dict(os.environ, LD_PRELOAD=library, SPOIL=folder))
         node.wait_until_ready()
@@ -180,8 +166,8 @@ def look_at_form(trial, node):
     unmarked = [line for line in text.splitlines() if line[0] != "#" and '{machine="3"' not in line]
     trial.equal("status form", (faults_in(text), unmarked), ([], []))
     if shutil.which("promtool"):
-        said = subprocess.run(["promtool", "check", "metrics"], input=text, capture_output=True, text=True, timeout=20)
-        trial.equal("status form", said.stdout + said.stderr, "")
+        ran = run(["promtool", "check", "metrics"], text.encode())
+        trial.equal("status form", ran.said + ran.error, "")
 
 
 def published(node, number=1, seconds=6.0):
@@ -191,17 +177,6 @@ def published(node, number=1, seconds=6.0):
             publication = client.read()
             return publication if publication.number >= number else None
     return eventually(look, seconds)
-
-
-def reply_to(session, line):
-    """The reply to a line, which is sent again while it waits."""
-    while (reply := session.ask(line)).startswith("waiting"):
-        pass
-    return reply
-
-
-def latest_of(session):
-    return int(reply_to(session, "now").split()[2])
 
 
 # Masters.
@@ -240,14 +215,6 @@ def answer(poll, ahead_ns=0, **changed):
 def lies(ahead_ns):
     """It is so far ahead."""
     return lambda fake, poll: fake.send(answer(poll, ahead_ns))
-
-
-def late(seconds):
-    """It answers so late."""
-    def act(fake, poll):
-        time.sleep(seconds)
-        honest(fake, poll)
-    return act
 
 
 def forges(*packets):

@@ -1,7 +1,8 @@
-"""Masters and machines of the time service as processes, for the tools and the demonstration.
+"""Masters and machines of the time service as processes.
 
 All is on ports of the loopback and in a folder of the caller's, and ends with the `with` block, each process by its id.
 """
+import atexit
 import calendar
 import contextlib
 import json
@@ -14,14 +15,16 @@ import subprocess
 import sys
 import time
 
-from metrics import numbers_in
+from harness.metrics import numbers_in
+from harness.program import in_top, read_text, run
 
-TOP = os.path.dirname(os.path.dirname(os.path.realpath(__file__)))
-sys.path.insert(0, os.path.join(TOP, "clients/python"))
+sys.path.insert(0, in_top("clients/python"))
 import truetime  # noqa: E402  (it stands in the repository)
 
 WORKERS = 32
-PROGRAM = os.path.join(TOP, "crates/ttd/out/ttd")
+SECOND = 1_000_000_000
+# How much more memory a machine may have at the end than at the beginning.
+MORE_MEMORY_KIB = 4096
 
 
 class Fault(Exception):
@@ -29,31 +32,26 @@ class Fault(Exception):
 
 
 # For each port that `free_port` gave, a name that the system keeps for as long as this process lives.
-PORTS_TAKEN = []
+PORTS_TAKEN = contextlib.ExitStack()
+atexit.register(PORTS_TAKEN.close)
 
 
 def free_port(kind):
     """A free port, below those that the system gives to clients, so that nobody takes it while its owner is restarted. It is given to no
     other process of these tools as long as this one lives: its owner may take it later."""
     for port in random.SystemRandom().sample(range(20_000, 32_000), 100):
-        with socket.socket(socket.AF_INET, kind) as door, contextlib.suppress(OSError):
+        with socket.socket(socket.AF_INET, kind) as door, socket.socket(socket.AF_UNIX, socket.SOCK_DGRAM) as name, contextlib.suppress(OSError):
             door.bind(("127.0.0.1", port))
-            name = socket.socket(socket.AF_UNIX, socket.SOCK_DGRAM)
             name.bind(f"\0truetime-port-{kind:d}-{port}")
-            PORTS_TAKEN.append(name)
+            PORTS_TAKEN.enter_context(name.dup())
             return port
     raise Fault("no port is free")
-
-
-def read_text(path):
-    with open(path, encoding="utf-8", errors="replace") as file:
-        return file.read()
 
 
 def nanoseconds_of(moment):
     """A time like 2026-11-26T23:41:51.123456789Z, in nanoseconds since 1970."""
     whole, fraction = re.fullmatch(r"([0-9]{4}-[0-9]{2}-[0-9]{2}T[0-9]{2}:[0-9]{2}:[0-9]{2})\.([0-9]{9})Z", moment).groups()
-    return calendar.timegm(time.strptime(whole, "%Y-%m-%dT%H:%M:%S")) * 1_000_000_000 + int(fraction)
+    return calendar.timegm(time.strptime(whole, "%Y-%m-%dT%H:%M:%S")) * SECOND + int(fraction)
 
 
 def fields_of(line):
@@ -87,17 +85,26 @@ class Service:
         """Starts a machine over the masters at these addresses, in the order of their sources."""
         return self.processes.enter_context(contextlib.closing(Machine(self, name, number, masters, settings)))
 
+    def fleet(self, machines, **settings):
+        """Starts a machine for each name and its masters, with these settings; the machines by their names, each with a time to show."""
+        started = {name: self.machine(name, number, [getattr(master, "address", master) for master in masters], **settings)
+                   for number, (name, masters) in enumerate(machines.items())}
+        for machine in started.values():
+            machine.wait_until_ready()
+        return started
+
     def judge(self, history):
         """How many commits of a history of (began, ended, stamp) are out of order, as the judge says."""
         text = "".join(f"commit {began} {ended} {stamp}\n" for began, ended, stamp in history)
-        judged = subprocess.run([self.program, "judge"], input=text, capture_output=True, text=True, timeout=60)
-        if judged.returncode not in (0, 3):
-            raise Fault(f"the judge ends with status {judged.returncode}: {judged.stdout}{judged.stderr}")
-        return int(judged.stdout.split()[3])
+        judged = run([self.program, "judge"], text.encode(), 60)
+        if judged.status not in (0, 3):
+            raise Fault(f"the judge ends with status {judged.status}: {judged.said}{judged.error}")
+        return int(judged.out.split()[3])
 
 
 class Process:
     """A command that runs until it is ended, and can be started again with the same words."""
+    running = None
 
     def __init__(self, service, name, words):
         self.name, self.program, self.words = name, service.program, words
@@ -109,24 +116,25 @@ class Process:
             self.running = subprocess.Popen([self.program, *self.words], stdin=subprocess.PIPE, stdout=log, stderr=log)
 
     def kill(self):
-        self.running.kill()
-        self.running.wait()
-        self.running.stdin.close()
+        if self.running:
+            self.running.kill()
+            self.running.wait()
+            if self.running.stdin:
+                self.running.stdin.close()
+
+    def close(self):
+        self.kill()
 
     def restart(self):
         self.kill()
         self.start()
 
-    close = kill
-
     def end_of_log(self):
-        with open(self.log, encoding="utf-8", errors="replace") as log:
-            return log.read()[-2000:]
+        return read_text(self.log)[-2000:]
 
     def said(self, event):
         """The fields of each line of the log that tells of this event, over all lives."""
-        with open(self.log, encoding="utf-8", errors="replace") as log:
-            return [fields for fields in map(fields_of, log) if fields.get("event") == event]
+        return [fields for fields in map(fields_of, read_text(self.log).splitlines(keepends=True)) if fields.get("event") == event]
 
 
 class Master(Process):
@@ -185,8 +193,7 @@ class Machine(Process):
 
     def status(self):
         """The numbers of its status file by their names and labels, but for that of the machine."""
-        with open(self.path("status"), encoding="utf-8") as file:
-            return numbers_in(file.read())
+        return numbers_in(read_text(self.path("status")))
 
     def resources(self):
         """Its memory in KiB, its descriptors and its threads: the least of some looks, since a file is open while it is written."""
@@ -195,6 +202,11 @@ class Machine(Process):
             looks.append(self.look_at_resources())
             time.sleep(0.03)
         return tuple(map(min, zip(*looks)))
+
+    def keeps_more(self, before, after):
+        """Both resources as text, and whether the later ones are more: descriptors, threads, or over 4 MiB of memory."""
+        said = (f"{name} {first}, then {then}" for name, first, then in zip(("KiB", "descriptors", "threads"), before, after))
+        return f"machine {self.name}: {'; '.join(said)}", after[1:] != before[1:] or after[0] > before[0] + MORE_MEMORY_KIB
 
     def look_at_resources(self):
         process = f"/proc/{self.running.pid}"

@@ -1,12 +1,13 @@
-"""Scenarios of tools/faults: the end and the start of a machine, its clients, and the command `ask`."""
+"""Scenarios of the suite `faults`: the end and the start of a machine, its clients, and the command `ask`."""
 import contextlib
 import os
 import socket
 import subprocess
 import time
 
-from running import free_port, truetime
-from trouble import SECOND, Answerer, full_listener, reset, scenario
+from harness.processes import SECOND, free_port, truetime
+from harness.trouble import Answerer, full_listener, reset
+from suites.faults import suite
 
 # The end.
 
@@ -20,7 +21,7 @@ def waiting_node(trial):
     return node
 
 
-@scenario()
+@suite.case()
 def end_plain(trial):
     node = waiting_node(trial)
     yield from node.ends()
@@ -28,14 +29,14 @@ def end_plain(trial):
         yield "the log does not say ended"
 
 
-@scenario()
+@suite.case()
 def end_with_socket_removed(trial):
     node = waiting_node(trial)
     os.remove(node.path("socket"))
     yield from node.ends()
 
 
-@scenario()
+@suite.case()
 def end_with_no_descriptor_left(trial):
     node = trial.running_node(trial.masters(3))
     with contextlib.ExitStack() as doors:
@@ -51,7 +52,7 @@ def end_with_no_descriptor_left(trial):
         yield from node.ends()
 
 
-@scenario()
+@suite.case()
 def end_with_a_foreign_listener(trial):
     """It stands at the path of the socket, which was removed, with a full backlog; and it stays."""
     node = waiting_node(trial)
@@ -67,7 +68,7 @@ def far_floor(address):
         return session.now().latest_ns + 9 * SECOND
 
 
-@scenario()
+@suite.case()
 def end_with_all_workers_busy(trial):
     """Commits wait for a far floor, others are idle, and more clients wait for a worker."""
     node = trial.running_node(trial.masters(3), workers=8, floor_ahead="10s")
@@ -85,7 +86,7 @@ def end_with_all_workers_busy(trial):
         yield from node.ends()
 
 
-@scenario()
+@suite.case()
 def end_with_dead_masters(trial):
     """With a long wait, before and after clients are served."""
     for name, seconds in (("A", 0.3), ("B", 2.6)):
@@ -98,7 +99,7 @@ def end_with_dead_masters(trial):
 
 # The start.
 
-@scenario(quiet=True)
+@suite.case(quiet=True)
 def start_with_dead_masters(trial):
     """Clients get 801 two seconds after the start, however long `wait` is."""
     node = trial.node([f"127.0.0.1:{free_port(socket.SOCK_DGRAM)}"], wait="5s")
@@ -115,8 +116,7 @@ def start_with_dead_masters(trial):
             said, took = str(fault), 15
         if said != "refused 801" or not 2 <= took <= 2.6:
             yield f"{said!r} {took:.1f} seconds after the start"
-    trial.notes.append(f"801 came {took:.2f} seconds after the start")
-    yield from node.ends()
+    trial.note(f"801 came {took:.2f} seconds after the start")
 
 
 # Clients.
@@ -131,12 +131,12 @@ def next_is_served(trial, address, seconds, what):
         yield f"{what}: {fault}"
         return
     took = time.monotonic() - began
-    trial.notes.append(f"{what}: the next one was served {took:.3f} seconds later")
+    trial.note(f"{what}: the next one was served {took:.3f} seconds later")
     if took > seconds:
         yield f"{what}: the next one was served {took:.2f} seconds later"
 
 
-@scenario(quiet=True)
+@suite.case(quiet=True)
 def broken_connection_with_bytes_unread(trial):
     """The client of the one worker has a commit that waits and more lines behind it, and breaks off."""
     node = trial.running_node(trial.masters(3), workers=1, socket=None, floor_ahead="10s")
@@ -146,10 +146,9 @@ def broken_connection_with_bytes_unread(trial):
     time.sleep(0.3)
     reset(door)
     yield from next_is_served(trial, node.address, 0.2, "after a reset")
-    yield from node.ends()
 
 
-@scenario(quiet=True)
+@suite.case(quiet=True)
 def gone_from_the_unix_socket_with_bytes_unread(trial):
     """As many clients as there are workers have commits that wait and more lines behind them, and are gone: nobody can have their replies."""
     node = trial.running_node(trial.masters(3), workers=2, floor_ahead="10s")
@@ -162,10 +161,9 @@ def gone_from_the_unix_socket_with_bytes_unread(trial):
     for door in doors:
         door.close()
     yield from next_is_served(trial, node.path("socket"), 0.2, "after they were closed")
-    yield from node.ends()
 
 
-@scenario()
+@suite.case()
 def two_lines_and_a_closed_side(trial):
     """A client that closes its sending side has the replies to its lines, over TCP and the Unix socket."""
     node = trial.running_node(trial.masters(3))
@@ -181,10 +179,9 @@ def two_lines_and_a_closed_side(trial):
             if [reply.split()[0] for reply in replies] not in ([b"now", b"committed", b"now"], [b"now", b"waiting", b"now"]):
                 yield f"the replies are {replies}"
                 break
-    yield from node.ends()
 
 
-@scenario(quiet=True)
+@suite.case(quiet=True)
 def commit_of_a_half_closed_client(trial):
     """It lasts at most `idle`, also where many lines come behind it."""
     for name, behind in (("A", b""), ("B", b"now\n" * 5000)):
@@ -197,7 +194,7 @@ def commit_of_a_half_closed_client(trial):
         yield from node.ends()
 
 
-@scenario()
+@suite.case()
 def waiting_in_turn(trial):
     """Clients that wait for a worker are counted, and served in the order in which they came."""
     node = trial.running_node(trial.masters(3), workers=2, socket=None)
@@ -218,7 +215,6 @@ def waiting_in_turn(trial):
                 yield f"client {number} has no reply in its turn"
             door.close()
     yield from node.comes_to("connections_waiting", 0, 1)
-    yield from node.ends()
 
 
 # The command `ask`.
@@ -226,7 +222,8 @@ def waiting_in_turn(trial):
 def ask_of(trial, act, *words, **how):
     """What `ask` makes of a service that does this with a line, and how long it took."""
     service, began = trial.keep(Answerer(act)), time.monotonic()
-    return *trial.command("ask", service.address, *words, **how), time.monotonic() - began
+    ran = trial.command("ask", service.address, *words, **how)
+    return ran.status, ran.said, ran.error, time.monotonic() - began
 
 
 def drip(door, _):
@@ -235,15 +232,15 @@ def drip(door, _):
         time.sleep(1)
 
 
-@scenario(long=True)
+@suite.case(long=True)
 def ask_of_a_slow_service(trial):
     """A reply that comes a byte a second is given up after 30 seconds in all."""
-    status, said, _, took = ask_of(trial, drip, "now", timeout=45)
+    status, said, _, took = ask_of(trial, drip, "now", seconds=45)
     if status != 4 or not 25 <= took <= 35:
         yield f"status {status} after {took:.1f} seconds, {said!r}"
 
 
-@scenario()
+@suite.case()
 def ask_of_a_service_without_an_end(trial):
     """10,000 bytes without a line feed are no reply."""
     status, said, _, took = ask_of(trial, lambda door, _: door.sendall(b"n" * 10_000), "now")
@@ -251,7 +248,7 @@ def ask_of_a_service_without_an_end(trial):
         yield f"status {status} after {took:.1f} seconds, {said[:40]!r}"
 
 
-@scenario()
+@suite.case()
 def ask_that_cannot_print(trial):
     """Its standard output is closed, or full."""
     service = trial.keep(Answerer(lambda door, _: door.sendall(b"now 5 15\n")))
@@ -262,7 +259,7 @@ def ask_that_cannot_print(trial):
             yield f"status {ran.returncode} with {redirection}"
 
 
-@scenario()
+@suite.case()
 def ask_that_is_refused(trial):
     """The reply is printed, a sentence is on standard error, and the status is 2."""
     for number in (801, 903, 1101, 1821):
@@ -271,21 +268,21 @@ def ask_that_is_refused(trial):
             yield f"status {status}, {said!r} and {error!r}"
 
 
-@scenario(long=True)
+@suite.case(long=True)
 def ask_that_waits(trial):
     """A commit that is never released has status 5 after all tries."""
-    status, said, _, _ = ask_of(trial, lambda door, _: door.sendall(b"waiting 1 200\n"), "commit", "1", "0", timeout=45)
+    status, said, _, _ = ask_of(trial, lambda door, _: door.sendall(b"waiting 1 200\n"), "commit", "1", "0", seconds=45)
     if status != 5 or said != "waiting 1 200\n":
         yield f"status {status}, {said!r}"
 
 
-@scenario()
+@suite.case()
 def ask_at_a_unix_socket(trial):
     node = trial.running_node(trial.masters(3))
     for words, wanted in ((["now"], "now "), (["commit", "1", "0"], "committed 1 ")):
-        status, said, _ = trial.command("ask", node.path("socket"), *words)
+        said, status = trial.command("ask", node.path("socket"), *words).answer
         if status != 0 or not said.startswith(wanted):
             yield f"status {status}, {said!r}"
-    status, said, _ = trial.command("ask", os.path.join(trial.room, "nobody"), "now")
+    said, status = trial.command("ask", os.path.join(trial.room, "nobody"), "now").answer
     if (status, said) != (4, "refused 1501\n"):
         yield f"where no socket is: status {status}, {said!r}"

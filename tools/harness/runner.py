@@ -1,0 +1,82 @@
+"""The command `tools/check`."""
+import argparse
+import dataclasses
+import os
+from xml.etree import ElementTree
+
+from harness.program import PROGRAM
+from harness.suite import NAMES, choose, wrong_in
+from harness.trial import Options, Result
+
+
+def write_junit(path: str, results: dict[str, list[Result]]) -> None:
+    """Writes the results of each suite as a file of JUnit."""
+    root = ElementTree.Element("testsuites")
+    for name, of_suite in results.items():
+        wrong, left_out = sum(bool(result.wrong) for result in of_suite), sum(bool(result.left_out) for result in of_suite)
+        suite = ElementTree.SubElement(root, "testsuite", name=name, tests=str(len(of_suite)), failures=str(wrong), skipped=str(left_out),
+                                       time=f"{sum(result.seconds for result in of_suite):.3f}")
+        for result in of_suite:
+            case = ElementTree.SubElement(suite, "testcase", classname=name, name=result.case, time=f"{result.seconds:.3f}")
+            if result.left_out:
+                ElementTree.SubElement(case, "skipped", message=result.left_out)
+            if result.wrong:
+                ElementTree.SubElement(case, "failure", message=printable(result.wrong[0])).text = printable("\n".join(result.wrong))
+    ElementTree.ElementTree(root).write(path, encoding="utf-8", xml_declaration=True)
+
+
+def printable(text: str) -> str:
+    """A text without the signs that XML has no place for."""
+    return "".join(sign if sign.isprintable() or sign == "\n" else repr(sign)[1:-1] for sign in text)
+
+
+def parser(about: str) -> argparse.ArgumentParser:
+    words = argparse.ArgumentParser(prog="tools/check", description=about, formatter_class=argparse.RawDescriptionHelpFormatter)
+    words.add_argument("program", nargs="?", metavar="PROGRAM", help="the built ttd")
+    words.add_argument("names", nargs="*", metavar="NAME", help="a suite, or SUITE/CASE, with * and ? as in a shell; all suites where none is given")
+    words.add_argument("--list", action="store_true", help="print the cases in place of running them; PROGRAM may be left out")
+    words.add_argument("--junit", metavar="FILE", help="write the results to a file of JUnit, too")
+    words.add_argument("--times", type=int, default=1, metavar="N", help="how often each case is run")
+    add_options(words.add_argument)
+    return words
+
+
+def add_options(add) -> None:
+    """The options of the suites."""
+    add("--rows", metavar="FILE", help="the built tt_memory_sweep, for `sweep`")
+    add("--seconds", type=float, metavar="N", help="how long `service`, `clients`, `fuzz`, `demo` and `soak` go on")
+    add("--seed", type=int, metavar="N", help="the seed of `judge`, `sweep`, `epochs`, `fuzz` and `soak`, which is drawn else")
+    add("--number", type=int, metavar="N", help="how many histories `judge` tries, and clients in Python `soak` has")
+    add("--long", action="store_true", help="run the cases that take half a minute, too")
+
+
+def options_of(given: argparse.Namespace) -> Options:
+    """The options that were given."""
+    return Options(program=os.path.realpath(given.program or PROGRAM), rows=given.rows, seconds=given.seconds, seed=given.seed,
+                   number=given.number, long=given.long)
+
+
+def main(about: str) -> int:
+    words = parser(about)
+    given = words.parse_intermixed_args()
+    if given.list and given.program and not os.path.isfile(given.program):
+        given.names.insert(0, given.program)
+    elif not given.list and not given.program:
+        words.error("PROGRAM is missing")
+    if unknown := [name for name in given.names if name.partition("/")[0] not in NAMES]:
+        words.error(f"there is no suite {' or '.join(unknown)}, only {' '.join(NAMES)}")
+    chosen = choose(given.names)
+    if empty := [suite.name for suite, cases in chosen if not cases]:
+        words.error(f"no case of {' and '.join(empty)} has such a name; --list prints them")
+    if given.list:
+        print("".join(f"{case.path}\n" for _, cases in chosen for case in cases), end="")
+        return 0
+    results, options = {}, options_of(given)
+    for suite, cases in chosen:  # a case that is named may take long
+        results[suite.name] = suite.run(cases, dataclasses.replace(options, long=given.long or cases != suite.cases), max(1, given.times))
+    if given.junit:
+        write_junit(given.junit, results)
+    wrong = [name for name, of_suite in results.items() if wrong_in(of_suite)]
+    if len(results) > 1:
+        print(f"check: {len(results)} suites, {len(wrong)} wrong{': ' if wrong else ''}{' '.join(wrong)}")
+    return bool(wrong)

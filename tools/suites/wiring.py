@@ -1,0 +1,30 @@
+"""Tries from outside whether each setting, number and line of the log of the time service is wired to what its name says.
+
+All scenarios run at once. One that was wrong is tried once more when nothing runs beside it: some are bound to times, and the host may be
+busy. Masters are scripts that keep what a machine sends.
+
+- Each setting of a machine, each option of `master` and each of its acts has its effect, with a value that is no default.
+- Each number of the status and of the shared file is that of what was done: rounds of a known kind, packets of each kind that is refused
+  (of which the status has only the sum), clients with known lines, calls that tools/spoil_calls.c lets fail or last.
+- Each kind of line of the log is provoked, with its numbers; one before which others were left out says how many.
+
+The names are in wiring_checks.py, and each of them has to be checked. Not tried are the order of the refusals of settings (tests/), what
+becomes of clients, files and networks that fail (the suite `faults`), and numbers that a run cannot reach: 402, 805, counts at their ends.
+"""
+from harness.suite import Suite, wrong_in
+from suites.wiring_checks import NAMES, Checks
+
+suite = Suite(__name__, Checks, at_once=32, longest_s=40, again=True)
+
+
+@suite.whole
+def names(trial):
+    checked = {name for result in trial.shared for name, _ in result.checks}
+    for name in NAMES:
+        if name not in checked:
+            trial.check(name, False, "nothing checks it")
+
+
+@suite.last_line
+def last_line(results):
+    return f"{sum(len(result.checks) for result in results)} checks, {wrong_in(results)} wrong"
