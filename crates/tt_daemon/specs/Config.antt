@@ -7,6 +7,10 @@ use Rattle.tt_span.specs.Sources.{max_sources}
 abbrev pub max_workers : ℕ
 max_workers = 32
 
+-- the drift of a machine's clock where no other is given, in parts per million: 200 microseconds in a second, far more than a sound quartz clock gains or loses
+abbrev pub default_drift : ℕ
+default_drift = 200
+
 -- one machine: how many sources it asks, how many of them may lie, the drift of its clock in parts per million, and its workers
 pub record Configuration : Type 0 where
   pub sources : ℕ

@@ -13,6 +13,10 @@ use tt_span::{Drift, MAX_DRIFT};
 /// The most workers of a machine.
 pub const MAX_WORKERS: usize = 32;
 
+/// The drift of a machine's clock if no other is given, in parts per million. That is 200 microseconds in a second, far
+/// more than a sound quartz clock gains or loses.
+pub const DEFAULT_DRIFT: u32 = 200;
+
 /// Why a configuration is refused.
 #[derive(Clone, Copy, Debug, PartialEq, Eq, Error)]
 pub enum ConfigFault {

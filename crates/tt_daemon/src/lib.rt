@@ -35,7 +35,7 @@ mod daemons;
 mod faults;
 mod fusions;
 
-pub use configs::{Config, ConfigFault, MAX_WORKERS};
+pub use configs::{Config, ConfigFault, DEFAULT_DRIFT, MAX_WORKERS};
 pub use daemons::Daemon;
 pub use faults::DaemonFault;
 pub use fusions::Fused;

@@ -1,5 +1,5 @@
 -- Beginnings of one list, and its last item.
-use Rattle.std.proofs.Common.{ℕ, ◌+◌, IsTrue, nat_lt, nat_le, ◌≡◌, ◌≤◌, ◌↔◌, List, [], ◌∷◌, ◌++◌, length, Option, Some, None, ◌≢◌, refl, ap, sym, ◌∙◌, subst, inl, inr, ⊎_elim, arith, length-append}
+use Rattle.std.proofs.Common.{ℕ, ◌+◌, IsTrue, nat_lt, nat_le, ◌≡◌, ◌≤◌, ◌↔◌, ◌⊎◌, List, [], ◌∷◌, ◌++◌, length, Option, Some, None, ◌≢◌, refl, ap, sym, ◌∙◌, subst, inl, inr, ⊎_elim, arith, length-append}
 use Rattle.std.specs.List.{last_or}
 use Rattle.std.specs.Option.{option_map}
 use Rattle.std.proofs.lemmas.Bool.{lt-ltb, ltb-true, le-leb, leb-true}
@@ -15,16 +15,6 @@ pub prefix_self : {A : Type 0} (xs : List A) → IsPrefix xs xs
 prefix_self [] = ([], refl)
 prefix_self (x ∷ xs) = (let r = prefix_self xs in r.0, ap (λ ys. x ∷ ys) (prefix_self xs).1)
 
--- of two beginnings of one list the shorter begins the longer
-pub prefix_shorter : {A : Type 0} (xs ys zs : List A) → IsPrefix xs zs → IsPrefix ys zs → length xs ≤ length ys → IsPrefix xs ys
-prefix_shorter [] ys zs p q le = (ys, refl)
-prefix_shorter (x ∷ xs) [] zs p q le = absurd (omega arith)
-prefix_shorter (x ∷ xs) (y ∷ ys) [] p q le = absurd (cc (p.1))
-prefix_shorter (x ∷ xs) (y ∷ ys) (z ∷ zs) p q le =
-    let heads : x ≡ y = cc (p.1, q.1) in
-    let rest = prefix_shorter xs ys zs (p.0, cc (p.1)) (q.0, cc (q.1)) (omega arith) in
-    (rest.0, cc (heads, rest.1))
-
 -- a beginning as long as the whole is the whole
 pub prefix_whole : {A : Type 0} (xs ys : List A) → IsPrefix xs ys → length ys ≤ length xs → xs ≡ ys
 prefix_whole [] [] p le = refl
@@ -37,10 +27,14 @@ prefix_whole (x ∷ xs) (y ∷ ys) p le =
 prefix_length : {A : Type 0} (xs ys : List A) → IsPrefix xs ys → length xs ≤ length ys
 prefix_length xs ys p = let all : length xs + length p.0 ≡ length ys = sym (length-append xs p.0) ∙ ap length p.1 in omega (arith, all)
 
--- of two beginnings of one list, of these lengths, the first begins the second just where it is no longer
-pub begins_by : {A : Type 0} (xs ys zs : List A) (n m : ℕ) → n ≡ length xs → m ≡ length ys → IsPrefix xs zs → IsPrefix ys zs → IsTrue (nat_le n m) ↔ IsPrefix xs ys
-begins_by xs ys zs n m first second p q = (
-  (λ less. let short : n ≤ m = leb-true n m less in prefix_shorter xs ys zs p q (omega (arith, short, first, second))),
+-- of two lists, of which one begins the other, the shorter begins the longer
+shorter_begins : {A : Type 0} (xs ys : List A) → IsPrefix xs ys ⊎ IsPrefix ys xs → length xs ≤ length ys → IsPrefix xs ys
+shorter_begins xs ys one le = ⊎_elim (λ (p : IsPrefix xs ys). p) (λ (p : IsPrefix ys xs). subst (λ w. IsPrefix xs w) (sym (prefix_whole ys xs p le)) (prefix_self xs)) one
+
+-- of two lists of these lengths, of which one begins the other, the first begins the second just where it is no longer
+pub begins_by : {A : Type 0} (xs ys : List A) (n m : ℕ) → n ≡ length xs → m ≡ length ys → IsPrefix xs ys ⊎ IsPrefix ys xs → IsTrue (nat_le n m) ↔ IsPrefix xs ys
+begins_by xs ys n m first second one = (
+  (λ less. let short : n ≤ m = leb-true n m less in shorter_begins xs ys one (omega (arith, short, first, second))),
   (λ begins. let short = prefix_length xs ys begins in le-leb n m (omega (arith, short, first, second))),
 )
 
@@ -92,13 +86,13 @@ pub last_read-more : (items : List Publication) (next : Publication) (clock : �
     → Some (record { clock = clock; span = span }) ≡ last_read_of (items ++ next ∷ [])
 last_read-more items next clock span at over = rw (at, over) (ap (option_map fused_span_of) (sym (last_of-more items next)))
 
--- of two beginnings of one list the first begins the second, which is at least as long
-pub longer_second : {A : Type 0} (xs ys zs new : List A) → IsPrefix xs zs → IsPrefix ys zs → length xs ≤ length ys → new ≡ ys → IsLonger xs ys new
-longer_second xs ys zs new p q le is = inl (prefix_shorter xs ys zs p q le, is)
+-- of two lists, of which one begins the other, the second is the longer one where it is at least as long
+pub longer_second : {A : Type 0} (xs ys new : List A) → IsPrefix xs ys ⊎ IsPrefix ys xs → length xs ≤ length ys → new ≡ ys → IsLonger xs ys new
+longer_second xs ys new one le is = inl (shorter_begins xs ys one le, is)
 
--- of two beginnings of one list the second begins the first, which is at least as long
-pub longer_first : {A : Type 0} (xs ys zs : List A) → IsPrefix xs zs → IsPrefix ys zs → length ys ≤ length xs → IsLonger xs ys xs
-longer_first xs ys zs p q le = inr (prefix_shorter ys xs zs q p le, refl)
+-- and the first where that is at least as long
+pub longer_first : {A : Type 0} (xs ys : List A) → IsPrefix xs ys ⊎ IsPrefix ys xs → length ys ≤ length xs → IsLonger xs ys xs
+longer_first xs ys one le = inr (shorter_begins ys xs (⊎_elim (λ (p : IsPrefix xs ys). inr p) (λ (p : IsPrefix ys xs). inl p) one) le, refl)
 
 -- the longer of two lists begins with the first
 pub longer_begins : {A : Type 0} (xs ys new : List A) → IsLonger xs ys new → IsPrefix xs new

@@ -1,9 +1,10 @@
 -- What is known of the publications of a machine.
-use Rattle.std.specs.Prelude.{ℕ, ◌≡◌, ◌<◌, ◌⊎◌, List, Option, Some, None}
+use Rattle.std.specs.Prelude.{ℕ, ◌≡◌, ◌<◌, ◌⊎◌, List, [], Option, Some, None}
 use Rattle.std.specs.List.{last_or}
 use Rattle.std.specs.Option.{option_map}
 use mathlib.Core.List.{IsPrefix}
-use Rattle.logbook.specs.Pages.{Book}
+pub use Rattle.tt_history.specs.Known.{Source}
+use Rattle.tt_history.specs.Known.{Known as KnownItems}
 use Rattle.tt_span.specs.Interval.{Interval}
 use Rattle.tt_daemon.specs.Publication.{Publication}
 use Rattle.tt_publish.specs.Reading.{fused_span_of, CanBeReadAt, reading_at}
@@ -13,21 +14,19 @@ use Rattle.tt_publish.specs.declared.readings.FusedSpan.{FusedSpan}
 abbrev pub max_watches : ℕ
 max_watches = 32
 
--- which publications: a chain of one history, by the key of the pen that it began with
-pub record Source : Type 0 where
-  pub book : Book
-  pub chain : ℕ
-
 -- publications that are known: the first ones of one source, oldest first
-pub record Known : Type 0 where
-  pub source : Source
-  pub items : List Publication
+abbrev pub Known : Type 0
+Known = KnownItems Publication
 
 -- a watch: what it has seen of one source, oldest first, and the drift of the clock that it reads by, in parts per million
 pub record WatchState : Type 0 where
   pub source : Source
   pub drift : ℕ
   pub items : List Publication
+
+-- a new watch of this source, by a clock with this drift, in parts per million: it has seen nothing
+abbrev pub new_watch : Source → ℕ → WatchState
+new_watch source drift = record { source = source; drift = drift; items = [] }
 
 -- what a watch has seen
 abbrev pub seen_of : WatchState → Known

@@ -3,5 +3,4 @@ pub mod Clock
 pub mod Reading
 pub mod Known
 pub mod Looks
-pub mod History
 pub mod Shown

@@ -23,19 +23,16 @@
 //! - `faults`: why a call is refused.
 //! - `clocks`: the trait `Clock`. `memory`: a clock in memory.
 //! - `readings`: `Reading`, and how a fusion is read at a clock reading (`FusedSpan`, `ReadAt`).
-//! - `entries`: the entries of the history. `publications`: what is known of the publications, in the history that all
-//!   threads share.
-//! - `numbers`: how many publications are shown. `shows`: how the publications are shown to many watches.
+//! - `publications`: what is known of the publications, in the history of the crate `tt_history`. `shows`: how the
+//!   publications are shown to many watches.
 //! - `teller`: `open`, `Teller` and `Told`. `watch`: `Watch`.
 //!
 //! The calls that only read, `tell`, `learn`, `seen`, `is_within` and `now`, never wait and never allocate.
 #![tactic(auto)]
 
 mod clocks;
-mod entries;
 mod faults;
 mod memory;
-mod numbers;
 mod publications;
 mod readings;
 mod shows;

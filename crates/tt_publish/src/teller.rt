@@ -5,14 +5,14 @@ ghost use mathlib.Core.List.{IsPrefix};
 ghost use Rattle.tt_publish.specs.Known.{GoesBack, max_watches};
 
 use crate::faults::PublishFault;
-use crate::numbers::ShownNumber;
-use crate::publications::{History, Latest};
+use crate::publications::Latest;
 use crate::shows::{LatestWriter, reader_of, show, writer_of};
 use crate::watch::Watch;
 use std::alloc::Global;
 use std::marker::Model;
 use std::sync::Wait;
 use tt_daemon::Fused;
+use tt_history::{History, ShownNumber};
 use tt_span::Drift;
 
 /// The most watches that one teller can show its publications to.
@@ -25,9 +25,9 @@ pub const MAX_WATCHES: usize = 32;
 /// It has no `Drop`: end it by [`close`](Teller::close).
 pub struct Teller {
     /// None once an allocation failed. Then the history has a publication that no watch is shown.
-    history: Option<History>,
+    history: Option<History<Fused>>,
     latest: Latest,
-    number: ShownNumber,
+    number: ShownNumber<Fused>,
     /// Present between calls.
     writer: Option<LatestWriter>,
 }

@@ -9,12 +9,13 @@ ghost use Rattle.tt_publish.specs.Shown.{source_of};
 
 use crate::clocks::Clock;
 use crate::faults::ReadFault;
-use crate::numbers::ShownNumber;
 use crate::publications::Latest;
 use crate::readings::Reading;
 use crate::shows::{LatestReader, Looked, look};
 use crate::teller::Told;
 use std::marker::Model;
+use tt_daemon::Fused;
+use tt_history::ShownNumber;
 use tt_span::Drift;
 
 /// Reads the publications of a teller, in one thread. It keeps the last publication that it has seen.
@@ -26,7 +27,7 @@ use tt_span::Drift;
 pub struct Watch {
     /// Present between calls.
     reader: Option<LatestReader>,
-    number: ShownNumber,
+    number: ShownNumber<Fused>,
     latest: Latest,
     drift: Drift,
 }
@@ -48,7 +49,7 @@ impl Watch {
     /// A watch that has seen what `latest` knows.
     pub(crate) fn over(
         reader: LatestReader,
-        number: ShownNumber,
+        number: ShownNumber<Fused>,
         latest: Latest,
         drift: Drift,
     ) -> Watch
@@ -117,7 +118,7 @@ impl Watch {
 /// a sign of that second look, `latest` knows as many as were shown at the first.
 fn renew(
     reader: LatestReader,
-    number: &mut ShownNumber,
+    number: &mut ShownNumber<Fused>,
     latest: &mut Latest,
 ) -> (LatestReader, Option<Looked>)
     requires source { source_of (view reader.place) ≡ Some latest.old.source }

@@ -1,5 +1,0 @@
-use Rattle.tt_publish.proofs.Adding.{shown_more}
-use Rattle.tt_publish.proofs.numbers.ShownNumber.look.Goals as goal
-
-pub returns-clause-rises : goal.returns-clause-rises
-returns-clause-rises c = rw (← c.self.view_is) (shown_more c.self.inside.seen.log c.load.new.seen.log c.load.ensures.5)
