@@ -9,7 +9,7 @@ use Rattle.std.proofs.lemmas.List.Sums.{fold-append}
 use Rattle.tt_world.specs.declared.events.Reply.{Reply}
 use Rattle.tt_world.specs.declared.events.Event.{Event}
 use Rattle.tt_stamp.specs.declared.commits.Receipt.{Receipt}
-use Rattle.tt_audit.specs.declared.ordering.Place.{Place}
+use Rattle.tt_audit.specs.declared.ordering.Position.{Position}
 use Rattle.tt_audit.specs.declared.ordering.Stamping.{Stamping}
 use Rattle.tt_audit.specs.Violations.{Answered, receipts_in, receipts_of, receipts_before, asked_by, is_worker, is_late}
 use Rattle.tt_audit.proofs.Cells.{written, rows-written, cells-written, cell-here, cell-other}
@@ -52,7 +52,7 @@ reached-after s o (r ∷ rs) =
 
 module _ (past : List Answered) (order : OrderState) (keeps : KeepsOrder past order) where
   -- what is kept once a worker, if there is one, was asked
-  record IsMarked (o : Option Place) : Type 0 where
+  record IsMarked (o : Option Position) : Type 0 where
     machines : length (marks_after order.before o order.released) ≡ 8
     workers : (m : ℕ) → m < 8 → length (get_or (marks_after order.before o order.released) m []) ≡ 32
     before : (m w : ℕ) → m < 8 → w < 32 → before_at (marks_after order.before o order.released) m w ≡ highest_after None (cond (is_worker m w o) (receipts_of past) (receipts_before past m w))
@@ -61,7 +61,7 @@ module _ (past : List Answered) (order : OrderState) (keeps : KeepsOrder past or
   by_test true x all since holds fails = holds refl
   by_test false x all since holds fails = fails refl
 
-  is_marked : (o : Option Place) → IfSome o IsPlace → IsMarked o
+  is_marked : (o : Option Position) → IfSome o IsPlace → IsMarked o
   is_marked None there = record { machines = keeps.machines; workers = keeps.workers; before = keeps.before }
   is_marked (Some place) there =
       let m = place.machine in

@@ -3,7 +3,7 @@ use Rattle.std.specs.Prelude.{◌≡◌, ℕ, ◌<◌, max, nat_le, Bool, false,
 use Rattle.tt_stamp.specs.declared.commits.Receipt.{Receipt}
 use Rattle.tt_world.specs.declared.events.Action.{Action}
 use Rattle.tt_world.specs.declared.events.Reply.{Reply}
-use Rattle.tt_audit.specs.declared.ordering.Place.{Place}
+use Rattle.tt_audit.specs.declared.ordering.Position.{Position}
 use Rattle.tt_audit.specs.declared.ordering.Stamping.{Stamping}
 use Rattle.tt_audit.specs.Violations.{Answered, receipts_of, receipts_before, asked_by, stamped_by}
 
@@ -37,7 +37,7 @@ pub record KeepsOrder (past : List Answered) (order : OrderState) : Type 0 where
   pub before : (m w : ℕ) → m < 8 → w < 32 → before_at order.before m w ≡ highest_after None (receipts_before past m w)
 
 -- what is kept once this worker, if there is one, was asked for a commit
-abbrev pub marks_after : List (List (Option ℕ)) → Option Place → Option ℕ → List (List (Option ℕ))
+abbrev pub marks_after : List (List (Option ℕ)) → Option Position → Option ℕ → List (List (Option ℕ))
 marks_after before None released = before
 marks_after before (Some place) released =
     slice_set before place.machine (slice_set (slice_index_or before place.machine []) place.worker released)
@@ -48,7 +48,7 @@ is_stamping_reached before None = false
 is_stamping_reached before (Some stamping) = is_reached stamping.stamp (before_at before stamping.place.machine stamping.place.worker)
 
 -- the machine is below 8 and the worker below 32
-abbrev pub IsPlace : Place → Type 0
+abbrev pub IsPlace : Position → Type 0
 IsPlace place = (place.machine < 8) × (place.worker < 32)
 
 -- the workers that an event asks or stamps for are there

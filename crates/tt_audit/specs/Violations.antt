@@ -7,7 +7,7 @@ use Rattle.tt_world.specs.declared.events.Action.{Action}
 use Rattle.tt_world.specs.declared.events.Action.TheVariants as does
 use Rattle.tt_world.specs.declared.events.Reply.{Reply}
 use Rattle.tt_world.specs.declared.events.Reply.TheVariants as replies
-use Rattle.tt_audit.specs.declared.ordering.Place.{Place}
+use Rattle.tt_audit.specs.declared.ordering.Position.{Position}
 use Rattle.tt_audit.specs.declared.ordering.Stamping.{Stamping}
 
 -- an event and the reply to it
@@ -26,12 +26,12 @@ receipts_of [] = []
 receipts_of (answered ∷ past) = receipts_of past ++ receipts_in answered.reply
 
 -- the worker that an event asks for a commit, if it does and was not refused
-abbrev pub asked_by : Action → Reply → Option Place
+abbrev pub asked_by : Action → Reply → Option Position
 asked_by (does.Arrive machine worker id floor) replies.Arrived = Some (record { machine = machine; worker = worker })
 asked_by _ _ = None
 
 -- whether this is worker w of machine m
-abbrev pub is_worker : ℕ → ℕ → Option Place → Bool
+abbrev pub is_worker : ℕ → ℕ → Option Position → Bool
 is_worker m w None = false
 is_worker m w (Some place) = place.machine == m && place.worker == w
 

@@ -13,7 +13,7 @@ use tt_world::{Action, Event, MAX_MACHINES, Reply};
 
 /// A worker of a machine.
 #[derive(Clone, Copy, Debug, PartialEq, Eq)]
-pub struct Place {
+pub struct Position {
     pub machine: u8,
     pub worker: u8,
 }
@@ -21,7 +21,7 @@ pub struct Place {
 /// A stamp, in nanoseconds, and the worker that it was given to.
 #[derive(Clone, Copy, Debug, PartialEq, Eq)]
 pub struct Stamping {
-    pub place: Place,
+    pub place: Position,
     pub stamp: u64,
 }
 
@@ -67,7 +67,7 @@ impl Order {
     }
 
     /// The worker, if there is one, is asked for a commit.
-    fn mark(&mut self, place: &Option<Place>)
+    fn mark(&mut self, place: &Option<Position>)
         requires { IfSome place.now IsPlace }
         ensures { self.new ≡ record self.old { before = marks_after self.old.before place.now self.old.released } }
     {
@@ -105,7 +105,7 @@ pub fn released_by(reply: &Reply) -> &[Receipt]
 }
 
 /// The worker that an event asks for a commit, if it does and was not refused.
-fn asked_by(action: &Action, reply: &Reply) -> Option<Place>
+fn asked_by(action: &Action, reply: &Reply) -> Option<Position>
     ensures { result ≡ place_asked action.now reply.now }
 {
     match (action, reply) {
@@ -116,7 +116,7 @@ fn asked_by(action: &Action, reply: &Reply) -> Option<Place>
                 ..
             },
             Reply::Arrived,
-        ) => Some(Place {
+        ) => Some(Position {
             machine: *machine,
             worker: *worker,
         }),
@@ -130,7 +130,7 @@ fn stamped_by(action: &Action, reply: &Reply) -> Option<Stamping>
 {
     match (action, reply) {
         (Action::Stamp { machine, worker }, Reply::Stamped(stamp)) => Some(Stamping {
-            place: Place {
+            place: Position {
                 machine: *machine,
                 worker: *worker,
             },

@@ -18,16 +18,16 @@ pub fn config() -> Result<Config> {
 
 /// The events of a run, as they are made.
 #[derive(Drop)]
-pub struct History {
+pub struct ScriptedRun {
     pub events: Vec<Event>,
     at: u64,
     packets: u64,
     cycles: u64,
 }
 
-impl History {
-    pub fn new(alloc: Global) -> History {
-        History {
+impl ScriptedRun {
+    pub fn new(alloc: Global) -> ScriptedRun {
+        ScriptedRun {
             events: Vec::new(alloc),
             at: 0,
             packets: 0,

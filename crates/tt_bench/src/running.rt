@@ -1,6 +1,6 @@
 //! Steps of the model late in a run, and whole scripts.
 
-use crate::histories::{History, config, script_of};
+use crate::histories::{ScriptedRun, config, script_of};
 use crate::measuring::Measured;
 use anyhow::{Context, Result};
 use std::alloc::Global;
@@ -25,7 +25,7 @@ fn step_all(world: &mut World, events: &[Event]) -> u64 {
 /// each.
 pub fn steps_after<R: Clock>(rt: &R, alloc: Global, events: u32) -> Result<Measured> {
     let configs = [config()?];
-    let mut history = History::new(alloc);
+    let mut history = ScriptedRun::new(alloc);
     history.make(events.saturating_add(1_900))?;
     let mut world = World::new(alloc, &configs)?;
     let start = events as usize / 19 * 19;
@@ -60,7 +60,7 @@ fn judge(alloc: Global, script: &Script) -> Result<u64> {
 
 /// The time of a whole script, with as many events as a script may have.
 pub fn script<R: Clock>(rt: &R, alloc: Global, part: Part) -> Result<Measured> {
-    let mut history = History::new(alloc);
+    let mut history = ScriptedRun::new(alloc);
     history.make(MAX_EVENTS as u32)?;
     let events = history.events.get(..MAX_EVENTS).context("events")?;
     let text = script_of(alloc, events)?;

@@ -1,0 +1,2 @@
+mod Serving
+pub mod Leasing

@@ -1,13 +1,13 @@
 -- What is done at the path of a Unix socket.
 use Rattle.std.specs.Prelude.{Bool, true, false, not, ◌&&◌, nat_eq, Result, Ok, Err, Option, Some, None}
-use Rattle.tt_connections.specs.declared.doors.DoorFault.{DoorFault}
-use Rattle.tt_connections.specs.declared.doors.DoorFault.TheVariants as fault
-use Rattle.tt_connections.specs.declared.doors.Found.{Found}
-use Rattle.tt_connections.specs.declared.doors.Found.TheVariants.{Nothing, Left, Listened, Other}
-use Rattle.tt_connections.specs.declared.doors.Identity.{Identity}
+use Rattle.tt_connections.specs.declared.listeners.ListenerFault.{ListenerFault}
+use Rattle.tt_connections.specs.declared.listeners.ListenerFault.TheVariants as fault
+use Rattle.tt_connections.specs.declared.listeners.Found.{Found}
+use Rattle.tt_connections.specs.declared.listeners.Found.TheVariants.{Nothing, Left, Listened, Other}
+use Rattle.tt_connections.specs.declared.listeners.Identity.{Identity}
 
 -- a socket that was left is removed, nothing needs nothing, and all else stays and refuses
-abbrev pub plan_of : Found → Result Bool DoorFault
+abbrev pub plan_of : Found → Result Bool ListenerFault
 plan_of Nothing = Ok false
 plan_of Left = Ok true
 plan_of Listened = Err fault.Failed

@@ -16,7 +16,7 @@ abbrev pub hands_over : Bool → ℕ → ℕ → Bool
 hands_over true began now = true
 hands_over false began now = not (nat_lt (now - began) 2000000000)
 
--- how long the acceptor waits after what its two doors gave, in nanoseconds: not at all where more may wait, a tenth of a
+-- how long the acceptor waits after what its two listeners gave, in nanoseconds: not at all where more may wait, a tenth of a
 -- second where the system refused, and else until something comes
 abbrev pub pause_of : Turn → Turn → Option ℕ
 pause_of More side = Some 0

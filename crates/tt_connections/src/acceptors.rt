@@ -4,7 +4,7 @@ ghost use Rattle.std.specs.Prelude.{◌≡◌};
 ghost use Rattle.tt_connections.specs.Waiting.{hands_over, left_of, pause_of};
 
 use crate::clocks::reading_of;
-use crate::doors::{Came, Door};
+use crate::listeners::{Came, Listener};
 use crate::queues::{MAX_WAITING, Queue};
 use mio::unix::SourceFd;
 use mio::{Events, Interest, Poll, Token, Waker};
@@ -30,7 +30,7 @@ const LISTENER: Token = Token(1);
 /// How many events one wait reports.
 const EVENTS: usize = 4;
 
-/// What the acceptor found at one door.
+/// What the acceptor found at one listener.
 #[derive(Clone, Copy, Debug, PartialEq, Eq)]
 pub(crate) enum Turn {
     /// No more connections wait to be accepted.
@@ -59,7 +59,7 @@ fn hands_over(published: bool, began: u64, now: u64) -> bool
     published || !(now.saturating_sub(began) < FIRST)
 }
 
-/// How long the acceptor waits after its two doors gave this, in nanoseconds. None if it waits until something comes.
+/// How long the acceptor waits after its two listeners gave this, in nanoseconds. None if it waits until something comes.
 fn pause_of(front: Turn, side: Turn) -> Option<u64>
     ensures value { result ≡ pause_of front side }
 {
@@ -70,18 +70,18 @@ fn pause_of(front: Turn, side: Turn) -> Option<u64>
     }
 }
 
-/// A door, and the connections that came at it and wait.
+/// A listener, and the connections that came at it and wait.
 #[derive(Drop)]
-pub struct Entry {
-    pub door: Door,
+pub struct Backlog {
+    pub listener: Listener,
     pub queue: Queue,
 }
 
-impl Entry {
-    /// A door at which no connection waits. Refuses if it is out of memory.
-    pub fn new(alloc: Global, door: Door) -> Result<Entry, AllocError> {
+impl Backlog {
+    /// A listener at which no connection waits. Refuses if it is out of memory.
+    pub fn new(alloc: Global, listener: Listener) -> Result<Backlog, AllocError> {
         let queue = Queue::new(alloc)?;
-        Ok(Entry { door, queue })
+        Ok(Backlog { listener, queue })
     }
 
     /// Accepts the connections that have come, as long as the queue has room.
@@ -90,7 +90,7 @@ impl Entry {
             if !self.queue.has_room() {
                 return Turn::Full;
             }
-            match self.door.accept() {
+            match self.listener.accept() {
                 Came::Client(connection) => self.queue.put(rt, connection),
                 Came::Nobody => {}
                 Came::Nothing => return Turn::Empty,
@@ -101,23 +101,23 @@ impl Entry {
     }
 }
 
-/// The doors of a machine, and whether it ends. All its threads share them.
+/// The listeners of a machine, and whether it ends. All its threads share them.
 #[derive(Drop)]
-pub struct Doors {
+pub struct Listeners {
     /// The TCP address.
-    pub front: Entry,
+    pub front: Backlog,
     /// The Unix socket, if there is one.
-    pub side: Option<Entry>,
+    pub side: Option<Backlog>,
     /// Whether the machine has to end.
     pub ended: AtomicBool,
     published: AtomicBool,
     waker: Waker,
 }
 
-impl Doors {
-    /// The doors of a machine that has published nothing so far. `waker` ends a wait of their acceptor.
-    pub fn new(front: Entry, side: Option<Entry>, waker: Waker) -> Doors {
-        Doors {
+impl Listeners {
+    /// The listeners of a machine that has published nothing so far. `waker` ends a wait of their acceptor.
+    pub fn new(front: Backlog, side: Option<Backlog>, waker: Waker) -> Listeners {
+        Listeners {
             front,
             side,
             ended: AtomicBool::new(false),
@@ -151,9 +151,9 @@ impl Doors {
         }
     }
 
-    /// Waits for a connection at this entry, and takes the one that came first. None if the machine ends.
-    pub fn next<R: Wait>(&self, rt: &R, entry: &Entry) -> Option<TcpStream> {
-        let (connection, was_full) = entry.queue.take(rt, &self.ended)?;
+    /// Waits for a connection of this backlog, and takes the one that came first. None if the machine ends.
+    pub fn next<R: Wait>(&self, rt: &R, backlog: &Backlog) -> Option<TcpStream> {
+        let (connection, was_full) = backlog.queue.take(rt, &self.ended)?;
         if was_full {
             let _ = self.waker.wake();
         }
@@ -185,9 +185,9 @@ impl Acceptor {
         Ok((acceptor, waker))
     }
 
-    /// Has the acceptor wait for connections at this door too.
-    pub fn watch(&self, door: &Door) -> io::Result<()> {
-        let descriptor = door.descriptor();
+    /// Has the acceptor wait for connections at this listener too.
+    pub fn watch(&self, listener: &Listener) -> io::Result<()> {
+        let descriptor = listener.descriptor();
         self.poll
             .registry()
             .register(&mut SourceFd(&descriptor), LISTENER, Interest::READABLE)
@@ -207,11 +207,16 @@ impl Acceptor {
 
     /// Waits until connections are handed over: until something is published, or two seconds have passed since the clock
     /// reading `began`. If the clock can't be read, it does not wait.
-    pub fn wait_for_first<R: Wait + SystemClock>(&mut self, rt: &R, doors: &Doors, began: u64) {
+    pub fn wait_for_first<R: Wait + SystemClock>(
+        &mut self,
+        rt: &R,
+        listeners: &Listeners,
+        began: u64,
+    ) {
         for _ in rt.forever() {
             let now = reading_of(rt).unwrap_or(u64::MAX);
-            let published = doors.published.load(Ordering::SeqCst);
-            if doors.ended.load(Ordering::SeqCst) || hands_over(published, began, now) {
+            let published = listeners.published.load(Ordering::SeqCst);
+            if listeners.ended.load(Ordering::SeqCst) || hands_over(published, began, now) {
                 return;
             }
             self.wait(rt, Some(left_of(began, now)));
@@ -219,12 +224,12 @@ impl Acceptor {
         unreachable!()
     }
 
-    /// Waits for connections, and accepts those that have come at both doors. Answers whether the system refused to accept
+    /// Waits for connections, and accepts those that have come at both listeners. Answers whether the system refused to accept
     /// one; then the next wait is a tenth of a second.
-    pub fn turn<R: Wait + SystemClock>(&mut self, rt: &R, doors: &Doors) -> bool {
+    pub fn turn<R: Wait + SystemClock>(&mut self, rt: &R, listeners: &Listeners) -> bool {
         self.wait(rt, self.pause);
-        let front = doors.front.accept_all(rt);
-        let side = match &doors.side {
+        let front = listeners.front.accept_all(rt);
+        let side = match &listeners.side {
             Some(side) => side.accept_all(rt),
             None => Turn::Empty,
         };

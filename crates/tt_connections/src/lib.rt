@@ -1,31 +1,53 @@
-//! The connections of a machine: where clients connect, the thread that accepts them, and the client at the other end.
+//! The connections of a machine's clients, and the service of the session on each.
 //!
-//! A machine has one or two [`Entry`]s, each a [`Door`] and the [`Queue`] of the connections that came and wait for a
-//! worker: one for the TCP address, and one for the Unix socket if there is one. [`Doors`] holds them. One thread accepts
-//! connections for both, by an [`Acceptor`]; the workers take them in the order in which they came, by [`Doors::next`].
+//! A machine has one or two [`Backlog`]s, each a [`Listener`] and the [`Queue`] of the connections that came and wait for
+//! a worker: one for the TCP address, and one for the Unix socket if there is one. [`Listeners`] holds them. One thread
+//! accepts connections for both, by an [`Acceptor`]; the workers take them in the order in which they came, by
+//! [`Listeners::next`]. Nobody is woken by a connection: the acceptor waits for its sockets and for a waker, the workers
+//! wait for the queue. So a machine ends without a descriptor and without a path.
 //!
-//! Nobody is woken by a connection. The acceptor waits for its sockets and for a waker, the workers wait for the queue.
-//! So a machine ends without a descriptor and without a path.
+//! A worker serves its clients in turn. What it keeps from one session to the next is a [`Post`]: a watch with its
+//! clock, a seat of the sequencer that all workers share, the lease, and how far a floor may lie ahead. [`Post::serve`]
+//! serves one session. The service of that session alone is a [`Station`], with a book of its own. So no session sees
+//! anything of another one, and its memory is freed when it ends.
 //!
-//! - `doors`: [`Door`], and what may stand at the path of a Unix socket. `queues`: [`Queue`].
-//! - `acceptors`: [`Doors`] and [`Acceptor`]: when connections are handed over, and how long the acceptor waits.
-//! - `clients`: the reader and the writer of a session. `sights`: whether its client has left. `clocks`: [`MachineClock`].
+//! ```text
+//! let post = Post::new(&rt, rt.alloc(), watch, clock, seat, &sequencer, Terms { lease, ahead });
+//! let (post, first) = post.serve(&client, &mut reader, &mut writer, turns);
+//! // the same post serves the next client
+//! let (post, second) = post.serve(&other_client, &mut other_reader, &mut other_writer, turns);
+//! ```
+//!
+//! - `listeners`: [`Listener`], and what may stand at the path of a Unix socket. `queues`: [`Queue`].
+//! - `acceptors`: [`Listeners`] and [`Acceptor`]: when connections are handed over, and how long the acceptor waits.
+//! - `lines`: the reader and the writer of a session. `presence`: [`Presence`], whether a client is still there, and
+//!   `sights`: whether the client of a socket has left. `clocks`: [`MachineClock`].
+//! - `posts`: [`Post`], and [`Post::serve`]. `stations`: [`Station`], the service of one session. `faults`: why a station
+//!   refuses a call.
 //!
 //! The functions over values are proved: what is done at the path of a Unix socket, when connections are handed over, how
-//! long the acceptor waits, and when a client has left. It is also proved that no reading of a [`MachineClock`] is below
-//! one before it. Nothing is claimed of sockets, threads and their order.
+//! long the acceptor waits, and when a client has left. So is all of a session, and that no reading of a [`MachineClock`]
+//! is below one before it. Nothing is claimed of sockets, threads and their order.
 #![tactic(auto)]
 
 mod acceptors;
-mod clients;
 mod clocks;
-mod doors;
+mod faults;
+mod lines;
+mod listeners;
+mod posts;
+mod presence;
 mod queues;
 mod sights;
+mod stations;
 
-pub use acceptors::{Acceptor, Doors, Entry};
-pub use clients::{Counts, LineReader, ReplyWriter, deadline_at};
+pub use acceptors::{Acceptor, Backlog, Listeners};
 pub use clocks::{MachineClock, reading_of};
-pub use doors::{Door, DoorFault};
+pub use faults::StationFault;
+pub use lines::{Counts, LineReader, ReplyWriter, deadline_at};
+pub use listeners::{Listener, ListenerFault};
+pub use posts::{Post, Terms};
+pub use presence::{AlwaysThere, Presence};
 pub use queues::{MAX_WAITING, Queue};
 pub use sights::{Client, Sight};
+pub use stations::Station;

@@ -9,7 +9,7 @@ use std::net::TcpStream;
 use std::sync::atomic::{AtomicBool, AtomicUsize, Ordering};
 use std::sync::{Condvar, Mutex, Wait};
 
-/// The most connections that wait at one door. A process may usually open 1,024 files, so two full doors leave room for
+/// The most connections that wait at one listener. A process may usually open 1,024 files, so two full listeners leave room for
 /// the files of the machine.
 pub const MAX_WAITING: usize = 256;
 
@@ -20,7 +20,7 @@ fn has_room(waiting: usize) -> bool
     waiting < MAX_WAITING
 }
 
-/// The connections that came at one door and wait for a worker, at most [`MAX_WAITING`]. They are taken in the order in
+/// The connections that came at one listener and wait for a worker, at most [`MAX_WAITING`]. They are taken in the order in
 /// which they came.
 #[derive(Drop)]
 pub struct Queue {

@@ -3,8 +3,9 @@
 ghost use Rattle.std.specs.Prelude.{◌≡◌};
 ghost use Rattle.tt_connections.specs.Session.{seen_after, is_gone, is_gone_at};
 
-use crate::clients::is_over;
 use crate::clocks::reading_of;
+use crate::lines::is_over;
+use crate::presence::Presence;
 use mio::unix::SourceFd;
 use mio::{Events, Interest, Poll, Token};
 use std::alloc::Global;
@@ -15,7 +16,6 @@ use std::os::fd::AsRawFd;
 use std::sync::atomic::{AtomicBool, Ordering};
 use std::sync::{Mutex, Wait};
 use std::time::{Clock as SystemClock, Duration};
-use tt_station::Presence;
 
 /// How many events one look reports.
 const EVENTS: usize = 2;

@@ -13,17 +13,17 @@ use Rattle.tt_session.specs.declared.calls.Call.{Call}
 use Rattle.tt_session.specs.declared.calls.Call.TheVariants.{Now, Begin, Lease, Pass}
 use Rattle.tt_session.specs.declared.serving.Served.{Served}
 use Rattle.tt_stamp.proofs.Ids.{Contains-cases, Contains-nil}
-use Rattle.tt_station.specs.Sessions.{WorkerSession, AreServedInTurn, post_after}
-use Rattle.tt_station.specs.Station.{PostState, StationState, Allows, ServesSession, BreaksSession, new_station}
-use Rattle.tt_order.specs.Timed.{CallTimes, AreInOrder, TimedSession, IsTimed, looked_of}
-use Rattle.tt_order.specs.Order.{IsSeen, IsSeenAtSome}
-use Rattle.tt_runs.specs.Calls.{AreInTurn, kept_after}
-use Rattle.tt_runs.specs.Faulty.{FewFaulty}
-use Rattle.tt_runs.specs.Reads.{IsReadAt}
-use Rattle.tt_runs.specs.Rising.{StepsRise}
-use Rattle.tt_runs.specs.Steps.{Step, new_kept}
-use Rattle.tt_runs.specs.Tale.{Timed, HeldTrueTime, steps_told}
-use Rattle.tt_runs.proofs.Rising.{calls-rise, tale-rises}
+use Rattle.tt_connections.specs.Sessions.{WorkerSession, AreServedInTurn, post_after}
+use Rattle.tt_connections.specs.Station.{PostState, StationState, Allows, ServesSession, BreaksSession, new_station}
+use Rattle.tt_consistency.specs.Timed.{CallTimes, AreInOrder, TimedSession, IsTimed, looked_of}
+use Rattle.tt_consistency.specs.Order.{IsSeen, IsSeenAtSome}
+use Rattle.tt_consistency.specs.Calls.{AreInTurn, kept_after}
+use Rattle.tt_consistency.specs.Faulty.{FewFaulty}
+use Rattle.tt_consistency.specs.Reads.{IsReadAt}
+use Rattle.tt_consistency.specs.Rising.{StepsRise}
+use Rattle.tt_consistency.specs.Steps.{Step, new_kept}
+use Rattle.tt_consistency.specs.Timeline.{Timed, HeldTrueTime, steps_told}
+use Rattle.tt_consistency.proofs.Rising.{calls-rise, timeline-rises}
 use Rattle.tt_consistency.specs.Assumed.{moments_in, IsAssumed, machine_of, timed_by, timed_of, AllReadAt, IsTimedIn, TimedLife, IsLived, IsServedIn, IsSeenInOneOf}
 use Rattle.tt_consistency.specs.Lives.{Life, WorkerLife, WorksIn, IsLife}
 use Rattle.tt_consistency.specs.Running.{Machine, IsRunning, Start, clock_moments, published_by}
@@ -130,14 +130,14 @@ module _ {C V : Type 0} (gives : C → Option ℕ → C → Type 0) (failed : C 
         (Contains-cases first sessions session inside)
 
     -- ---- in a life
-    module _ (life : Life gives failed says waits) (start : Start) (tale : List Timed) (proved : IsLife life) (assumed : IsAssumed life start tale) where
+    module _ (life : Life gives failed says waits) (start : Start) (timeline : List Timed) (proved : IsLife life) (assumed : IsAssumed life start timeline) where
       -- the life, as a machine
       abbrev machine : Machine
-      machine = machine_of life start tale
+      machine = machine_of life start timeline
 
       pub life-runs : IsRunning machine
       life-runs =
-          let steps : StepsRise 0 (steps_told tale) proved.rising.0 = subst (λ (steps : List Step). StepsRise 0 steps proved.rising.0) (sym assumed.told) (calls-rise 0 proved.rising.0 life.calls proved.rising.1) in
+          let steps : StepsRise 0 (steps_told timeline) proved.rising.0 = subst (λ (steps : List Step). StepsRise 0 steps proved.rising.0) (sym assumed.told) (calls-rise 0 proved.rising.0 life.calls proved.rising.1) in
           record {
             configured = proved.configured;
             lives = omega (arith, assumed.lives, proved.last);
@@ -146,19 +146,19 @@ module _ {C V : Type 0} (gives : C → Option ℕ → C → Type 0) (failed : C 
             in_turn = subst (λ (epoch : ℕ). AreInTurn (new_kept life.config life.number epoch) life.calls) (sym assumed.lives) proved.in_turn;
             told = assumed.told;
             of_time = assumed.of_time;
-            forward = tale-rises start.at start.clock 0 tale proved.rising.0 assumed.times steps assumed.begins assumed.readings;
+            forward = timeline-rises start.at start.clock 0 timeline proved.rising.0 assumed.times steps assumed.begins assumed.readings;
             nonces = assumed.nonces;
             drift = assumed.drift;
-            few_faulty = subst (λ (epoch : ℕ). FewFaulty life.config (record { machine = life.number; number = epoch }) tale) (sym assumed.lives) assumed.few_faulty;
+            few_faulty = subst (λ (epoch : ℕ). FewFaulty life.config (record { machine = life.number; number = epoch }) timeline) (sym assumed.lives) assumed.few_faulty;
           }
 
       published-is : map fused_span_of life.published ≡ published_by machine
       published-is = subst (λ (epoch : ℕ). map fused_span_of life.published ≡ (kept_after (new_kept life.config life.number epoch) life.calls).published) (sym assumed.lives) proved.published
 
-      pub life-holds : AllByRecursion (HeldTrueTime (moments_in start tale)) (map fused_span_of life.published)
-      life-holds = subst (AllByRecursion (HeldTrueTime (moments_in start tale))) (sym published-is) (publications-hold machine life-runs)
+      pub life-holds : AllByRecursion (HeldTrueTime (moments_in start timeline)) (map fused_span_of life.published)
+      life-holds = subst (AllByRecursion (HeldTrueTime (moments_in start timeline))) (sym published-is) (publications-hold machine life-runs)
 
-      module _ (worker : WorkerLife gives failed says waits) (of_life : Contains life.workers worker) (session : WorkerSession gives failed says waits) (of_worker : Contains worker.sessions session) (times : List CallTimes) (read : IsTimedIn life start tale session times) where
+      module _ (worker : WorkerLife gives failed says waits) (of_life : Contains life.workers worker) (session : WorkerSession gives failed says waits) (of_worker : Contains worker.sessions session) (times : List CallTimes) (read : IsTimedIn life start timeline session times) where
         session-served : IsServedOn gives failed says machine (timed_of session times)
         session-served =
             let timed : TimedSession gives failed says = timed_of session times in
@@ -170,8 +170,8 @@ module _ {C V : Type 0} (gives : C → Option ℕ → C → Type 0) (failed : C 
             let ended : IsPrefix session.after.watch.items life.published = prefix-both session.after.watch.items (post_after worker.post worker.sessions).watch.items life.published within.1.seen works.seen in
             let seen : IsPrefix (map fused_span_of session.after.watch.items) (published_by machine) =
             subst (λ (published : List FusedSpan). IsPrefix (map fused_span_of session.after.watch.items) published) published-is (prefix-map fused_span_of session.after.watch.items life.published ended) in
-            let taken : AllReadAt gives failed says life.config.drift (moments_in start tale) (new_station timed.post timed.client) timed.calls timed.after timed.talked timed.times =
-            subst (λ (t : List CallTimes). AllReadAt gives failed says life.config.drift (moments_in start tale) (new_station timed.post timed.client) timed.calls timed.after timed.talked t) (sym same.2) read.read in
+            let taken : AllReadAt gives failed says life.config.drift (moments_in start timeline) (new_station timed.post timed.client) timed.calls timed.after timed.talked timed.times =
+            subst (λ (t : List CallTimes). AllReadAt gives failed says life.config.drift (moments_in start timeline) (new_station timed.post timed.client) timed.calls timed.after timed.talked t) (sym same.2) read.read in
             record {
               in_order = subst (AreInOrder 0) (sym same.2) read.in_order;
               look = calls-look machine timed.calls (new_station timed.post timed.client) timed.after timed.talked timed.times drift
@@ -184,7 +184,7 @@ module _ {C V : Type 0} (gives : C → Option ℕ → C → Type 0) (failed : C 
     -- ---- in any number of lives
     pub lived-timed : (lived : TimedLife gives failed says waits) → IsLived lived → (session : WorkerSession gives failed says waits) (times : List CallTimes) → IsServedIn lived session times → IsTimed gives failed says (timed_of session times)
     lived-timed lived is session times served =
-        session-timed lived.life lived.start lived.tale is.proved is.assumed served.worker served.of_life session served.of_worker times served.timed
+        session-timed lived.life lived.start lived.timeline is.proved is.assumed served.worker served.of_life session served.of_worker times served.timed
 
     seen-timed : (session : WorkerSession gives failed says waits) (times : List CallTimes) (commit : Commit) → IsSeen (timed_of session times).calls times commit → IsSeen (timed_of session times).calls (timed_of session times).times commit
     seen-timed session times commit seen = subst (λ (t : List CallTimes). IsSeen (timed_of session times).calls t commit) (sym (timed-same session times).2) seen

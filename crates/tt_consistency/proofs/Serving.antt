@@ -7,10 +7,10 @@ use Rattle.tt_judge.specs.declared.history.Commit.{Commit}
 use Rattle.tt_session.specs.Conversation.{Conversation}
 use Rattle.tt_session.specs.declared.calls.Call.{Call}
 use Rattle.tt_session.specs.declared.calls.Call.TheVariants.{Now, Begin, Lease, Pass}
-use Rattle.tt_station.specs.Station.{StationState, Allows, new_station}
-use Rattle.tt_order.specs.Timed.{CallTimes, looked_of, ReadingsHold, TimedSession, IsTimed}
-use Rattle.tt_order.specs.Order.{IsSeenAtSome}
-use Rattle.tt_runs.proofs.Reading.{look-holds}
+use Rattle.tt_connections.specs.Station.{StationState, Allows, new_station}
+use Rattle.tt_consistency.specs.Timed.{CallTimes, looked_of, ReadingsHold, TimedSession, IsTimed}
+use Rattle.tt_consistency.specs.Order.{IsSeenAtSome}
+use Rattle.tt_consistency.proofs.Reading.{look-holds}
 use Rattle.tt_consistency.specs.Running.{Machine, IsRunning, clock_moments, published_by}
 use Rattle.tt_consistency.specs.Served.{LooksBy, AllLookAt, IsServedOn, IsSeenOnOneOf}
 use Rattle.tt_consistency.proofs.Holding.{publications-hold}

@@ -23,20 +23,20 @@ use Rattle.tt_session.specs.declared.requests.Request.TheVariants as request
 use Rattle.tt_session.specs.declared.serving.Served.{Served}
 use Rattle.tt_stamp.specs.declared.commits.Entry.TheVariants.{Queued, Passed}
 use Rattle.tt_stamp.proofs.Ids.{Contains-here}
-use Rattle.tt_station.specs.Fault.{number_of}
-use Rattle.tt_station.specs.Sessions.{WorkerSession}
-use Rattle.tt_station.specs.Station.{PostState, StationState, Allows, CommitsAt, Keeps, id_at, new_station}
-use Rattle.tt_station.specs.declared.faults.StationFault.TheVariants.{FloorAboveCap}
-use Rattle.tt_station.proofs.Leasing.{stamps_whole}
+use Rattle.tt_connections.specs.Fault.{number_of}
+use Rattle.tt_connections.specs.Sessions.{WorkerSession}
+use Rattle.tt_connections.specs.Station.{PostState, StationState, Allows, CommitsAt, Keeps, id_at, new_station}
+use Rattle.tt_connections.specs.declared.faults.StationFault.TheVariants.{FloorAboveCap}
+use Rattle.tt_connections.proofs.Leasing.{stamps_whole}
 use Rattle.tt_connections.specs.Clock.{ClockState, MachineGives, ClientSays}
-use Rattle.tt_order.specs.Order.{IsSeen}
-use Rattle.tt_order.specs.Timed.{CallTimes}
-use Rattle.tt_runs.specs.Reads.{IsReadAt}
+use Rattle.tt_consistency.specs.Order.{IsSeen}
+use Rattle.tt_consistency.specs.Timed.{CallTimes}
+use Rattle.tt_consistency.specs.Reads.{IsReadAt}
 use Rattle.tt_consistency.specs.Assumed.{IsAssumed, IsLived, IsSeenInOneOf, IsTimedIn, TimedLife, moments_in, timed_of}
 use Rattle.tt_consistency.specs.Lives.{Life, WorkerLife, WorksIn, IsLife}
 use Rattle.tt_consistency.specs.Running.{clock_moments}
 use Rattle.tt_consistency.proofs.WorkedOrder.{fused, seat, seat_after, gives_at, queues_at, below_cap, receipt, read_at, reads_at, keeps, among-by, call_at, first}
-use Rattle.tt_consistency.proofs.WorkedRun.{one, start, tale_of, call_of, machine, is_running-0, published-0}
+use Rattle.tt_consistency.proofs.WorkedRun.{one, start, timeline_of, call_of, machine, is_running-0, published-0}
 
 -- the clock of a machine fails as often as it has counted
 abbrev failed : ClockState → ℕ
@@ -231,7 +231,7 @@ is_life = record {
   workers = All-cons (WorksIn life) worker [] works_in (All-nil (WorksIn life));
 }
 
-is_assumed : IsAssumed life start (tale_of 0)
+is_assumed : IsAssumed life start (timeline_of 0)
 is_assumed = record {
   lives = refl;
   at = is_running-0.at;
@@ -250,7 +250,7 @@ is_assumed = record {
 abbrev times : List CallTimes
 times = record { came = 1000; read = 1001; answered = 1002 } ∷ call_at 120 ∷ call_at 150 ∷ []
 
-is_taken : (last clock : ℕ) → last ≤ clock → 112 ≤ clock → clock ≤ 1000 → IsReadAt MachineGives 100 (moments_in start (tale_of 0)) seen (clock_at last) (clock_at clock) (Ok (read_at clock)) (900 + clock)
+is_taken : (last clock : ℕ) → last ≤ clock → 112 ≤ clock → clock ≤ 1000 → IsReadAt MachineGives 100 (moments_in start (timeline_of 0)) seen (clock_at last) (clock_at clock) (Ok (read_at clock)) (900 + clock)
 is_taken last clock rises late early = record {
   last = fused;
   clock = clock;
@@ -263,7 +263,7 @@ is_taken last clock rises late early = record {
   no_earlier = λ made among. among-by (900 + clock) 111 made (clock_moments (machine 0)) (omega arith, (omega arith, (omega arith, (omega arith, tt)))) among;
 }
 
-is_timed : IsTimedIn life start (tale_of 0) session times
+is_timed : IsTimedIn life start (timeline_of 0) session times
 unfolding serves allows_early allows_begin allows_pass
 is_timed = record {
   in_order = (omega arith, omega arith, omega arith, (omega arith, omega arith, omega arith, (omega arith, omega arith, omega arith, tt)));
@@ -272,7 +272,7 @@ is_timed = record {
 
 -- ---- so all premises of the law hold, and the commit was seen at a session of the life
 abbrev lived : TimedLife MachineGives failed ClientSays 1
-lived = record { life = life; start = start; tale = tale_of 0 }
+lived = record { life = life; start = start; timeline = timeline_of 0 }
 
 pub is_lived : IsLived lived
 is_lived = record { proved = is_life; assumed = is_assumed }

@@ -11,13 +11,13 @@ use Rattle.tt_stamp.specs.declared.commits.Receipt.{Receipt}
 use Rattle.tt_stamp.specs.declared.stampings.Stamping.{Stamping}
 use Rattle.tt_stamp.proofs.Ids.{Contains-here, Contains-there, Contains-cases, Contains-nil}
 use Rattle.tt_stamp.proofs.Laws.{first_queue_fault-none-iff, IsLegalHistory-release}
-use Rattle.tt_shared_book.specs.Known.{GoesOn}
+use Rattle.tt_node.specs.SharedBooks.{GoesOn}
 use Rattle.tt_session.specs.declared.calls.Call.TheVariants.{Begin, Pass}
 use Rattle.tt_node.specs.Gating.{Asks}
-use Rattle.tt_node.specs.Lists.{GivesInTurn}
+use Rattle.tt_rounds.specs.Lists.{GivesInTurn}
 use Rattle.tt_node.specs.Working.{WorkerState, Works, Allows, after_asking}
 use Rattle.tt_node.proofs.Gating.{no-none}
-use Rattle.tt_order.specs.Order.{IsSeen}
+use Rattle.tt_consistency.specs.Order.{IsSeen}
 use Rattle.tt_consistency.specs.Worked.{TimedWorker, WasRead, Node, ServesOn, IsWorking, IsSeenAtWorkerOf}
 use Rattle.tt_consistency.proofs.WorkedRun.{machine, is_running-0, published-0}
 use Rattle.tt_consistency.proofs.WorkedOrder.{Clocks, failed, watch, seat, read_at, looks_at, call_at, is_read, both, first, second}

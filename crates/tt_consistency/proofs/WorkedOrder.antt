@@ -16,16 +16,16 @@ use Rattle.tt_stamp.specs.declared.commits.Receipt.{Receipt}
 use Rattle.tt_stamp.specs.declared.stampings.Stamping.{Stamping}
 use Rattle.tt_session.specs.Desk.{Queues}
 use Rattle.tt_session.specs.declared.calls.Call.TheVariants.{Begin, Pass}
-use Rattle.tt_station.specs.Station.{PostState, StationState, Allows, CommitsAt, Keeps, new_station, id_at}
-use Rattle.tt_station.specs.Fault.{number_of}
-use Rattle.tt_station.proofs.Leasing.{stamps_whole}
-use Rattle.tt_station.specs.declared.faults.StationFault.TheVariants.{FloorAboveCap}
-use Rattle.tt_node.specs.Lists.{GivesInTurn}
+use Rattle.tt_connections.specs.Station.{PostState, StationState, Allows, CommitsAt, Keeps, new_station, id_at}
+use Rattle.tt_connections.specs.Fault.{number_of}
+use Rattle.tt_connections.proofs.Leasing.{stamps_whole}
+use Rattle.tt_connections.specs.declared.faults.StationFault.TheVariants.{FloorAboveCap}
+use Rattle.tt_rounds.specs.Lists.{GivesInTurn}
 use Rattle.tt_judge.specs.declared.history.Commit.{Commit}
-use Rattle.tt_order.specs.Timed.{TimedSession, CallTimes}
-use Rattle.tt_order.specs.Order.{IsSeen}
-use Rattle.tt_runs.specs.Reads.{IsReadAt}
-use Rattle.tt_runs.specs.Tale.{IsAmong}
+use Rattle.tt_consistency.specs.Timed.{TimedSession, CallTimes}
+use Rattle.tt_consistency.specs.Order.{IsSeen}
+use Rattle.tt_consistency.specs.Reads.{IsReadAt}
+use Rattle.tt_consistency.specs.Timeline.{IsAmong}
 use Rattle.tt_stamp.proofs.Ids.{Contains-here, Contains-there}
 use Rattle.tt_consistency.specs.Running.{Machine, IsRunning, clock_moments}
 use Rattle.tt_consistency.specs.Served.{IsServedOn, IsSeenOnOneOf}

@@ -7,16 +7,16 @@ use Rattle.tt_poll.specs.Spelling.{spelling_of2}
 use Rattle.tt_poll.specs.declared.messages.Message2.TheVariants as message
 use Rattle.tt_daemon.specs.Config.{Configuration}
 use Rattle.tt_daemon.specs.Daemon.{new_daemon}
-use Rattle.tt_node.specs.Link.{Exchange, Send, Receive, Went, Came}
-use Rattle.tt_node.specs.Course.{Given, Stand, Outcome, GoesOn, Ends, Lacks, ◌>>=◌, each_below, next_reading, next_gift, send, receive, put_table, send_polled, poll_at, poll_all, put_taken, take_at, take_next, turn, count_refusal, publish, publish_fused, fuse_at, round_of, rounds_of}
-use Rattle.tt_node.specs.Making.{Leads, stand_of}
-use Rattle.tt_node.specs.Tallies.{no_tally}
+use Rattle.tt_rounds.specs.Link.{Exchange, Send, Receive, Went, Came}
+use Rattle.tt_rounds.specs.Course.{Given, Stand, Outcome, GoesOn, Ends, Lacks, ◌>>=◌, each_below, next_reading, next_gift, send, receive, put_table, send_polled, poll_at, poll_all, put_taken, take_at, take_next, turn, count_refusal, publish, publish_fused, fuse_at, round_of, rounds_of}
+use Rattle.tt_rounds.specs.Making.{Leads, stand_of}
+use Rattle.tt_rounds.specs.Tallies.{no_tally}
 use Rattle.tt_world.specs.Life.{Life}
-use Rattle.tt_runs.specs.Calls.{RoundsCall}
-use Rattle.tt_runs.specs.CourseSteps.{steps_below}
-use Rattle.tt_runs.specs.Faulty.{IsCorrect, HasFewFaulty, FewFaulty}
-use Rattle.tt_runs.specs.Steps.{Polls, Takes, Fuses}
-use Rattle.tt_runs.specs.Tale.{Happening, Does, Answers, Timed}
+use Rattle.tt_consistency.specs.Calls.{RoundsCall}
+use Rattle.tt_consistency.specs.CourseSteps.{steps_below}
+use Rattle.tt_consistency.specs.Faulty.{IsCorrect, HasFewFaulty, FewFaulty}
+use Rattle.tt_consistency.specs.Steps.{Polls, Takes, Fuses}
+use Rattle.tt_consistency.specs.Timeline.{Happening, Does, Answers, Timed}
 use Rattle.tt_consistency.specs.Running.{Machine, IsRunning, Start, published_by}
 
 abbrev span : Interval
@@ -43,8 +43,8 @@ before_fusion m =
     ∷ []
 
 -- and fused at 1011
-abbrev pub tale_of : ℕ → List Timed
-tale_of m = record { at = 1011; happening = Does (Fuses 111) } ∷ before_fusion m
+abbrev pub timeline_of : ℕ → List Timed
+timeline_of m = record { at = 1011; happening = Does (Fuses 111) } ∷ before_fusion m
 
 -- one call of one round of one turn, by a new daemon
 abbrev given_to : ℕ → Given
@@ -71,17 +71,17 @@ abbrev pub call_of : ℕ → RoundsCall
 call_of m = record { rounds = 1; turns = 1; given = given_to m; exchanges = sent_by m ∷ came_to m ∷ []; from = begin m; to = ended m; answer = Ok tt }
 
 abbrev pub machine : ℕ → Machine
-machine m = record { config = one; number = m; start = start; calls = call_of m ∷ []; tale = tale_of m }
+machine m = record { config = one; number = m; start = start; calls = call_of m ∷ []; timeline = timeline_of m }
 
 -- ---- a source that is correct before the fusion is enough
 abbrev life : ℕ → Life
 life m = record { machine = m; number = 1 }
 
 abbrev happenings : List Timed → List Happening
-happenings tale = map (λ (timed : Timed). timed.happening) tale
+happenings timeline = map (λ (timed : Timed). timed.happening) timeline
 
--- the one fusion of the tale
-the_fusion : (m : ℕ) (later rest : List Timed) (at clock : ℕ) → tale_of m ≡ later ++ record { at = at; happening = Does (Fuses clock) } ∷ rest → rest ≡ before_fusion m
+-- the one fusion of the timeline
+the_fusion : (m : ℕ) (later rest : List Timed) (at clock : ℕ) → timeline_of m ≡ later ++ record { at = at; happening = Does (Fuses clock) } ∷ rest → rest ≡ before_fusion m
 the_fusion m [] rest at clock is = cc
 the_fusion m (a ∷ []) rest at clock is = let same = ap happenings is in absurd cc
 the_fusion m (a ∷ b ∷ []) rest at clock is = let same = ap happenings is in absurd cc
@@ -89,7 +89,7 @@ the_fusion m (a ∷ b ∷ c ∷ []) rest at clock is = let same = ap happenings 
 the_fusion m (a ∷ b ∷ c ∷ d ∷ later) rest at clock is =
     absurd (omega (arith, ap length is, length-append later (record { at = at; happening = Does (Fuses clock) } ∷ rest)))
 
-few_faulty-by : (m : ℕ) → IsCorrect one (life m) (before_fusion m) 0 → FewFaulty one (life m) (tale_of m)
+few_faulty-by : (m : ℕ) → IsCorrect one (life m) (before_fusion m) 0 → FewFaulty one (life m) (timeline_of m)
 few_faulty-by m correct later rest at clock is = subst (HasFewFaulty one (life m)) (sym (the_fusion m later rest at clock is)) (record {
   faulty = false ∷ [];
   few = record { one_flag_each = refl; few = omega arith };

@@ -18,16 +18,16 @@ use Rattle.tt_stamp.specs.declared.faults.BeginFault.{BeginFault}
 use Rattle.tt_stamp.specs.declared.faults.StampFault.{StampFault}
 use Rattle.tt_stamp.proofs.Ids.{same_id-true, Contains-here, Contains-there, Contains-cases, Contains-nil}
 use Rattle.tt_stamp.proofs.Waits.{Waits-from_replay}
-use Rattle.tt_shared_book.specs.Known.{GoesOn}
+use Rattle.tt_node.specs.SharedBooks.{GoesOn}
 use Rattle.tt_session.specs.Conversation.{Conversation}
 use Rattle.tt_session.specs.declared.calls.Call.{Call}
 use Rattle.tt_session.specs.declared.calls.Call.TheVariants as call
 use Rattle.tt_node.specs.Working.{WorkerState, AnswersBegun, BeginsAt as BeginsBy, PassesAt, DoesWhere, PassesGate, Reads, Commits, Releases, Allows, after_asking}
-use Rattle.tt_order.specs.Timed.{CallTimes, times_at}
-use Rattle.tt_order.specs.Order.{BeginsAt, ReleasesAt, IsCommitted, IsSeen, IsWithin}
-use Rattle.tt_order.proofs.Walking.{ordered-at}
-use Rattle.tt_order.proofs.Judging.{within-consistent}
-use Rattle.tt_runs.proofs.Reading.{look-holds}
+use Rattle.tt_consistency.specs.Timed.{CallTimes, times_at}
+use Rattle.tt_consistency.specs.Order.{BeginsAt, ReleasesAt, IsCommitted, IsSeen, IsWithin}
+use Rattle.tt_consistency.proofs.Walking.{ordered-at}
+use Rattle.tt_consistency.proofs.Judging.{within-consistent}
+use Rattle.tt_consistency.proofs.Reading.{look-holds}
 use Rattle.tt_consistency.specs.Running.{Machine, IsRunning, clock_moments, published_by}
 use Rattle.tt_consistency.specs.Worked.{Look, look_of, look_of_now, look_of_begin, look_of_pass, look_in, look_at, LooksOn, AllLookOn, TimedWorker, WasRead, BookIsOf, Node, ServesOn, IsWorking, IsSeenAtWorkerOf}
 use Rattle.tt_consistency.proofs.Holding.{publications-hold}

@@ -8,15 +8,15 @@ use Rattle.tt_judge.specs.declared.history.Commit.{Commit}
 use Rattle.tt_session.specs.Conversation.{Conversation}
 use Rattle.tt_session.specs.declared.calls.Call.{Call}
 use Rattle.tt_session.specs.declared.serving.Served.{Served}
-use Rattle.tt_station.specs.Station.{PostState, StationState, Allows, ServesSession, BreaksSession, new_station}
-use Rattle.tt_station.specs.Sessions.{WorkerSession}
-use Rattle.tt_order.specs.Order.{IsSeen}
-use Rattle.tt_order.specs.Timed.{CallTimes, AreInOrder, TimedSession, looked_of, served_at, broken_at}
-use Rattle.tt_runs.specs.Calls.{calls_steps}
-use Rattle.tt_runs.specs.Faulty.{FewFaulty}
-use Rattle.tt_runs.specs.Reads.{IsReadAt}
-use Rattle.tt_runs.specs.Rising.{BeginFrom, IsInTime, TimesRise}
-use Rattle.tt_runs.specs.Tale.{AreOfTime, Timed, moments_told, steps_told}
+use Rattle.tt_connections.specs.Station.{PostState, StationState, Allows, ServesSession, BreaksSession, new_station}
+use Rattle.tt_connections.specs.Sessions.{WorkerSession}
+use Rattle.tt_consistency.specs.Order.{IsSeen}
+use Rattle.tt_consistency.specs.Timed.{CallTimes, AreInOrder, TimedSession, looked_of, served_at, broken_at}
+use Rattle.tt_consistency.specs.Calls.{calls_steps}
+use Rattle.tt_consistency.specs.Faulty.{FewFaulty}
+use Rattle.tt_consistency.specs.Reads.{IsReadAt}
+use Rattle.tt_consistency.specs.Rising.{BeginFrom, IsInTime, TimesRise}
+use Rattle.tt_consistency.specs.Timeline.{AreOfTime, Timed, moments_told, steps_told}
 use Rattle.tt_consistency.specs.Lives.{Life, WorkerLife, IsLife}
 use Rattle.tt_consistency.specs.Running.{Machine, Start}
 
@@ -24,35 +24,35 @@ use Rattle.tt_consistency.specs.Running.{Machine, Start}
 
 -- the moments at which the daemon of a life read its clock: those of what happened, and the one at which the life began
 abbrev pub moments_in : Start → List Timed → List Moment
-moments_in start tale = moments_told tale ++ record { clock = start.clock; time = start.at } ∷ []
+moments_in start timeline = moments_told timeline ++ record { clock = start.clock; time = start.at } ∷ []
 
 -- what is assumed of a life that began so, and in which this happened in true time
-pub record IsAssumed {C V : Type 0} {gives : C → Option ℕ → C → Type 0} {failed : C → ℕ} {says : V → Bool → Type 0} {waits : ℕ} (life : Life gives failed says waits) (start : Start) (tale : List Timed) : Type 0 where
+pub record IsAssumed {C V : Type 0} {gives : C → Option ℕ → C → Type 0} {failed : C → ℕ} {says : V → Bool → Type 0} {waits : ℕ} (life : Life gives failed says waits) (start : Start) (timeline : List Timed) : Type 0 where
   -- the lives before it are those of the epochs before its own
   pub lives : start.lives + 1 ≡ life.epoch
   -- the true time and the clock reading at its beginning are in time
   pub at : start.at ≤ max_time
   pub clock : start.clock ≤ max_time
   -- what happened is exactly the steps of the daemon's calls, at any true times, among any answers of the sources
-  pub told : steps_told tale ≡ calls_steps life.calls
+  pub told : steps_told timeline ≡ calls_steps life.calls
   -- the spans of these answers are intervals of time
-  pub of_time : AreOfTime tale
+  pub of_time : AreOfTime timeline
   -- true times do not fall
-  pub times : TimesRise start.at tale
+  pub times : TimesRise start.at timeline
   -- the clock reading at the beginning is not above the first one of the daemon
-  pub begins : BeginFrom start.clock (steps_told tale)
+  pub begins : BeginFrom start.clock (steps_told timeline)
   -- the clock readings of the daemon are in time
-  pub readings : AllByRecursion IsInTime (steps_told tale)
+  pub readings : AllByRecursion IsInTime (steps_told timeline)
   -- fewer than 2^64 things happened
-  pub nonces : length tale < 2 ^ 64
+  pub nonces : length timeline < 2 ^ 64
   -- the clock kept the drift bound of the configuration
-  pub drift : KeepsDrift life.config.drift (moments_in start tale)
+  pub drift : KeepsDrift life.config.drift (moments_in start timeline)
   -- at each fusion at most as many sources were faulty as the configuration allows
-  pub few_faulty : FewFaulty life.config (record { machine = life.number; number = life.epoch }) tale
+  pub few_faulty : FewFaulty life.config (record { machine = life.number; number = life.epoch }) timeline
 
 -- the machine that a life is, as the laws of running machines see it
 abbrev pub machine_of : {C V : Type 0} {gives : C → Option ℕ → C → Type 0} {failed : C → ℕ} {says : V → Bool → Type 0} {waits : ℕ} → Life gives failed says waits → Start → List Timed → Machine
-machine_of life start tale = record { config = life.config; number = life.number; start = start; calls = life.calls; tale = tale }
+machine_of life start timeline = record { config = life.config; number = life.number; start = start; calls = life.calls; timeline = timeline }
 
 -- ---- a session in true time
 
@@ -75,11 +75,11 @@ AllReadAt gives failed says ppm moments before (call ∷ calls) after talked (ti
     × AllReadAt gives failed says ppm moments talked.0 calls after talked.2 later
 
 -- what is assumed of a session of a life, whose calls have these true times
-pub record IsTimedIn {C V : Type 0} {gives : C → Option ℕ → C → Type 0} {failed : C → ℕ} {says : V → Bool → Type 0} {waits : ℕ} (life : Life gives failed says waits) (start : Start) (tale : List Timed) (session : WorkerSession gives failed says waits) (times : List CallTimes) : Type 0 where
+pub record IsTimedIn {C V : Type 0} {gives : C → Option ℕ → C → Type 0} {failed : C → ℕ} {says : V → Bool → Type 0} {waits : ℕ} (life : Life gives failed says waits) (start : Start) (timeline : List Timed) (session : WorkerSession gives failed says waits) (times : List CallTimes) : Type 0 where
   -- its true times do not fall
   pub in_order : AreInOrder 0 times
   -- each reading that it gave was taken at the time of its call, by a clock that keeps the drift bound of the configuration at that moment too
-  pub read : let timed = timed_of session times in AllReadAt gives failed says life.config.drift (moments_in start tale) (new_station timed.post timed.client) timed.calls timed.after timed.talked times
+  pub read : let timed = timed_of session times in AllReadAt gives failed says life.config.drift (moments_in start timeline) (new_station timed.post timed.client) timed.calls timed.after timed.talked times
 
 -- ---- lives together
 
@@ -87,19 +87,19 @@ pub record IsTimedIn {C V : Type 0} {gives : C → Option ℕ → C → Type 0} 
 pub record TimedLife {C V : Type 0} (gives : C → Option ℕ → C → Type 0) (failed : C → ℕ) (says : V → Bool → Type 0) (waits : ℕ) : Type 0 where
   pub life : Life gives failed says waits
   pub start : Start
-  pub tale : List Timed
+  pub timeline : List Timed
 
 -- all that is proved of a life holds of it, and all that is assumed of it
 pub record IsLived {C V : Type 0} {gives : C → Option ℕ → C → Type 0} {failed : C → ℕ} {says : V → Bool → Type 0} {waits : ℕ} (lived : TimedLife gives failed says waits) : Type 0 where
   pub proved : IsLife lived.life
-  pub assumed : IsAssumed lived.life lived.start lived.tale
+  pub assumed : IsAssumed lived.life lived.start lived.timeline
 
 -- a session was served in a life, and its calls have these true times
 pub record IsServedIn {C V : Type 0} {gives : C → Option ℕ → C → Type 0} {failed : C → ℕ} {says : V → Bool → Type 0} {waits : ℕ} (lived : TimedLife gives failed says waits) (session : WorkerSession gives failed says waits) (times : List CallTimes) : Type 0 where
   pub worker : WorkerLife gives failed says waits
   pub of_life : Contains lived.life.workers worker
   pub of_worker : Contains worker.sessions session
-  pub timed : IsTimedIn lived.life lived.start lived.tale session times
+  pub timed : IsTimedIn lived.life lived.start lived.timeline session times
 
 -- the commit was seen at some session of one of these lives
 pub record IsSeenInOneOf {C V : Type 0} {gives : C → Option ℕ → C → Type 0} {failed : C → ℕ} {says : V → Bool → Type 0} {waits : ℕ} (lives : List (TimedLife gives failed says waits)) (commit : Commit) : Type 0 where

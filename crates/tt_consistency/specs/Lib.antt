@@ -1,3 +1,13 @@
+pub mod Steps
+pub mod CourseSteps
+pub mod Timeline
+pub mod Reads
+pub mod Rising
+pub mod Faulty
+pub mod Calls
+pub mod Timed
+pub mod Order
+pub mod Told
 pub mod Running
 pub mod Served
 pub mod Worked

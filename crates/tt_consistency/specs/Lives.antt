@@ -4,13 +4,12 @@ use mathlib.Core.List.{IsPrefix}
 use Rattle.tt_span.specs.Interval.{Interval}
 use Rattle.tt_daemon.specs.Config.{Configuration, IsConfiguration}
 use Rattle.tt_daemon.specs.Publication.{Publication}
-use Rattle.tt_publish.specs.Known.{Source}
+use Rattle.tt_publish.specs.Known.{Source, new_watch}
 use Rattle.tt_publish.specs.Reading.{fused_span_of}
-use Rattle.tt_station.specs.Station.{PostState}
-use Rattle.tt_station.specs.Sessions.{WorkerSession, AreServedInTurn, post_after}
-use Rattle.tt_node.specs.Sharing.{new_watch}
-use Rattle.tt_runs.specs.Calls.{RoundsCall, AreInTurn, RiseIn, kept_after}
-use Rattle.tt_runs.specs.Steps.{Kept, new_kept}
+use Rattle.tt_connections.specs.Station.{PostState}
+use Rattle.tt_connections.specs.Sessions.{WorkerSession, AreServedInTurn, post_after}
+use Rattle.tt_consistency.specs.Calls.{RoundsCall, AreInTurn, RiseIn, kept_after}
+use Rattle.tt_consistency.specs.Steps.{Kept, new_kept}
 
 -- a worker: the post that it began with, and the sessions that it served
 pub record WorkerLife {C V : Type 0} (gives : C → Option ℕ → C → Type 0) (failed : C → ℕ) (says : V → Bool → Type 0) (waits : ℕ) : Type 0 where

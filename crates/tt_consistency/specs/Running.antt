@@ -5,10 +5,10 @@ use Rattle.tt_span.specs.Time.{max_time}
 use Rattle.tt_daemon.specs.Config.{Configuration, IsConfiguration}
 use Rattle.tt_publish.specs.declared.readings.FusedSpan.{FusedSpan}
 use Rattle.tt_world.specs.Life.{Life}
-use Rattle.tt_runs.specs.Calls.{RoundsCall, AreInTurn, calls_steps, kept_after}
-use Rattle.tt_runs.specs.Faulty.{FewFaulty}
-use Rattle.tt_runs.specs.Steps.{Kept, new_kept}
-use Rattle.tt_runs.specs.Tale.{AreOfTime, IsTale, Timed, moments_told, steps_told}
+use Rattle.tt_consistency.specs.Calls.{RoundsCall, AreInTurn, calls_steps, kept_after}
+use Rattle.tt_consistency.specs.Faulty.{FewFaulty}
+use Rattle.tt_consistency.specs.Steps.{Kept, new_kept}
+use Rattle.tt_consistency.specs.Timeline.{AreOfTime, IsTimeline, Timed, moments_told, steps_told}
 
 -- when a life begins: how many came before it, and the true time and the clock reading at its beginning
 pub record Start : Type 0 where
@@ -22,7 +22,7 @@ pub record Machine : Type 0 where
   pub number : ℕ
   pub start : Start
   pub calls : List RoundsCall
-  pub tale : List Timed
+  pub timeline : List Timed
 
 -- the life that it is in
 abbrev pub life_of_machine : Machine → Life
@@ -34,7 +34,7 @@ begun_with machine = new_kept machine.config machine.number (machine.start.lives
 
 -- the moments at which its daemon read the clock in this life
 abbrev pub clock_moments : Machine → List Moment
-clock_moments machine = moments_told machine.tale ++ record { clock = machine.start.clock; time = machine.start.at } ∷ []
+clock_moments machine = moments_told machine.timeline ++ record { clock = machine.start.clock; time = machine.start.at } ∷ []
 
 -- what it has published in this life, the oldest first
 abbrev pub published_by : Machine → List FusedSpan
@@ -51,13 +51,13 @@ pub record IsRunning (machine : Machine) : Type 0 where
   -- the first call begins with the new daemon, and each other one with what the call before it left
   pub in_turn : AreInTurn (begun_with machine) machine.calls
   -- what happened in the calls is their steps, at any true times, among any answers of the sources, whose spans are of time
-  pub told : steps_told machine.tale ≡ calls_steps machine.calls
-  pub of_time : AreOfTime machine.tale
+  pub told : steps_told machine.timeline ≡ calls_steps machine.calls
+  pub of_time : AreOfTime machine.timeline
   -- neither true times nor clock readings fall
-  pub forward : IsTale machine.start.at machine.start.clock machine.tale
+  pub forward : IsTimeline machine.start.at machine.start.clock machine.timeline
   -- it has nonces for its polls
-  pub nonces : length machine.tale < 2 ^ 64
+  pub nonces : length machine.timeline < 2 ^ 64
   -- its clock keeps the drift bound
   pub drift : KeepsDrift machine.config.drift (clock_moments machine)
   -- at each fusion no more of its sources were faulty than may be
-  pub few_faulty : FewFaulty machine.config (life_of_machine machine) machine.tale
+  pub few_faulty : FewFaulty machine.config (life_of_machine machine) machine.timeline

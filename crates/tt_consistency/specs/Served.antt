@@ -8,10 +8,10 @@ use Rattle.tt_publish.specs.declared.faults.ReadFault.{ReadFault}
 use Rattle.tt_session.specs.Conversation.{Conversation}
 use Rattle.tt_session.specs.declared.calls.Call.{Call}
 use Rattle.tt_session.specs.declared.calls.Call.TheVariants.{Lease}
-use Rattle.tt_station.specs.Station.{StationState, new_station, Allows}
-use Rattle.tt_order.specs.Timed.{CallTimes, AreInOrder, TimedSession, looked_of}
-use Rattle.tt_order.specs.Order.{IsSeen}
-use Rattle.tt_runs.specs.Reads.{IsReadAt}
+use Rattle.tt_connections.specs.Station.{StationState, new_station, Allows}
+use Rattle.tt_consistency.specs.Timed.{CallTimes, AreInOrder, TimedSession, looked_of}
+use Rattle.tt_consistency.specs.Order.{IsSeen}
+use Rattle.tt_consistency.specs.Reads.{IsReadAt}
 use Rattle.tt_consistency.specs.Running.{Machine, clock_moments, published_by}
 
 -- a call of a session looked at a machine's publications: its watch has then seen the first ones of them, and if it gave a reading, this was taken at this true time by the machine's clock, which keeps the bound that the watch reckons with at that moment too

@@ -12,9 +12,9 @@ use Rattle.tt_session.specs.Conversation.{Conversation}
 use Rattle.tt_session.specs.declared.calls.Call.{Call}
 use Rattle.tt_session.specs.declared.calls.Call.TheVariants.{Now, Begin, Lease, Pass}
 use Rattle.tt_node.specs.Working.{WorkerState, DoesWhere, Reads, Commits, Releases, Allows, after_asking}
-use Rattle.tt_order.specs.Timed.{CallTimes, AreInOrder, times_at}
-use Rattle.tt_order.specs.Order.{IsSeen}
-use Rattle.tt_runs.specs.Reads.{IsReadAt}
+use Rattle.tt_consistency.specs.Timed.{CallTimes, AreInOrder, times_at}
+use Rattle.tt_consistency.specs.Order.{IsSeen}
+use Rattle.tt_consistency.specs.Reads.{IsReadAt}
 use Rattle.tt_consistency.specs.Running.{Machine, IsRunning, clock_moments, published_by}
 
 -- one look of a worker at what its machine published: its watch after it, its clock before and after it, and what it gave

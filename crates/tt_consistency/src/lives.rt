@@ -4,18 +4,18 @@ ghost use Rattle.std.specs.Prelude.{◌≡◌, ℕ, ◌<◌, ◌≤◌, List, ma
 ghost use Rattle.std.specs.List.{AllByRecursion};
 ghost use Rattle.tt_judge.specs.Consistency.{IsConsistent};
 ghost use Rattle.tt_judge.specs.declared.history.Commit.{Commit};
-ghost use Rattle.tt_order.specs.Order.{BeginsAt, IsCommitted};
-ghost use Rattle.tt_order.specs.Timed.{CallTimes, IsTimed, times_at};
+ghost use Rattle.tt_consistency.specs.Order.{BeginsAt, IsCommitted};
+ghost use Rattle.tt_consistency.specs.Timed.{CallTimes, IsTimed, times_at};
 ghost use Rattle.tt_publish.specs.Reading.{fused_span_of};
-ghost use Rattle.tt_runs.specs.Tale.{HeldTrueTime, Timed};
-ghost use Rattle.tt_station.specs.Sessions.{WorkerSession};
+ghost use Rattle.tt_consistency.specs.Timeline.{HeldTrueTime, Timed};
+ghost use Rattle.tt_connections.specs.Sessions.{WorkerSession};
 ghost use Rattle.tt_consistency.specs.Assumed.{IsAssumed, IsLived, IsSeenInOneOf, IsServedIn, IsTimedIn, TimedLife, machine_of, moments_in, timed_of};
 ghost use Rattle.tt_consistency.specs.Lives.{IsLife, Life, WorkerLife};
 ghost use Rattle.tt_consistency.specs.Running.{IsRunning, Start};
 
-use tt_order::order_laws;
+use crate::orders::order_laws;
+use tt_connections::Presence;
 use tt_publish::Clock;
-use tt_station::Presence;
 
 /// The law of whole lives of machines.
 ///
@@ -32,21 +32,21 @@ use tt_station::Presence;
 /// nothing. No other premise is needed.
 pub fn life_laws<C: Clock, V: Presence, D: Clock, W: Presence>()
     // The life is a machine that runs, in the sense of `machine_laws`.
-    ensures runs { (waits : ℕ) (life : Life C.gives C.failed V.says waits) (start : Start) (tale : List Timed) →
-        IsLife life → IsAssumed life start tale → IsRunning (machine_of life start tale) }
+    ensures runs { (waits : ℕ) (life : Life C.gives C.failed V.says waits) (start : Start) (timeline : List Timed) →
+        IsLife life → IsAssumed life start timeline → IsRunning (machine_of life start timeline) }
 
     // Each publication of the life held the true time at a moment of the life at which the clock showed the reading of
     // the publication.
-    ensures publications_hold { (waits : ℕ) (life : Life C.gives C.failed V.says waits) (start : Start) (tale : List Timed) →
-        IsLife life → IsAssumed life start tale →
-        AllByRecursion (HeldTrueTime (moments_in start tale)) (map fused_span_of life.published) }
+    ensures publications_hold { (waits : ℕ) (life : Life C.gives C.failed V.says waits) (start : Start) (timeline : List Timed) →
+        IsLife life → IsAssumed life start timeline →
+        AllByRecursion (HeldTrueTime (moments_in start timeline)) (map fused_span_of life.published) }
 
     // Each reading of each session of each worker holds the true time at which it was taken.
-    ensures readings_hold { (waits : ℕ) (life : Life C.gives C.failed V.says waits) (start : Start) (tale : List Timed)
+    ensures readings_hold { (waits : ℕ) (life : Life C.gives C.failed V.says waits) (start : Start) (timeline : List Timed)
         (worker : WorkerLife C.gives C.failed V.says waits) (session : WorkerSession C.gives C.failed V.says waits)
         (times : List CallTimes) →
-        IsLife life → IsAssumed life start tale → Contains life.workers worker → Contains worker.sessions session →
-        IsTimedIn life start tale session times → IsTimed C.gives C.failed V.says (timed_of session times) }
+        IsLife life → IsAssumed life start timeline → Contains life.workers worker → Contains worker.sessions session →
+        IsTimedIn life start timeline session times → IsTimed C.gives C.failed V.says (timed_of session times) }
 
     // Take two commits, in sessions of any lives of any machines. Suppose that a call answered that the first is
     // released, and that the second came no earlier than this answer. Then the first has the smaller stamp. The second

@@ -6,7 +6,7 @@ use Rattle.std.proofs.lemmas.List.{append-nil, map-append, length-map}
 use Rattle.tt_judge.specs.declared.history.Commit.{Commit}
 use Rattle.tt_judge.specs.declared.history.ShardCommit.{ShardCommit}
 use Rattle.tt_judge.specs.declared.history.Line.{Line}
-use Rattle.tt_judge.specs.declared.history.History.{History}
+use Rattle.tt_judge.specs.declared.history.CommitHistory.{CommitHistory}
 use Rattle.tt_judge.specs.History.{shard_commits_at, shard_commits_from, IsStored}
 use Rattle.tt_judge.proofs.CommitLines.{AreFoundSoFar}
 
@@ -20,7 +20,7 @@ shard_commits_from-push number (first ∷ lines) line last is =
     ap (λ (rest : List ShardCommit). shard_commits_at number first ++ rest) (shard_commits_from-push (number + 1) lines line last (omega (arith, is)))
     ∙ sym (append_assoc (shard_commits_at number first) (shard_commits_from (number + 1) lines) (shard_commits_at last line))
 
-pub IsStored-push : (lines : List Line) (line : Line) (before after : History) → IsStored lines before →
+pub IsStored-push : (lines : List Line) (line : Line) (before after : CommitHistory) → IsStored lines before →
     after.commits.items ≡ before.commits.items ++ line.commit ∷ [] →
     after.of_shards.items ≡ before.of_shards.items ++ shard_commits_at (length before.commits.items) line → IsStored (lines ++ line ∷ []) after
 IsStored-push lines line before after stored commits of_shards =
@@ -32,11 +32,11 @@ IsStored-push lines line before after stored commits of_shards =
     }
 
 -- as many commits as lines
-pub many-stored : (lines : List Line) (history : History) → IsStored lines history → length history.commits.items ≡ length lines
+pub many-stored : (lines : List Line) (history : CommitHistory) → IsStored lines history → length history.commits.items ≡ length lines
 many-stored lines history stored = ap length stored.commits ∙ length-map lines (λ (l : Line). l.commit)
 
 -- what has been read: these lines of the text, whose commits the history has
-pub record IsReadSoFar (text : List ℕ) (history : History) (rest : List ℕ) : Type 0 where
+pub record IsReadSoFar (text : List ℕ) (history : CommitHistory) (rest : List ℕ) : Type 0 where
   pub lines : List Line
   pub found : AreFoundSoFar text lines rest
   pub stored : IsStored lines history

@@ -4,7 +4,7 @@ use Rattle.tt_judge.specs.declared.history.Commit.{Commit}
 use Rattle.tt_judge.specs.declared.history.ShardTerm.{ShardTerm}
 use Rattle.tt_judge.specs.declared.history.ShardCommit.{ShardCommit}
 use Rattle.tt_judge.specs.declared.history.Line.{Line}
-use Rattle.tt_judge.specs.declared.history.History.{History}
+use Rattle.tt_judge.specs.declared.history.CommitHistory.{CommitHistory}
 
 -- the commits of these lines
 abbrev pub commits_of : List Line → List Commit
@@ -28,6 +28,6 @@ abbrev pub shard_commits_of : List Line → List ShardCommit
 shard_commits_of lines = shard_commits_from 0 lines
 
 -- the history has the commits of these lines
-pub record IsStored (lines : List Line) (history : History) : Type 0 where
+pub record IsStored (lines : List Line) (history : CommitHistory) : Type 0 where
   pub commits : history.commits.items ≡ commits_of lines
   pub of_shards : history.of_shards.items ≡ shard_commits_of lines

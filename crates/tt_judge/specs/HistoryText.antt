@@ -4,7 +4,7 @@ use Rattle.std.specs.List.{flat_map}
 use Rattle.tt_text.specs.Line.{line_of}
 use Rattle.tt_text.specs.Reading.{ReadsNothing, Anything}
 use Rattle.tt_judge.specs.History.{IsStored}
-use Rattle.tt_judge.specs.declared.history.History.{History}
+use Rattle.tt_judge.specs.declared.history.CommitHistory.{CommitHistory}
 use Rattle.tt_judge.specs.declared.history.Line.{Line}
 use Rattle.tt_judge.specs.declared.history.ShardTerm.{ShardTerm}
 use Rattle.tt_judge.specs.declared.faults.HistoryFault.{HistoryFault}
@@ -49,7 +49,7 @@ pub record IsHistoryText (text : List ℕ) (lines : List Line) : Type 0 where
   pub is : text ≡ history_text lines
 
 -- the text is that of some lines, whose commits the history has
-abbrev pub IsHistoryOf : List ℕ → History → Type 0
+abbrev pub IsHistoryOf : List ℕ → CommitHistory → Type 0
 IsHistoryOf text history = (lines : List Line) × IsHistoryText text lines × IsStored lines history
 
 -- the text is that of no commits

@@ -41,18 +41,18 @@ pub struct ShardCommit {
 /// A history: all its commits in the order of their lines, and apart from them those that name a shard. A commit that
 /// names none takes room for three numbers, any other one for seven.
 #[derive(Drop)]
-pub struct History {
+pub struct CommitHistory {
     pub commits: Vec<Commit>,
     pub of_shards: Vec<ShardCommit>,
 }
 
-impl History {
+impl CommitHistory {
     /// A history of no commits.
-    pub(crate) fn new(alloc: Global) -> History
+    pub(crate) fn new(alloc: Global) -> CommitHistory
         ensures commits { result.commits.items ≡ [] }
         ensures of_shards { result.of_shards.items ≡ [] }
     {
-        History {
+        CommitHistory {
             commits: Vec::new(alloc),
             of_shards: Vec::new(alloc),
         }

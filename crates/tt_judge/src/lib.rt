@@ -26,7 +26,7 @@ mod terms;
 mod writing;
 
 pub use faults::HistoryFault;
-pub use history::{Commit, History, Line, ShardCommit, ShardTerm};
+pub use history::{Commit, CommitHistory, Line, ShardCommit, ShardTerm};
 pub use judging::{Judgement, Violation, consistency_laws, judge};
 pub use reading::read_history;
 pub use terms::{Conflicts, Rule, TermJudgement, judge_terms, term_laws};

@@ -7,7 +7,7 @@ ghost use Rattle.tt_judge.specs.declared.history.Line.{Line};
 ghost use Rattle.tt_text.specs.Reading.{ReadsNothing, ReadsUpTo, Anything};
 
 use crate::faults::HistoryFault;
-use crate::history::{Commit, History, Line, ShardTerm};
+use crate::history::{Commit, CommitHistory, Line, ShardTerm};
 use std::alloc::Global;
 use tt_text::line_at;
 
@@ -20,12 +20,12 @@ use tt_text::line_at;
 /// Refuses any other text with 1603 `BadLine` and the number, counted from 1, of the first line that is not such a
 /// line. A last line without its line feed is not such a line. Refuses with 1 `Memory` if there is no memory for a
 /// commit before the first bad line: never for an empty text, nor if the first line is bad.
-pub fn read_history(alloc: Global, text: &[u8]) -> Result<History, HistoryFault>
+pub fn read_history(alloc: Global, text: &[u8]) -> Result<CommitHistory, HistoryFault>
     ensures found { IfOk result (IsHistoryOf text.now) }
     ensures only { IfOk result (λ history. (lines : List Line) → IsHistoryText text.now lines → IsStored lines history) }
     ensures bad { IfErr result (IsReadingFault text.now) }
 {
-    let mut history = History::new(alloc);
+    let mut history = CommitHistory::new(alloc);
     let mut place = 0;
     while place < text.len() {
         let Some((line, next)) = commit_line_at(text, place) else {

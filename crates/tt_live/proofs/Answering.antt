@@ -8,6 +8,7 @@ use Rattle.tt_text.specs.Reading.{AreNumbers, IsLineOf, IsNumber}
 use Rattle.tt_session.specs.Requests.{spelling_of}
 use Rattle.tt_session.specs.declared.requests.Request.TheVariants as asks
 use Rattle.tt_session.specs.declared.replies.LineReply.TheVariants as says
+use Rattle.tt_live.specs.Exchange.{IsPending}
 use Rattle.tt_live.specs.Replies.{GivesAsked, IsReading, IsYesOrNo, IsQuestion, TellsOf, TellsOfAsked}
 
 -- one number is a list that a line can hold, and so are two
@@ -93,3 +94,25 @@ only_commit line reply no_now no_question gives = elim (what_is_given line reply
   | inr (inl question) ↦ absurd (no_question question)
   | inr (inr commit) ↦ commit
 ]
+
+-- a commit is pending just where the reply says so of the number in its line
+pub pending_of : (line reply : List ℕ) (number floor : ℕ) → IsLineOf (codes "commit") line (number ∷ floor ∷ [])
+    → (stamp : ℕ) × IsNumber stamp × (reply ≡ line_of (codes "waiting") (number ∷ stamp ∷ [])) → IsPending line reply
+pending_of line reply number floor is (stamp, fits, told) = record {
+  number = number;
+  floor = floor;
+  stamp = stamp;
+  is_number = first_fits (codes "commit") line number (floor ∷ []) is;
+  is_floor = second_fits (codes "commit") line number floor is;
+  is_stamp = fits;
+  asked = is.is;
+  told = told;
+}
+
+pub named_of_pending : (line reply : List ℕ) (number floor : ℕ) → IsLineOf (codes "commit") line (number ∷ floor ∷ []) → IsPending line reply
+    → (stamp : ℕ) × IsNumber stamp × (reply ≡ line_of (codes "waiting") (number ∷ stamp ∷ []))
+named_of_pending line reply number floor is p = (
+  p.stamp,
+  p.is_stamp,
+  subst (λ (n : ℕ). reply ≡ line_of (codes "waiting") (n ∷ p.stamp ∷ [])) (same_first (codes "commit") line number floor p.number p.floor is p.is_number p.is_floor p.asked) p.told,
+)

@@ -1,9 +1,9 @@
 -- Which faults end a run.
 use Rattle.std.proofs.Common.{◌≡◌, Ok, Err, Result, IfErr, IsErrOf, ap, refl}
 use Rattle.tt_publish.specs.declared.faults.PublishFault.TheVariants as publishes
-use Rattle.tt_node.specs.Fault.{IsRunFault}
-use Rattle.tt_node.specs.declared.faults.NodeFault.{NodeFault}
-use Rattle.tt_node.specs.declared.faults.NodeFault.TheVariants as node
+use Rattle.tt_rounds.specs.Fault.{IsRunFault}
+use Rattle.tt_rounds.specs.declared.faults.NodeFault.{NodeFault}
+use Rattle.tt_rounds.specs.declared.faults.NodeFault.TheVariants as node
 use Rattle.tt_live.specs.Fault.{EndsRun}
 
 -- the fault of a node whose limits are good ends a run

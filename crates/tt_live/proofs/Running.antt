@@ -6,13 +6,14 @@ use Rattle.tt_daemon.specs.Config.{Configuration}
 use Rattle.tt_daemon.specs.Daemon.{DaemonState, new_daemon}
 use Rattle.tt_daemon.specs.Publication.{Publication}
 use Rattle.tt_script.specs.Lives.{LiveRun}
-use Rattle.tt_node.specs.Link.{Call, Gift, Exchange, LinkDoes}
+use Rattle.tt_rounds.specs.Link.{Call, Gift, Exchange, LinkDoes}
 use Rattle.tt_node.specs.Running.{RunsRounds, RunsNode}
-use Rattle.tt_node.specs.Sharing.{SharesSequencer, ReadsPublished, new_watch}
-use Rattle.tt_node.specs.declared.faults.NodeFault.{NodeFault}
+use Rattle.tt_node.specs.Sharing.{SharesSequencer, ReadsPublished}
+use Rattle.tt_publish.specs.Known.{new_watch}
+use Rattle.tt_rounds.specs.declared.faults.NodeFault.{NodeFault}
 use Rattle.tt_node.specs.declared.gates.OpenGate.{OpenGate}
 use Rattle.tt_node.specs.declared.nodes.NodeEnd.{NodeEnd}
-use Rattle.tt_node.specs.declared.rounds.Rounds.{Rounds}
+use Rattle.tt_rounds.specs.declared.rounds.Rounds.{Rounds}
 use Rattle.tt_live.specs.declared.lives.LiveEnd.{LiveEnd}
 use Rattle.tt_live.specs.Clock.{LiveState, LiveGives, failures_of, new_clock}
 use Rattle.tt_live.specs.Running.{AnyLink, link_failures, OpenSays, OpenHears, IsNodeOf, IsRunOf, TellsNode, RunsScript}

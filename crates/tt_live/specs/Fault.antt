@@ -1,9 +1,9 @@
 -- The numbers of the refusals, and which faults of the node a run has.
 use Rattle.std.specs.Prelude.{ℕ}
 use Rattle.tt_publish.specs.declared.faults.PublishFault.TheVariants as publishes
-use Rattle.tt_node.specs.Fault.{number_of as node_number_of}
-use Rattle.tt_node.specs.declared.faults.NodeFault.{NodeFault}
-use Rattle.tt_node.specs.declared.faults.NodeFault.TheVariants as node
+use Rattle.tt_rounds.specs.Fault.{number_of as node_number_of}
+use Rattle.tt_rounds.specs.declared.faults.NodeFault.{NodeFault}
+use Rattle.tt_rounds.specs.declared.faults.NodeFault.TheVariants as node
 use Rattle.tt_live.specs.declared.faults.LiveFault.{LiveFault}
 use Rattle.tt_live.specs.declared.faults.LiveFault.TheVariants.{NoLive, Unfit, Node}
 

@@ -4,3 +4,4 @@ pub mod Notes
 pub mod Replies
 pub mod Clock
 pub mod Running
+pub mod Exchange

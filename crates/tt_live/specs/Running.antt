@@ -4,9 +4,10 @@ use Rattle.tt_daemon.specs.Config.{Configuration}
 use Rattle.tt_daemon.specs.Daemon.{new_daemon}
 use Rattle.tt_audit.specs.Live.{holds_some_time}
 use Rattle.tt_script.specs.Lives.{LiveRun}
-use Rattle.tt_node.specs.Link.{Call, Gift}
+use Rattle.tt_rounds.specs.Link.{Call, Gift}
 use Rattle.tt_node.specs.Running.{RunsRounds}
-use Rattle.tt_node.specs.Sharing.{SharesSequencer, ReadsPublished, new_watch}
+use Rattle.tt_node.specs.Sharing.{SharesSequencer, ReadsPublished}
+use Rattle.tt_publish.specs.Known.{new_watch}
 use Rattle.tt_node.specs.declared.gates.OpenGate.{OpenGate}
 use Rattle.tt_node.specs.declared.nodes.NodeEnd.{NodeEnd}
 use Rattle.tt_live.specs.Clock.{LiveGives, failures_of, new_clock}

@@ -5,7 +5,7 @@ ghost use Rattle.tt_live.specs.declared.faults.LiveFault.TheVariants.{Node};
 ghost use Rattle.tt_live.specs.Fault.{number_of};
 
 use thiserror::Error;
-use tt_node::NodeFault;
+use tt_rounds::NodeFault;
 
 /// Why a script is not run live, or why its run ended before it was done.
 #[derive(Clone, Copy, Debug, PartialEq, Eq, Error)]

@@ -14,13 +14,15 @@
 //!
 //! - `plans`: which scripts are run, and why one is refused. `faults`: why a run is refused.
 //! - `clocks`: the clocks of a run. `sockets`: its sockets.
-//! - `masters`: the thread of a master. `clients`: the thread of a client. `replies`: which replies a session may give
-//!   to a line.
+//! - `masters`: the thread of a master. `clients`: the thread of a client.
+//! - [`exchange`] sends one line to a machine, and takes its reply. `replies`: which replies a session may give to a line,
+//!   and what a reply means. Every client of sessions stands on these.
 //! - `lives`: [`live`], which starts and joins the threads. `reports`: the count of the readings.
 #![tactic(auto)]
 
 mod clients;
 mod clocks;
+mod exchanges;
 mod faults;
 mod lives;
 mod masters;
@@ -30,6 +32,7 @@ mod reports;
 mod sockets;
 
 pub use clients::MAX_ASKS;
+pub use exchanges::{MAX_REPLY, Reply, exchange};
 pub use faults::LiveFault;
 pub use lives::{LiveEnd, MAX_READS, MAX_WAITS, live};
-pub use replies::may_answer;
+pub use replies::{Meaning, may_answer, meaning_of, refusal_in};

@@ -3,7 +3,7 @@
 ghost use Rattle.std.specs.Prelude.{◌≡◌, ◌<◌, ◌≤◌, Some, None, Err, IfOk, IfSome, IfErr, vec_len};
 ghost use Rattle.tt_poll.specs.Message.{max_source};
 ghost use Rattle.tt_publish.specs.Known.{max_watches};
-ghost use Rattle.tt_node.specs.declared.faults.NodeFault.{NodeFault};
+ghost use Rattle.tt_rounds.specs.declared.faults.NodeFault.{NodeFault};
 ghost use Rattle.tt_node.specs.declared.nodes.NodeEnd.{NodeEnd};
 ghost use Rattle.tt_live.specs.Clock.{new_clock};
 ghost use Rattle.tt_live.specs.Fault.{EndsRun, IsEndFault, IsLiveFault, IsSocketFault};
@@ -26,7 +26,8 @@ use std::thread::{Promise, PromisedHandle, Scope, Threads};
 use std::time::{Clock as SystemClock, Instant};
 use tt_audit::LiveReport;
 use tt_daemon::{Config, Daemon};
-use tt_node::{Clocks, Limits, NodeEnd, NodeFault, OpenGate, RoundLink, Rounds, UdpLink, run_node};
+use tt_node::{Clocks, Limits, NodeEnd, OpenGate, run_node};
+use tt_rounds::{NodeFault, RoundLink, Rounds, UdpLink};
 use tt_script::{Live, LiveMaster, Script, Session};
 use tt_session::Turns;
 use tt_stream::Counted;
@@ -53,7 +54,7 @@ pub struct LiveEnd {
 }
 
 /// What the threads of a run share.
-struct Shared<'a, R> {
+struct LiveContext<'a, R> {
     rt: &'a R,
     alloc: Global,
     origin: Origin,
@@ -62,9 +63,9 @@ struct Shared<'a, R> {
     gate: &'a OpenGate,
 }
 
-impl<'a, R> Clone for Shared<'a, R> {
+impl<'a, R> Clone for LiveContext<'a, R> {
     fn clone(&self) -> Result<Self, std::alloc::AllocError> {
-        Ok(Shared {
+        Ok(LiveContext {
             rt: self.rt,
             alloc: self.alloc,
             origin: self.origin,
@@ -75,7 +76,7 @@ impl<'a, R> Clone for Shared<'a, R> {
     }
 }
 
-impl<'a, R> Copy for Shared<'a, R> {}
+impl<'a, R> Copy for LiveContext<'a, R> {}
 
 /// How a thread of a master or a client ended.
 type End = Result<(), NodeFault>;
@@ -97,7 +98,7 @@ type Started = PromisedHandle<End, EndsSo>;
 /// Starts the thread of a master, if one can be made.
 fn start_master<'s, E, R: Wait + SystemClock + Sync>(
     scope: &Scope<'s, E>,
-    shared: Shared<'s, R>,
+    shared: LiveContext<'s, R>,
     source: u8,
     plan: &'s LiveMaster,
     link: UdpLink,
@@ -128,7 +129,7 @@ fn start_master<'s, E, R: Wait + SystemClock + Sync>(
 /// Starts the thread of a client, if one can be made.
 fn start_client<'s, E, R: Wait + SystemClock + Sync>(
     scope: &Scope<'s, E>,
-    shared: Shared<'s, R>,
+    shared: LiveContext<'s, R>,
     session: &'s Session,
     stream: TcpStream,
 ) -> Option<Started> {
@@ -138,8 +139,15 @@ fn start_client<'s, E, R: Wait + SystemClock + Sync>(
             move || -> End
                 ensures { IfErr result IsEndFault }
             {
-                let mut stream = Counted::new(stream);
-                talk(shared.rt, shared.alloc, &mut stream, session.lines())
+                let mut reader = Counted::new(&stream);
+                let mut writer = Counted::new(&stream);
+                talk(
+                    shared.rt,
+                    shared.alloc,
+                    &mut reader,
+                    &mut writer,
+                    session.lines(),
+                )
             },
         )
         .ok()
@@ -148,7 +156,7 @@ fn start_client<'s, E, R: Wait + SystemClock + Sync>(
 /// Starts the threads of all masters, from the last source to the first. Answers whether each thread was started.
 fn start_masters<'s, E, R: Wait + SystemClock + Sync>(
     scope: &Scope<'s, E>,
-    shared: Shared<'s, R>,
+    shared: LiveContext<'s, R>,
     live: &'s Live,
     links: Vec<UdpLink>,
     handles: &mut Vec<Started>,
@@ -179,7 +187,7 @@ fn start_masters<'s, E, R: Wait + SystemClock + Sync>(
 /// each thread was started.
 fn start_clients<'s, E, R: Wait + SystemClock + Sync>(
     scope: &Scope<'s, E>,
-    shared: Shared<'s, R>,
+    shared: LiveContext<'s, R>,
     live: &'s Live,
     streams: Vec<TcpStream>,
     handles: &mut Vec<Started>,
@@ -223,7 +231,7 @@ fn join_all<R: Threads>(rt: &R, handles: Vec<Started>) -> End
 
 /// The clocks of a node with `workers` workers.
 fn clocks_of<'s, R: SystemClock>(
-    shared: Shared<'s, R>,
+    shared: LiveContext<'s, R>,
     workers: usize,
 ) -> Result<Clocks<LiveClock<'s, R>>, NodeFault>
     ensures all { IfOk result (λ clocks. vec_len clocks.workers ≡ workers) }
@@ -247,7 +255,7 @@ fn clocks_of<'s, R: SystemClock>(
 
 /// Runs the node over these streams, with one clock for each, unless some thread was not started.
 fn run_streams<'s, R: Threads + Wait + SystemClock + Sync>(
-    shared: Shared<'s, R>,
+    shared: LiveContext<'s, R>,
     config: Config,
     live: &'s Live,
     link: RoundLink<'s, R>,
@@ -294,7 +302,7 @@ fn run_streams<'s, R: Threads + Wait + SystemClock + Sync>(
 /// Starts the threads of the masters and the clients, runs the node, and joins all threads that were started.
 fn run_threads<'s, E, R: Threads + Wait + SystemClock + Sync>(
     scope: &Scope<'s, E>,
-    shared: Shared<'s, R>,
+    shared: LiveContext<'s, R>,
     config: Config,
     live: &'s Live,
     links: Links<'s, R>,
@@ -361,7 +369,7 @@ fn run<
         start,
     };
     let gate = OpenGate;
-    let shared = Shared {
+    let shared = LiveContext {
         rt,
         alloc,
         origin,

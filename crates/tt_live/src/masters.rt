@@ -2,14 +2,14 @@
 
 ghost use Rattle.std.specs.Prelude.{◌≡◌, ◌<◌, ◌≤◌, IfSome, IfErr};
 ghost use Rattle.tt_poll.specs.Message.{max_source};
-ghost use Rattle.tt_node.specs.Fault.{IsTurnsFault};
+ghost use Rattle.tt_rounds.specs.Fault.{IsTurnsFault};
 
 use crate::clocks::{LiveClock, Origin};
 use std::sync::atomic::{AtomicBool, Ordering};
 use std::time::Clock as SystemClock;
 use tt_master::Master;
-use tt_node::{NodeFault, UdpLink, master_rounds};
 use tt_poll::MAX_SOURCE;
+use tt_rounds::{NodeFault, UdpLink, master_rounds};
 use tt_script::LiveMaster;
 
 /// The source number of the master at this place. None where no source has such a number.

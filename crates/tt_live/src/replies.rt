@@ -1,10 +1,11 @@
-//! Which replies a session may give to a line.
+//! Which replies a session may give to a line, and what a reply means for the sender of the line.
 
-ghost use Rattle.std.specs.Prelude.{◌≡◌, ◌≢◌, ◌↔◌, [], ◌∷◌, ℕ, IsTrue, MatchOption};
+ghost use Rattle.std.specs.Prelude.{◌≡◌, ◌≢◌, ◌↔◌, [], ◌∷◌, ℕ, IsTrue, MatchOption, codes};
 ghost use Rattle.tt_text.specs.Line.{line_of};
 ghost use Rattle.tt_text.specs.Reading.{IsNumber, IsLineOf};
 ghost use Rattle.tt_session.specs.Requests.{spelling_of};
 ghost use Rattle.tt_session.specs.declared.requests.Request.TheVariants as asks;
+ghost use Rattle.tt_live.specs.Exchange.{IsPending, nothing_yet};
 ghost use Rattle.tt_live.specs.Replies.{MayAnswer, IsRefusal, GivesAsked, IsReading, IsYesOrNo, IsQuestion, TellsOf, TellsOfAsked};
 
 use tt_span::Span;
@@ -137,4 +138,51 @@ fn answers_commit(line: &[u8], reply: &[u8]) -> bool
         Some((number, _floor)) => tells_of(number, reply),
         None => false,
     }
+}
+
+/// The reply to a line that needs a reading, while nothing is published.
+const NOTHING_YET: &[u8] = b"refused 801\n";
+
+/// What the reply to a line means.
+#[derive(Clone, Copy, Debug, PartialEq, Eq)]
+pub enum Meaning {
+    /// It is the answer.
+    Final,
+    /// The commit of this line is not committed yet: the line has to be sent again.
+    Pending,
+    /// Nothing is published yet: the line may be sent again a little later.
+    NothingYet,
+}
+
+/// What the reply to a line means, both with their line feeds. It is `Pending` if the line is `commit ID FLOOR` and the
+/// reply is `waiting ID S` with the same ID, `NothingYet` if the reply is `refused 801`, and `Final` otherwise.
+pub fn meaning_of(line: &[u8], reply: &[u8]) -> Meaning
+    ensures pending { result ≡ Meaning.Pending ↔ IsPending line.now reply.now }
+    ensures nothing_yet { result ≡ Meaning.NothingYet ↔ reply.now ≡ nothing_yet }
+{
+    if is_pending(line, reply) {
+        return Meaning::Pending;
+    }
+    if reply == NOTHING_YET {
+        return Meaning::NothingYet;
+    }
+    Meaning::Final
+}
+
+/// Whether the line asks for a commit, and the reply says that it is not committed yet.
+fn is_pending(line: &[u8], reply: &[u8]) -> bool
+    ensures { IsTrue result ↔ IsPending line.now reply.now }
+{
+    match two_numbers(b"commit", line) {
+        Some((number, _floor)) => names(b"waiting", number, reply),
+        None => false,
+    }
+}
+
+/// The number of a reply that is `refused N`, with its line feed.
+pub fn refusal_in(reply: &[u8]) -> Option<u64>
+    ensures { MatchOption result ((n : ℕ) → IsNumber n → reply.now ≢ line_of (codes "refused") (n ∷ []))
+        (λ number. IsLineOf (codes "refused") reply.now (number ∷ [])) }
+{
+    only_number(b"refused", reply)
 }

@@ -9,7 +9,7 @@ use std::io::{self, ErrorKind};
 use std::net::{Net, SocketAddr, TcpListener, TcpStream, UdpSocket};
 use std::sync::atomic::AtomicBool;
 use std::time::{Clock as SystemClock, Duration};
-use tt_node::{NodeFault, RoundLink, UdpLink};
+use tt_rounds::{NodeFault, RoundLink, UdpLink};
 use tt_session::{Deadline, DeadlineReader, Timed};
 use tt_stream::Counted;
 

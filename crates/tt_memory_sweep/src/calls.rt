@@ -78,7 +78,7 @@ impl Call {
             Call::DaemonRounds => "tt_node::daemon_rounds",
             Call::OpenSequencer => "tt_stamp::Sequencer::open",
             Call::Queue => "tt_stamp::Book::queue",
-            Call::QueueShared => "tt_shared_book::SharedBook::queue",
+            Call::QueueShared => "tt_node::SharedBook::queue",
             Call::BeginAtDesk => "tt_session::Desk::begin",
             Call::NowOfWorker => "tt_node::Worker::now",
             Call::BeginOfWorker => "tt_node::Worker::begin",
@@ -87,7 +87,7 @@ impl Call {
             Call::NextEpoch => "tt_epoch::next_epoch",
             Call::PushEvent => "tt_status::push_event",
             Call::NewQueue => "tt_connections::Queue::new",
-            Call::ServeAtPost => "tt_station::Post::serve",
+            Call::ServeAtPost => "tt_connections::Post::serve",
         }
     }
 

@@ -6,10 +6,9 @@ use crate::outcomes::{MEMORY, Outcome};
 use std::alloc::Global;
 use std::marker::Brand;
 use std::sync::Wait;
-use tt_node::{OpenGate, Worker};
+use tt_node::{BookView, OpenGate, OpenedBook, SharedBook, WhichBook, Worker};
 use tt_publish::{MemoryClock, Reading, Watch, open};
 use tt_session::{Desk, Service};
-use tt_shared_book::{BookView, OpenedBook, SharedBook, WhichBook};
 use tt_span::{Drift, Span};
 use tt_stamp::{Book, BookFault, Id, Row, Sequencer};
 

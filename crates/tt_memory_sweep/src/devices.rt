@@ -8,8 +8,9 @@ use std::sync::{Mutex, Wait};
 use std::thread;
 use std::time::Duration;
 use tt_master::{Act, Master, MemoryReference};
-use tt_node::{Gate, Link, LinkFault, PACKET_LEN};
+use tt_node::Gate;
 use tt_poll::ANSWER2_LEN;
+use tt_rounds::{Link, LinkFault, PACKET_LEN};
 use tt_stream::{ByteWriter, DeviceFault};
 
 /// How long a gate pauses when it does not let a call pass, in microseconds.

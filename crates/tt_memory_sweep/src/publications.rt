@@ -5,8 +5,8 @@ use crate::outcomes::{MEMORY, Outcome};
 use std::alloc::Global;
 use std::sync::Wait;
 use tt_daemon::{Daemon, Fused};
-use tt_node::daemon_rounds;
 use tt_publish::{MemoryClock, PublishFault, ReadFault, Reading, Teller, Watch, open};
+use tt_rounds::daemon_rounds;
 use tt_span::Drift;
 
 /// Fusions are published for the times from 1 to below this number.

@@ -6,15 +6,14 @@ use crate::outcomes::{MEMORY, Outcome};
 use arrayvec::ArrayVec;
 use std::alloc::{AllocError, Global};
 use std::sync::Wait;
-use tt_connections::Queue;
+use tt_connections::{AlwaysThere, Post, Queue, Terms};
 use tt_epoch::{MemoryStore, next_epoch};
 use tt_publish::MemoryClock;
 use tt_session::Turns;
 use tt_settings::read;
 use tt_span::Span;
 use tt_stamp::Sequencer;
-use tt_station::{AlwaysThere, Post, Terms};
-use tt_status::{Event, LogFormat, RefusedFusion, push_event};
+use tt_status::{LogEvent, LogFormat, RefusedFusion, push_event};
 use tt_stream::MemoryReader;
 
 /// The settings of a machine with three masters, one of which may be faulty, and four paths.
@@ -93,7 +92,7 @@ fn write_event(alloc: Global) -> Result<bool, u16> {
         &mut text,
         LogFormat::Text,
         5,
-        Event::FusionRefused {
+        LogEvent::FusionRefused {
             reason: RefusedFusion::NoPoint,
         },
         2,

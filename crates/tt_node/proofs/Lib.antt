@@ -1,12 +1,6 @@
-pub mod Handing
-pub mod Failing
-pub mod Leading
-pub mod Listing
-pub mod Fusings
-pub mod Pacing
 pub mod Running
 pub mod Reading
 pub mod Sharing
-pub mod Turns
+pub mod SharedBooks
 pub mod Gating
 pub mod Committing

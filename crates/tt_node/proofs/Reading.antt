@@ -1,7 +1,7 @@
 -- What the workers of a node read.
-use Rattle.std.proofs.Common.{◌≡◌, ◌<◌, ◌⊎◌, ℕ, Bool, true, false, List, [], ◌∷◌, ◌++◌, length, get_or, All, Contains, Option, Some, None, Result, Ok, Err, refl, sym, ap, ◌∙◌, subst, inl, inr, ⊎_elim}
+use Rattle.std.proofs.Common.{◌≡◌, ◌⊎◌, ℕ, Bool, true, false, List, [], ◌∷◌, ◌++◌, length, All, Contains, Option, Some, None, Result, Ok, Err, refl, sym, ap, ◌∙◌, subst, inl, inr, ⊎_elim}
 use Rattle.std.specs.List.{last_or}
-use Rattle.std.proofs.lemmas.List.Elements.{All-nil, All-get_or, All-push, All-weaker, Contains-append_left}
+use Rattle.std.proofs.lemmas.List.Elements.{All-nil, All-push, All-weaker, Contains-append_left}
 use mathlib.Core.List.{IsPrefix}
 use Rattle.tt_span.specs.Interval.{Interval}
 use Rattle.tt_daemon.specs.Publication.{Publication}
@@ -12,17 +12,13 @@ use Rattle.tt_session.specs.Conversation.{Conversation}
 use Rattle.tt_session.specs.declared.calls.Call.{Call}
 use Rattle.tt_session.specs.declared.calls.Call.TheVariants as call
 use Rattle.tt_stamp.proofs.Ids.{Contains-here, Contains-there}
-use Rattle.tt_shared_book.proofs.Lists.{prefix_trans}
+use Rattle.tt_history.proofs.Prefixes.{prefix_trans}
 use Rattle.tt_audit.specs.declared.live.LiveNote.{LiveNote}
 use Rattle.tt_node.specs.Sharing.{IsWatchLater, IsReadingOf, AreReadingsOf, ReadsBy, ReadsPublished}
 use Rattle.tt_node.specs.Working.{WorkerState, Works, PassesGate, DoesWhere, Reads, Commits, Releases, Allows, after_asking}
 use Rattle.tt_node.specs.declared.nodes.WorkerEnd.{WorkerEnd}
 
--- ---- elements of a list
--- what holds of all holds of one at its place
-pub item-at : {A : Type 0} (Holds : A → Type 0) (xs : List A) (i : ℕ) (x : A) → x ≡ get_or xs i x → i < length xs → All Holds xs → Holds x
-item-at Holds xs i x is within all = subst Holds (sym is) (All-get_or Holds xs i x within all)
-
+-- ---- the last of a list
 last_or-within : {A : Type 0} (o : Option A) (xs : List A) (x : A) → last_or o xs ≡ Some x → (o ≡ Some x) ⊎ Contains xs x
 last_or-within o [] x is = inl is
 last_or-within o (y ∷ ys) x is =

@@ -3,18 +3,18 @@ use Rattle.std.proofs.Common.{◌≡◌, ◌≤◌, ◌+◌, ℕ, List, [], ◌+
 use Rattle.tt_daemon.specs.Daemon.{DaemonState}
 use Rattle.tt_daemon.specs.Publication.{Publication, IsPublication}
 use Rattle.tt_publish.specs.declared.faults.PublishFault.TheVariants.{ClockBack, UsedUp, Memory}
-use Rattle.tt_node.specs.Link.{Call, Gift}
-use Rattle.tt_node.specs.Counting.{FailsBy}
-use Rattle.tt_node.specs.Fault.{IsRoundsFault, IsFirstFault}
-use Rattle.tt_node.specs.Fusing.{fusions_in, Grows}
-use Rattle.tt_node.specs.Course.{rounds_of}
-use Rattle.tt_node.specs.Tallies.{no_tally, refused_in}
-use Rattle.tt_node.specs.declared.tallies.Tally.{Tally}
-use Rattle.tt_node.specs.Making.{Makes, stand_of, answer_of}
+use Rattle.tt_rounds.specs.Link.{Call, Gift}
+use Rattle.tt_rounds.specs.Counting.{FailsBy}
+use Rattle.tt_rounds.specs.Fault.{IsRoundsFault, IsFirstFault}
+use Rattle.tt_rounds.specs.Fusing.{fusions_in, Grows}
+use Rattle.tt_rounds.specs.Course.{rounds_of}
+use Rattle.tt_rounds.specs.Tallies.{no_tally, refused_in}
+use Rattle.tt_rounds.specs.declared.tallies.Tally.{Tally}
+use Rattle.tt_rounds.specs.Making.{Makes, stand_of, answer_of}
 use Rattle.tt_node.specs.Running.{RunsRounds}
-use Rattle.tt_node.specs.declared.faults.NodeFault.{NodeFault}
-use Rattle.tt_node.specs.declared.faults.NodeFault.TheVariants as node
-use Rattle.tt_node.specs.declared.rounds.Rounds.{Rounds}
+use Rattle.tt_rounds.specs.declared.faults.NodeFault.{NodeFault}
+use Rattle.tt_rounds.specs.declared.faults.NodeFault.TheVariants as node
+use Rattle.tt_rounds.specs.declared.rounds.Rounds.{Rounds}
 
 -- few publications use up no numbers
 first-fault : (old new : List Publication) (fault : NodeFault) → old ≡ [] → length new ≤ length old + 4294967295 → IsRoundsFault new fault → IsFirstFault fault

@@ -2,18 +2,18 @@
 use Rattle.std.specs.Prelude.{◌≡◌, ℕ, List, [], length, All, Option, Result, Ok, Err, IfOk, IfErr}
 use Rattle.tt_daemon.specs.Daemon.{DaemonState}
 use Rattle.tt_daemon.specs.Publication.{Publication, IsPublication}
-use Rattle.tt_node.specs.Link.{Call, Gift}
-use Rattle.tt_node.specs.Counting.{FailsBy}
-use Rattle.tt_node.specs.Fault.{IsFirstFault, IsDaemonFault}
-use Rattle.tt_node.specs.Fusing.{fusions_in}
-use Rattle.tt_node.specs.Course.{rounds_of}
-use Rattle.tt_node.specs.Making.{Makes, stand_of, answer_of}
-use Rattle.tt_node.specs.declared.faults.NodeFault.{NodeFault}
-use Rattle.tt_node.specs.declared.faults.NodeFault.TheVariants.{LinkFailed, ClockFailed}
+use Rattle.tt_rounds.specs.Link.{Call, Gift}
+use Rattle.tt_rounds.specs.Counting.{FailsBy}
+use Rattle.tt_rounds.specs.Fault.{IsFirstFault, IsDaemonFault}
+use Rattle.tt_rounds.specs.Fusing.{fusions_in}
+use Rattle.tt_rounds.specs.Course.{rounds_of}
+use Rattle.tt_rounds.specs.Making.{Makes, stand_of, answer_of}
+use Rattle.tt_rounds.specs.declared.faults.NodeFault.{NodeFault}
+use Rattle.tt_rounds.specs.declared.faults.NodeFault.TheVariants.{LinkFailed, ClockFailed}
 use Rattle.tt_node.specs.declared.nodes.NodeEnd.{NodeEnd}
-use Rattle.tt_node.specs.declared.rounds.Rounds.{Rounds}
-use Rattle.tt_node.specs.declared.tallies.Tally.{Tally}
-use Rattle.tt_node.specs.Tallies.{no_tally, refused_in}
+use Rattle.tt_rounds.specs.declared.rounds.Rounds.{Rounds}
+use Rattle.tt_rounds.specs.declared.tallies.Tally.{Tally}
+use Rattle.tt_rounds.specs.Tallies.{no_tally, refused_in}
 
 -- a daemon that had published nothing did so many rounds: the course of them, by what this clock and this link gave, and the answer tells what was done, or the fault that ended them; then these are published
 pub record RunsRounds {C L : Type 0} (gives : C → Option ℕ → C → Type 0) (clock_failed : C → ℕ) (does : L → Call → Gift → L → Type 0) (link_failed : L → ℕ)

@@ -43,10 +43,6 @@ pub record IsLater (before after : SeatState) : Type 0 where
   pub seen : Continues before.seen after.seen
   pub own : Continues before.own after.own
 
--- a new watch of this source, by a clock with this drift, in parts per million: it has seen nothing
-abbrev pub new_watch : Source → ℕ → WatchState
-new_watch source drift = record { source = source; drift = drift; items = [] }
-
 -- it is the same watch later: what it has seen goes on from what it was
 pub record IsWatchLater (before after : WatchState) : Type 0 where
   pub source : after.source ≡ before.source

@@ -8,7 +8,7 @@ use Rattle.tt_publish.specs.Known.{WatchState}
 use Rattle.tt_publish.specs.Looks.{Looks}
 use Rattle.tt_publish.specs.declared.faults.ReadFault.{ReadFault}
 use Rattle.tt_stamp.specs.Fault.{begin_number_of, book_number_of}
-use Rattle.tt_shared_book.specs.Known.{GoesOn, AnswersFault}
+use Rattle.tt_node.specs.SharedBooks.{GoesOn, AnswersFault}
 use Rattle.tt_stamp.specs.History.{IsLegalHistory, waiting_of, release_of, with_receipts, first_queue_fault, receipt_of}
 use Rattle.tt_stamp.specs.Stamping.{SeatState}
 use Rattle.tt_stamp.specs.Steps.{Stamps, Begins}

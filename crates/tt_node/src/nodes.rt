@@ -1,15 +1,13 @@
 //! The running node: one daemon and many workers, each in a thread of its own.
 
 ghost use Rattle.std.specs.Prelude.{◌≡◌, ◌≢◌, ◌<◌, ◌≤◌, ◌↔◌, ◌⊎◌, ◌+◌, [], All, Ok, Err, IfOk, IfErr, IfSome, IsSome, IsErrOf, OnOk, IsTrue, vec_len, vec_capacity};
-ghost use Rattle.tt_node.specs.Fault.{IsRunFault, IsFirstFault};
+ghost use Rattle.tt_rounds.specs.Fault.{IsRunFault, IsFirstFault};
 ghost use Rattle.tt_node.specs.Running.{RunsRounds, RunsNode};
-ghost use Rattle.tt_node.specs.Sharing.{AllFrom, AllDown, IsNewSeat, IsServing, ReadsBy, ReadsPublished, ServesAt, ServesWith, SharesSequencer, new_watch};
-ghost use Rattle.tt_publish.specs.Known.{max_watches};
+ghost use Rattle.tt_node.specs.Sharing.{AllFrom, AllDown, IsNewSeat, IsServing, ReadsBy, ReadsPublished, ServesAt, ServesWith, SharesSequencer};
+ghost use Rattle.tt_publish.specs.Known.{max_watches, new_watch};
 
-use crate::faults::NodeFault;
 use crate::gates::Gate;
-use crate::links::Link;
-use crate::rounds::{Rounds, daemon_rounds};
+use crate::shared_books::{OpenedBook, SharedBook, WhichBook};
 use crate::workers::Worker;
 use std::alloc::Global;
 use std::marker::Brand;
@@ -21,8 +19,8 @@ use std::thread::{Promise, PromisedHandle, Scope, Threads};
 use tt_audit::LiveNote;
 use tt_daemon::Daemon;
 use tt_publish::{Clock, MAX_WATCHES, Teller, Told, Watch, open};
+use tt_rounds::{Link, NodeFault, Rounds, daemon_rounds};
 use tt_session::{ServeFault, Served, Turns, serve};
-use tt_shared_book::{OpenedBook, SharedBook, WhichBook};
 use tt_span::{Drift, Span};
 use tt_stamp::{Seat, Sequencer};
 use tt_stream::{ByteReader, ByteWriter};
@@ -75,24 +73,67 @@ pub struct NodeEnd {
     pub stamps: Snapshot<Seat>,
 }
 
-/// What the workers of a node share besides their sequencer and their gate.
-struct Shared<'a, R, J: WhichBook> {
+/// What each thread of a node borrows.
+struct NodeContext<'a, R, G, J: WhichBook> {
     rt: &'a R,
     alloc: Global,
     book: &'a SharedBook<J>,
+    sequencer: &'a Sequencer,
+    gate: &'a G,
+    limits: &'a Limits,
 }
 
-impl<'a, R, J: WhichBook> Clone for Shared<'a, R, J> {
+impl<'a, R, G, J: WhichBook> Clone for NodeContext<'a, R, G, J> {
     fn clone(&self) -> Result<Self, std::alloc::AllocError> {
-        Ok(Shared {
+        Ok(NodeContext {
             rt: self.rt,
             alloc: self.alloc,
             book: self.book,
+            sequencer: self.sequencer,
+            gate: self.gate,
+            limits: self.limits,
         })
     }
 }
 
-impl<'a, R, J: WhichBook> Copy for Shared<'a, R, J> {}
+impl<'a, R, G, J: WhichBook> Copy for NodeContext<'a, R, G, J> {}
+
+/// What the thread of a daemon owns.
+#[derive(Drop)]
+struct DaemonParts<L, C> {
+    daemon: Daemon,
+    link: L,
+    clock: C,
+}
+
+/// What the thread of a worker owns besides its stream.
+#[derive(Drop)]
+struct WorkerParts<C> {
+    session: u32,
+    seat: Seat,
+    watch: Watch,
+    clock: C,
+}
+
+/// What the threads of all workers own: one of each for each session, in the order of the sessions.
+#[derive(Drop)]
+struct Posts<C, I, O> {
+    seats: Vec<Seat>,
+    watches: Vec<Watch>,
+    clocks: Vec<C>,
+    streams: Vec<(I, O)>,
+}
+
+/// What a node is run with besides its book.
+#[derive(Drop)]
+struct NodeParts<'a, L, C, I, O, G> {
+    daemon: DaemonParts<L, C>,
+    clocks: Vec<C>,
+    streams: Vec<(I, O)>,
+    gate: &'a G,
+    limits: Limits,
+    daemon_failed: &'a AtomicBool,
+}
 
 /// What the thread of a daemon does: `rounds` rounds of this daemon, with this link and this clock. It tells what they
 /// published, by a teller that had told `opened` before.
@@ -163,35 +204,35 @@ fn first_rounds<R: Wait, L: Link + Drop, C: Clock + Drop>(
 
 /// Serves a session by a worker with these parts, and gives its seat back.
 fn work<'a, R: Wait, C: Clock + Drop, I: ByteReader, O: ByteWriter, G: Gate + Copy, J: WhichBook>(
-    shared: Shared<'a, R, J>,
-    sequencer: &'a Sequencer,
-    gate: &G,
-    limits: &Limits,
-    session: u32,
-    seat: Seat,
-    watch: Watch,
-    clock: C,
+    context: NodeContext<'a, R, G, J>,
+    parts: WorkerParts<C>,
     reader: &mut I,
     writer: &mut O,
 ) -> (WorkerEnd, Seat)
-    requires of_it { seat.table ≡ sequencer.now }
+    requires of_it { parts.seat.table ≡ context.sequencer.now }
     ensures seat { result.0.seat.value ≡ result.1 }
-    ensures serves { ServesWith C.gives C.failed G.says G.hears limits.now.serve.waits session gate.now limits.now.lease watch clock seat result.0 }
+    ensures serves { ServesWith C.gives C.failed G.says G.hears context.entry.limits.now.serve.waits parts.session context.entry.gate.now context.entry.limits.now.lease parts.watch parts.clock parts.seat result.0 }
 {
+    let WorkerParts {
+        session,
+        seat,
+        watch,
+        clock,
+    } = parts;
     let mut worker = Worker::new(
-        shared.rt,
-        shared.alloc,
+        context.rt,
+        context.alloc,
         session,
         watch,
         clock,
         seat,
-        sequencer,
-        shared.book,
-        shared.book.view(shared.rt),
-        *gate,
-        limits.lease,
+        context.sequencer,
+        context.book,
+        context.book.view(context.rt),
+        *context.gate,
+        context.limits.lease,
     );
-    let served = serve(reader, writer, &mut worker, limits.serve);
+    let served = serve(reader, writer, &mut worker, context.limits.serve);
     let (notes, seat, watch) = worker.into_parts();
     let end = WorkerEnd {
         served,
@@ -214,50 +255,33 @@ fn start<
     J: WhichBook + Send + Sync,
 >(
     scope: &Scope<'s, E>,
-    shared: Shared<'s, R, J>,
-    sequencer: &'s Sequencer,
-    gate: &'s G,
-    limits: &'s Limits,
-    session: u32,
-    seat: Seat,
-    watch: Watch,
-    clock: C,
+    context: NodeContext<'s, R, G, J>,
+    parts: WorkerParts<C>,
     stream: (I, O),
 ) -> Option<PromisedHandle<(WorkerEnd, Seat), ServesSession<C, G>>>
-    requires of_it { seat.table ≡ sequencer.now }
-    ensures promise { IfSome result (λ handle. IsServing gate.now limits.now.serve.waits limits.now.lease watch session seat handle.promise) }
+    requires of_it { parts.seat.table ≡ context.sequencer.now }
+    ensures promise { IfSome result (λ handle. IsServing context.entry.gate.now context.entry.limits.now.serve.waits context.entry.limits.now.lease parts.watch parts.session parts.seat handle.promise) }
 {
     let promise = ServesSession {
-        session,
-        waits: limits.serve.waits,
-        lease: limits.lease,
-        gate: Snapshot::of(gate),
-        watch: Snapshot::of(&watch),
-        clock: Snapshot::of(&clock),
-        seat: Snapshot::of(&seat),
+        session: parts.session,
+        waits: context.limits.serve.waits,
+        lease: context.limits.lease,
+        gate: Snapshot::of(context.gate),
+        watch: Snapshot::of(&parts.watch),
+        clock: Snapshot::of(&parts.clock),
+        seat: Snapshot::of(&parts.seat),
     };
     let (reader, writer) = stream;
     scope
         .spawn_with(
             promise,
             move || -> (WorkerEnd, Seat)
-                requires { seat.table ≡ sequencer.now }
+                requires { parts.seat.table ≡ context.sequencer.now }
                 ensures { (result.0.seat.value ≡ result.1)
-                    × ServesWith C.gives C.failed G.says G.hears limits.entry.now.serve.waits session gate.entry.now limits.entry.now.lease watch clock seat result.0 }
+                    × ServesWith C.gives C.failed G.says G.hears context.entry.limits.now.serve.waits parts.session context.entry.gate.now context.entry.limits.now.lease parts.watch parts.clock parts.seat result.0 }
             {
                 let (mut reader, mut writer) = (reader, writer);
-                work(
-                    shared,
-                    sequencer,
-                    gate,
-                    limits,
-                    session,
-                    seat,
-                    watch,
-                    clock,
-                    &mut reader,
-                    &mut writer,
-                )
+                work(context, parts, &mut reader, &mut writer)
             },
         )
         .ok()
@@ -273,18 +297,21 @@ fn start_daemon<
 >(
     scope: &Scope<'s, E>,
     rt: &'s R,
-    daemon: Daemon,
-    link: L,
-    clock: C,
+    parts: DaemonParts<L, C>,
     teller: &'s mut Teller,
     rounds: u32,
     turns: u32,
 ) -> Option<PromisedHandle<(Result<Rounds, NodeFault>, Told), DoesRounds<L, C>>>
     requires nothing { teller.old.items ≡ [] }
     ensures promise { IfSome result (λ handle. (handle.promise.rounds ≡ rounds) × (handle.promise.turns ≡ turns)
-        × (handle.promise.daemon.value ≡ daemon) × (handle.promise.link.value ≡ link) × (handle.promise.clock.value ≡ clock)
+        × (handle.promise.daemon.value ≡ parts.daemon) × (handle.promise.link.value ≡ parts.link) × (handle.promise.clock.value ≡ parts.clock)
         × (handle.promise.opened.value ≡ teller.old)) }
 {
+    let DaemonParts {
+        daemon,
+        link,
+        clock,
+    } = parts;
     let opened = teller.tell();
     let promise = DoesRounds {
         daemon: Snapshot::of(&daemon),
@@ -320,29 +347,27 @@ fn start_workers<
     J: WhichBook + Send + Sync,
 >(
     scope: &Scope<'s, E>,
-    shared: Shared<'s, R, J>,
-    sequencer: &'s Sequencer,
-    gate: &'s G,
-    limits: &'s Limits,
+    context: NodeContext<'s, R, G, J>,
+    posts: Posts<C, I, O>,
+    handles: &mut Vec<PromisedHandle<(WorkerEnd, Seat), ServesSession<C, G>>>,
     _opened: &Told,
     _drift: &Drift,
-    seats: Vec<Seat>,
-    watches: Vec<Watch>,
-    clocks: Vec<C>,
-    streams: Vec<(I, O)>,
-    handles: &mut Vec<PromisedHandle<(WorkerEnd, Seat), ServesSession<C, G>>>,
 ) -> bool
     requires none { handles.old.items ≡ [] }
-    requires room { vec_len streams ≤ vec_capacity handles.old }
-    requires one_each { vec_len seats ≡ vec_len streams }
-    requires new { AllFrom (IsNewSeat sequencer.now (vec_len streams)) 0 seats.items }
-    requires watches { All (λ watch. watch ≡ new_watch _opened.now.source _drift.now) watches.items }
-    ensures all { IsTrue result → vec_len handles.new ≡ vec_len streams }
-    ensures some { vec_len handles.new ≤ vec_len streams }
-    ensures each { AllDown (λ number handle. ServesAt sequencer.now (vec_len streams) gate.now limits.now.serve.waits limits.now.lease (new_watch _opened.now.source _drift.now) number handle.promise) (vec_len streams) handles.new.items }
+    requires room { vec_len posts.streams ≤ vec_capacity handles.old }
+    requires one_each { vec_len posts.seats ≡ vec_len posts.streams }
+    requires new { AllFrom (IsNewSeat context.sequencer.now (vec_len posts.streams)) 0 posts.seats.items }
+    requires watches { All (λ watch. watch ≡ new_watch _opened.now.source _drift.now) posts.watches.items }
+    ensures all { IsTrue result → vec_len handles.new ≡ vec_len posts.streams }
+    ensures some { vec_len handles.new ≤ vec_len posts.streams }
+    ensures each { AllDown (λ number handle. ServesAt context.entry.sequencer.now (vec_len posts.streams) context.entry.gate.now context.entry.limits.now.serve.waits context.entry.limits.now.lease (new_watch _opened.now.source _drift.now) number handle.promise) (vec_len posts.streams) handles.new.items }
 {
-    let (mut seats, mut watches) = (seats, watches);
-    let (mut clocks, mut streams) = (clocks, streams);
+    let Posts {
+        mut seats,
+        mut watches,
+        mut clocks,
+        mut streams,
+    } = posts;
     for _ in 0..streams.len() {
         let Some(stream) = streams.pop() else {
             return false;
@@ -354,9 +379,13 @@ fn start_workers<
         else {
             return false;
         };
-        let Some(handle) = start(
-            scope, shared, sequencer, gate, limits, session, seat, watch, clock, stream,
-        ) else {
+        let parts = WorkerParts {
+            session,
+            seat,
+            watch,
+            clock,
+        };
+        let Some(handle) = start(scope, context, parts, stream) else {
             return false;
         };
         handles.push_reserved(handle);
@@ -365,35 +394,32 @@ fn start_workers<
 }
 
 /// Joins all workers, from the one that was started last to the one that was started first, and joins their seats.
-fn join_workers<R: Threads, C: Clock, G: Gate>(
-    rt: &R,
-    sequencer: &Sequencer,
-    _gate: &G,
-    _limits: &Limits,
-    _published: &Told,
-    _drift: &Drift,
+fn join_workers<R: Threads, C: Clock, G: Gate, J: WhichBook>(
+    context: NodeContext<'_, R, G, J>,
     handles: Vec<PromisedHandle<(WorkerEnd, Seat), ServesSession<C, G>>>,
     ends: Vec<WorkerEnd>,
+    _published: &Told,
+    _drift: &Drift,
 ) -> Option<(Vec<WorkerEnd>, Seat)>
     requires none { ends.items ≡ [] }
     requires room { vec_len handles ≤ vec_capacity ends }
-    requires each { AllDown (λ number handle. ServesAt sequencer.now (vec_len handles) _gate.now _limits.now.serve.waits _limits.now.lease (new_watch _published.now.source _drift.now) number handle.promise) (vec_len handles) handles.items }
+    requires each { AllDown (λ number handle. ServesAt context.sequencer.now (vec_len handles) context.gate.now context.limits.now.serve.waits context.limits.now.lease (new_watch _published.now.source _drift.now) number handle.promise) (vec_len handles) handles.items }
     ensures all { IfSome result (λ r. vec_len r.0 ≡ vec_len handles) }
     ensures some { IsSome result ↔ (0 < vec_len handles) }
-    ensures shares { IfSome result (λ r. SharesSequencer C.gives C.failed G.says G.hears _limits.now.serve.waits _gate.now _limits.now.lease (new_watch _published.now.source _drift.now) r.0.items r.1) }
+    ensures shares { IfSome result (λ r. SharesSequencer C.gives C.failed G.says G.hears context.entry.limits.now.serve.waits context.entry.gate.now context.entry.limits.now.lease (new_watch _published.now.source _drift.now) r.0.items r.1) }
     ensures read { IfSome result (λ r. All (ReadsBy _published.now.source _drift.now) r.0.items) }
 {
     let (mut handles, mut ends) = (handles, ends);
-    let (end, mut all) = handles.pop()?.join(rt);
+    let (end, mut all) = handles.pop()?.join(context.rt);
     all.laws();
     ends.push_reserved(end);
     for _ in 0..handles.len() {
         let Some(handle) = handles.pop() else {
             return None;
         };
-        let (end, seat) = handle.join(rt);
+        let (end, seat) = handle.join(context.rt);
         ends.push_reserved(end);
-        all = sequencer.join(all, seat);
+        all = context.sequencer.join(all, seat);
     }
     Some((ends, all))
 }
@@ -437,61 +463,37 @@ fn run_threads<
     J: WhichBook + Send + Sync,
 >(
     scope: &Scope<'s, E>,
-    shared: Shared<'s, R, J>,
-    sequencer: &'s Sequencer,
-    gate: &'s G,
-    limits: &'s Limits,
-    daemon: Daemon,
-    link: L,
-    clocks: Clocks<C>,
+    context: NodeContext<'s, R, G, J>,
+    parts: DaemonParts<L, C>,
+    posts: Posts<C, I, O>,
     teller: &'s mut Teller,
     drift: &'s Drift,
-    seats: Vec<Seat>,
-    watches: Vec<Watch>,
-    streams: Vec<(I, O)>,
     daemon_failed: &'s AtomicBool,
 ) -> Result<NodeEnd, NodeFault>
     requires nothing { teller.old.items ≡ [] }
-    requires some { 0 < vec_len streams }
-    requires one_each { vec_len seats ≡ vec_len streams }
-    requires new { AllFrom (IsNewSeat sequencer.now (vec_len streams)) 0 seats.items }
-    requires watches { All (λ watch. watch ≡ new_watch teller.old.source drift.now) watches.items }
-    ensures runs { RunsNode C.gives C.failed L.does L.failed limits.now.rounds limits.now.turns daemon clocks.daemon link result }
-    ensures all { IfOk result (λ end. vec_len end.workers ≡ vec_len streams) }
-    ensures shares { IfOk result (λ end. SharesSequencer C.gives C.failed G.says G.hears limits.now.serve.waits gate.now limits.now.lease (new_watch end.published.source drift.now) end.workers.items end.stamps.value) }
+    requires some { 0 < vec_len posts.streams }
+    requires one_each { vec_len posts.seats ≡ vec_len posts.streams }
+    requires new { AllFrom (IsNewSeat context.sequencer.now (vec_len posts.streams)) 0 posts.seats.items }
+    requires watches { All (λ watch. watch ≡ new_watch teller.old.source drift.now) posts.watches.items }
+    ensures runs { RunsNode C.gives C.failed L.does L.failed context.entry.limits.now.rounds context.entry.limits.now.turns parts.daemon parts.clock parts.link result }
+    ensures all { IfOk result (λ end. vec_len end.workers ≡ vec_len posts.streams) }
+    ensures shares { IfOk result (λ end. SharesSequencer C.gives C.failed G.says G.hears context.entry.limits.now.serve.waits context.entry.gate.now context.entry.limits.now.lease (new_watch end.published.source drift.now) end.workers.items end.stamps.value) }
     ensures reads { IfOk result (λ end. All (ReadsPublished drift.now end.published) end.workers.items) }
     ensures fault { IfErr result (λ fault. IsFirstFault fault ⊎ (fault ≡ NodeFault.Memory)) }
 {
-    let Clocks {
-        daemon: clock,
-        workers,
-    } = clocks;
-    let (rt, alloc) = (shared.rt, shared.alloc);
-    let Ok(mut handles) = Vec::with_capacity(alloc, streams.len()) else {
+    let (rt, alloc, limits) = (context.rt, context.alloc, context.limits);
+    let Ok(mut handles) = Vec::with_capacity(alloc, posts.streams.len()) else {
         return Err(NodeFault::Memory);
     };
-    let Ok(ends) = Vec::with_capacity(alloc, streams.len()) else {
+    let Ok(ends) = Vec::with_capacity(alloc, posts.streams.len()) else {
         return Err(NodeFault::Memory);
     };
     let opened = teller.tell();
     let (rounds, turns) = (limits.rounds, limits.turns);
-    let Some(running) = start_daemon(scope, rt, daemon, link, clock, teller, rounds, turns) else {
+    let Some(running) = start_daemon(scope, rt, parts, teller, rounds, turns) else {
         return Err(NodeFault::Memory);
     };
-    let started = start_workers(
-        scope,
-        shared,
-        sequencer,
-        gate,
-        limits,
-        &opened,
-        drift,
-        seats,
-        watches,
-        workers,
-        streams,
-        &mut handles,
-    );
+    let started = start_workers(scope, context, posts, &mut handles, &opened, drift);
     let (did, published) = running.join(rt);
     if did.is_err() {
         daemon_failed.store(true, Ordering::SeqCst);
@@ -500,9 +502,7 @@ fn run_threads<
         drop_workers(rt, handles);
         return Err(NodeFault::Memory);
     }
-    let Some((workers, seat)) = join_workers(
-        rt, sequencer, gate, limits, &published, drift, handles, ends,
-    ) else {
+    let Some((workers, seat)) = join_workers(context, handles, ends, &published, drift) else {
         return Err(NodeFault::Memory);
     };
     // The answer is always yes: a watch sees only what its teller shows, and the daemon has ended. But of a watch the
@@ -570,18 +570,23 @@ pub fn run_node<
 {
     check_limits(streams.len(), clocks.workers.len(), &limits)?;
     let opened = OpenedBook::new();
-    run_on_book::<R, L, C, I, O, G, Brand>(
-        rt,
-        alloc,
-        opened,
-        daemon,
-        link,
-        clocks,
+    let Clocks {
+        daemon: clock,
+        workers,
+    } = clocks;
+    let parts = NodeParts {
+        daemon: DaemonParts {
+            daemon,
+            link,
+            clock,
+        },
+        clocks: workers,
         streams,
         gate,
         limits,
         daemon_failed,
-    )
+    };
+    run_on_book::<R, L, C, I, O, G, Brand>(rt, alloc, opened, parts)
 }
 
 /// Runs a node whose limits were checked, on a book that was just opened.
@@ -598,36 +603,19 @@ fn run_on_book<
     rt: &'n R,
     alloc: Global,
     opened: OpenedBook,
-    daemon: Daemon,
-    link: L,
-    clocks: Clocks<C>,
-    streams: Vec<(I, O)>,
-    gate: &'n G,
-    limits: Limits,
-    daemon_failed: &'n AtomicBool,
+    parts: NodeParts<'n, L, C, I, O, G>,
 ) -> Result<NodeEnd, NodeFault>
     requires book { opened ≡ J.source }
-    requires some { 0 < vec_len streams }
+    requires some { 0 < vec_len parts.streams }
     ensures within { ¬ IsErrOf result NodeFault.BadLimits }
     ensures fault { IfErr result IsRunFault }
-    ensures runs { RunsNode C.gives C.failed L.does L.failed limits.rounds limits.turns daemon clocks.daemon link result }
-    ensures all { IfOk result (λ end. vec_len end.workers ≡ vec_len streams) }
-    ensures shares { IfOk result (λ end. SharesSequencer C.gives C.failed G.says G.hears limits.serve.waits gate.now limits.lease (new_watch end.published.source daemon.config.drift) end.workers.items end.stamps.value) }
-    ensures reads { IfOk result (λ end. All (ReadsPublished daemon.config.drift end.published) end.workers.items) }
+    ensures runs { RunsNode C.gives C.failed L.does L.failed parts.entry.limits.rounds parts.entry.limits.turns parts.entry.daemon.daemon parts.entry.daemon.clock parts.entry.daemon.link result }
+    ensures all { IfOk result (λ end. vec_len end.workers ≡ vec_len parts.entry.streams) }
+    ensures shares { IfOk result (λ end. SharesSequencer C.gives C.failed G.says G.hears parts.entry.limits.serve.waits parts.entry.gate.now parts.entry.limits.lease (new_watch end.published.source parts.entry.daemon.daemon.config.drift) end.workers.items end.stamps.value) }
+    ensures reads { IfOk result (λ end. All (ReadsPublished parts.entry.daemon.daemon.config.drift end.published) end.workers.items) }
 {
     let (book, _) = opened.named::<J>(alloc);
-    run_sharing(
-        rt,
-        alloc,
-        &book,
-        daemon,
-        link,
-        clocks,
-        streams,
-        gate,
-        limits,
-        daemon_failed,
-    )
+    run_sharing(rt, alloc, &book, parts)
 }
 
 /// Runs a node whose limits were checked, on this book.
@@ -644,57 +632,48 @@ fn run_sharing<
     rt: &'n R,
     alloc: Global,
     book: &'n SharedBook<J>,
-    daemon: Daemon,
-    link: L,
-    clocks: Clocks<C>,
-    streams: Vec<(I, O)>,
-    gate: &'n G,
-    limits: Limits,
-    daemon_failed: &'n AtomicBool,
+    parts: NodeParts<'n, L, C, I, O, G>,
 ) -> Result<NodeEnd, NodeFault>
-    requires some { 0 < vec_len streams }
+    requires some { 0 < vec_len parts.streams }
     ensures within { ¬ IsErrOf result NodeFault.BadLimits }
     ensures fault { IfErr result IsRunFault }
-    ensures runs { RunsNode C.gives C.failed L.does L.failed limits.rounds limits.turns daemon clocks.daemon link result }
-    ensures all { IfOk result (λ end. vec_len end.workers ≡ vec_len streams) }
-    ensures shares { IfOk result (λ end. SharesSequencer C.gives C.failed G.says G.hears limits.serve.waits gate.now limits.lease (new_watch end.published.source daemon.config.drift) end.workers.items end.stamps.value) }
-    ensures reads { IfOk result (λ end. All (ReadsPublished daemon.config.drift end.published) end.workers.items) }
+    ensures runs { RunsNode C.gives C.failed L.does L.failed parts.entry.limits.rounds parts.entry.limits.turns parts.entry.daemon.daemon parts.entry.daemon.clock parts.entry.daemon.link result }
+    ensures all { IfOk result (λ end. vec_len end.workers ≡ vec_len parts.entry.streams) }
+    ensures shares { IfOk result (λ end. SharesSequencer C.gives C.failed G.says G.hears parts.entry.limits.serve.waits parts.entry.gate.now parts.entry.limits.lease (new_watch end.published.source parts.entry.daemon.daemon.config.drift) end.workers.items end.stamps.value) }
+    ensures reads { IfOk result (λ end. All (ReadsPublished parts.entry.daemon.daemon.config.drift end.published) end.workers.items) }
 {
-    let Ok((sequencer, seats)) = Sequencer::open(alloc, streams.len()) else {
+    let Ok((sequencer, seats)) = Sequencer::open(alloc, parts.streams.len()) else {
         return Err(NodeFault::Memory);
     };
-    let drift = daemon.config().drift();
-    let (mut teller, watches) = match open(rt, alloc, drift, streams.len()) {
+    let drift = parts.daemon.daemon.config().drift();
+    let (mut teller, watches) = match open(rt, alloc, drift, parts.streams.len()) {
         Ok(opened) => opened,
         Err(fault) => return Err(NodeFault::Publish(fault)),
     };
-    let shared = Shared { rt, alloc, book };
-    let (lent, shown, terms, bound) = (&mut teller, &sequencer, &limits, &drift);
+    let posts = Posts {
+        seats,
+        watches,
+        clocks: parts.clocks,
+        streams: parts.streams,
+    };
+    let (daemon, limits, daemon_failed) = (parts.daemon, parts.limits, parts.daemon_failed);
+    let context = NodeContext {
+        rt,
+        alloc,
+        book,
+        sequencer: &sequencer,
+        gate: parts.gate,
+        limits: &limits,
+    };
+    let (lent, bound) = (&mut teller, &drift);
     let ended = thread::scope(
         thread::scope_env(),
         rt,
         move |scope| -> Result<NodeEnd, NodeFault>
-            requires { (lent.now.items ≡ []) × (0 < vec_len streams) × (vec_len seats ≡ vec_len streams)
-                × AllFrom (IsNewSeat shown.now (vec_len streams)) 0 seats.items
-                × All (λ watch. watch ≡ new_watch lent.now.source bound.now) watches.items }
-        {
-            run_threads(
-                scope,
-                shared,
-                shown,
-                gate,
-                terms,
-                daemon,
-                link,
-                clocks,
-                lent,
-                bound,
-                seats,
-                watches,
-                streams,
-                daemon_failed,
-            )
-        },
+            requires { (lent.now.items ≡ []) × (0 < vec_len posts.streams) × (vec_len posts.seats ≡ vec_len posts.streams)
+                × AllFrom (IsNewSeat context.sequencer.now (vec_len posts.streams)) 0 posts.seats.items
+                × All (λ watch. watch ≡ new_watch lent.now.source bound.now) posts.watches.items }
+        { run_threads(scope, context, daemon, posts, lent, bound, daemon_failed) },
     );
     teller.close(rt);
     ended

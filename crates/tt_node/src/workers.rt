@@ -5,15 +5,15 @@ ghost use Rattle.tt_stream.specs.Counts.{HasFailed};
 ghost use Rattle.tt_node.specs.Gating.{Asks};
 ghost use Rattle.tt_node.specs.Working.{Works, HasRead, GivesNone, LooksThen, BeginsAt, PassesAt, DoesWhere, Reads, Commits, Releases, QueuesShared, ReleasesShared, Allows, after_asking, with_gate};
 
-use crate::faults::NodeFault;
 use crate::gates::Gate;
+use crate::shared_books::{BookView, SharedBook, WhichBook};
 use std::alloc::Global;
 use std::marker::Model;
 use std::sync::Wait;
 use tt_audit::LiveNote;
 use tt_publish::{Clock, Reading, Watch};
+use tt_rounds::NodeFault;
 use tt_session::{CommitBook, CommitFault, Service, StampSeat, begin_commit};
-use tt_shared_book::{BookView, SharedBook, WhichBook};
 use tt_span::Span;
 use tt_stamp::{BookFault, Id, Receipt, Seat, Sequencer};
 
@@ -22,7 +22,7 @@ pub const MAX_TURNS: u32 = 10_000;
 
 /// A commit that was begun, and its stamp.
 #[derive(Clone, Copy)]
-struct Begun {
+struct QueuedCommit {
     id: Id,
     stamp: u64,
 }
@@ -34,7 +34,7 @@ struct SeenBook<'a, R, J: WhichBook> {
     book: &'a SharedBook<J>,
     seen: BookView<J>,
     /// The commit that this thread queued last.
-    begun: Option<Begun>,
+    begun: Option<QueuedCommit>,
 }
 
 impl<'a, R, J: WhichBook> Model for SeenBook<'a, R, J> {
@@ -65,7 +65,7 @@ impl<'a, R: Wait, J: WhichBook> CommitBook for SeenBook<'a, R, J> {
 
     fn queue_commit(&mut self, id: Id, stamp: u64) -> Result<(), BookFault> {
         self.book.queue(self.rt, &mut self.seen, id, stamp)?;
-        self.begun = Some(Begun { id, stamp });
+        self.begun = Some(QueuedCommit { id, stamp });
         Ok(())
     }
 

@@ -3,7 +3,7 @@ use Rattle.std.specs.Prelude.{ℕ, ◌≡◌, ◌-◌, ◌+◌, ◌^◌, nat_eq,
 use Rattle.tt_status.specs.Limit.{is_due, last_of, left_out_of}
 use Rattle.tt_status.specs.Limit.{StandsFor as LimitStandsFor}
 use Rattle.tt_report.specs.declared.limits.Kind.{Kind}
-use Rattle.tt_report.specs.declared.limits.Limits.{Limits}
+use Rattle.tt_report.specs.declared.limits.LogLimits.{LogLimits}
 
 -- a line was to be logged at a moment; or one that was handed over, and says how many were left out, has found a place or none
 pub data Happened : Type 0 where
@@ -42,5 +42,5 @@ of_kind kind [] = []
 of_kind kind (event ∷ past) = if nat_eq kind event.0 then event.1 ∷ of_kind kind past else of_kind kind past
 
 -- what is kept of each kind is what its own history leaves
-abbrev pub StandsFor : List (ℕ × Happened) → Limits → Type 0
+abbrev pub StandsFor : List (ℕ × Happened) → LogLimits → Type 0
 StandsFor past limits = (k : ℕ) → (kind : Kind) → slice_get limits.kinds k ≡ Some kind → KindStandsFor (of_kind k past) kind

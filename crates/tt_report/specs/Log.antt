@@ -1,11 +1,11 @@
 -- Which lines of the log are of one kind.
 use Rattle.std.specs.Prelude.{ℕ, ◌+◌, min}
-use Rattle.tt_status.specs.declared.lines.Event.{Event}
-use Rattle.tt_status.specs.declared.lines.Event.TheVariants.{Started, FirstPublication, SourceSilent, SourceSuspect, FusionRefused, ClockBack, AnswersRefused, RoundFailed, SharingEnded, SharingResumed, StatusUnwritten, NotAccepted, StateLoose, EpochLoose, SharedLoose, Ended, MasterStarted, MasterFailed, SocketRenewed, PublicationSlow, SourceUnsent}
+use Rattle.tt_status.specs.declared.lines.LogEvent.{LogEvent}
+use Rattle.tt_status.specs.declared.lines.LogEvent.TheVariants.{Started, FirstPublication, SourceSilent, SourceSuspect, FusionRefused, ClockBack, AnswersRefused, RoundFailed, SharingEnded, SharingResumed, StatusUnwritten, NotAccepted, StateLoose, EpochLoose, SharedLoose, Ended, MasterStarted, MasterFailed, SocketRenewed, PublicationSlow, SourceUnsent}
 use Rattle.tt_status.specs.declared.lines.RefusedFusion.TheVariants.{NoPoint, TooFewKnown}
 
 -- the kind of an event, of which one line is said in ten seconds: each reason of a refused fusion is a kind of its own, and so is each source
-abbrev pub kind_of : Event → ℕ
+abbrev pub kind_of : LogEvent → ℕ
 kind_of (Started machine epoch port) = 0
 kind_of (FirstPublication width) = 1
 kind_of Ended = 2

@@ -5,7 +5,7 @@ ghost use Rattle.tt_report.specs.Log.{kind_of};
 ghost use Rattle.tt_report.specs.Left.{Happened, KindStandsFor, StandsFor, of_kind, answer_of};
 ghost use Rattle.tt_report.specs.Left.Happened.{asked, settled};
 
-use tt_status::{Event, Limit, RefusedFusion};
+use tt_status::{Limit, LogEvent, RefusedFusion};
 
 /// The number of kinds of lines.
 const KINDS: usize = 80;
@@ -21,37 +21,37 @@ const UNSENT: usize = 64;
 
 /// The kind of an event. At most one line of each kind is logged in ten seconds. Each
 /// reason for which a fusion is refused has a kind of its own, and each source has kinds of its own.
-fn kind_of(event: Event) -> usize
+fn kind_of(event: LogEvent) -> usize
     ensures value { result ≡ kind_of event }
     ensures in_range { result < 80 }
 {
     match event {
-        Event::Started { .. } => 0,
-        Event::FirstPublication { .. } => 1,
-        Event::Ended => 2,
-        Event::ClockBack => 3,
-        Event::FusionRefused {
+        LogEvent::Started { .. } => 0,
+        LogEvent::FirstPublication { .. } => 1,
+        LogEvent::Ended => 2,
+        LogEvent::ClockBack => 3,
+        LogEvent::FusionRefused {
             reason: RefusedFusion::NoPoint,
         } => 4,
-        Event::FusionRefused {
+        LogEvent::FusionRefused {
             reason: RefusedFusion::TooFewKnown,
         } => 5,
-        Event::AnswersRefused { .. } => 6,
-        Event::RoundFailed { .. } => 7,
-        Event::SharingEnded { .. } => 8,
-        Event::StatusUnwritten => 9,
-        Event::NotAccepted => 10,
-        Event::MasterStarted { .. } => 11,
-        Event::MasterFailed { .. } => 12,
-        Event::StateLoose => 13,
-        Event::EpochLoose => 14,
-        Event::SharedLoose => 15,
-        Event::SocketRenewed { .. } => 16,
-        Event::SharingResumed => 17,
-        Event::PublicationSlow { .. } => 18,
-        Event::SourceSilent { source } => SILENT + source.min(15) as usize,
-        Event::SourceSuspect { source } => SUSPECT + source.min(15) as usize,
-        Event::SourceUnsent { source } => UNSENT + source.min(15) as usize,
+        LogEvent::AnswersRefused { .. } => 6,
+        LogEvent::RoundFailed { .. } => 7,
+        LogEvent::SharingEnded { .. } => 8,
+        LogEvent::StatusUnwritten => 9,
+        LogEvent::NotAccepted => 10,
+        LogEvent::MasterStarted { .. } => 11,
+        LogEvent::MasterFailed { .. } => 12,
+        LogEvent::StateLoose => 13,
+        LogEvent::EpochLoose => 14,
+        LogEvent::SharedLoose => 15,
+        LogEvent::SocketRenewed { .. } => 16,
+        LogEvent::SharingResumed => 17,
+        LogEvent::PublicationSlow { .. } => 18,
+        LogEvent::SourceSilent { source } => SILENT + source.min(15) as usize,
+        LogEvent::SourceSuspect { source } => SUSPECT + source.min(15) as usize,
+        LogEvent::SourceUnsent { source } => UNSENT + source.min(15) as usize,
     }
 }
 
@@ -97,23 +97,23 @@ impl Kind {
 
 /// The limit of each kind of line.
 #[derive(Drop)]
-pub(crate) struct Limits {
+pub(crate) struct LogLimits {
     kinds: [Kind; KINDS],
 }
 
-impl Limits {
+impl LogLimits {
     /// The limits when no line was logged so far.
-    pub(crate) fn new() -> Limits
+    pub(crate) fn new() -> LogLimits
         ensures nothing { StandsFor [] result }
     {
-        Limits {
+        LogLimits {
             kinds: [Kind::new(); KINDS],
         }
     }
 
     /// Whether the line of an event is handed over when the clock shows `now`, in nanoseconds. `Some` says that it is,
     /// and how many lines of its kind were left out before. `None` says that it is left out.
-    pub(crate) fn admit(&mut self, event: Event, now: u64) -> Option<u64>
+    pub(crate) fn admit(&mut self, event: LogEvent, now: u64) -> Option<u64>
         ensures says { (past : List (ℕ × Happened)) → StandsFor past self.old → result ≡ answer_of (of_kind (kind_of event) past) now }
         ensures stands { (past : List (ℕ × Happened)) → StandsFor past self.old → StandsFor ((kind_of event, asked now) ∷ past) self.new }
     {
@@ -122,7 +122,7 @@ impl Limits {
 
     /// A line that was handed over and says that `told` were left out found a place if it `fits`. If not, the next line
     /// of its kind says `told` and one more.
-    pub(crate) fn settle(&mut self, event: Event, told: u64, fits: bool)
+    pub(crate) fn settle(&mut self, event: LogEvent, told: u64, fits: bool)
         ensures stands { (past : List (ℕ × Happened)) → StandsFor past self.old → StandsFor ((kind_of event, settled told fits) ∷ past) self.new }
     {
         self.kinds[kind_of(event)].settle(told, fits)

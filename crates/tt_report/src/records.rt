@@ -2,12 +2,12 @@
 
 use crate::clocks::{clock_of, time_of};
 use crate::lanes::Lane;
-use crate::limits::Limits;
+use crate::limits::LogLimits;
 use std::alloc::{AllocError, Global};
 use std::sync::atomic::{AtomicU64, Ordering};
 use std::sync::{Mutex, Wait};
 use std::time::Clock as SystemClock;
-use tt_status::{Event, Status};
+use tt_status::{LogEvent, Status};
 
 /// How many lines may wait to be written.
 pub const CAPACITY: usize = 256;
@@ -16,7 +16,7 @@ pub const CAPACITY: usize = 256;
 #[derive(Clone, Copy, Debug, PartialEq, Eq)]
 pub(crate) struct Line {
     pub(crate) time: u64,
-    pub(crate) event: Event,
+    pub(crate) event: LogEvent,
     pub(crate) left_out: u64,
 }
 
@@ -30,7 +30,7 @@ pub(crate) struct Records {
     pub(crate) since: AtomicU64,
     /// How long a publication may last, in nanoseconds.
     pub(crate) most: AtomicU64,
-    limits: Mutex<Limits>,
+    limits: Mutex<LogLimits>,
     /// How many records wait, or are being written.
     unwritten: AtomicU64,
     /// How many records found no place.
@@ -45,7 +45,7 @@ impl Records {
             statuses: Lane::new(alloc, 1)?,
             since: AtomicU64::new(0),
             most: AtomicU64::new(u64::MAX),
-            limits: Mutex::new(Limits::new()),
+            limits: Mutex::new(LogLimits::new()),
             unwritten: AtomicU64::new(0),
             left_out: AtomicU64::new(0),
         })
@@ -53,7 +53,7 @@ impl Records {
 
     /// Hands over the line of an event, unless one of its kind was handed over less than ten seconds before, or no place
     /// is free. It writes nothing itself.
-    pub(crate) fn log<R: Wait + SystemClock>(&self, rt: &R, event: Event) {
+    pub(crate) fn log<R: Wait + SystemClock>(&self, rt: &R, event: LogEvent) {
         let now = clock_of(rt);
         let admitted = self.limits.lock(rt).admit(event, now);
         let Some(left_out) = admitted else {

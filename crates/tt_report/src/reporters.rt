@@ -11,7 +11,7 @@ use std::sync::atomic::Ordering;
 use std::sync::{Arc, Wait};
 use std::thread::{self, Threads};
 use std::time::{Clock as SystemClock, Duration};
-use tt_status::{Event, LogFormat, Status};
+use tt_status::{LogEvent, LogFormat, Status};
 
 /// For how long [`Reporter::end`] waits at most, in nanoseconds: 190 ms, so that with its last sleep it is at most
 /// 200 ms.
@@ -75,7 +75,7 @@ impl Reporter {
 
     /// Hands over the line of an event, with the time of the real-time clock, unless a line of its kind was handed over
     /// less than ten seconds before, or no place is free. It writes nothing itself and never waits for standard error.
-    pub fn log<R: Wait + SystemClock>(&self, rt: &R, event: Event) {
+    pub fn log<R: Wait + SystemClock>(&self, rt: &R, event: LogEvent) {
         self.records.log(rt, event)
     }
 

@@ -9,7 +9,7 @@ use std::io::Eprint;
 use std::sync::Wait;
 use std::sync::atomic::Ordering;
 use std::time::Clock as SystemClock;
-use tt_status::{Event, LogFormat, push_event};
+use tt_status::{LogEvent, LogFormat, push_event};
 
 /// Writes lines in this form to standard error as they come, and looks at least once a second whether a publication is slow.
 pub(crate) fn write_lines<R: Wait + SystemClock + Eprint>(
@@ -34,7 +34,7 @@ fn look<R: Wait + SystemClock>(rt: &R, records: &Records, watch: &mut Watch) {
     let since = records.since.load(Ordering::SeqCst);
     let most = records.most.load(Ordering::SeqCst);
     if let Some(lasted) = watch.look(since, most, clock_of(rt)) {
-        records.log(rt, Event::PublicationSlow { lasted });
+        records.log(rt, LogEvent::PublicationSlow { lasted });
     }
 }
 
@@ -56,7 +56,7 @@ pub(crate) fn write_statuses<R: Wait + SystemClock + Disk>(
     for _ in rt.forever() {
         if let Some(status) = records.statuses.take(rt) {
             if file.write(rt, alloc, &status).is_err() {
-                records.log(rt, Event::StatusUnwritten);
+                records.log(rt, LogEvent::StatusUnwritten);
             }
             records.written();
         }

@@ -5,16 +5,16 @@ use Rattle.tt_daemon.specs.Publication.{Publication}
 use Rattle.tt_publish.specs.Reading.{fused_span_of}
 use Rattle.tt_publish.specs.declared.readings.FusedSpan.{FusedSpan}
 use Rattle.tt_connections.specs.Clock.{ClockState, MachineGives}
-use Rattle.tt_node.specs.Course.{rounds_of}
-use Rattle.tt_node.specs.Fusing.{fusions_in}
-use Rattle.tt_node.specs.Link.{Call, Exchange, Gift, ClockGives, gifts_in}
-use Rattle.tt_node.specs.Making.{stand_of}
-use Rattle.tt_node.specs.Reports.{PartEvents, Report, Reports}
-use Rattle.tt_node.specs.declared.faults.NodeFault.{NodeFault}
-use Rattle.tt_node.specs.declared.tallies.Tally.{Tally}
-use Rattle.tt_runs.specs.Calls.{AreInTurn, Rise, RiseIn, RoundsCall, kept_after}
-use Rattle.tt_runs.specs.CourseSteps.{kept_in}
-use Rattle.tt_runs.specs.Steps.{Kept, fused_span}
+use Rattle.tt_rounds.specs.Course.{rounds_of}
+use Rattle.tt_rounds.specs.Fusing.{fusions_in}
+use Rattle.tt_rounds.specs.Link.{Call, Exchange, Gift, ClockGives, gifts_in}
+use Rattle.tt_rounds.specs.Making.{stand_of}
+use Rattle.tt_rounds.specs.Reports.{PartEvents, Report, Reports}
+use Rattle.tt_rounds.specs.declared.faults.NodeFault.{NodeFault}
+use Rattle.tt_rounds.specs.declared.tallies.Tally.{Tally}
+use Rattle.tt_consistency.specs.Calls.{AreInTurn, Rise, RiseIn, RoundsCall, kept_after}
+use Rattle.tt_consistency.specs.CourseSteps.{kept_in}
+use Rattle.tt_consistency.specs.Steps.{Kept, fused_span}
 use Rattle.tt_server.specs.Round.{CallsInTurn, MakesCall, kept_with}
 
 -- ---- what is kept

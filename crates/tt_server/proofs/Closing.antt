@@ -7,7 +7,7 @@ use Rattle.tt_shared.specs.declared.slots.SharedSpan.{SharedSpan}
 use Rattle.tt_shared.specs.declared.faults.WriteFault.{WriteFault}
 use Rattle.tt_shared.specs.declared.faults.WriteFault.TheVariants as fault
 use Rattle.tt_shared.specs.Writing.{Write, TellerState, StopsShort}
-use Rattle.tt_status.specs.declared.lines.Event.{Event}
+use Rattle.tt_status.specs.declared.lines.LogEvent.{LogEvent}
 use Rattle.tt_server.specs.declared.sharing.Sharing.{Sharing}
 use Rattle.tt_server.specs.Share.{CannotWrite, IsOpen, number_in, broken_after, told_of}
 
@@ -62,6 +62,6 @@ pub kept_is : {O P : Type 0} (old written now : Sharing O P) (after : TellerStat
     now ≡ record old { teller = Some after; last = Some span; broken = None }
 kept_is old written now after span number poll clock kept is none = kept ∙ rw (is, none) refl
 
-pub told_is : {O P : Type 0} (old written : Sharing O P) (after : TellerState P) (span : SharedSpan) (number : Option ℕ) (event : Option Event) →
+pub told_is : {O P : Type 0} (old written : Sharing O P) (after : TellerState P) (span : SharedSpan) (number : Option ℕ) (event : Option LogEvent) →
     event ≡ told_of (is_some written.broken) number → written ≡ record old { teller = Some after; last = Some span } → number ≡ None → event ≡ told_of (is_some old.broken) None
 told_is old written after span number event told is none = told ∙ rw (is, none) refl

@@ -12,9 +12,9 @@ use Rattle.tt_shared.specs.Looking.{word_of}
 use Rattle.tt_shared.specs.Seeing.{IsSeen}
 use Rattle.tt_shared.specs.Slot.{IsShared, IsSlotOf}
 use Rattle.tt_shared.proofs.Finding.{found}
-use Rattle.tt_runs.specs.Reads.{IsNoEarlier}
-use Rattle.tt_runs.specs.Tale.{HeldTrueTime}
-use Rattle.tt_runs.proofs.Reading.{reading-holds}
+use Rattle.tt_consistency.specs.Reads.{IsNoEarlier}
+use Rattle.tt_consistency.specs.Timeline.{HeldTrueTime}
+use Rattle.tt_consistency.proofs.Reading.{reading-holds}
 use Rattle.tt_server.specs.Share.{period_of, shared_of, fresh_until}
 
 cut_fits : (x : ℕ) → min x (2 ^ 64 - 1) < 2 ^ 64

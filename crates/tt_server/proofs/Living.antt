@@ -1,12 +1,12 @@
 -- Lives of the server: its epochs, its sessions, and what its threads hand back.
-use Rattle.std.specs.Prelude.{◌≡◌, ◌⊎◌, ◌<◌, ◌+◌, ◌^◌, ◌==◌, ℕ, Bool, true, false, if◌then◌else◌, List, [], ◌∷◌, length, map, min, All, Option, Result, Ok, Err, IfOk, IsErrOf}
+use Rattle.std.specs.Prelude.{◌≡◌, ◌⊎◌, ◌<◌, ◌+◌, ◌^◌, ◌==◌, ℕ, Bool, true, false, if◌then◌else◌, List, [], ◌∷◌, length, map, All, Option, Result, Ok, Err, IfOk, IsErrOf}
 use Rattle.std.proofs.Common.{refl, sym, ap, ◌∙◌, subst, inl, inr, arith}
 use Rattle.std.proofs.lemmas.List.Elements.{All-nil, All-cons, All-head, All-tail, All-weaker}
 use mathlib.Core.List.{IsPrefix}
 use Rattle.tt_daemon.specs.Config.{IsConfiguration}
 use Rattle.tt_daemon.specs.Daemon.{DaemonState, new_daemon}
 use Rattle.tt_daemon.specs.Publication.{Publication}
-use Rattle.tt_publish.specs.Known.{Known, Source, WatchState, seen_of}
+use Rattle.tt_publish.specs.Known.{Known, Source, WatchState, seen_of, new_watch}
 use Rattle.tt_publish.specs.Reading.{fused_span_of}
 use Rattle.tt_session.specs.declared.faults.ServeFault.{ServeFault}
 use Rattle.tt_session.specs.declared.faults.ServeFault.TheVariants.{ReadFailed, WriteFailed}
@@ -14,21 +14,20 @@ use Rattle.tt_session.specs.declared.serving.Served.{Served}
 use Rattle.tt_session.specs.Conversation.{Conversation}
 use Rattle.tt_session.specs.declared.calls.Call.{Call as Call'}
 use Rattle.tt_session.specs.declared.calls.Call.TheVariants as call
-use Rattle.tt_station.specs.Station.{PostState, StationState, Allows, ServesSession, BreaksSession, new_station}
-use Rattle.tt_station.specs.Sessions.{AreServedInTurn, post_after}
-use Rattle.tt_station.specs.declared.posts.Terms.{Terms}
+use Rattle.tt_connections.specs.Station.{PostState, StationState, Allows, ServesSession, BreaksSession, new_station}
+use Rattle.tt_connections.specs.Sessions.{AreServedInTurn, post_after}
+use Rattle.tt_connections.specs.declared.posts.Terms.{Terms}
 use Rattle.tt_connections.specs.Clock.{ClockState, MachineGives, ClientSays}
 use Rattle.tt_epoch.specs.Disk.{Call, Gift, Gave, NotOwn, Done, Broke, number_of}
 use Rattle.tt_epoch.specs.Course.{Stage, Reads, Writes, Syncs, Installs, Fixes, Answered, Over, step_of, stage_after, Takes}
 use Rattle.tt_epoch.specs.declared.faults.EpochFault.TheVariants.{UsedUp}
 use Rattle.tt_settings.specs.Settings.{Meaning}
 use Rattle.tt_settings.specs.declared.plans.Pauses.{Pauses}
-use Rattle.tt_node.specs.Sharing.{new_watch}
-use Rattle.tt_runs.specs.Calls.{RoundsCall, AreInTurn, RiseIn, kept_after}
-use Rattle.tt_runs.specs.Steps.{Kept}
+use Rattle.tt_consistency.specs.Calls.{RoundsCall, AreInTurn, RiseIn, kept_after}
+use Rattle.tt_consistency.specs.Steps.{Kept}
 use Rattle.tt_consistency.specs.Lives.{IsLife, WorksIn}
 use Rattle.tt_server.specs.declared.faults.ServerFault.{ServerFault}
-use Rattle.tt_server.specs.declared.halls.Life.{Life as Current}
+use Rattle.tt_server.specs.declared.states.Life.{Life as Current}
 use Rattle.tt_server.specs.declared.lives.LifeEnd.{LifeEnd}
 use Rattle.tt_server.specs.declared.lives.WorkerEnd.{WorkerEnd}
 use Rattle.tt_server.specs.Life.{ServerSession, ServerWorker, ServerLife, ServesOne, HandsBack, TellOfEach, TellsOf, clock_failures, max_waits}
@@ -253,7 +252,7 @@ handed-of source source' drift terms ends same all = subst (λ (s : Source). All
 -- a life that ended, from what its threads handed back
 pub life-ended : (settings : Meaning) (current : Current) (end : LifeEnd) (from to : DaemonState) (shown : ℕ)
     → HasSettings settings current → IsConfiguration current.config → current.epoch < 2 ^ 64
-    → from ≡ new_daemon (min current.machine 7) current.config current.epoch
+    → from ≡ new_daemon settings.machine current.config current.epoch
     → HasCalled from to end.published.items shown
     → All (Handed (new_watch end.published.source current.config.drift) (terms_in current)) end.workers.items
     → All (Begins end.published.items) end.workers.items
@@ -267,7 +266,7 @@ life-ended settings current end from to shown has configured below new called ha
     let (calls, in_turn, kept, rise) = subst (λ (d : DaemonState). HasCalled d to published shown) new called in
     let life : ServerLife = record {
       config = current.config;
-      number = min current.machine 7;
+      number = settings.machine;
       epoch = current.epoch;
       lease = current.lease;
       ahead = current.pauses.floor_ahead;
@@ -296,7 +295,7 @@ life-ended settings current end from to shown has configured below new called ha
       record {
         is_life = is_life;
         config = has.config;
-        number = ap (λ (n : ℕ). min n 7) has.machine;
+        number = refl;
         lease = has.lease;
         ahead = ap (λ (p : Pauses). p.floor_ahead) has.pauses;
         epoch = sym epoch;

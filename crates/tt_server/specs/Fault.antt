@@ -2,6 +2,8 @@
 use Rattle.std.specs.Prelude.{ℕ}
 use Rattle.tt_epoch.specs.Fault.{number_of as epoch_number_of}
 use Rattle.tt_publish.specs.Fault.{publish_number_of}
+use Rattle.tt_report.specs.Fault.{number_of as reporter_number_of}
+use Rattle.tt_report.specs.declared.faults.ReporterFault.TheVariants as reporter
 use Rattle.tt_server.specs.declared.faults.ServerFault.{ServerFault}
 use Rattle.tt_server.specs.declared.faults.ServerFault.TheVariants.{CannotListen, CannotPoll, CannotListenSocket, NotSocket, Epoch, Publish, NoThread, Memory}
 
@@ -13,5 +15,5 @@ number_of CannotListenSocket = 1809
 number_of NotSocket = 1819
 number_of (Epoch fault) = epoch_number_of fault
 number_of (Publish fault) = publish_number_of fault
-number_of NoThread = 1816
+number_of NoThread = reporter_number_of reporter.NoThread
 number_of Memory = 1

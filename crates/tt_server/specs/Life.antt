@@ -1,12 +1,11 @@
 -- What is proved of a life of the server, from what its threads hand back.
-use Rattle.std.specs.Prelude.{◌≡◌, ◌⊎◌, ℕ, min, List, [], ◌∷◌, length}
-use Rattle.tt_publish.specs.Known.{Source, WatchState, seen_of}
-use Rattle.tt_station.specs.Station.{PostState}
-use Rattle.tt_station.specs.Sessions.{WorkerSession, AreServedInTurn, post_after}
-use Rattle.tt_station.specs.declared.posts.Terms.{Terms}
+use Rattle.std.specs.Prelude.{◌≡◌, ◌⊎◌, ℕ, List, [], ◌∷◌, length}
+use Rattle.tt_publish.specs.Known.{Source, WatchState, seen_of, new_watch}
+use Rattle.tt_connections.specs.Station.{PostState}
+use Rattle.tt_connections.specs.Sessions.{WorkerSession, AreServedInTurn, post_after}
+use Rattle.tt_connections.specs.declared.posts.Terms.{Terms}
 use Rattle.tt_connections.specs.Clock.{ClockState, MachineGives, ClientSays}
 use Rattle.tt_settings.specs.Settings.{Meaning}
-use Rattle.tt_node.specs.Sharing.{new_watch}
 use Rattle.tt_consistency.specs.Lives.{Life, WorkerLife, IsLife}
 use Rattle.tt_server.specs.declared.lives.LifeEnd.{LifeEnd}
 use Rattle.tt_server.specs.declared.lives.WorkerEnd.{WorkerEnd}
@@ -50,11 +49,11 @@ TellOfEach [] [] = Unit {0}
 TellOfEach (end ∷ ends) (worker ∷ workers) = (end.seen ≡ seen_of (post_after worker.post worker.sessions).watch) × TellOfEach ends workers
 TellOfEach _ _ = ⊥
 
--- a life of a machine with these settings ended so; a machine has a number of at most 7
+-- a life of a machine with these settings ended so
 pub record TellsOf (settings : Meaning) (end : LifeEnd) (life : ServerLife) : Type 0 where
   pub is_life : IsLife life
   pub config : life.config ≡ settings.config
-  pub number : life.number ≡ min settings.machine 7
+  pub number : life.number ≡ settings.machine
   pub lease : life.lease ≡ settings.lease
   pub ahead : life.ahead ≡ settings.pauses.floor_ahead
   pub epoch : life.epoch ≡ end.epoch

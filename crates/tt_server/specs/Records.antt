@@ -6,18 +6,18 @@ use Rattle.tt_daemon.specs.declared.faults.DaemonFault.{DaemonFault}
 use Rattle.tt_daemon.specs.declared.faults.DaemonFault.TheVariants as daemon
 use Rattle.tt_daemon.specs.Publication.{Publication}
 use Rattle.tt_publish.specs.declared.faults.PublishFault.TheVariants as publishing
-use Rattle.tt_node.specs.Fault.{number_of as node_number_of}
-use Rattle.tt_node.specs.Tallies.{packets_in}
-use Rattle.tt_node.specs.declared.faults.NodeFault.{NodeFault}
-use Rattle.tt_node.specs.declared.faults.NodeFault.TheVariants as node
-use Rattle.tt_node.specs.declared.reports.SourceOutcome.{SourceOutcome}
-use Rattle.tt_node.specs.declared.reports.SourceOutcome.TheVariants as source
-use Rattle.tt_node.specs.declared.reports.SourceReport.{SourceReport}
-use Rattle.tt_node.specs.declared.rounds.Rounds.{Rounds}
-use Rattle.tt_node.specs.Reports.{silent as silent_report}
+use Rattle.tt_rounds.specs.Fault.{number_of as node_number_of}
+use Rattle.tt_rounds.specs.Tallies.{packets_in}
+use Rattle.tt_rounds.specs.declared.faults.NodeFault.{NodeFault}
+use Rattle.tt_rounds.specs.declared.faults.NodeFault.TheVariants as node
+use Rattle.tt_rounds.specs.declared.reports.SourceOutcome.{SourceOutcome}
+use Rattle.tt_rounds.specs.declared.reports.SourceOutcome.TheVariants as source
+use Rattle.tt_rounds.specs.declared.reports.SourceReport.{SourceReport}
+use Rattle.tt_rounds.specs.declared.rounds.Rounds.{Rounds}
+use Rattle.tt_rounds.specs.Reports.{silent as silent_report}
 use Rattle.tt_shared.specs.declared.slots.SharedSpan.{SharedSpan}
-use Rattle.tt_status.specs.declared.lines.Event.{Event}
-use Rattle.tt_status.specs.declared.lines.Event.TheVariants.{AnswersRefused, FirstPublication, ClockBack, FusionRefused, RoundFailed, SourceSilent, SourceSuspect, SourceUnsent}
+use Rattle.tt_status.specs.declared.lines.LogEvent.{LogEvent}
+use Rattle.tt_status.specs.declared.lines.LogEvent.TheVariants.{AnswersRefused, FirstPublication, ClockBack, FusionRefused, RoundFailed, SourceSilent, SourceSuspect, SourceUnsent}
 use Rattle.tt_status.specs.declared.lines.RefusedFusion.TheVariants as refusal
 use Rattle.tt_status.specs.declared.statuses.SourceStatus.{SourceStatus}
 use Rattle.tt_status.specs.declared.statuses.Status.{Status}
@@ -31,7 +31,7 @@ use Rattle.tt_server.specs.declared.records.Outcome.TheVariants.{Published, Refu
 use Rattle.tt_server.specs.declared.records.RoundTerms.{RoundTerms}
 use Rattle.tt_server.specs.declared.records.Shown.{Shown}
 use Rattle.tt_server.specs.declared.records.SourceTally.{SourceTally}
-use Rattle.tt_server.specs.declared.records.Tally.{Tally}
+use Rattle.tt_server.specs.declared.records.Totals.{Totals}
 use Rattle.tt_server.specs.declared.records.UnsentPackets.{UnsentPackets}
 use Rattle.tt_server.specs.declared.records.Work.{Work}
 
@@ -92,11 +92,11 @@ unfoldable pub each_after : List SourceTally → List SourceReport → List Sour
 each_after each sources = map (λ k. counted_source (report_at sources k).outcome (tally_at each k)) (range_with_len 0 16)
 
 -- a round, and the answers that were refused in it
-abbrev pub with_round : Tally → ℕ → List SourceReport → Tally
+abbrev pub with_round : Totals → ℕ → List SourceReport → Totals
 with_round t refused sources = record t { rounds = one_more t.rounds; refused_answers = min (t.refused_answers + refused) (2 ^ 64 - 1); each = each_after t.each sources }
 
 -- what the round came to is counted
-abbrev pub counted : Tally → Outcome → Tally
+abbrev pub counted : Totals → Outcome → Totals
 counted t (Published width) = record t { published = one_more t.published }
 counted t (Refused daemon.NoPoint) = record t { no_point = one_more t.no_point }
 counted t (Refused daemon.Unknown) = record t { too_few = one_more t.too_few }
@@ -105,8 +105,8 @@ counted t (Failed fault) = t
 counted t Nothing = t
 
 -- what is counted after one more round
-abbrev pub tally_after : Tally → Outcome → ℕ → List SourceReport → Tally
-tally_after t outcome refused sources = counted (with_round t refused sources) outcome
+abbrev pub totals_after : Totals → Outcome → ℕ → List SourceReport → Totals
+totals_after t outcome refused sources = counted (with_round t refused sources) outcome
 
 -- ---- what is shown and shared
 
@@ -122,13 +122,13 @@ suspects_in (Some shown) = shown.suspects.items
 suspects_in None = []
 
 -- what other processes read of the publication of a round: it has the number after those before it
-abbrev pub span_of : Option Publication → Tally → RoundTerms → Option SharedSpan
+abbrev pub span_of : Option Publication → Totals → RoundTerms → Option SharedSpan
 span_of published t terms = option_map (λ p. shared_of p terms.epoch (one_more t.published) terms.pauses terms.config.drift) published
 
 -- ---- what is logged
 
 -- the events in a list of them
-abbrev pub events_in : Events → List Event
+abbrev pub events_in : Events → List LogEvent
 events_in events = take events.count events.all
 
 -- the numbers below n for which a test holds, ascending
@@ -145,19 +145,19 @@ abbrev pub has_unsent : UnsentPackets → ℕ → Bool
 has_unsent unsent k = nat_lt (slice_index_or unsent.before k 0) (slice_index_or unsent.after k 0)
 
 -- what is logged of a source
-abbrev pub event_about : About → ℕ → Event
+abbrev pub event_about : About → ℕ → LogEvent
 event_about Suspect k = SourceSuspect k
 event_about Silent k = SourceSilent k
 event_about Unsent k = SourceUnsent k
 
 -- what is logged of a fusion that was refused
-abbrev pub refusal_event : DaemonFault → Event
+abbrev pub refusal_event : DaemonFault → LogEvent
 refusal_event daemon.ClockBack = ClockBack
 refusal_event daemon.NoPoint = FusionRefused refusal.NoPoint
 refusal_event daemon.Unknown = FusionRefused refusal.TooFewKnown
 
 -- what is logged of what a round came to, after so many publications
-abbrev pub event_of : Outcome → ℕ → Option Event
+abbrev pub event_of : Outcome → ℕ → Option LogEvent
 event_of (Published width) published = if nat_eq published 0 then Some (FirstPublication width) else None
 event_of (Refused fault) published = Some (refusal_event fault)
 event_of (Failed node.ClockFailed) published = Some ClockBack
@@ -166,16 +166,16 @@ event_of (Failed fault) published = Some (RoundFailed (node_number_of fault))
 event_of Nothing published = None
 
 -- the answers that were refused are logged, if there are any
-abbrev pub refused_event : ℕ → Option Event
+abbrev pub refused_event : ℕ → Option LogEvent
 refused_event refused = if nat_lt 0 refused then Some (AnswersRefused refused) else None
 
 -- an event, if there is one
-abbrev pub some_event : Option Event → List Event
+abbrev pub some_event : Option LogEvent → List LogEvent
 some_event (Some event) = event ∷ []
 some_event None = []
 
 -- what is logged of a round, in this order: the suspects of its fusion, what it came to, the answers that were refused, the sources that were silent, and those to which a packet could not be sent
-abbrev pub events_of : List ℕ → Option Event → Option Event → List ℕ → List ℕ → List Event
+abbrev pub events_of : List ℕ → Option LogEvent → Option LogEvent → List ℕ → List ℕ → List LogEvent
 events_of suspects outcome refused silent unsent =
     map (event_about Suspect) suspects ++ some_event outcome ++ some_event refused ++ map (event_about Silent) silent ++ map (event_about Unsent) unsent
 
@@ -208,7 +208,7 @@ unfoldable pub each_status : Option Shown → List SourceTally → List ℕ → 
 each_status shown each unsent = map (λ k. source_status shown (tally_at each k) (slice_index_or unsent k 0) k) (range_with_len 0 16)
 
 -- the status of a machine when its clock shows this
-abbrev pub status_of : Machine → Tally → Option Shown → List ℕ → Work → ℕ → Status
+abbrev pub status_of : Machine → Totals → Option Shown → List ℕ → Work → ℕ → Status
 status_of machine t shown unsent work now = record {
   machine = machine.number;
   epoch = machine.epoch;

@@ -3,12 +3,12 @@ use Rattle.std.specs.Prelude.{◌≡◌, ◌≤◌, ℕ, ◌*◌, ◌-◌, ◌/�
 use Rattle.tt_daemon.specs.Daemon.{DaemonState}
 use Rattle.tt_daemon.specs.Publication.{Publication}
 use Rattle.tt_publish.specs.Reading.{fused_span_of}
-use Rattle.tt_node.specs.Course.{rounds_of}
-use Rattle.tt_node.specs.Making.{Leads}
-use Rattle.tt_runs.specs.Calls.{AreInTurn, Rise, RiseIn, RoundsCall, kept_after}
-use Rattle.tt_runs.specs.CourseSteps.{kept_in}
-use Rattle.tt_runs.specs.Steps.{Kept}
-use Rattle.tt_server.specs.declared.records.Tally.{Tally}
+use Rattle.tt_rounds.specs.Course.{rounds_of}
+use Rattle.tt_rounds.specs.Making.{Leads}
+use Rattle.tt_consistency.specs.Calls.{AreInTurn, Rise, RiseIn, RoundsCall, kept_after}
+use Rattle.tt_consistency.specs.CourseSteps.{kept_in}
+use Rattle.tt_consistency.specs.Steps.{Kept}
+use Rattle.tt_server.specs.declared.records.Totals.{Totals}
 
 -- a daemon, and these publications as their readers see them
 abbrev pub kept_with : DaemonState → List Publication → Kept
@@ -36,7 +36,7 @@ side_workers_of workers true = workers / 2
 side_workers_of workers false = 0
 
 -- nothing is published yet, in the first two seconds
-abbrev pub waits_on : Tally → ℕ → ℕ → Bool
+abbrev pub waits_on : Totals → ℕ → ℕ → Bool
 waits_on t began now = nat_eq t.published 0 && nat_lt (now - began) 2000000000
 
 -- the pause before a failed socket is made anew: twice the last one, from a tenth of a second to five seconds

@@ -9,8 +9,8 @@ use Rattle.tt_shared.specs.declared.slots.SharedSpan.{SharedSpan}
 use Rattle.tt_shared.specs.declared.faults.WriteFault.{WriteFault}
 use Rattle.tt_shared.specs.Fault.{write_number_of}
 use Rattle.tt_shared.specs.Writing.{Write, TellerState, Publishes, StopsShort}
-use Rattle.tt_status.specs.declared.lines.Event.{Event}
-use Rattle.tt_status.specs.declared.lines.Event.TheVariants.{SharingEnded, SharingResumed}
+use Rattle.tt_status.specs.declared.lines.LogEvent.{LogEvent}
+use Rattle.tt_status.specs.declared.lines.LogEvent.TheVariants.{SharingEnded, SharingResumed}
 use Rattle.tt_server.specs.declared.sharing.Break.{Break}
 
 -- how long it is from one publication to the next at most, where the round between them waits as long as it may
@@ -55,7 +55,7 @@ number_in (Ok done) = None
 number_in (Err fault) = Some (write_number_of fault)
 
 -- that it ended is logged once, and that it goes on again once
-abbrev pub told_of : Bool → Option ℕ → Option Event
+abbrev pub told_of : Bool → Option ℕ → Option LogEvent
 told_of true (Some number) = None
 told_of false (Some number) = Some (SharingEnded number)
 told_of true None = Some SharingResumed

@@ -1,10 +1,9 @@
 -- What the threads of the server promise.
 use Rattle.std.specs.Prelude.{◌≡◌, ℕ, ◌<◌, ◌^◌, List, length, All}
-use Rattle.tt_publish.specs.Known.{Source, WatchState}
-use Rattle.tt_station.specs.declared.posts.Terms.{Terms}
+use Rattle.tt_publish.specs.Known.{Source, WatchState, new_watch}
+use Rattle.tt_connections.specs.declared.posts.Terms.{Terms}
 use Rattle.tt_settings.specs.Settings.{Meaning}
-use Rattle.tt_node.specs.Sharing.{new_watch}
-use Rattle.tt_server.specs.declared.halls.Life.{Life as Current}
+use Rattle.tt_server.specs.declared.states.Life.{Life as Current}
 use Rattle.tt_server.specs.declared.workers.ServesClients.{ServesClients}
 
 -- the terms of a life

@@ -6,6 +6,7 @@ ghost use Rattle.tt_server.specs.Fault.{number_of};
 use thiserror::Error;
 use tt_epoch::EpochFault;
 use tt_publish::PublishFault;
+use tt_report::ReporterFault;
 
 /// Why a machine does not serve. Each fault comes before the first client is served.
 #[derive(Clone, Copy, Debug, PartialEq, Eq, Error)]
@@ -41,7 +42,7 @@ impl ServerFault {
             ServerFault::NotSocket => 1819,
             ServerFault::Epoch(fault) => fault.number(),
             ServerFault::Publish(fault) => fault.number(),
-            ServerFault::NoThread => 1816,
+            ServerFault::NoThread => ReporterFault::NoThread.number(),
             ServerFault::Memory => 1,
         }
     }

@@ -17,12 +17,12 @@
 //! workers take their stamps from one sequencer, and read one list of publications. `tt_report` has the threads that write
 //! the log and the status, so that no other thread waits for standard error or a file.
 //!
-//! `tt_settings` decides what the settings mean, `tt_session` and `tt_station` decide the replies to a session, and
-//! `tt_node` decides what a round does. This crate has the threads, and what is logged, written and shared after each
+//! `tt_settings` decides what the settings mean, `tt_session` and `tt_connections` decide the replies to a session, and
+//! `tt_rounds` decides what a round does. This crate has the threads, and what is logged, written and shared after each
 //! round.
 //!
 //! - `servers`: [`serve`], which starts the threads and ends them. `lives`: [`LifeEnd`], how a life of a machine ended.
-//!   `starts`: the parts of a machine. `halls`: what the threads share.
+//!   `starts`: the parts of a machine. `states`: what the threads share.
 //! - `rounds`: the thread of the daemon. `paces`: the pauses between rounds.
 //! - `records`: what is counted, logged, shown and shared of a round, and the status. `shares`: what is shared. `sharing`: the
 //!   shared file, and when it is tried again. `modes`: who may write the files.
@@ -41,7 +41,6 @@
 #![tactic(auto)]
 
 mod faults;
-mod halls;
 mod lives;
 mod modes;
 mod outlines;
@@ -52,6 +51,7 @@ mod servers;
 mod shares;
 mod sharing;
 mod starts;
+mod states;
 mod workers;
 
 pub use faults::ServerFault;

@@ -3,14 +3,14 @@
 ghost use Rattle.std.specs.Prelude.{◌↔◌, IsTrue};
 ghost use Rattle.tt_server.specs.Mode.{IsTight};
 
-use crate::halls::{Shared, say};
+use crate::states::{ThreadContext, say};
 use std::alloc::Global;
 use std::fs::Files;
 use std::os::unix::fs::PermissionsExt;
 use std::sync::Wait;
 use std::time::Clock as SystemClock;
 use tt_settings::Settings;
-use tt_status::Event;
+use tt_status::LogEvent;
 
 /// The bits of a mode that let the group of a file, and all others, write it.
 const OTHERS_WRITE: u32 = 0o022;
@@ -59,15 +59,15 @@ impl Loose {
     }
 
     /// Logs one line for each of them.
-    pub(crate) fn say_in<R: Wait + SystemClock>(self, shared: Shared<'_, R>) {
+    pub(crate) fn say_in<R: Wait + SystemClock>(self, context: ThreadContext<'_, R>) {
         if self.state {
-            say(shared, Event::StateLoose);
+            say(context, LogEvent::StateLoose);
         }
         if self.epoch {
-            say(shared, Event::EpochLoose);
+            say(context, LogEvent::EpochLoose);
         }
         if self.shared {
-            say(shared, Event::SharedLoose);
+            say(context, LogEvent::SharedLoose);
         }
     }
 }

@@ -3,7 +3,7 @@
 ghost use Rattle.std.specs.Prelude.{◌≡◌, ◌≤◌};
 ghost use Rattle.tt_server.specs.Round.{turns_of, waits_on, renewal_after, pause_of};
 
-use crate::records::Tally;
+use crate::records::Totals;
 
 /// How long the rounds before the first publication follow each other quickly, in nanoseconds: two seconds.
 const FIRST: u64 = 2_000_000_000;
@@ -30,10 +30,10 @@ pub(crate) fn turns_of(sources: usize) -> u32
 
 /// Whether nothing is published yet, and less than two seconds have passed since the clock reading `began` when the clock
 /// shows `now`, in nanoseconds.
-pub(crate) fn waits_on(tally: &Tally, began: u64, now: u64) -> bool
-    ensures { result ≡ waits_on tally.now began now }
+pub(crate) fn waits_on(totals: &Totals, began: u64, now: u64) -> bool
+    ensures { result ≡ waits_on totals.now began now }
 {
-    tally.published == 0 && now.saturating_sub(began) < FIRST
+    totals.published == 0 && now.saturating_sub(began) < FIRST
 }
 
 /// The pause before the socket of the polls is made anew, in nanoseconds; 0 if it is not made anew. It is made anew after

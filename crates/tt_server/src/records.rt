@@ -2,17 +2,17 @@
 
 ghost use Rattle.std.specs.Prelude.{◌≡◌, ◌+◌, ◌<◌, ◌≤◌, ◌++◌, ◌∷◌, [], Some, map, length};
 ghost use Rattle.tt_span.specs.Sources.{max_sources};
-ghost use Rattle.tt_server.specs.Records.{Shows, age_in, counted_source, each_after, each_status, event_about, event_of, events_in, events_of, has_link_failed, has_unsent, is_among, is_silent, numbers_where, outcome_of, published_in, refusal_event, refused_answers, refused_event, report_at, some_event, source_status, span_of, status_of, suspects_in, tally_after, width_in};
+ghost use Rattle.tt_server.specs.Records.{Shows, age_in, counted_source, each_after, each_status, event_about, event_of, events_in, events_of, has_link_failed, has_unsent, is_among, is_silent, numbers_where, outcome_of, published_in, refusal_event, refused_answers, refused_event, report_at, some_event, source_status, span_of, status_of, suspects_in, totals_after, width_in};
 
 use crate::shares::shared_of;
 use arrayvec::ArrayVec;
 use tt_daemon::{Config, DaemonFault, Fused, MAX_SOURCES};
 use tt_fuse::suspects;
-use tt_node::{NodeFault, RoundReport, Rounds, SourceOutcome, SourceReport};
 use tt_publish::PublishFault;
+use tt_rounds::{NodeFault, RoundReport, Rounds, SourceOutcome, SourceReport};
 use tt_settings::Pauses;
 use tt_shared::SharedSpan;
-use tt_status::{Event, RefusedFusion, SourceStatus, Status};
+use tt_status::{LogEvent, RefusedFusion, SourceStatus, Status};
 
 /// The most events of one round: three of each source, one of what the round came to, and one of its refused answers.
 const MAX_EVENTS: usize = 50;
@@ -43,7 +43,7 @@ pub(crate) struct SourceTally {
 
 /// Counts of what the rounds of a life have done so far. Each count stays at 2^64 - 1 once it is reached.
 #[derive(Clone, Copy, Debug, PartialEq, Eq)]
-pub(crate) struct Tally {
+pub(crate) struct Totals {
     pub(crate) rounds: u64,
     pub(crate) published: u64,
     pub(crate) refused_answers: u64,
@@ -92,14 +92,14 @@ pub(crate) enum About {
 
 impl About {
     /// The event of this source.
-    fn event(self, source: u8) -> Event
+    fn event(self, source: u8) -> LogEvent
         ensures { result ≡ event_about self source }
     {
         let source = u64::from(source);
         match self {
-            About::Suspect => Event::SourceSuspect { source },
-            About::Silent => Event::SourceSilent { source },
-            About::Unsent => Event::SourceUnsent { source },
+            About::Suspect => LogEvent::SourceSuspect { source },
+            About::Silent => LogEvent::SourceSilent { source },
+            About::Unsent => LogEvent::SourceUnsent { source },
         }
     }
 }
@@ -107,7 +107,7 @@ impl About {
 /// The events of a round, in order.
 #[derive(Drop)]
 pub(crate) struct Events {
-    all: [Event; MAX_EVENTS],
+    all: [LogEvent; MAX_EVENTS],
     count: usize,
 }
 
@@ -118,13 +118,13 @@ impl Events {
         ensures count { result.count ≡ 0 }
     {
         Events {
-            all: [Event::ClockBack; MAX_EVENTS],
+            all: [LogEvent::ClockBack; MAX_EVENTS],
             count: 0,
         }
     }
 
     /// Adds an event. Requires: there is room.
-    fn push(&mut self, event: Event)
+    fn push(&mut self, event: LogEvent)
         requires room { self.old.count < 50 }
         ensures events { events_in self.new ≡ events_in self.old ++ event ∷ [] }
         ensures count { self.new.count ≡ self.old.count + 1 }
@@ -134,7 +134,7 @@ impl Events {
     }
 
     /// Adds an event, if there is one. Requires: there is room.
-    fn push_some(&mut self, event: Option<Event>)
+    fn push_some(&mut self, event: Option<LogEvent>)
         requires room { self.old.count < 50 }
         ensures events { events_in self.new ≡ events_in self.old ++ some_event event }
         ensures count { self.new.count ≤ self.old.count + 1 }
@@ -156,7 +156,7 @@ impl Events {
     }
 
     /// The events. Requires: there are not more than have room.
-    pub(crate) fn as_slice(&self) -> &[Event]
+    pub(crate) fn as_slice(&self) -> &[LogEvent]
         requires in_range { self.now.count ≤ 50 }
         ensures value { result.now ≡ events_in self.now }
     {
@@ -170,7 +170,7 @@ pub(crate) struct RoundRecords {
     /// What is logged.
     pub(crate) events: Events,
     /// What is counted, after the round.
-    pub(crate) tally: Tally,
+    pub(crate) totals: Totals,
     /// What the status shows of its publication, if it made one.
     pub(crate) shown: Option<Shown>,
     /// What other processes read of its publication, if it made one.
@@ -261,12 +261,12 @@ const NO_ROUND: SourceTally = SourceTally {
     silent: 0,
 };
 
-impl Tally {
+impl Totals {
     /// The counts at the start: all 0.
-    pub(crate) fn new() -> Tally
+    pub(crate) fn new() -> Totals
         ensures nothing { result.published ≡ 0 }
     {
-        Tally {
+        Totals {
             rounds: 0,
             published: 0,
             refused_answers: 0,
@@ -277,8 +277,13 @@ impl Tally {
     }
 
     /// The counts after one more round, in which `refused` answers were refused.
-    fn after(&self, outcome: &Outcome, refused: u64, sources: &[SourceReport; MAX_SOURCES]) -> Tally
-        ensures { result ≡ tally_after self.now outcome.now refused sources.now }
+    fn after(
+        &self,
+        outcome: &Outcome,
+        refused: u64,
+        sources: &[SourceReport; MAX_SOURCES],
+    ) -> Totals
+        ensures { result ≡ totals_after self.now outcome.now refused sources.now }
     {
         let mut next = *self;
         next.each = each_after(&self.each, sources);
@@ -315,17 +320,17 @@ fn shown_of(fused: &Fused) -> Shown
 fn publication_of(
     did: &Result<Rounds, NodeFault>,
     report: &RoundReport,
-    tally: &Tally,
+    totals: &Totals,
     terms: &RoundTerms,
 ) -> (Option<Shown>, Option<SharedSpan>)
     ensures shown { Shows (published_in did.now report.now.fusion) result.0 }
-    ensures span { result.1 ≡ span_of (published_in did.now report.now.fusion) tally.now terms.now }
+    ensures span { result.1 ≡ span_of (published_in did.now report.now.fusion) totals.now terms.now }
 {
     match did {
         Err(_) => (None, None),
         Ok(_) => match &report.fusion {
             Some(Ok(fused)) => {
-                let number = tally.published.saturating_add(1);
+                let number = totals.published.saturating_add(1);
                 let drift = terms.config.drift();
                 let span = shared_of(fused, terms.epoch, number, &terms.pauses, drift);
                 (Some(shown_of(fused)), Some(span))
@@ -348,36 +353,36 @@ fn suspects_in(shown: &Option<Shown>) -> &[u8]
 }
 
 /// The event of a fusion that was refused.
-fn refusal_event(fault: DaemonFault) -> Event
+fn refusal_event(fault: DaemonFault) -> LogEvent
     ensures { result ≡ refusal_event fault }
 {
     match fault {
-        DaemonFault::ClockBack => Event::ClockBack,
-        DaemonFault::NoPoint => Event::FusionRefused {
+        DaemonFault::ClockBack => LogEvent::ClockBack,
+        DaemonFault::NoPoint => LogEvent::FusionRefused {
             reason: RefusedFusion::NoPoint,
         },
-        DaemonFault::Unknown => Event::FusionRefused {
+        DaemonFault::Unknown => LogEvent::FusionRefused {
             reason: RefusedFusion::TooFewKnown,
         },
     }
 }
 
 /// The event of what a round came to, after `published` publications.
-fn event_of(outcome: &Outcome, published: u64) -> Option<Event>
+fn event_of(outcome: &Outcome, published: u64) -> Option<LogEvent>
     ensures { result ≡ event_of outcome.now published }
 {
     match outcome {
         Outcome::Published { width } => {
             if published == 0 {
-                Some(Event::FirstPublication { width: *width })
+                Some(LogEvent::FirstPublication { width: *width })
             } else {
                 None
             }
         }
         Outcome::Refused(fault) => Some(refusal_event(*fault)),
-        Outcome::Failed(NodeFault::ClockFailed) => Some(Event::ClockBack),
-        Outcome::Failed(NodeFault::Publish(PublishFault::ClockBack)) => Some(Event::ClockBack),
-        Outcome::Failed(fault) => Some(Event::RoundFailed {
+        Outcome::Failed(NodeFault::ClockFailed) => Some(LogEvent::ClockBack),
+        Outcome::Failed(NodeFault::Publish(PublishFault::ClockBack)) => Some(LogEvent::ClockBack),
+        Outcome::Failed(fault) => Some(LogEvent::RoundFailed {
             number: u64::from(fault.number()),
         }),
         Outcome::Nothing => None,
@@ -385,11 +390,11 @@ fn event_of(outcome: &Outcome, published: u64) -> Option<Event>
 }
 
 /// The event of the answers that were refused in a round, if there were any.
-fn refused_event(refused: u64) -> Option<Event>
+fn refused_event(refused: u64) -> Option<LogEvent>
     ensures { result ≡ refused_event refused }
 {
     if refused > 0 {
-        Some(Event::AnswersRefused { count: refused })
+        Some(LogEvent::AnswersRefused { count: refused })
     } else {
         None
     }
@@ -434,8 +439,8 @@ fn unsent_sources(unsent: &UnsentPackets, count: usize) -> ArrayVec<u8, MAX_SOUR
 /// a packet could not be sent.
 fn events_of(
     suspects: &[u8],
-    outcome: Option<Event>,
-    refused: Option<Event>,
+    outcome: Option<LogEvent>,
+    refused: Option<LogEvent>,
     silent: &[u8],
     unsent: &[u8],
 ) -> Events
@@ -454,7 +459,7 @@ fn events_of(
     events
 }
 
-/// All records of a round that comes after the rounds of `tally`: of what the call of the round answered, what it
+/// All records of a round that comes after the rounds of `totals`: of what the call of the round answered, what it
 /// reported, and the packets that could not be sent.
 ///
 /// What the round fused counts as published only if the call answered no fault.
@@ -462,36 +467,36 @@ pub(crate) fn records_of(
     did: &Result<Rounds, NodeFault>,
     report: &RoundReport,
     unsent: &UnsentPackets,
-    tally: &Tally,
+    totals: &Totals,
     terms: &RoundTerms,
 ) -> RoundRecords
     ensures events { events_in result.events ≡ events_of (suspects_in result.shown)
-        (event_of (outcome_of did.now report.now.fusion) tally.now.published)
+        (event_of (outcome_of did.now report.now.fusion) totals.now.published)
         (refused_event (refused_answers did.now))
         (numbers_where (λ k. is_silent (report_at report.now.sources k).outcome) terms.now.config.sources)
         (numbers_where (has_unsent unsent.now) terms.now.config.sources) }
     ensures in_range { result.events.count ≤ 50 }
-    ensures tally { result.tally ≡ tally_after tally.now (outcome_of did.now report.now.fusion) (refused_answers did.now) report.now.sources }
+    ensures totals { result.totals ≡ totals_after totals.now (outcome_of did.now report.now.fusion) (refused_answers did.now) report.now.sources }
     ensures shown { Shows (published_in did.now report.now.fusion) result.shown }
-    ensures span { result.span ≡ span_of (published_in did.now report.now.fusion) tally.now terms.now }
+    ensures span { result.span ≡ span_of (published_in did.now report.now.fusion) totals.now terms.now }
     ensures link_failed { result.link_failed ≡ has_link_failed (outcome_of did.now report.now.fusion) }
 {
     let outcome = outcome_of(did, report);
     let refused = refused_answers(did);
-    let (shown, span) = publication_of(did, report, tally, terms);
+    let (shown, span) = publication_of(did, report, totals, terms);
     let sources = terms.config.sources();
     let silent = silent_sources(&report.sources, sources);
     let lost = unsent_sources(unsent, sources);
     let events = events_of(
         suspects_in(&shown),
-        event_of(&outcome, tally.published),
+        event_of(&outcome, totals.published),
         refused_event(refused),
         silent.as_slice(),
         lost.as_slice(),
     );
     RoundRecords {
         events,
-        tally: tally.after(&outcome, refused, &report.sources),
+        totals: totals.after(&outcome, refused, &report.sources),
         shown,
         span,
         link_failed: has_link_failed(&outcome),
@@ -592,13 +597,13 @@ fn width_and_age(shown: &Option<Shown>, now: u64) -> (Option<u64>, Option<u64>)
 /// publication, of the packets to each source that could not be sent, and of its sessions.
 pub(crate) fn status_of(
     machine: &Machine,
-    tally: &Tally,
+    totals: &Totals,
     shown: &Option<Shown>,
     unsent: &[u64; MAX_SOURCES],
     work: &Work,
     now: u64,
 ) -> Status
-    ensures value { result ≡ status_of machine.now tally.now shown.now unsent.now work.now now }
+    ensures value { result ≡ status_of machine.now totals.now shown.now unsent.now work.now now }
 {
     let (width, age) = width_and_age(shown, now);
     Status {
@@ -608,12 +613,12 @@ pub(crate) fn status_of(
         age,
         known: machine.known,
         sources: machine.sources,
-        each: each_status(shown, &tally.each, unsent),
-        rounds: tally.rounds,
-        published: tally.published,
-        refused_answers: tally.refused_answers,
-        no_point: tally.no_point,
-        too_few: tally.too_few,
+        each: each_status(shown, &totals.each, unsent),
+        rounds: totals.rounds,
+        published: totals.published,
+        refused_answers: totals.refused_answers,
+        no_point: totals.no_point,
+        too_few: totals.too_few,
         sharing: machine.sharing,
         sessions: work.sessions,
         lines: work.lines,

@@ -3,21 +3,21 @@
 ghost use Rattle.std.specs.Prelude.{◌≡◌, ◌<◌, ◌≤◌, ◌+◌, [], All, IfOk, IfSome, IsTrue, Ok, vec_len, vec_capacity};
 ghost use mathlib.Core.List.{IsPrefix};
 ghost use Rattle.tt_epoch.specs.Course.{Takes, Reads};
-ghost use Rattle.tt_node.specs.Sharing.{new_watch};
+ghost use Rattle.tt_publish.specs.Known.{new_watch};
 ghost use Rattle.tt_server.specs.Life.{ServerLife, HandsBack, TellsOf};
 ghost use Rattle.tt_server.specs.Round.{side_workers_of};
 ghost use Rattle.tt_server.specs.Thread.{AreReady, HasSettings, IsServing, terms_in};
 
 use crate::faults::ServerFault;
-use crate::halls::{Hall, Life, Shared, say};
 use crate::lives::{LifeEnd, WorkerEnd};
 use crate::modes::Loose;
-use crate::rounds::{Desk, run_daemon};
+use crate::rounds::{Poller, run_daemon};
 use crate::starts::{
-    acceptor_of, desk_of, front_of, link_to, publications_of, reporter_of, side_of, sights_of,
+    acceptor_of, front_of, link_to, poller_of, publications_of, reporter_of, side_of, sights_of,
     watch_all,
 };
-use crate::workers::{Place, WorkerHandle, places_of, start_worker};
+use crate::states::{Life, ServerState, ThreadContext, say};
+use crate::workers::{WorkerHandle, WorkerSeat, start_worker, worker_seats_of};
 use mio::Waker;
 use std::alloc::Global;
 use std::fs::{File, Files};
@@ -27,14 +27,14 @@ use std::sync::Wait;
 use std::thread;
 use std::thread::{JoinHandle, Scope, Threads};
 use std::time::Clock as SystemClock;
-use tt_connections::{Acceptor, Doors, MachineClock, Sight, reading_of};
+use tt_connections::{Acceptor, Listeners, MachineClock, Sight, reading_of};
 use tt_epoch::{FolderStore, Store, next_epoch};
-use tt_node::RoundLink;
 use tt_publish::{Teller, Told, Watch};
 use tt_report::Disk;
+use tt_rounds::RoundLink;
 use tt_settings::Settings;
 use tt_stamp::Sequencer;
-use tt_status::Event;
+use tt_status::LogEvent;
 
 /// How much longer than its `wait` a round may last before that is logged, in nanoseconds: a second.
 const SLOW: u64 = 1_000_000_000;
@@ -50,7 +50,7 @@ fn side_workers_of(workers: usize, has_socket: bool) -> usize
 /// What the workers own, as many of each as there are workers.
 #[derive(Drop)]
 struct Posts<'a> {
-    places: Vec<Place<'a>>,
+    worker_seats: Vec<WorkerSeat<'a>>,
     watches: Vec<Watch>,
     sights: Vec<Sight>,
 }
@@ -90,35 +90,38 @@ impl Joins {
 /// `_opened`.
 fn start_workers<'s, E, R: Wait + SystemClock + Sync>(
     scope: &Scope<'s, E>,
-    shared: Shared<'s, R>,
+    context: ThreadContext<'s, R>,
     posts: Posts<'s>,
     handles: &mut Vec<WorkerHandle>,
     _opened: &Told,
 ) -> bool
     requires none { vec_len handles.old ≡ 0 }
     requires room { vec_len posts.watches ≤ vec_capacity handles.old }
-    requires watches { All (λ watch. watch ≡ new_watch _opened.now.source shared.hall.now.life.config.drift) posts.watches.items }
+    requires watches { All (λ watch. watch ≡ new_watch _opened.now.source context.server.now.life.config.drift) posts.watches.items }
     ensures all { IsTrue result → vec_len handles.new ≡ vec_len posts.entry.watches }
     ensures some { vec_len handles.new ≤ vec_len posts.entry.watches }
-    ensures each { All (λ handle. IsServing (new_watch _opened.now.source shared.entry.hall.now.life.config.drift) (terms_in shared.entry.hall.now.life) handle.promise) handles.new.items }
+    ensures each { All (λ handle. IsServing (new_watch _opened.now.source context.entry.server.now.life.config.drift) (terms_in context.entry.server.now.life) handle.promise) handles.new.items }
 {
     let Posts {
-        mut places,
+        mut worker_seats,
         mut watches,
         mut sights,
     } = posts;
-    let doors = shared.hall.doors;
-    let side = side_workers_of(watches.len(), doors.side.is_some());
+    let listeners = context.server.listeners;
+    let side = side_workers_of(watches.len(), listeners.side.is_some());
     for number in 0..watches.len() {
-        let (Some(place), Some(watch), Some(sight)) = (places.pop(), watches.pop(), sights.pop())
-        else {
+        let (Some(worker_seat), Some(watch), Some(sight)) = (
+            worker_seats.pop(),
+            watches.pop(),
+            sights.pop(),
+        ) else {
             return false;
         };
-        let entry = match &doors.side {
+        let backlog = match &listeners.side {
             Some(side_entry) if number < side => side_entry,
-            _ => &doors.front,
+            _ => &listeners.front,
         };
-        let Some(handle) = start_worker(scope, shared, entry, place, watch, sight) else {
+        let Some(handle) = start_worker(scope, context, backlog, worker_seat, watch, sight) else {
             return false;
         };
         handles.push_reserved(handle);
@@ -165,16 +168,20 @@ fn read_published(workers: &[WorkerEnd], published: &Told) -> bool
 }
 
 /// Accepts connections and hands them to the workers, until the machine ends.
-fn accept_all<R: Wait + SystemClock>(shared: Shared<'_, R>, acceptor: Acceptor, began: u64) {
-    let (rt, hall) = (shared.rt, shared.hall);
+fn accept_all<R: Wait + SystemClock>(
+    context: ThreadContext<'_, R>,
+    acceptor: Acceptor,
+    began: u64,
+) {
+    let (rt, server) = (context.rt, context.server);
     let mut acceptor = acceptor;
-    acceptor.wait_for_first(rt, hall.doors, began);
+    acceptor.wait_for_first(rt, server.listeners, began);
     for _ in rt.forever() {
-        if hall.has_ended() {
+        if server.has_ended() {
             return;
         }
-        if acceptor.turn(rt, hall.doors) {
-            say(shared, Event::NotAccepted);
+        if acceptor.turn(rt, server.listeners) {
+            say(context, LogEvent::NotAccepted);
         }
     }
     unreachable!()
@@ -183,17 +190,17 @@ fn accept_all<R: Wait + SystemClock>(shared: Shared<'_, R>, acceptor: Acceptor, 
 /// Starts the thread that accepts connections. None if the thread can't be started.
 fn start_acceptor<'s, E, R: Wait + SystemClock + Sync>(
     scope: &Scope<'s, E>,
-    shared: Shared<'s, R>,
+    context: ThreadContext<'s, R>,
     acceptor: Acceptor,
 ) -> Option<JoinHandle<()>> {
-    let began = reading_of(shared.rt).unwrap_or(0);
+    let began = reading_of(context.rt).unwrap_or(0);
     scope
-        .spawn(move || accept_all(shared, acceptor, began))
+        .spawn(move || accept_all(context, acceptor, began))
         .ok()
 }
 
 /// Waits for the end of standard input, and then ends the machine.
-fn end_with_input<R: Wait, I: Read + Drop>(shared: Shared<'_, R>, input: I) {
+fn end_with_input<R: Wait, I: Read + Drop>(context: ThreadContext<'_, R>, input: I) {
     let mut input = input;
     let mut buffer = [0; 512];
     for _ in 0..u64::MAX {
@@ -202,23 +209,23 @@ fn end_with_input<R: Wait, I: Read + Drop>(shared: Shared<'_, R>, input: I) {
             _ => break,
         }
     }
-    shared.hall.end(shared.rt);
+    context.server.end(context.rt);
 }
 
 /// Starts the thread that ends the machine at the end of standard input. None if the thread can't be started.
 fn start_end<'s, E, I: Read + Send + Drop + 's, R: Wait + Sync>(
     scope: &Scope<'s, E>,
-    shared: Shared<'s, R>,
+    context: ThreadContext<'s, R>,
     input: I,
 ) -> Option<JoinHandle<()>> {
-    scope.spawn(move || end_with_input(shared, input)).ok()
+    scope.spawn(move || end_with_input(context, input)).ok()
 }
 
 /// Starts all threads except the daemon's. Answers whether all were started. Each watch is a new one of the teller that
 /// told `opened`.
 fn start_all<'s, E, I: Read + Send + Drop + 's, R: Wait + SystemClock + Input<Reader = I> + Sync>(
     scope: &Scope<'s, E>,
-    shared: Shared<'s, R>,
+    context: ThreadContext<'s, R>,
     acceptor: Acceptor,
     posts: Posts<'s>,
     handles: &mut Vec<WorkerHandle>,
@@ -227,21 +234,21 @@ fn start_all<'s, E, I: Read + Send + Drop + 's, R: Wait + SystemClock + Input<Re
 ) -> bool
     requires none { vec_len handles.old ≡ 0 }
     requires room { vec_len posts.watches ≤ vec_capacity handles.old }
-    requires watches { All (λ watch. watch ≡ new_watch opened.now.source shared.hall.now.life.config.drift) posts.watches.items }
+    requires watches { All (λ watch. watch ≡ new_watch opened.now.source context.server.now.life.config.drift) posts.watches.items }
     ensures all { IsTrue result → vec_len handles.new ≡ vec_len posts.entry.watches }
     ensures some { vec_len handles.new ≤ vec_len posts.entry.watches }
-    ensures each { All (λ handle. IsServing (new_watch opened.now.source shared.entry.hall.now.life.config.drift) (terms_in shared.entry.hall.now.life) handle.promise) handles.new.items }
+    ensures each { All (λ handle. IsServing (new_watch opened.now.source context.entry.server.now.life.config.drift) (terms_in context.entry.server.now.life) handle.promise) handles.new.items }
 {
-    if !start_workers(scope, shared, posts, handles, opened) {
+    if !start_workers(scope, context, posts, handles, opened) {
         return false;
     }
-    if start_acceptor(scope, shared, acceptor).is_none() {
+    if start_acceptor(scope, context, acceptor).is_none() {
         return false;
     }
     if !until_eof {
         return true;
     }
-    start_end(scope, shared, shared.rt.reader()).is_some()
+    start_end(scope, context, context.rt.reader()).is_some()
 }
 
 /// What the threads of a machine own.
@@ -267,19 +274,19 @@ fn run_threads<
         + Net<Listener = TcpListener, Stream = TcpStream>,
 >(
     scope: &Scope<'s, E>,
-    shared: Shared<'s, R>,
+    context: ThreadContext<'s, R>,
     settings: &'s Settings,
     parts: Parts<'s, R>,
     teller: &mut Teller,
     until_eof: bool,
 ) -> Result<LifeEnd, ServerFault>
     requires nothing { teller.old.items ≡ [] }
-    requires meant { HasSettings settings.now shared.hall.now.life }
+    requires meant { HasSettings settings.now context.server.now.life }
     requires ready { AreReady settings.now teller.old.source parts.posts.watches.items parts.joins.most }
-    ensures epoch { IfOk result (λ end. end.epoch ≡ shared.entry.hall.now.life.epoch) }
+    ensures epoch { IfOk result (λ end. end.epoch ≡ context.entry.server.now.life.epoch) }
     ensures life { IfOk result (λ end. (life : ServerLife) × TellsOf settings.now end life) }
 {
-    let (rt, hall) = (shared.rt, shared.hall);
+    let (rt, server) = (context.rt, context.server);
     let Parts {
         acceptor,
         link,
@@ -292,25 +299,25 @@ fn run_threads<
         ..
     } = joins;
     let opened = teller.tell();
-    let mut desk = desk_of(rt, shared, settings, link);
+    let mut poller = poller_of(rt, context, settings, link);
     if !start_all(
         scope,
-        shared,
+        context,
         acceptor,
         posts,
         &mut handles,
         &opened,
         until_eof,
     ) {
-        hall.end(rt);
-        drop(join_workers(rt, handles, ends, &opened, &hall.life));
+        server.end(rt);
+        drop(join_workers(rt, handles, ends, &opened, &server.life));
         return Err(ServerFault::NoThread);
     }
-    say_started(shared, settings.listen());
+    say_started(context, settings.listen());
     let mut clock = MachineClock::new(rt);
-    run_daemon(shared, &mut desk, &mut clock, teller);
-    hall.end(rt);
-    let workers = join_workers(rt, handles, ends, &opened, &hall.life);
+    run_daemon(context, &mut poller, &mut clock, teller);
+    server.end(rt);
+    let workers = join_workers(rt, handles, ends, &opened, &server.life);
     let published = teller.tell();
     // The answer is always yes: a watch sees only what its teller shows, and the daemon has ended. But of a watch the
     // proofs know only that it reads publications of this teller's source.
@@ -318,7 +325,7 @@ fn run_threads<
         return Err(ServerFault::Memory);
     }
     Ok(LifeEnd {
-        epoch: hall.life.epoch,
+        epoch: server.life.epoch,
         published,
         workers,
     })
@@ -336,44 +343,44 @@ fn run<
         + Files<File = File>
         + Net<Listener = TcpListener, Stream = TcpStream>,
 >(
-    shared: Shared<'n, R>,
+    context: ThreadContext<'n, R>,
     settings: &'n Settings,
     parts: Parts<'n, R>,
     teller: &mut Teller,
     until_eof: bool,
 ) -> Result<LifeEnd, ServerFault>
     requires nothing { teller.old.items ≡ [] }
-    requires meant { HasSettings settings.now shared.hall.now.life }
+    requires meant { HasSettings settings.now context.server.now.life }
     requires ready { AreReady settings.now teller.old.source parts.posts.watches.items parts.joins.most }
-    ensures epoch { IfOk result (λ end. end.epoch ≡ shared.entry.hall.now.life.epoch) }
+    ensures epoch { IfOk result (λ end. end.epoch ≡ context.entry.server.now.life.epoch) }
     ensures life { IfOk result (λ end. (life : ServerLife) × TellsOf settings.now end life) }
 {
-    let (rt, lent) = (shared.rt, teller);
+    let (rt, lent) = (context.rt, teller);
     let ended = thread::scope(
         thread::scope_env(),
         rt,
         move |scope| -> Result<LifeEnd, ServerFault>
-            requires { (lent.now.items ≡ []) × HasSettings settings.now shared.hall.now.life
+            requires { (lent.now.items ≡ []) × HasSettings settings.now context.server.now.life
                 × AreReady settings.now lent.now.source parts.posts.watches.items parts.joins.most }
-            ensures { IfOk result (λ end. end.epoch ≡ shared.entry.hall.now.life.epoch)
+            ensures { IfOk result (λ end. end.epoch ≡ context.entry.server.now.life.epoch)
                 × IfOk result (λ end. (life : ServerLife) × TellsOf settings.entry.now end life) }
-        { run_threads(scope, shared, settings, parts, lent, until_eof) },
+        { run_threads(scope, context, settings, parts, lent, until_eof) },
     );
     if ended.is_ok() {
-        say(shared, Event::Ended);
+        say(context, LogEvent::Ended);
     }
     ended
 }
 
 /// Logs that the machine has started. `listen` is the port that it asked for.
-fn say_started<R: Wait + SystemClock>(shared: Shared<'_, R>, listen: u16) {
-    let hall = shared.hall;
+fn say_started<R: Wait + SystemClock>(context: ThreadContext<'_, R>, listen: u16) {
+    let server = context.server;
     say(
-        shared,
-        Event::Started {
-            machine: u64::from(hall.life.machine),
-            epoch: hall.life.epoch,
-            port: u64::from(hall.doors.front.door.port().unwrap_or(listen)),
+        context,
+        LogEvent::Started {
+            machine: u64::from(server.life.machine),
+            epoch: server.life.epoch,
+            port: u64::from(server.listeners.front.listener.port().unwrap_or(listen)),
         },
     );
 }
@@ -382,7 +389,7 @@ fn say_started<R: Wait + SystemClock>(shared: Shared<'_, R>, listen: u16) {
 #[derive(Drop)]
 struct Start<'a> {
     settings: &'a Settings,
-    doors: &'a Doors,
+    listeners: &'a Listeners,
     waker: Waker,
     until_eof: bool,
 }
@@ -420,7 +427,7 @@ fn run_life<
 {
     let Start {
         settings,
-        doors,
+        listeners,
         waker,
         until_eof,
     } = start;
@@ -432,15 +439,15 @@ fn run_life<
     };
     let life = Life::of(settings, epoch);
     reporter.watch_for(life.pauses.wait.saturating_add(SLOW));
-    let hall = Hall::new(life, doors, reporter, waker);
-    let shared = Shared {
+    let server = ServerState::new(life, listeners, reporter, waker);
+    let context = ThreadContext {
         rt,
         alloc,
-        hall: &hall,
+        server: &server,
     };
-    loose.say_in(shared);
-    let ended = run(shared, settings, parts, teller, until_eof);
-    hall.reporter.end(rt);
+    loose.say_in(context);
+    let ended = run(context, settings, parts, teller, until_eof);
+    server.reporter.end(rt);
     ended
 }
 
@@ -471,13 +478,13 @@ fn run_behind<
 ) -> Result<LifeEnd, ServerFault>
     ensures life { IfOk result (λ end. (life : ServerLife) × TellsOf start.entry.settings.now end life) }
 {
-    watch_all(&acceptor, start.doors)?;
+    watch_all(&acceptor, start.listeners)?;
     let settings = start.settings;
     let workers = settings.config().workers();
     let Ok((sequencer, seats)) = Sequencer::open(alloc, workers) else {
         return Err(ServerFault::Memory);
     };
-    let Some(places) = places_of(alloc, &sequencer, seats) else {
+    let Some(worker_seats) = worker_seats_of(alloc, &sequencer, seats) else {
         return Err(ServerFault::Memory);
     };
     let sights = sights_of(rt, alloc, workers)?;
@@ -489,7 +496,7 @@ fn run_behind<
         acceptor,
         link,
         posts: Posts {
-            places,
+            worker_seats,
             watches,
             sights,
         },
@@ -551,16 +558,16 @@ pub fn serve<
         Err(fault) => return Err(ServerFault::Epoch(fault)),
     };
     let side = side_of(rt, alloc, settings)?;
-    let doors = Doors::new(front, side, waker);
+    let listeners = Listeners::new(front, side, waker);
     let start = Start {
         settings,
-        doors: &doors,
+        listeners: &listeners,
         waker: link_waker,
         until_eof,
     };
     let ended = run_behind(rt, alloc, start, acceptor, link, &mut store);
-    if let (Some(side), Some(path)) = (&doors.side, settings.socket()) {
-        side.door.remove(rt, path.as_str());
+    if let (Some(side), Some(path)) = (&listeners.side, settings.socket()) {
+        side.listener.remove(rt, path.as_str());
     }
     // The folder stays locked until here.
     drop(store);

@@ -11,8 +11,8 @@ ghost use Rattle.tt_shared.specs.declared.slots.SharedSpan.{SharedSpan as TheSpa
 ghost use Rattle.tt_shared.specs.Looking.{word_of};
 ghost use Rattle.tt_shared.specs.Seeing.{IsSeen};
 ghost use Rattle.tt_shared.specs.Slot.{IsShared, IsSlotOf};
-ghost use Rattle.tt_runs.specs.Reads.{IsNoEarlier};
-ghost use Rattle.tt_runs.specs.Tale.{HeldTrueTime};
+ghost use Rattle.tt_consistency.specs.Reads.{IsNoEarlier};
+ghost use Rattle.tt_consistency.specs.Timeline.{HeldTrueTime};
 ghost use Rattle.tt_server.specs.Share.{period_of, shared_of, fresh_until};
 
 use tt_daemon::Fused;

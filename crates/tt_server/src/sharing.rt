@@ -4,13 +4,13 @@ ghost use Rattle.std.specs.Prelude.{◌≡◌, ◌≤◌, ℕ, true, false, Some
 ghost use Rattle.tt_shared.specs.Writing.{TellerState};
 ghost use Rattle.tt_server.specs.Share.{CannotWrite, IsOpen, Writes, broken_after, number_in, is_due, break_after, told_of, retry_after};
 
-use crate::halls::{Shared, say};
+use crate::states::{ThreadContext, say};
 use std::alloc::Global;
 use std::fs::{File, Files};
 use std::sync::Wait;
 use std::time::Clock as SystemClock;
 use tt_shared::{FilePlace, Place, SharedSpan, SharedTeller, WriteFault, open_file};
-use tt_status::Event;
+use tt_status::LogEvent;
 
 /// The longest pause before the shared file is tried again, in nanoseconds: thirty seconds.
 const MAX_RETRY: u64 = 30_000_000_000;
@@ -60,14 +60,14 @@ fn break_after(broken: Option<Break>, poll: u64, now: u64) -> Break
 
 /// What is logged of a try that failed with this number, or did not fail: once that the sharing ended, and once that it is
 /// resumed.
-fn told_of(was_broken: bool, failed: Option<u16>) -> Option<Event>
+fn told_of(was_broken: bool, failed: Option<u16>) -> Option<LogEvent>
     ensures value { result ≡ told_of was_broken failed }
 {
     match (was_broken, failed) {
-        (false, Some(number)) => Some(Event::SharingEnded {
+        (false, Some(number)) => Some(LogEvent::SharingEnded {
             number: u64::from(number),
         }),
-        (true, None) => Some(Event::SharingResumed),
+        (true, None) => Some(LogEvent::SharingResumed),
         _ => None,
     }
 }
@@ -78,7 +78,7 @@ pub(crate) struct Tried {
     /// Whether the publication was written.
     pub(crate) written: bool,
     /// What is logged of it.
-    pub(crate) event: Option<Event>,
+    pub(crate) event: Option<LogEvent>,
 }
 
 /// What opens the place of what is shared.
@@ -144,7 +144,7 @@ impl<P: Place + Drop, O: Opener<P>> Sharing<O, P> {
 
     /// Keeps when the place is tried again after a try at the clock reading `now` that failed with this number, or did not
     /// fail. Answers what is logged of it. The first pause is `poll` nanoseconds.
-    fn settle(&mut self, failed: Option<u16>, poll: u64, now: u64) -> Option<Event>
+    fn settle(&mut self, failed: Option<u16>, poll: u64, now: u64) -> Option<LogEvent>
         ensures told { result ≡ told_of (is_some self.old.broken) failed }
         ensures kept { self.new ≡ record self.old { broken = broken_after self.old.broken failed poll now } }
     {
@@ -157,7 +157,7 @@ impl<P: Place + Drop, O: Opener<P>> Sharing<O, P> {
     }
 
     /// Opens the place at the start. Answers what is logged of it.
-    fn begin(&mut self, poll: u64, now: u64) -> Option<Event> {
+    fn begin(&mut self, poll: u64, now: u64) -> Option<LogEvent> {
         let failed = match self.take() {
             Ok(teller) => {
                 self.teller = Some(teller);
@@ -268,27 +268,27 @@ impl<'a, R: Files<File = File>> Share<'a, R> {
 
 impl<'a, R: Wait + SystemClock + Files<File = File>> Share<'a, R> {
     /// Opens the file at the start.
-    pub(crate) fn begin(&mut self, shared: Shared<'_, R>, now: u64) {
+    pub(crate) fn begin(&mut self, context: ThreadContext<'_, R>, now: u64) {
         let Some(sharing) = &mut self.sharing else {
             return;
         };
-        if let Some(event) = sharing.begin(shared.hall.life.pauses.poll, now) {
-            say(shared, event);
+        if let Some(event) = sharing.begin(context.server.life.pauses.poll, now) {
+            say(context, event);
         }
     }
 
     /// Shares a publication when the clock shows `now`: writes it into the file, which is opened again after a break once
     /// its pause is over. Answers whether it was written.
-    pub(crate) fn put(&mut self, shared: Shared<'_, R>, span: SharedSpan, now: u64) -> bool
+    pub(crate) fn put(&mut self, context: ThreadContext<'_, R>, span: SharedSpan, now: u64) -> bool
         ensures some { result ≡ true → IsSome self.new.sharing }
         ensures written { result ≡ true → IfSome self.new.sharing (λ sharing. sharing.last ≡ Some span) }
     {
         let Some(sharing) = &mut self.sharing else {
             return false;
         };
-        let tried = sharing.put(span, shared.hall.life.pauses.poll, now);
+        let tried = sharing.put(span, context.server.life.pauses.poll, now);
         if let Some(event) = tried.event {
-            say(shared, event);
+            say(context, event);
         }
         tried.written
     }

@@ -1,17 +1,17 @@
 //! The parts of a machine, each made before its threads start.
 
-ghost use Rattle.std.specs.Prelude.{◌≡◌, ◌≢◌, ◌<◌, [], min, vec_len, All, IfOk};
+ghost use Rattle.std.specs.Prelude.{◌≡◌, ◌≢◌, ◌<◌, [], vec_len, All, IfOk};
 ghost use Rattle.std.specs.declared.io.ErrorKind.TheVariants.{OutOfMemory};
 ghost use Rattle.tt_daemon.specs.Config.{IsConfiguration};
 ghost use Rattle.tt_daemon.specs.Daemon.{new_daemon};
-ghost use Rattle.tt_node.specs.Sharing.{new_watch};
+ghost use Rattle.tt_publish.specs.Known.{new_watch};
 ghost use Rattle.tt_server.specs.declared.faults.ServerFault.TheVariants.{Memory};
 
 use crate::faults::ServerFault;
-use crate::halls::Shared;
-use crate::rounds::Desk;
+use crate::rounds::Poller;
 use crate::shares::folder_and_name;
 use crate::sharing::{Share, SharePath};
+use crate::states::ThreadContext;
 use mio::Waker;
 use std::alloc::Global;
 use std::fs::{File, Files};
@@ -20,15 +20,14 @@ use std::net::{IpAddr, Ipv4Addr, Net, SocketAddr, TcpListener, TcpStream, UdpSoc
 use std::sync::Wait;
 use std::thread::Threads;
 use std::time::{Clock as SystemClock, Duration};
-use tt_connections::{Acceptor, Door, DoorFault, Doors, Entry, MachineClock, Queue, Sight};
+use tt_connections::{
+    Acceptor, Backlog, Listener, ListenerFault, Listeners, MachineClock, Queue, Sight,
+};
 use tt_daemon::Daemon;
-use tt_node::RoundLink;
 use tt_publish::{Clock, Teller, Watch, open};
 use tt_report::{Disk, Reporter, ReporterFault};
+use tt_rounds::RoundLink;
 use tt_settings::Settings;
-
-/// The greatest number of a machine.
-const MAX_MACHINE: u8 = 7;
 
 /// The acceptor of connections, and what ends its waits.
 pub(crate) fn acceptor_of<R: Net>(rt: &R, alloc: Global) -> Result<(Acceptor, Waker), ServerFault> {
@@ -78,13 +77,13 @@ pub(crate) fn front_of<R: Net<Listener = TcpListener, Stream = TcpStream>>(
     rt: &R,
     alloc: Global,
     settings: &Settings,
-) -> Result<Entry, ServerFault> {
-    let door = match Door::at_port(rt, settings.listen()) {
-        Ok(door) => door,
+) -> Result<Backlog, ServerFault> {
+    let listener = match Listener::at_port(rt, settings.listen()) {
+        Ok(listener) => listener,
         Err(error) => return Err(fault_of(error.kind(), ServerFault::CannotListen)),
     };
     match Queue::new(alloc) {
-        Ok(queue) => Ok(Entry { door, queue }),
+        Ok(queue) => Ok(Backlog { listener, queue }),
         Err(_) => Err(ServerFault::Memory),
     }
 }
@@ -94,27 +93,27 @@ pub(crate) fn side_of<R: Files + Net>(
     rt: &R,
     alloc: Global,
     settings: &Settings,
-) -> Result<Option<Entry>, ServerFault> {
+) -> Result<Option<Backlog>, ServerFault> {
     let Some(path) = settings.socket() else {
         return Ok(None);
     };
     let Ok(queue) = Queue::new(alloc) else {
         return Err(ServerFault::Memory);
     };
-    match Door::at_path(rt, path.as_str()) {
-        Ok(door) => Ok(Some(Entry { door, queue })),
-        Err(DoorFault::NotSocket) => Err(ServerFault::NotSocket),
-        Err(DoorFault::Failed) => Err(ServerFault::CannotListenSocket),
+    match Listener::at_path(rt, path.as_str()) {
+        Ok(listener) => Ok(Some(Backlog { listener, queue })),
+        Err(ListenerFault::NotSocket) => Err(ServerFault::NotSocket),
+        Err(ListenerFault::Failed) => Err(ServerFault::CannotListenSocket),
     }
 }
 
-/// Has the acceptor wait for connections at all doors.
-pub(crate) fn watch_all(acceptor: &Acceptor, doors: &Doors) -> Result<(), ServerFault> {
-    if let Err(error) = acceptor.watch(&doors.front.door) {
+/// Has the acceptor wait for connections at all listeners.
+pub(crate) fn watch_all(acceptor: &Acceptor, listeners: &Listeners) -> Result<(), ServerFault> {
+    if let Err(error) = acceptor.watch(&listeners.front.listener) {
         return Err(fault_of(error.kind(), ServerFault::CannotListen));
     }
-    if let Some(side) = &doors.side {
-        if let Err(error) = acceptor.watch(&side.door) {
+    if let Some(side) = &listeners.side {
+        if let Err(error) = acceptor.watch(&side.listener) {
             return Err(fault_of(error.kind(), ServerFault::CannotListenSocket));
         }
     }
@@ -179,17 +178,17 @@ pub(crate) fn publications_of<R: Wait>(
 
 /// The state of the daemon's thread at its start, with a new daemon of this life. The shared file is opened; if that
 /// fails, it is logged, and tried again later.
-pub(crate) fn desk_of<'a, R: Wait + SystemClock + Files<File = File>>(
+pub(crate) fn poller_of<'a, R: Wait + SystemClock + Files<File = File>>(
     rt: &'a R,
-    shared: Shared<'_, R>,
+    context: ThreadContext<'_, R>,
     settings: &'a Settings,
     link: RoundLink<'a, R>,
-) -> Desk<'a, R>
-    requires first { 0 < shared.hall.now.life.epoch }
-    ensures daemon { result.daemon ≡ new_daemon (min shared.entry.hall.now.life.machine 7) shared.entry.hall.now.life.config shared.entry.hall.now.life.epoch }
-    ensures configured { IsConfiguration shared.entry.hall.now.life.config }
+) -> Poller<'a, R>
+    requires first { 0 < context.server.now.life.epoch }
+    ensures daemon { result.daemon ≡ new_daemon settings.now.machine context.entry.server.now.life.config context.entry.server.now.life.epoch }
+    ensures configured { IsConfiguration context.entry.server.now.life.config }
 {
-    let hall = shared.hall;
+    let server = context.server;
     let path = match settings.shared() {
         Some(path) => {
             let (folder, name) = folder_and_name(path.as_str());
@@ -197,11 +196,9 @@ pub(crate) fn desk_of<'a, R: Wait + SystemClock + Files<File = File>>(
         }
         None => None,
     };
-    let mut share = Share::new(rt, shared.alloc, path);
+    let mut share = Share::new(rt, context.alloc, path);
     let mut clock = MachineClock::new(rt);
-    share.begin(shared, clock.read().unwrap_or(0));
-    // The machine's number in settings that were read is at most 7.
-    let machine = hall.life.machine.min(MAX_MACHINE);
-    let daemon = Daemon::new(machine, &hall.life.config, hall.life.epoch);
-    Desk::new(daemon, link, share)
+    share.begin(context, clock.read().unwrap_or(0));
+    let daemon = Daemon::new(settings.machine(), &server.life.config, server.life.epoch);
+    Poller::new(daemon, link, share)
 }

@@ -4,8 +4,8 @@ ghost use Rattle.std.specs.Prelude.{◌≡◌, ◌≤◌, ◌+◌, ◌<◌, All,
 ghost use Rattle.tt_server.specs.Life.{ServesOne, HandsBack};
 ghost use Rattle.tt_server.specs.Thread.{IsServing, terms_in};
 
-use crate::halls::Shared;
 use crate::lives::WorkerEnd;
+use crate::states::ThreadContext;
 use std::alloc::Global;
 use std::net::TcpStream;
 use std::snapshot::Snapshot;
@@ -14,19 +14,19 @@ use std::sync::{Mutex, Wait};
 use std::thread::{Promise, PromisedHandle, Scope};
 use std::time::Clock as SystemClock;
 use tt_connections::{
-    Client, Counts, Doors, Entry, LineReader, MachineClock, ReplyWriter, Sight, deadline_at,
+    Backlog, Client, Counts, LineReader, Listeners, MachineClock, Post, ReplyWriter, Sight, Terms,
+    deadline_at,
 };
 use tt_publish::{Clock, Watch};
 use tt_session::{DeadlineReader, DeadlineWriter, Turns};
 use tt_stamp::{Seat, Sequencer};
-use tt_station::{Post, Terms};
 
 /// The most release steps of one line. Each makes a pause of at most a twentieth of a second.
 const WAITS: u32 = 10_000;
 
 /// A seat, and the sequencer that it belongs to.
 #[derive(Drop)]
-pub(crate) struct Place<'a> {
+pub(crate) struct WorkerSeat<'a> {
     seat: Seat,
     sequencer: &'a Sequencer,
     ghost of_it: { seat.table ≡ sequencer.now },
@@ -49,31 +49,31 @@ impl Promise<WorkerEnd> for ServesClients {
 pub(crate) type WorkerHandle = PromisedHandle<WorkerEnd, ServesClients>;
 
 /// A seat with its sequencer.
-fn place_of<'a>(seat: Seat, sequencer: &'a Sequencer) -> Place<'a>
+fn worker_seat_of<'a>(seat: Seat, sequencer: &'a Sequencer) -> WorkerSeat<'a>
     requires { seat.table ≡ sequencer.now }
 {
-    Place { seat, sequencer }
+    WorkerSeat { seat, sequencer }
 }
 
 /// All seats, each with its sequencer. None if it is out of memory.
-pub(crate) fn places_of<'a>(
+pub(crate) fn worker_seats_of<'a>(
     alloc: Global,
     sequencer: &'a Sequencer,
     seats: Vec<Seat>,
-) -> Option<Vec<Place<'a>>>
+) -> Option<Vec<WorkerSeat<'a>>>
     requires { All (λ seat. seat.table ≡ sequencer.now) seats.items }
 {
     let mut seats = seats;
-    let Ok(mut places) = Vec::with_capacity(alloc, seats.len()) else {
+    let Ok(mut worker_seats) = Vec::with_capacity(alloc, seats.len()) else {
         return None;
     };
     for _ in 0..seats.len() {
         let Some(seat) = seats.pop() else {
-            return Some(places);
+            return Some(worker_seats);
         };
-        places.push_reserved(place_of(seat, sequencer));
+        worker_seats.push_reserved(worker_seat_of(seat, sequencer));
     }
-    Some(places)
+    Some(worker_seats)
 }
 
 /// What a worker borrows, and how long it waits for a client.
@@ -81,7 +81,7 @@ pub(crate) fn places_of<'a>(
 struct Tools<'a, R> {
     rt: &'a R,
     alloc: Global,
-    doors: &'a Doors,
+    listeners: &'a Listeners,
     counts: &'a Counts,
     idle: u64,
 }
@@ -96,17 +96,17 @@ fn serve_one<'a, R: Wait + SystemClock>(
 ) -> Post<'a, R, MachineClock<'a, R>>
     ensures { ServesOne post.entry result }
 {
-    let (rt, doors, counts, idle) = (tools.rt, tools.doors, tools.counts, tools.idle);
+    let (rt, listeners, counts, idle) = (tools.rt, tools.listeners, tools.counts, tools.idle);
     let mut clock = MachineClock::new(rt);
     let Ok(now) = clock.read() else {
         return post;
     };
     let deadline = deadline_at(now, idle);
-    let device = LineReader::new(stream, &doors.ended, MachineClock::new(rt), idle);
+    let device = LineReader::new(stream, &listeners.ended, MachineClock::new(rt), idle);
     let mut reader = DeadlineReader::new(device, MachineClock::new(rt), deadline);
-    let device = ReplyWriter::new(stream, &doors.ended, counts);
+    let device = ReplyWriter::new(stream, &listeners.ended, counts);
     let mut writer = DeadlineWriter::new(device, clock, deadline);
-    let client = Client::new(rt, stream, &doors.ended, idle, sight);
+    let client = Client::new(rt, stream, &listeners.ended, idle, sight);
     let turns = Turns {
         reads: u32::MAX,
         waits: WAITS,
@@ -119,8 +119,8 @@ fn serve_one<'a, R: Wait + SystemClock>(
 /// Serves one client of this entry after the other, until the machine ends. Then it hands back what the watch has seen.
 fn work<'a, R: Wait + SystemClock>(
     tools: Tools<'a, R>,
-    entry: &'a Entry,
-    place: Place<'a>,
+    backlog: &'a Backlog,
+    worker_seat: WorkerSeat<'a>,
     watch: Watch,
     sight: Sight,
     terms: Terms,
@@ -128,12 +128,12 @@ fn work<'a, R: Wait + SystemClock>(
     ensures { HandsBack watch terms result }
 {
     let rt = tools.rt;
-    let Place { seat, sequencer } = place;
+    let WorkerSeat { seat, sequencer } = worker_seat;
     let clock = MachineClock::new(rt);
     let sight = Mutex::new(sight);
     let mut post = Post::new(rt, tools.alloc, watch, clock, seat, sequencer, terms);
     for _ in rt.forever() {
-        let Some(stream) = tools.doors.next(rt, entry) else {
+        let Some(stream) = tools.listeners.next(rt, backlog) else {
             let (watch, _seat) = post.into_parts();
             return WorkerEnd { seen: watch.seen() };
         };
@@ -145,22 +145,22 @@ fn work<'a, R: Wait + SystemClock>(
 /// Starts the thread of a worker. None if the thread can't be started.
 pub(crate) fn start_worker<'s, E, R: Wait + SystemClock + Sync>(
     scope: &Scope<'s, E>,
-    shared: Shared<'s, R>,
-    entry: &'s Entry,
-    place: Place<'s>,
+    context: ThreadContext<'s, R>,
+    backlog: &'s Backlog,
+    worker_seat: WorkerSeat<'s>,
     watch: Watch,
     sight: Sight,
 ) -> Option<WorkerHandle>
-    ensures promise { IfSome result (λ handle. IsServing watch (terms_in shared.entry.hall.now.life) handle.promise) }
+    ensures promise { IfSome result (λ handle. IsServing watch (terms_in context.entry.server.now.life) handle.promise) }
 {
-    let (rt, alloc, hall) = (shared.rt, shared.alloc, shared.hall);
+    let (rt, alloc, server) = (context.rt, context.alloc, context.server);
     let promise = ServesClients {
         watch: Snapshot::of(&watch),
-        terms: hall.life.terms(),
+        terms: server.life.terms(),
     };
-    let terms = hall.life.terms();
-    let (doors, counts, idle) = (hall.doors, &hall.counts, hall.life.pauses.idle);
-    let Place { seat, sequencer } = place;
+    let terms = server.life.terms();
+    let (listeners, counts, idle) = (server.listeners, &server.counts, server.life.pauses.idle);
+    let WorkerSeat { seat, sequencer } = worker_seat;
     scope
         .spawn_with(
             promise,
@@ -171,11 +171,18 @@ pub(crate) fn start_worker<'s, E, R: Wait + SystemClock + Sync>(
                 let tools = Tools {
                     rt,
                     alloc,
-                    doors,
+                    listeners,
                     counts,
                     idle,
                 };
-                work(tools, entry, place_of(seat, sequencer), watch, sight, terms)
+                work(
+                    tools,
+                    backlog,
+                    worker_seat_of(seat, sequencer),
+                    watch,
+                    sight,
+                    terms,
+                )
             },
         )
         .ok()

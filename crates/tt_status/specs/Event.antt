@@ -2,18 +2,20 @@
 use Rattle.std.specs.Prelude.{codes, ℕ, nat_lt, if◌then◌else◌, List, [], ◌++◌}
 use Rattle.std.specs.Fmt.{decimal}
 use Rattle.jiff_core.specs.declared.civil.date.Date.{Date}
+use Rattle.tt_daemon.specs.Fault.{number_of as daemon_number_of}
+use Rattle.tt_daemon.specs.declared.faults.DaemonFault.TheVariants as daemon
 use Rattle.tt_status.specs.Moment.{moment_text}
 use Rattle.tt_status.specs.declared.lines.LogFormat.{LogFormat}
 use Rattle.tt_status.specs.declared.lines.LogFormat.TheVariants.{Text, Json}
-use Rattle.tt_status.specs.declared.lines.Event.{Event}
-use Rattle.tt_status.specs.declared.lines.Event.TheVariants.{Started, FirstPublication, SourceSilent, SourceSuspect, FusionRefused, ClockBack, AnswersRefused, RoundFailed, SharingEnded, SharingResumed, StatusUnwritten, NotAccepted, StateLoose, EpochLoose, SharedLoose, Ended, MasterStarted, MasterFailed, SocketRenewed, PublicationSlow, SourceUnsent}
+use Rattle.tt_status.specs.declared.lines.LogEvent.{LogEvent}
+use Rattle.tt_status.specs.declared.lines.LogEvent.TheVariants.{Started, FirstPublication, SourceSilent, SourceSuspect, FusionRefused, ClockBack, AnswersRefused, RoundFailed, SharingEnded, SharingResumed, StatusUnwritten, NotAccepted, StateLoose, EpochLoose, SharedLoose, Ended, MasterStarted, MasterFailed, SocketRenewed, PublicationSlow, SourceUnsent}
 use Rattle.tt_status.specs.declared.lines.RefusedFusion.{RefusedFusion}
 use Rattle.tt_status.specs.declared.lines.RefusedFusion.TheVariants.{NoPoint, TooFewKnown}
 
 -- the number of each refusal of a fusion
 abbrev pub refusal_number_of : RefusedFusion → ℕ
-refusal_number_of NoPoint = 504
-refusal_number_of TooFewKnown = 701
+refusal_number_of NoPoint = daemon_number_of daemon.NoPoint
+refusal_number_of TooFewKnown = daemon_number_of daemon.Unknown
 
 -- a name and the decimal digits of its number
 abbrev pub field : LogFormat → List ℕ → ℕ → List ℕ
@@ -21,7 +23,7 @@ field Text name value = codes " " ++ name ++ codes "=" ++ decimal value
 field Json name value = codes ",\"" ++ name ++ codes "\":" ++ decimal value
 
 -- how grave an event is
-abbrev pub level_of : Event → List ℕ
+abbrev pub level_of : LogEvent → List ℕ
 level_of (Started machine epoch port) = codes "info"
 level_of (FirstPublication width) = codes "info"
 level_of SharingResumed = codes "info"
@@ -30,7 +32,7 @@ level_of (MasterStarted source port) = codes "info"
 level_of _ = codes "warn"
 
 -- how an event is called
-abbrev pub name_of : Event → List ℕ
+abbrev pub name_of : LogEvent → List ℕ
 name_of (Started machine epoch port) = codes "started"
 name_of (FirstPublication width) = codes "first_publication"
 name_of (SourceSilent source) = codes "source_silent"
@@ -54,7 +56,7 @@ name_of (PublicationSlow lasted) = codes "publication_slow"
 name_of (SourceUnsent source) = codes "source_unsent"
 
 -- its numbers, each behind its name; the name of a time in nanoseconds ends in `_ns`
-abbrev pub numbers_of : LogFormat → Event → List ℕ
+abbrev pub numbers_of : LogFormat → LogEvent → List ℕ
 numbers_of f (Started machine epoch port) = field f (codes "machine") machine ++ field f (codes "epoch") epoch ++ field f (codes "port") port
 numbers_of f (FirstPublication width) = field f (codes "width_ns") width
 numbers_of f (SourceSilent source) = field f (codes "source") source
@@ -71,7 +73,7 @@ numbers_of f (SourceUnsent source) = field f (codes "source") source
 numbers_of f _ = []
 
 -- the time, the level and the name of an event
-abbrev pub head_text : LogFormat → Date → ℕ → Event → List ℕ
+abbrev pub head_text : LogFormat → Date → ℕ → LogEvent → List ℕ
 head_text Text date time event =
     codes "time=" ++ moment_text date time ++ codes " level=" ++ level_of event ++ codes " event=" ++ name_of event
 head_text Json date time event =
@@ -87,5 +89,5 @@ end_text Text = codes "\n"
 end_text Json = codes "}\n"
 
 -- the line of an event at a time, the date of which is given
-abbrev pub event_line : LogFormat → Date → ℕ → Event → ℕ → List ℕ
+abbrev pub event_line : LogFormat → Date → ℕ → LogEvent → ℕ → List ℕ
 event_line f date time event left_out = head_text f date time event ++ numbers_of f event ++ left_out_text f left_out ++ end_text f

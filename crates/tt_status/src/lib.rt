@@ -4,7 +4,7 @@
 //!
 //! - `statuses`: [`Status`], and its text in the format that Prometheus collects.
 //! - `metrics`: the text of a metric. `digits`, `moments`: numbers with a fixed count of digits, seconds, and UTC.
-//! - `lines`: [`Event`], and the line of a log that says it.
+//! - `lines`: [`LogEvent`], and the line of a log that says it.
 //! - `limits`: [`Limit`], which lets one line of a kind pass in ten seconds and counts the others.
 #![tactic(auto)]
 
@@ -16,6 +16,6 @@ mod moments;
 mod statuses;
 
 pub use limits::{Limit, QUIET};
-pub use lines::{Event, LogFormat, RefusedFusion, push_event};
+pub use lines::{LogEvent, LogFormat, RefusedFusion, push_event};
 pub use metrics::VERSION;
 pub use statuses::{MAX_SOURCES, SourceStatus, Status, push_status};

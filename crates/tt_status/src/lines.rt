@@ -8,25 +8,27 @@ ghost use Rattle.tt_status.specs.Event.{event_line, head_text, left_out_text, en
 use crate::moments::{date_of, push_moment};
 use jiff_core::civil::Date;
 use std::alloc::AllocError;
+use tt_daemon::DaemonFault;
 
 /// Why a fusion is refused.
 #[derive(Clone, Copy, Debug, PartialEq, Eq)]
 pub enum RefusedFusion {
-    /// No point lies in the spans of enough sources: more than f sources are faulty. Its number is 504.
+    /// No point lies in the spans of enough sources: more than f sources are faulty.
     NoPoint,
-    /// Too few sources are known. Its number is 701.
+    /// Too few sources are known.
     TooFewKnown,
 }
 
 impl RefusedFusion {
-    /// The number of the refusal: 504 for `NoPoint`, 701 for `TooFewKnown`.
+    /// The number of the refusal, as [`DaemonFault::number`] has it: 504 for `NoPoint`, 701 for `TooFewKnown`.
     pub fn number(self) -> u64
         ensures value { result ≡ refusal_number_of self }
     {
-        match self {
-            RefusedFusion::NoPoint => 504,
-            RefusedFusion::TooFewKnown => 701,
-        }
+        let fault = match self {
+            RefusedFusion::NoPoint => DaemonFault::NoPoint,
+            RefusedFusion::TooFewKnown => DaemonFault::Unknown,
+        };
+        u64::from(fault.number())
     }
 }
 
@@ -41,7 +43,7 @@ pub enum LogFormat {
 
 /// An event that an operator wants to see, or may have to act on.
 #[derive(Clone, Copy, Debug, PartialEq, Eq)]
-pub enum Event {
+pub enum LogEvent {
     /// The machine has started in this epoch, and serves clients at this port.
     Started { machine: u64, epoch: u64, port: u64 },
     /// The first publication of this life, with its width in nanoseconds.
@@ -86,17 +88,17 @@ pub enum Event {
     SourceUnsent { source: u64 },
 }
 
-impl Event {
+impl LogEvent {
     /// The level of the event in a line.
     fn level(self) -> &'static str
         ensures { result.now ≡ level_of self }
     {
         match self {
-            Event::Started { .. }
-            | Event::FirstPublication { .. }
-            | Event::SharingResumed
-            | Event::Ended
-            | Event::MasterStarted { .. } => "info",
+            LogEvent::Started { .. }
+            | LogEvent::FirstPublication { .. }
+            | LogEvent::SharingResumed
+            | LogEvent::Ended
+            | LogEvent::MasterStarted { .. } => "info",
             _ => "warn",
         }
     }
@@ -106,27 +108,27 @@ impl Event {
         ensures { result.now ≡ name_of self }
     {
         match self {
-            Event::Started { .. } => "started",
-            Event::FirstPublication { .. } => "first_publication",
-            Event::SourceSilent { .. } => "source_silent",
-            Event::SourceSuspect { .. } => "source_suspect",
-            Event::FusionRefused { .. } => "fusion_refused",
-            Event::ClockBack => "clock_back",
-            Event::AnswersRefused { .. } => "answers_refused",
-            Event::RoundFailed { .. } => "round_failed",
-            Event::SharingEnded { .. } => "sharing_ended",
-            Event::SharingResumed => "sharing_resumed",
-            Event::StatusUnwritten => "status_unwritten",
-            Event::NotAccepted => "not_accepted",
-            Event::StateLoose => "state_loose",
-            Event::EpochLoose => "epoch_loose",
-            Event::SharedLoose => "shared_loose",
-            Event::Ended => "ended",
-            Event::MasterStarted { .. } => "master_started",
-            Event::MasterFailed { .. } => "master_failed",
-            Event::SocketRenewed { .. } => "socket_renewed",
-            Event::PublicationSlow { .. } => "publication_slow",
-            Event::SourceUnsent { .. } => "source_unsent",
+            LogEvent::Started { .. } => "started",
+            LogEvent::FirstPublication { .. } => "first_publication",
+            LogEvent::SourceSilent { .. } => "source_silent",
+            LogEvent::SourceSuspect { .. } => "source_suspect",
+            LogEvent::FusionRefused { .. } => "fusion_refused",
+            LogEvent::ClockBack => "clock_back",
+            LogEvent::AnswersRefused { .. } => "answers_refused",
+            LogEvent::RoundFailed { .. } => "round_failed",
+            LogEvent::SharingEnded { .. } => "sharing_ended",
+            LogEvent::SharingResumed => "sharing_resumed",
+            LogEvent::StatusUnwritten => "status_unwritten",
+            LogEvent::NotAccepted => "not_accepted",
+            LogEvent::StateLoose => "state_loose",
+            LogEvent::EpochLoose => "epoch_loose",
+            LogEvent::SharedLoose => "shared_loose",
+            LogEvent::Ended => "ended",
+            LogEvent::MasterStarted { .. } => "master_started",
+            LogEvent::MasterFailed { .. } => "master_failed",
+            LogEvent::SocketRenewed { .. } => "socket_renewed",
+            LogEvent::PublicationSlow { .. } => "publication_slow",
+            LogEvent::SourceUnsent { .. } => "source_unsent",
         }
     }
 }
@@ -141,7 +143,7 @@ pub fn push_event(
     text: &mut String,
     format: LogFormat,
     time: u64,
-    event: Event,
+    event: LogEvent,
     left_out: u64,
 ) -> Result<(), AllocError>
     ensures written { OnOk result ((date : Day) × IsDateOf time date
@@ -156,7 +158,7 @@ fn push_dated(
     format: LogFormat,
     date: Date,
     time: u64,
-    event: Event,
+    event: LogEvent,
     left_out: u64,
 ) -> Result<(), AllocError>
     ensures { OnOk result (string_bytes text.new ≡ string_bytes text.old ++ event_line format date time event left_out) }
@@ -193,7 +195,7 @@ fn push_head(
     format: LogFormat,
     date: Date,
     time: u64,
-    event: Event,
+    event: LogEvent,
 ) -> Result<(), AllocError>
     ensures { OnOk result (string_bytes text.new ≡ string_bytes text.old ++ head_text format date time event) }
 {
@@ -234,11 +236,11 @@ fn push_field(
 }
 
 /// Adds the numbers of an event.
-fn push_numbers(text: &mut String, format: LogFormat, event: Event) -> Result<(), AllocError>
+fn push_numbers(text: &mut String, format: LogFormat, event: LogEvent) -> Result<(), AllocError>
     ensures { OnOk result (string_bytes text.new ≡ string_bytes text.old ++ numbers_of format event) }
 {
     match event {
-        Event::Started {
+        LogEvent::Started {
             machine,
             epoch,
             port,
@@ -247,31 +249,31 @@ fn push_numbers(text: &mut String, format: LogFormat, event: Event) -> Result<()
             push_field(text, format, "epoch", epoch)?;
             push_field(text, format, "port", port)
         }
-        Event::FirstPublication { width } => push_field(text, format, "width_ns", width),
-        Event::SourceSilent { source } => push_field(text, format, "source", source),
-        Event::SourceSuspect { source } => push_field(text, format, "source", source),
-        Event::FusionRefused { reason } => push_field(text, format, "number", reason.number()),
-        Event::MasterFailed { number } => push_field(text, format, "number", number),
-        Event::MasterStarted { source, port } => {
+        LogEvent::FirstPublication { width } => push_field(text, format, "width_ns", width),
+        LogEvent::SourceSilent { source } => push_field(text, format, "source", source),
+        LogEvent::SourceSuspect { source } => push_field(text, format, "source", source),
+        LogEvent::FusionRefused { reason } => push_field(text, format, "number", reason.number()),
+        LogEvent::MasterFailed { number } => push_field(text, format, "number", number),
+        LogEvent::MasterStarted { source, port } => {
             push_field(text, format, "source", source)?;
             push_field(text, format, "port", port)
         }
-        Event::AnswersRefused { count } => push_field(text, format, "count", count),
-        Event::RoundFailed { number } => push_field(text, format, "number", number),
-        Event::SharingEnded { number } => push_field(text, format, "number", number),
-        Event::SocketRenewed { number, pause } => {
+        LogEvent::AnswersRefused { count } => push_field(text, format, "count", count),
+        LogEvent::RoundFailed { number } => push_field(text, format, "number", number),
+        LogEvent::SharingEnded { number } => push_field(text, format, "number", number),
+        LogEvent::SocketRenewed { number, pause } => {
             push_field(text, format, "number", number)?;
             push_field(text, format, "pause_ns", pause)
         }
-        Event::PublicationSlow { lasted } => push_field(text, format, "lasted_ns", lasted),
-        Event::SourceUnsent { source } => push_field(text, format, "source", source),
-        Event::ClockBack
-        | Event::SharingResumed
-        | Event::StatusUnwritten
-        | Event::NotAccepted
-        | Event::StateLoose
-        | Event::EpochLoose
-        | Event::SharedLoose
-        | Event::Ended => Ok(()),
+        LogEvent::PublicationSlow { lasted } => push_field(text, format, "lasted_ns", lasted),
+        LogEvent::SourceUnsent { source } => push_field(text, format, "source", source),
+        LogEvent::ClockBack
+        | LogEvent::SharingResumed
+        | LogEvent::StatusUnwritten
+        | LogEvent::NotAccepted
+        | LogEvent::StateLoose
+        | LogEvent::EpochLoose
+        | LogEvent::SharedLoose
+        | LogEvent::Ended => Ok(()),
     }
 }

@@ -2,3 +2,12 @@ pub mod Phrase
 pub mod Event
 pub mod Reply
 pub mod Trace
+pub mod Fault
+pub mod Lookups
+pub mod Marks
+pub mod Sheet
+pub mod Tree
+pub mod Drawing
+pub mod Framing
+pub mod Picture
+pub mod Bands

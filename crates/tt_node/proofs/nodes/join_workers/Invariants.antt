@@ -1,6 +1,7 @@
 -- There is one end for each thread that was joined, and its seat was joined to the one seat.
 use Rattle.std.proofs.Common.{◌≡◌, ◌+◌, ◌≤◌, vec_len, vec_capacity}
-use Rattle.tt_node.specs.Sharing.{AllDown, ServesAt, new_watch}
+use Rattle.tt_node.specs.Sharing.{AllDown, ServesAt}
+use Rattle.tt_publish.specs.Known.{new_watch}
 use Rattle.tt_node.proofs.Sharing.{HasJoined}
 use Rattle.tt_node.proofs.nodes.join_workers.Given as goal
 
@@ -12,6 +13,6 @@ invariant-loop g l =
       len : vec_len l.ends ≡ l.counter + 1;
       left : vec_len l.handles + l.counter + 1 ≡ n;
       room : n ≤ vec_capacity l.ends;
-      each : AllDown (λ number handle. ServesAt l.sequencer n l._gate l._limits.serve.waits l._limits.lease watch number handle.promise) n l.handles.items;
-      joined : HasJoined g.C.Clock.gives g.C.Clock.failed g.G.Gate.says g.G.Gate.hears l._limits.serve.waits l._gate l._limits.lease watch l.sequencer n l.ends.items l.all;
+      each : AllDown (λ number handle. ServesAt l.context.sequencer.now n l.context.gate.now l.context.limits.now.serve.waits l.context.limits.now.lease watch number handle.promise) n l.handles.items;
+      joined : HasJoined g.C.Clock.gives g.C.Clock.failed g.G.Gate.says g.G.Gate.hears l.context.limits.now.serve.waits l.context.gate.now l.context.limits.now.lease watch l.context.sequencer.now n l.ends.items l.all;
     }

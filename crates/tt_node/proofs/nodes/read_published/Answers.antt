@@ -3,7 +3,8 @@ use Rattle.std.proofs.lemmas.Bool.{false≢true}
 use Rattle.std.proofs.lemmas.List.{take_all}
 use Rattle.std.proofs.lemmas.List.Elements.{All-more}
 use Rattle.tt_node.specs.Sharing.{ReadsBy, ReadsPublished}
-use Rattle.tt_node.proofs.Reading.{item-at, reads-published}
+use Rattle.tt_rounds.proofs.Items.{item-at}
+use Rattle.tt_node.proofs.Reading.{reads-published}
 use Rattle.tt_node.proofs.nodes.read_published.Goals as goal
 
 pub is_within-requires : goal.is_within-requires

@@ -1,7 +1,7 @@
 -- There is one handle for each thread that was started, the seats that are left are those of the streams that are left, and the watches that are left are new.
 use Rattle.std.proofs.Common.{◌≡◌, ◌≤◌, ◌+◌, All, vec_len, vec_capacity}
-use Rattle.tt_publish.specs.Known.{WatchState}
-use Rattle.tt_node.specs.Sharing.{AllFrom, AllDown, IsNewSeat, ServesAt, new_watch}
+use Rattle.tt_publish.specs.Known.{WatchState, new_watch}
+use Rattle.tt_node.specs.Sharing.{AllFrom, AllDown, IsNewSeat, ServesAt}
 use Rattle.tt_node.proofs.nodes.start_workers.Given as goal
 
 abbrev pub invariant-loop : goal.invariant-loop
@@ -12,7 +12,7 @@ invariant-loop g l =
       room : vec_len l.initial.streams ≤ vec_capacity l.handles;
       left : vec_len l.streams + l.counter ≡ vec_len l.initial.streams;
       one_each : vec_len l.seats ≡ vec_len l.streams;
-      new : AllFrom (IsNewSeat l.sequencer (vec_len l.initial.streams)) 0 l.seats.items;
+      new : AllFrom (IsNewSeat l.context.sequencer.now (vec_len l.initial.streams)) 0 l.seats.items;
       watches : All (λ (w : WatchState). w ≡ watch) l.watches.items;
-      each : AllDown (λ number handle. ServesAt l.sequencer (vec_len l.initial.streams) l.gate l.limits.serve.waits l.limits.lease watch number handle.promise) (vec_len l.initial.streams) l.handles.items;
+      each : AllDown (λ number handle. ServesAt l.context.sequencer.now (vec_len l.initial.streams) l.context.gate.now l.context.limits.now.serve.waits l.context.limits.now.lease watch number handle.promise) (vec_len l.initial.streams) l.handles.items;
     }

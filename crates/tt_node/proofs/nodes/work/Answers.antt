@@ -10,13 +10,13 @@ pub returns-clause-serves : goal.returns-clause-serves
 returns-clause-serves g c =
     let before = c.new-worker.result in
     let after = c.serve-served.new.service in
-    let (calls, talked, served) = talked-by (Allows g.C.Clock.gives g.C.Clock.failed g.G.Gate.says g.G.Gate.hears) c.args.limits.now.serve.waits _ _ _ _ before after c.serve-served.result
+    let (calls, talked, served) = talked-by (Allows g.C.Clock.gives g.C.Clock.failed g.G.Gate.says g.G.Gate.hears) c.args.context.limits.now.serve.waits _ _ _ _ before after c.serve-served.result
     c.serve-served.ensures.served c.serve-served.ensures.read_failed c.serve-served.ensures.write_failed in
     let seat = c.of.ensures ∙ c.into_parts-notes.ensures.seat in
     let parts = c.into_parts-notes.ensures in
     let made = c.new-worker.ensures.made in
     let seen = c.seen.ensures ∙ ap seen_of parts.watch in
-    let (watch_later, readings) = read-talked g.C.Clock.gives g.C.Clock.failed g.G.Gate.says g.G.Gate.hears before calls after c.args.watch c.seen.result c.into_parts-notes.result.0.items
+    let (watch_later, readings) = read-talked g.C.Clock.gives g.C.Clock.failed g.G.Gate.says g.G.Gate.hears before calls after c.args.parts.watch c.seen.result c.into_parts-notes.result.0.items
     (ap (λ w. w.watch) made) (ap (λ w. w.notes) made) seen parts.notes talked in
     record {
       book = c.view.result;

@@ -3,8 +3,8 @@ use Rattle.std.proofs.Common.{◌≡◌, ℕ, ◌+◌, ◌<◌, List, get_or, le
 use Rattle.std.proofs.lemmas.List.{get_or_default}
 use Rattle.std.proofs.lemmas.List.Edits.{fill_by_more}
 use Rattle.std.proofs.lemmas.List.FromFn.{fill_by_all}
-use Rattle.tt_node.specs.declared.reports.SourceReport.{SourceReport}
-use Rattle.tt_node.specs.Reports.{silent as silent_report}
+use Rattle.tt_rounds.specs.declared.reports.SourceReport.{SourceReport}
+use Rattle.tt_rounds.specs.Reports.{silent as silent_report}
 use Rattle.tt_server.specs.Records.{counted_source, each_after, no_source_tally, report_at, tally_at}
 use Rattle.tt_server.specs.declared.records.SourceTally.{SourceTally}
 use Rattle.tt_server.proofs.records.each_after.Goals as goal

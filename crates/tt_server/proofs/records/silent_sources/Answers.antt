@@ -2,8 +2,8 @@
 use Rattle.std.proofs.Common.{◌≡◌, ℕ, ◌++◌, [], ◌∷◌, ◌+◌, ◌<◌, Bool, true, false, List, get_or, length, arith, ap, ◌∙◌, sym}
 use Rattle.std.proofs.lemmas.List.{get_or_default}
 use Rattle.arrayvec.specs.ArrayVec.{ArrayVec, array_vec_len}
-use Rattle.tt_node.specs.declared.reports.SourceReport.{SourceReport}
-use Rattle.tt_node.specs.Reports.{silent as silent_report}
+use Rattle.tt_rounds.specs.declared.reports.SourceReport.{SourceReport}
+use Rattle.tt_rounds.specs.Reports.{silent as silent_report}
 use Rattle.tt_server.specs.Records.{is_silent, report_at}
 use Rattle.tt_server.proofs.Numbers.{numbers-no, numbers-yes}
 use Rattle.tt_server.proofs.records.silent_sources.Goals as goal

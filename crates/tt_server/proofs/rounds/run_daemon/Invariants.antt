@@ -6,6 +6,6 @@ use Rattle.tt_server.proofs.rounds.run_daemon.Given as goal
 abbrev pub invariant-loop : goal.invariant-loop
 invariant-loop g l =
     record {
-      calls : CallsInTurn (kept_with l.fn.desk.daemon []) (kept_with l.desk.daemon l.teller.items) l.fn.clock.last l.clock.last;
+      calls : CallsInTurn (kept_with l.fn.poller.daemon []) (kept_with l.poller.daemon l.teller.items) l.fn.clock.last l.clock.last;
       source : l.teller.source ≡ l.fn.teller.source;
     }

@@ -1,7 +1,7 @@
 use Rattle.std.proofs.Common.{IfSome, rules, sym, subst, arith}
 use Rattle.std.proofs.lemmas.List.Elements.{All-pop, All-push}
 use Rattle.std.specs.declared.thread.PromisedHandle.{PromisedHandle}
-use Rattle.tt_node.specs.Sharing.{new_watch}
+use Rattle.tt_publish.specs.Known.{new_watch}
 use Rattle.tt_server.specs.declared.lives.WorkerEnd.{WorkerEnd}
 use Rattle.tt_server.specs.declared.workers.ServesClients.{ServesClients}
 use Rattle.tt_server.specs.Life.{HandsBack}

@@ -1,6 +1,6 @@
 -- There is one end for each thread that was joined, and it tells of a worker.
 use Rattle.std.proofs.Common.{◌≡◌, ◌≤◌, ◌+◌, All, vec_len, vec_capacity}
-use Rattle.tt_node.specs.Sharing.{new_watch}
+use Rattle.tt_publish.specs.Known.{new_watch}
 use Rattle.tt_server.specs.Life.{HandsBack}
 use Rattle.tt_server.specs.Thread.{IsServing, terms_in}
 use Rattle.tt_server.proofs.servers.join_workers.Given as goal

@@ -2,7 +2,7 @@ use Rattle.std.proofs.Common.{◌≡◌, take, refl, sym, subst, All}
 use Rattle.std.proofs.lemmas.Bool.{false≢true}
 use Rattle.std.proofs.lemmas.List.{take_all}
 use Rattle.std.proofs.lemmas.List.Elements.{All-more}
-use Rattle.tt_node.proofs.Reading.{item-at}
+use Rattle.tt_rounds.proofs.Items.{item-at}
 use Rattle.tt_server.specs.declared.lives.WorkerEnd.{WorkerEnd}
 use Rattle.tt_server.proofs.Living.{Begins}
 use Rattle.tt_server.proofs.servers.read_published.Goals as goal

@@ -1,7 +1,6 @@
 use Rattle.std.proofs.Common.{◌≡◌, ◌<◌, ◌^◌, List, All, length, refl, sym, ap, ◌∙◌, subst, rules, arith}
 use Rattle.tt_daemon.specs.Config.{Configuration}
-use Rattle.tt_publish.specs.Known.{Known}
-use Rattle.tt_node.specs.Sharing.{new_watch}
+use Rattle.tt_publish.specs.Known.{Known, new_watch}
 use Rattle.tt_connections.specs.Clock.{ClockState}
 use Rattle.tt_server.specs.declared.lives.WorkerEnd.{WorkerEnd}
 use Rattle.tt_server.specs.Thread.{terms_in}
@@ -10,12 +9,12 @@ use Rattle.tt_server.proofs.servers.run_threads.Goals as goal
 
 pub start_all-requires-clause-watches : goal.start_all-requires-clause-watches
 start_all-requires-clause-watches g c κs within =
-    new-watches c.args.teller.now.source c.tell-opened.result.source c.args.settings.now.config.drift c.args.shared.hall.now.life.config.drift c.args.parts.posts.watches.items
+    new-watches c.args.teller.now.source c.tell-opened.result.source c.args.settings.now.config.drift c.args.context.server.now.life.config.drift c.args.parts.posts.watches.items
     (ap (λ (k : Known). k.source) c.tell-opened.ensures) (ap (λ (k : Configuration). k.drift) c.requires.meant.config) c.requires.ready.new
 
 pub read_published-requires : goal.read_published-requires
 read_published-requires g c =
-    let life = c.args.shared.hall.now.life in
+    let life = c.args.context.server.now.life in
     let source : c.tell-published.result.source ≡ c.tell-opened.result.source =
     ap (λ (k : Known). k.source) c.tell-published.ensures ∙ (c.run_daemon.ensures.source ∙ sym (ap (λ (k : Known). k.source) c.tell-opened.ensures)) in
     let drift = life.config.drift in
@@ -25,15 +24,15 @@ read_published-requires g c =
 
 pub returns-clause-life : goal.returns-clause-life
 returns-clause-life g c =
-    let life = c.args.shared.hall.now.life in
+    let life = c.args.context.server.now.life in
     let source : c.tell-published.result.source ≡ c.tell-opened.result.source =
     ap (λ (k : Known). k.source) c.tell-published.ensures ∙ (c.run_daemon.ensures.source ∙ sym (ap (λ (k : Known). k.source) c.tell-opened.ensures)) in
     let ends = c.join_workers-workers.result.items in
-    let called = has-called c.desk_of-desk.result.daemon c.run_daemon.new.desk.daemon c.run_daemon.new.teller.items c.tell-published.result.items c.new-clock.result.last c.run_daemon.new.clock.last
+    let called = has-called c.poller_of-poller.result.daemon c.run_daemon.new.poller.daemon c.run_daemon.new.teller.items c.tell-published.result.items c.new-clock.result.last c.run_daemon.new.clock.last
     (ap (λ (k : ClockState). k.last) c.new-clock.ensures.new) (ap (λ (k : Known). k.items) c.tell-published.ensures) c.run_daemon.ensures.calls in
     let handed = handed-of c.tell-opened.result.source c.tell-published.result.source life.config.drift (terms_in life) ends source c.join_workers-workers.ensures.each in
     let begin = subst (λ (ends : List WorkerEnd). All (Begins c.tell-published.result.items) ends) c.deref.ensures.value (c.read_published.ensures c.if-not-read_published.false) in
     let below : life.epoch < 2 ^ 64 = search rules in
     let count : length ends ≡ c.args.settings.now.config.workers = first_of (search rules, omega arith) in
-    life-ended c.args.settings.now life _ c.desk_of-desk.result.daemon c.run_daemon.new.desk.daemon c.run_daemon.new.clock.last c.requires.meant c.desk_of-desk.ensures.configured below
-    c.desk_of-desk.ensures.daemon called handed begin refl count
+    life-ended c.args.settings.now life _ c.poller_of-poller.result.daemon c.run_daemon.new.poller.daemon c.run_daemon.new.clock.last c.requires.meant c.poller_of-poller.ensures.configured below
+    c.poller_of-poller.ensures.daemon called handed begin refl count

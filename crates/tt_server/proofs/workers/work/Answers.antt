@@ -1,6 +1,6 @@
 use Rattle.std.proofs.Common.{ap, ◌∙◌}
 use Rattle.tt_publish.specs.Known.{seen_of}
-use Rattle.tt_station.specs.Station.{PostState}
+use Rattle.tt_connections.specs.Station.{PostState}
 use Rattle.tt_connections.specs.Clock.{ClockState}
 use Rattle.tt_server.proofs.Living.{served-none, served-next, handed-back}
 use Rattle.tt_server.proofs.workers.work.Goals as goal

@@ -1,7 +1,7 @@
 use Rattle.std.proofs.Common.{◌≡◌, ℕ, List, ◌∷◌, Option, ◌∙◌, ap, ap₂, sym}
 use Rattle.std.proofs.Common.{subst₂}
 use Rattle.tt_stamp.specs.declared.commits.Receipt.{Receipt}
-use Rattle.tt_audit.specs.declared.ordering.Place.{Place}
+use Rattle.tt_audit.specs.declared.ordering.Position.{Position}
 use Rattle.tt_audit.specs.declared.ordering.Stamping.{Stamping}
 use Rattle.tt_audit.specs.Violations.{receipts_in, asked_by}
 use Rattle.tt_audit.specs.Ordering.{OrderState, KeepsOrder, highest_after, marks_after, is_stamping_reached}
@@ -16,7 +16,7 @@ returns-clause-keeps c = λ past keeps.
     let inside : OrderState = record { released = c.self.inside.released; before = c.self.inside.before } in
     let opened : inside ≡ c.mark.new.self = c.self.view_is in
     let asked : c.mark.new.self ≡ record old { before = marks_after old.before (asked_by event.action reply) old.released } =
-    c.mark.ensures ∙ ap (λ (o : Option Place). record { released = old.released; before = marks_after old.before o old.released }) c.asked_by.ensures in
+    c.mark.ensures ∙ ap (λ (o : Option Position). record { released = old.released; before = marks_after old.before o old.released }) c.asked_by.ensures in
     let risen : c.highest-self-inside.result ≡ highest_after old.released (receipts_in reply) =
     c.highest-self-inside.ensures
     ∙ ap₂ (λ (o : Option ℕ) (rs : List Receipt). highest_after o rs) (ap (λ (s : OrderState). s.released) (opened ∙ asked)) c.released_by.ensures in

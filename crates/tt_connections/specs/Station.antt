@@ -1,0 +1,160 @@
+-- The service of one session: each call is calls of the worker's watch and seat, and of the session's book, one after the other.
+use Rattle.std.specs.Prelude.{◌≡◌, ℕ, ◌+◌, ◌<◌, max, min, nat_lt, List, [], Bool, true, false, if◌then◌else◌, MatchBool, Option, Some, None, Result, Ok, Err}
+use Rattle.tt_span.specs.Time.{max_time}
+use Rattle.tt_span.specs.Interval.{Interval, whole}
+use Rattle.tt_span.specs.Fault.{number_of as span_number_of}
+use Rattle.tt_span.specs.declared.spans.SpanFault.TheVariants.{Backwards, PastMax}
+use Rattle.tt_publish.specs.Fault.{read_number_of}
+use Rattle.tt_publish.specs.Known.{WatchState}
+use Rattle.tt_publish.specs.Looks.{Looks}
+use Rattle.tt_publish.specs.declared.faults.ReadFault.{ReadFault}
+use Rattle.tt_stamp.specs.Fault.{number_of as stamp_number_of}
+use Rattle.tt_stamp.specs.Stamping.{SeatState}
+use Rattle.tt_stamp.specs.Steps.{Stamps}
+use Rattle.tt_stamp.specs.History.{waiting_of, release_of, with_receipts, receipt_of}
+use Rattle.tt_stamp.specs.declared.commits.Id.{Id}
+use Rattle.tt_stamp.specs.declared.commits.Entry.{Entry}
+use Rattle.tt_stamp.specs.declared.commits.Receipt.{Receipt}
+use Rattle.tt_stamp.specs.declared.faults.StampFault.{StampFault}
+use Rattle.tt_stamp.specs.declared.faults.StampFault.TheVariants.{LeaseOver}
+use Rattle.tt_stamp.specs.declared.faults.BookFault.{BookFault}
+use Rattle.tt_session.specs.Desk.{Queues, AnswersQueued}
+use Rattle.tt_session.specs.Session.{Serves, Breaks}
+use Rattle.tt_session.specs.declared.calls.Call.{Call}
+use Rattle.tt_session.specs.declared.calls.Call.TheVariants.{Now, Begin, Lease, Pass}
+use Rattle.tt_session.specs.declared.serving.Served.{Served}
+use Rattle.tt_connections.specs.Fault.{number_of}
+use Rattle.tt_connections.specs.declared.faults.StationFault.TheVariants.{FloorAboveCap, ClientLeft}
+
+-- what a worker keeps from one session to the next: its watch and its clock, its seat, the lease that it stamps in, and how far a floor may lie ahead
+pub record PostState (C : Type 0) : Type 0 where
+  pub watch : WatchState
+  pub clock : C
+  pub seat : SeatState
+  pub lease : Interval
+  pub ahead : ℕ
+
+-- a session: its worker's post, its client, the lease that the client set, and what happened in its book, newest first
+pub record StationState (C V : Type 0) : Type 0 where
+  pub post : PostState C
+  pub client : V
+  pub lease : Interval
+  pub book : List Entry
+
+-- a session at its beginning: nothing has happened in its book, and its lease is the whole of time
+abbrev pub new_station : {C V : Type 0} → PostState C → V → StationState C V
+new_station post client = record { post = post; client = client; lease = whole; book = [] }
+
+-- the id of the session's commit with this number
+abbrev pub id_at : ℕ → Id
+id_at number = record { session = 0; number = number }
+
+-- the book that a commit is queued into: where none is pending, a new one
+abbrev pub page_if : List (ℕ × Id) → List Entry → List Entry
+page_if [] book = []
+page_if _ book = book
+
+abbrev pub book_before : List Entry → List Entry
+book_before book = page_if (waiting_of book) book
+
+-- what lies in both of two leases; where nothing does, its ends are not in order
+abbrev pub common : Interval → Interval → Interval
+common a b = record { lo = max a.lo b.lo; hi = min a.hi b.hi }
+
+-- the lease that stamps of a session lie in: what its own lease and that of the machine have in common
+abbrev pub lease_of : {C V : Type 0} → StationState C V → Interval
+lease_of station = common station.lease station.post.lease
+
+-- one stamp of a seat, for this floor, in what two leases have in common; where that is nothing, the lease is over, and the seat stays
+abbrev pub StampsIn : Interval → Interval → ℕ → Interval → SeatState → Result ℕ StampFault → SeatState → Type 0
+StampsIn a b floor reading old answer new =
+    MatchBool (nat_lt (min a.hi b.hi) (max a.lo b.lo)) ((answer ≡ Err LeaseOver) × (new ≡ old)) (Stamps floor (common a b) reading old answer new)
+
+-- one stamp of a post is one of its seat, in what a lease and that of the machine have in common; the rest of the post stays
+pub record StampsPost {C : Type 0} (floor : ℕ) (lease reading : Interval) (old : PostState C) (answer : Result ℕ StampFault) (new : PostState C) : Type 0 where
+  pub stamps : StampsIn lease old.lease floor reading old.seat answer new.seat
+  pub same : new ≡ record old { seat = new.seat }
+
+-- one queueing in the book of a session
+abbrev pub QueuesPage : List Entry → Id → ℕ → Result (Unit {0}) BookFault → List Entry → Type 0
+QueuesPage old id stamp answer new = Queues (book_before old) id stamp answer new
+
+-- the answer to a lease with these ends: the first reason why they are those of no interval of time, if there is one
+abbrev pub lease_answer : ℕ → ℕ → Result (Unit {0}) ℕ
+lease_answer lo hi = if nat_lt hi lo then Err (span_number_of Backwards) else (if nat_lt max_time hi then Err (span_number_of PastMax) else Ok tt)
+
+-- the lease after that: the old one where the ends are those of no interval of time
+abbrev pub lease_set : ℕ → ℕ → Interval → Interval
+lease_set lo hi old = if nat_lt hi lo then old else (if nat_lt max_time hi then old else record { lo = lo; hi = hi })
+
+-- the lease of a session is set to these ends, or refused; nothing else is done
+pub record SetsLease {C V : Type 0} (lo hi : ℕ) (before : StationState C V) (answer : Result (Unit {0}) ℕ) (after : StationState C V) : Type 0 where
+  pub says : answer ≡ lease_answer lo hi
+  pub set : after ≡ record before { lease = lease_set lo hi before.lease }
+
+-- a call that begins with a reading, and then does this with it; the client, the terms and the lease stay
+pub record LooksThen {C V : Type 0} (gives : C → Option ℕ → C → Type 0) (failed : C → ℕ) (before : StationState C V) (Then : Result Interval ReadFault → Type 0) (after : StationState C V) : Type 0 where
+  pub lease : after.post.lease ≡ before.post.lease
+  pub ahead : after.post.ahead ≡ before.post.ahead
+  pub client : after.client ≡ before.client
+  pub own : after.lease ≡ before.lease
+  pub looked : Result Interval ReadFault
+  pub looks : Looks gives failed before.post.watch before.post.clock looked after.post.watch after.post.clock
+  pub rest : Then looked
+
+-- the call gave no stamp, and left the book as it was
+pub record Keeps {C V : Type 0} (before after : StationState C V) : Type 0 where
+  pub seat : after.post.seat ≡ before.post.seat
+  pub book : after.book ≡ before.book
+
+-- the reading, or the number of its refusal, is the answer
+abbrev pub AnswersReading : {C V : Type 0} → StationState C V → Result Interval ℕ → StationState C V → Result Interval ReadFault → Type 0
+AnswersReading before answer after (Ok reading) = (answer ≡ Ok reading) × Keeps before after
+AnswersReading before answer after (Err fault) = (answer ≡ Err (read_number_of fault)) × Keeps before after
+
+-- a commit that has its stamp is queued; where it has none, the number of the refusal is the answer
+abbrev pub QueuesStamped : List Entry → ℕ → Result ℕ ℕ → List Entry → Result ℕ StampFault → Type 0
+QueuesStamped before number answer after (Ok stamp) =
+    (queued : Result (Unit {0}) BookFault) × Queues (book_before before) (id_at number) stamp queued after × AnswersQueued stamp answer queued
+QueuesStamped before number answer after (Err fault) = (answer ≡ Err (stamp_number_of fault)) × (after ≡ before)
+
+-- a commit whose reading was taken is stamped and queued
+abbrev pub CommitsAt : {C V : Type 0} → StationState C V → ℕ → ℕ → Interval → Result ℕ ℕ → StationState C V → Type 0
+CommitsAt before number floor reading answer after =
+    (stamped : Result ℕ StampFault) × StampsIn before.lease before.post.lease floor reading before.post.seat stamped after.post.seat
+    × QueuesStamped before.book number answer after.book stamped
+
+-- a floor, or a start of the session's lease, further ahead of the latest than the terms allow is refused
+abbrev pub BeginsAt : {C V : Type 0} → StationState C V → ℕ → ℕ → Result ℕ ℕ → StationState C V → Result Interval ReadFault → Type 0
+BeginsAt before number floor answer after (Ok reading) =
+    MatchBool (nat_lt (reading.hi + before.post.ahead) (max floor before.lease.lo)) ((answer ≡ Err (number_of FloorAboveCap)) × Keeps before after) (CommitsAt before number floor reading answer after)
+BeginsAt before number floor answer after (Err fault) = (answer ≡ Err (read_number_of fault)) × Keeps before after
+
+-- the answer to whether a commit is released: yes where it has a receipt, on which its stamp is below the earliest of a reading; where it has none, no, or a refusal because the client has left
+abbrev pub AnswersReceipt : {V : Type 0} → (V → Bool → Type 0) → V → Result Bool ℕ → Option Receipt → Type 0
+AnswersReceipt says client answer (Some receipt) = (answer ≡ Ok true) × (receipt.stamp < receipt.earliest)
+AnswersReceipt says client answer None = (left : Bool) × says client left × (answer ≡ (if left then Err (number_of ClientLeft) else Ok false))
+
+-- what has surely passed at the reading is released; where there is no reading, the number of its refusal is the answer
+abbrev pub PassesAt : {C V : Type 0} → (V → Bool → Type 0) → StationState C V → ℕ → Result Bool ℕ → StationState C V → Result Interval ReadFault → Type 0
+PassesAt says before number answer after (Ok reading) =
+    (after.post.seat ≡ before.post.seat) × (after.book ≡ with_receipts (release_of (waiting_of before.book) reading.lo) before.book)
+    × AnswersReceipt says before.client answer (receipt_of after.book (id_at number))
+PassesAt says before number answer after (Err fault) = (answer ≡ Err (read_number_of fault)) × Keeps before after
+
+-- what a station promises of each call of its service
+abbrev pub Allows : {C V : Type 0} → (C → Option ℕ → C → Type 0) → (C → ℕ) → (V → Bool → Type 0) → StationState C V → Call → StationState C V → Type 0
+Allows gives failed says before (Now answer) after = LooksThen gives failed before (AnswersReading before answer after) after
+Allows gives failed says before (Begin number floor answer) after = LooksThen gives failed before (BeginsAt before number floor answer after) after
+Allows gives failed says before (Lease lo hi answer) after = SetsLease lo hi before answer after
+Allows gives failed says before (Pass number answer) after = LooksThen gives failed before (PassesAt says before number answer after) after
+
+-- bytes were read and a text was written, as a session with a station that was new at its beginning; the worker went from one post to the other
+abbrev pub ServesSession : {C V : Type 0} → (C → Option ℕ → C → Type 0) → (C → ℕ) → (V → Bool → Type 0) → ℕ → Option (List ℕ) → Option (List ℕ) → Option (List ℕ) → Option (List ℕ) → V → PostState C → PostState C → Served → Type 0
+ServesSession {C} {V} gives failed says waits left left' taken taken' client post post' served =
+    (after : StationState C V) × (after.post ≡ post') × Serves (Allows gives failed says) waits left left' taken taken' (new_station post client) after served
+
+-- bytes were read, and the session of the first of them broke off in its last reply
+abbrev pub BreaksSession : {C V : Type 0} → (C → Option ℕ → C → Type 0) → (C → ℕ) → (V → Bool → Type 0) → ℕ → Option (List ℕ) → Option (List ℕ) → Option (List ℕ) → Option (List ℕ) → V → PostState C → PostState C → Type 0
+BreaksSession {C} {V} gives failed says waits left left' taken taken' client post post' =
+    (after : StationState C V) × (after.post ≡ post') × Breaks (Allows gives failed says) waits left left' taken taken' (new_station post client) after

@@ -1,0 +1,151 @@
+//! What a worker keeps from one session to the next.
+
+ghost use Rattle.std.specs.Prelude.{◌≡◌, ◌≢◌, ◌+◌, nat_lt, Err, OnOk, IfOk, IsErrOf};
+ghost use Rattle.std.specs.Io.KnownBytes.{IsAtEnd};
+ghost use Rattle.tt_publish.specs.Looks.{Looks};
+ghost use Rattle.tt_session.specs.declared.serving.Served.{Served};
+ghost use Rattle.tt_connections.specs.Station.{ServesSession, BreaksSession, StampsPost};
+
+use crate::presence::Presence;
+use crate::stations::Station;
+use std::alloc::Global;
+use std::marker::Model;
+use std::sync::Wait;
+use tt_publish::{Clock, ReadFault, Reading, Watch};
+use tt_session::{ServeFault, Served, StampSeat, StampSource, Turns, serve};
+use tt_span::Span;
+use tt_stamp::{Seat, Sequencer, StampFault};
+use tt_stream::{ByteReader, ByteWriter};
+
+/// The settings by which commits are stamped.
+#[derive(Clone, Copy, Debug, PartialEq, Eq)]
+pub struct Terms {
+    /// The lease of the machine, in which stamps lie.
+    pub lease: Span,
+    /// How far a floor may lie ahead of the latest of a reading, in nanoseconds. The rule of stamps has a bound too,
+    /// [`tt_stamp::MAX_AHEAD`]: the lower of both counts.
+    pub ahead: u64,
+}
+
+/// What a worker keeps from one session to the next: a watch and a clock of its own, by which it takes readings, and a
+/// seat of its own, with which it asks the sequencer that all workers share for stamps. In contracts a post is its
+/// parts.
+#[derive(Drop)]
+pub struct Post<'a, R, C> {
+    alloc: Global,
+    watch: Watch,
+    clock: C,
+    seat: StampSeat<'a, R>,
+    terms: Terms,
+}
+
+impl<'a, R, C> Model for Post<'a, R, C> {
+    ghost use Rattle.tt_connections.specs.Station.{PostState};
+
+    ghost Value = { PostState C };
+
+    ghost view = { λ p. record { watch = p.watch; clock = p.clock; seat = p.seat; lease = p.terms.lease; ahead = p.terms.ahead } };
+}
+
+impl<'a, R, C: Drop> Post<'a, R, C> {
+    /// Ends the worker. Answers its watch and its seat.
+    pub fn into_parts(self) -> (Watch, Seat)
+        ensures watch { result.0 ≡ self.entry.watch }
+        ensures seat { result.1 ≡ self.entry.seat }
+    {
+        let Post { watch, seat, .. } = self;
+        (watch, seat.into_seat())
+    }
+}
+
+impl<'a, R: Wait, C: Clock> Post<'a, R, C> {
+    /// The post of a worker that has served no session. Requires: the seat is of the sequencer.
+    pub fn new(
+        rt: &'a R,
+        alloc: Global,
+        watch: Watch,
+        clock: C,
+        seat: Seat,
+        sequencer: &'a Sequencer,
+        terms: Terms,
+    ) -> Self
+        requires of_it { seat.table ≡ sequencer.now }
+        ensures made { result ≡ record { watch = watch; clock = clock; seat = seat; lease = terms.lease; ahead = terms.ahead } }
+    {
+        Post {
+            alloc,
+            watch,
+            clock,
+            seat: StampSeat::new(rt, sequencer, seat),
+            terms,
+        }
+    }
+
+    /// Serves one session of this client, as [`serve`] does. Its service is a [`Station`] with an empty book. Answers
+    /// the post for the next session, and the counts of this one.
+    ///
+    /// The counts are refused as by `serve`: 1105 `ReadFailed`, 1106 `WriteFailed`. The post is given back then too.
+    pub fn serve<I: ByteReader, O: ByteWriter, V: Presence>(
+        self,
+        client: &V,
+        reader: &mut I,
+        writer: &mut O,
+        turns: Turns,
+    ) -> (Self, Result<Served, ServeFault>)
+        ensures served { IfOk result.1 (λ served. ServesSession C.gives C.failed V.says turns.waits (I.left reader.old) (I.left reader.new)
+            (O.taken writer.old) (O.taken writer.new) client.now self.entry result.0 served) }
+        ensures end { OnOk result.1 (IsAtEnd (I.left reader.new)) }
+        ensures read_failed { IsErrOf result.1 ServeFault.ReadFailed → (served : Served) × ServesSession C.gives C.failed V.says turns.waits
+            (I.left reader.old) (I.left reader.new) (O.taken writer.old) (O.taken writer.new) client.now self.entry result.0 served }
+        ensures write_failed { IsErrOf result.1 ServeFault.WriteFailed → BreaksSession C.gives C.failed V.says turns.waits
+            (I.left reader.old) (I.left reader.new) (O.taken writer.old) (O.taken writer.new) client.now self.entry result.0 }
+        ensures sound_read { (result.1 ≢ Err ServeFault.ReadFailed) → I.failed reader.new ≡ I.failed reader.old }
+        ensures sound_write { (result.1 ≢ Err ServeFault.WriteFailed) → O.failed writer.new ≡ O.failed writer.old }
+    {
+        let alloc = self.alloc;
+        let mut station = Station::open(self, alloc, client);
+        let served = serve(reader, writer, &mut station, turns);
+        let post = station.close();
+        (post, served)
+    }
+
+    /// One [`Watch::now`].
+    pub(crate) fn read(&mut self) -> Result<Reading, ReadFault>
+        ensures looks { Looks C.gives C.failed self.old.watch self.old.clock result self.new.watch self.new.clock }
+        ensures same { self.new ≡ record self.old { watch = self.new.watch; clock = self.new.clock } }
+    {
+        self.watch.now(&mut self.clock)
+    }
+
+    /// Whether a floor lies further ahead of the latest of this reading than the terms allow.
+    pub(crate) fn is_above_cap(&self, reading: &Reading, floor: u64) -> bool
+        ensures { result ≡ nat_lt (reading.now.hi + self.now.ahead) floor }
+    {
+        floor.saturating_sub(reading.latest()) > self.terms.ahead
+    }
+
+    /// Waits after a release step: see [`StampSeat::pause`].
+    pub(crate) fn pause(&self, stamp: u64, earliest: u64) {
+        self.seat.pause(stamp, earliest);
+    }
+}
+
+impl<'a, R: Wait, C> StampSource for Post<'a, R, C> {
+    ghost stamps = { StampsPost };
+
+    /// One [`Sequencer::stamp`] in what this lease and that of the machine have in common. Where that is nothing, the
+    /// lease is over, and the sequencer is not asked.
+    fn next_stamp(
+        &mut self,
+        reading: &Reading,
+        floor: u64,
+        lease: &Span,
+    ) -> Result<u64, StampFault> {
+        let lo = lease.lo().max(self.terms.lease.lo());
+        let hi = lease.hi().min(self.terms.lease.hi());
+        match Span::new(lo, hi) {
+            Ok(both) => self.seat.next_stamp(reading, floor, &both),
+            Err(_) => Err(StampFault::LeaseOver),
+        }
+    }
+}

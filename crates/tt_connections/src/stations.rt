@@ -1,0 +1,196 @@
+//! The service of one session.
+
+ghost use Rattle.std.specs.Prelude.{◌≡◌, ◌⊎◌, [], None, Err};
+ghost use Rattle.tt_span.specs.Interval.{whole};
+ghost use Rattle.tt_session.specs.Commits.{ReleasesBy};
+ghost use Rattle.tt_connections.specs.Station.{Allows, AnswersReceipt, QueuesPage, SetsLease, book_before};
+
+use crate::faults::StationFault;
+use crate::posts::Post;
+use crate::presence::Presence;
+use std::alloc::Global;
+use std::marker::Model;
+use std::sync::Wait;
+use tt_publish::{Clock, Reading};
+use tt_session::{CommitBook, CommitFault, Service, begin_commit};
+use tt_span::Span;
+use tt_stamp::{Book, BookFault, Id, Receipt};
+
+/// The book of a session. If no commit is pending, the next one is queued into an empty book. In contracts it is its
+/// book.
+#[derive(Drop)]
+struct Page {
+    book: Book,
+    alloc: Global,
+    /// The stamp of the commit that was queued last, in nanoseconds.
+    stamp: u64,
+}
+
+impl Model for Page {
+    ghost use Rattle.std.specs.Prelude.{List};
+    ghost use Rattle.tt_stamp.specs.declared.commits.Entry.{Entry};
+
+    ghost Value = { List Entry };
+
+    ghost view = { λ p. p.book };
+}
+
+impl Page {
+    /// The book of a session in which nothing has happened.
+    fn new(alloc: Global) -> Self
+        ensures { result ≡ [] }
+    {
+        Page {
+            book: Book::new(alloc),
+            alloc,
+            stamp: 0,
+        }
+    }
+
+    /// Makes the book ready for a commit: if none is pending, a new book begins.
+    fn turn(&mut self)
+        ensures { self.new ≡ book_before self.old }
+    {
+        if self.book.waiting() == 0 {
+            self.book = Book::new(self.alloc);
+        }
+    }
+}
+
+impl CommitBook for Page {
+    ghost queues = { QueuesPage };
+
+    ghost releases = { ReleasesBy };
+
+    fn queue_commit(&mut self, id: Id, stamp: u64) -> Result<(), BookFault> {
+        self.turn();
+        self.book.queue_commit(id, stamp)?;
+        self.stamp = stamp;
+        Ok(())
+    }
+
+    fn release_commits(&mut self, reading: &Reading, id: Id) -> Option<Receipt> {
+        self.book.release_commits(reading, id)
+    }
+}
+
+/// The service of one session: the post of its worker, its client, a lease and a book of its own. In contracts it is
+/// these four.
+///
+/// If no commit of the session is pending, the next one is queued into an empty book. At most one commit of a session
+/// is pending, so its book has two entries at most, however long it goes on.
+#[derive(Drop)]
+pub struct Station<'a, 'c, R, C, V> {
+    post: Post<'a, R, C>,
+    client: &'c V,
+    /// Stamps lie in this lease and in that of the machine. It is the whole of time until the client sets one.
+    lease: Span,
+    book: Page,
+}
+
+impl<'a, 'c, R, C, V> Model for Station<'a, 'c, R, C, V> {
+    ghost use Rattle.tt_connections.specs.Station.{StationState};
+
+    ghost Value = { StationState C V };
+
+    ghost view = { λ s. record { post = s.post; client = s.client.now; lease = s.lease; book = s.book } };
+}
+
+impl<'a, 'c, R: Wait, C: Clock, V: Presence> Station<'a, 'c, R, C, V> {
+    /// The service of this client at the beginning of its session.
+    pub fn open(post: Post<'a, R, C>, alloc: Global, client: &'c V) -> Self
+        ensures opened { result ≡ record { post = post.entry; client = client.now; lease = whole; book = [] } }
+    {
+        Station {
+            post,
+            client,
+            lease: Span::whole(),
+            book: Page::new(alloc),
+        }
+    }
+
+    /// Ends the session, and gives the post back.
+    pub fn close(self) -> Post<'a, R, C>
+        ensures post { result ≡ self.entry.post }
+    {
+        let Station { post, .. } = self;
+        post
+    }
+
+    /// The answer for a pending commit: no after a pause, or a refusal if the client has left.
+    fn put_off(&self, earliest: u64) -> Result<bool, u16>
+        ensures { AnswersReceipt V.says self.now.client result None }
+    {
+        if self.client.has_left() {
+            return Err(StationFault::ClientLeft.number());
+        }
+        self.post.pause(self.book.stamp, earliest);
+        Ok(false)
+    }
+}
+
+impl<'a, 'c, R: Wait, C: Clock, V: Presence> Service for Station<'a, 'c, R, C, V> {
+    ghost allows = { Allows C.gives C.failed V.says };
+
+    /// One [`Watch::now`](tt_publish::Watch::now). Refuses as `now` does, in this order: 801, 803, 802.
+    fn now(&mut self) -> Result<Reading, u16> {
+        let reading = self.post.read().map_err(CommitFault::Read)?;
+        Ok(reading)
+    }
+
+    /// One [`Watch::now`](tt_publish::Watch::now), then one [`Sequencer::stamp`](tt_stamp::Sequencer::stamp) by this
+    /// reading, in the lease, then one [`Book::queue`] of the commit with this number, under the stamp. Answers the
+    /// stamp, in nanoseconds. The lease is what the leases of the session and of the machine have in common.
+    ///
+    /// Refuses, in this order: 801, 803, 802 if there is no reading, 1821 if the floor, or the lower end of the
+    /// session's lease, lies further ahead of the latest of the reading than the terms allow, 903 if the two leases have
+    /// nothing in common, 902, 901, 903 if there is no stamp, 1001, 1002, 1003, 1 if the commit is not queued: then the
+    /// stamp is lost. After any other refusal the seat has given no stamp, and the book is as it was.
+    fn begin(&mut self, number: u64, floor: u64) -> Result<u64, u16> {
+        let reading = self.post.read().map_err(CommitFault::Read)?;
+        if self.post.is_above_cap(&reading, floor.max(self.lease.lo())) {
+            return Err(StationFault::FloorAboveCap.number());
+        }
+        let id = Id { session: 0, number };
+        let stamp = begin_commit(
+            &mut self.post,
+            &mut self.book,
+            &reading,
+            id,
+            floor,
+            &self.lease,
+        )?;
+        Ok(stamp)
+    }
+
+    /// Sets the lease of the session, by its ends in nanoseconds. Refuses as [`Span::new`] does, and the lease stays:
+    /// 101, 102.
+    fn lease(&mut self, lo: u64, hi: u64) -> Result<(), u16>
+        ensures sets { SetsLease lo hi self.old result self.new }
+        ensures allowed { ((result ≡ Err 1101) × (self.new ≡ self.old)) ⊎ SetsLease lo hi self.old result self.new }
+    {
+        match Span::new(lo, hi) {
+            Ok(lease) => {
+                self.lease = lease;
+                Ok(())
+            }
+            Err(fault) => Err(fault.number()),
+        }
+    }
+
+    /// One [`Watch::now`](tt_publish::Watch::now), then one [`Book::release`] by this reading. Answers whether the
+    /// commit with this number is released then. If it is not, a pause follows: as long as the stamp of the commit that
+    /// was begun last lies above the earliest of the reading, and at most [`MAX_PAUSE`](tt_session::MAX_PAUSE) and its
+    /// margin.
+    ///
+    /// Refuses, in this order: 801, 803, 802 if there is no reading, 1822 if the commit is pending and the client has
+    /// left.
+    fn pass(&mut self, number: u64) -> Result<bool, u16> {
+        let reading = self.post.read().map_err(CommitFault::Read)?;
+        let id = Id { session: 0, number };
+        match self.book.release_commits(&reading, id) {
+            Some(_) => Ok(true),
+            None => self.put_off(reading.earliest()),
+        }
+    }
+}

@@ -1,8 +1,0 @@
-use Rattle.tt_consistency.proofs.Holding.{publications-hold, publications-meet}
-use Rattle.tt_consistency.proofs.laws.machine_laws.Goals as goal
-
-pub returns : goal.returns
-returns c = record {
-  publications_hold = publications-hold;
-  publications_meet = publications-meet;
-}

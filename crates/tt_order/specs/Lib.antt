@@ -1,3 +1,0 @@
-pub mod Timed
-pub mod Order
-pub mod Told

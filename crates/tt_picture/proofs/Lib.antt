@@ -1,6 +1,0 @@
-mod Ranging
-mod Seeking
-mod Appending
-mod Whole
-mod Readings
-mod WellFormed

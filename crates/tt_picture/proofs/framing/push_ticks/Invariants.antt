@@ -1,9 +1,0 @@
-use Rattle.std.proofs.Common.{◌≡◌, ◌++◌, map}
-use Rattle.std.specs.Prelude.{string_bytes}
-use Rattle.std.specs.List.{flat_map, range_with_len}
-use Rattle.tt_picture.specs.Tree.{branch_text}
-use Rattle.tt_picture.specs.Framing.{tick_group}
-use Rattle.tt_picture.proofs.framing.push_ticks.Given as goal
-
-abbrev pub invariant-loop-number : goal.invariant-loop-number
-invariant-loop-number l = string_bytes l.text ≡ string_bytes l.fn.text ++ flat_map branch_text (map (tick_group l.machines l.sheet) (range_with_len 0 l.number))

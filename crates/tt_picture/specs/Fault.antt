@@ -1,8 +1,0 @@
--- The numbers of the refusals.
-use Rattle.std.specs.Prelude.{ℕ}
-use Rattle.tt_picture.specs.declared.faults.PictureFault.{PictureFault}
-use Rattle.tt_picture.specs.declared.faults.PictureFault.TheVariants.{Memory}
-
--- the number of each refusal
-abbrev pub number_of : PictureFault → ℕ
-number_of Memory = 1

@@ -1,9 +1,0 @@
-pub mod Fault
-pub mod Lookups
-pub mod Marks
-pub mod Sheet
-pub mod Tree
-pub mod Drawing
-pub mod Framing
-pub mod Picture
-pub mod Bands

@@ -1,0 +1,14 @@
+pub mod Fault
+pub mod Link
+pub mod Datagrams
+pub mod Awaiting
+pub mod RoundLinks
+pub mod Counting
+pub mod Fusing
+pub mod Course
+pub mod Making
+pub mod Tallies
+pub mod Turns
+pub mod Lists
+pub mod Scheduling
+pub mod Reports

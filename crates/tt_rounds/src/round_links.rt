@@ -1,0 +1,328 @@
+//! A link for the rounds of a daemon.
+
+ghost use Rattle.std.specs.Prelude.{◌≡◌, ◌↔◌, ◌≤◌, true, false, None, is_some, count_by, replicate, length, slice_set, IsErr, IfSome, OnOk, OnErr};
+ghost use Rattle.std.specs.Duration.{as_nanos};
+ghost use Rattle.tt_stream.specs.Counts.{HasFailed};
+ghost use Rattle.tt_rounds.specs.Awaiting.{full_slot, slot_at, slot_sent, unsent_at, unsent_after};
+ghost use Rattle.tt_rounds.specs.RoundLinks.{FitsDrained, Reads, nanos_left};
+
+use crate::awaiting::{Fate, PeerTable};
+use crate::datagrams::{Arrival, Peers};
+use crate::faults::LinkFault;
+use crate::links::{Link, PACKET_LEN};
+use mio::unix::SourceFd;
+use mio::{Events, Interest, Poll, Token, Waker};
+use std::alloc::Global;
+use std::io::{self, ErrorKind};
+use std::net::{Net, SocketAddr, UdpSocket};
+use std::os::fd::AsRawFd;
+use std::time::{Clock as SystemClock, Duration};
+
+/// The most packets that a [`RoundLink`] drops when a round begins.
+pub const MAX_DROPPED: u32 = 1024;
+
+/// The most packets that a [`RoundLink`] reads before it looks at the clock again.
+const MAX_READ: u32 = 64;
+
+/// The most events of one wait: one of the socket, and one of the waker.
+const MAX_EVENTS: usize = 2;
+
+/// The names of the two in events.
+const SOCKET: Token = Token(0);
+
+const WAKER: Token = Token(1);
+
+/// What reading packets gave.
+#[derive(Clone, Copy, Debug, PartialEq, Eq)]
+enum Drained {
+    /// A packet of this peer, of this length, which is handed up.
+    Handed(u8, usize),
+    /// None that is handed up, and no more is there.
+    Empty,
+    /// None that is handed up, and more may be there.
+    More,
+    /// The socket failed.
+    Failed,
+}
+
+/// Reads packets until one is handed up, or none is there. Reads at most [`MAX_READ`].
+fn drain(peers: &Peers, table: &mut PeerTable, buffer: &mut [u8; PACKET_LEN]) -> Drained
+    ensures whole { length buffer.new ≡ 64 }
+    ensures fits { FitsDrained result }
+    ensures reads { Reads table.old.slots result buffer.new table.new.slots }
+    ensures unsent { table.new.unsent ≡ table.old.unsent }
+{
+    for _ in 0..MAX_READ {
+        match peers.look(buffer) {
+            Arrival::Came(from, length) => {
+                if let Some(peer) = table.came(from, &buffer[..length]) {
+                    return Drained::Handed(peer, length);
+                }
+            }
+            Arrival::Again => {}
+            Arrival::Nothing => return Drained::Empty,
+            Arrival::Failed => return Drained::Failed,
+        }
+    }
+    *buffer = [0; PACKET_LEN];
+    Drained::More
+}
+
+/// How long a wait that ends at `end` still lasts at this reading of the clock. None if it is over, or if the clock gave
+/// no reading.
+fn time_left(end: Option<Duration>, now: io::Result<Duration>) -> Option<Duration>
+    ensures left { IfSome result (λ left. as_nanos left ≡ nanos_left end now) }
+    ensures over { result ≡ None ↔ (nanos_left end now ≡ 0) }
+{
+    let left = end?.saturating_sub(now.ok()?);
+    if left.is_zero() { None } else { Some(left) }
+}
+
+/// The socket with what its rounds keep.
+#[derive(Drop)]
+struct Hearing<'a, R> {
+    rt: &'a R,
+    peers: Peers,
+    table: PeerTable,
+    poll: Poll,
+    events: Events,
+    /// How long all waits of a round last together.
+    wait: Duration,
+    /// When the waits of this round end, by the clock of the system.
+    end: Option<Duration>,
+    /// Whether the last call was to send a packet, and went well.
+    sending: bool,
+    /// Whether the waker was seen.
+    woken: bool,
+}
+
+impl<'a, R: SystemClock> Hearing<'a, R> {
+    /// Begins a round: drops the packets that are there, and sets the time.
+    fn begin(&mut self)
+        ensures slots { self.new.table.slots ≡ replicate 256 full_slot }
+        ensures unsent { self.new.table.unsent ≡ self.old.table.unsent }
+        ensures begun { self.new.sending ≡ true }
+    {
+        let mut bytes = [0; PACKET_LEN];
+        for _ in 0..MAX_DROPPED {
+            match self.peers.look(&mut bytes) {
+                Arrival::Came(_, _) | Arrival::Again => {}
+                Arrival::Nothing | Arrival::Failed => break,
+            }
+        }
+        self.table.begin();
+        self.end = match self.rt.monotonic() {
+            Ok(now) => now.checked_add(self.wait),
+            Err(_) => None,
+        };
+        self.sending = true;
+    }
+
+    /// Sends the bytes to the peer, in a round that began. A peer without an address is sent nothing: the packet is
+    /// lost.
+    fn send(&mut self, peer: u8, bytes: &[u8]) -> Fate
+        ensures begins { self.old.sending ≡ false → self.new.table.slots ≡ replicate 256 full_slot }
+        ensures goes_on { self.old.sending ≡ true → self.new.table.slots ≡ self.old.table.slots }
+        ensures unsent { self.new.table.unsent ≡ self.old.table.unsent }
+        ensures begun { self.new.sending ≡ true }
+    {
+        if !self.sending {
+            self.begin();
+        }
+        match self.peers.address(peer) {
+            Some(address) => self.peers.send(address, bytes),
+            None => Fate::Lost,
+        }
+    }
+
+    /// Waits until a packet may be there, but not longer than this. Answers whether the wait went well.
+    fn pause(&mut self, left: Duration) -> bool
+        ensures table { self.new.table ≡ self.old.table }
+        ensures woken { self.old.woken ≡ true → self.new.woken ≡ true }
+    {
+        if self.poll.poll(&mut self.events, Some(left)).is_err() {
+            return false;
+        }
+        if self.events.iter().any(|event| event.token() == WAKER) {
+            self.woken = true;
+        }
+        true
+    }
+
+    /// Waits for the next packet that is handed up, while a peer is awaited and time is left.
+    fn next(&mut self, buffer: &mut [u8; PACKET_LEN]) -> Drained
+        ensures whole { length buffer.new ≡ 64 }
+        ensures fits { FitsDrained result }
+        ensures reads { Reads self.old.table.slots result buffer.new self.new.table.slots }
+        ensures unsent { self.new.table.unsent ≡ self.old.table.unsent }
+        ensures none_awaited { count_by (λ slot. is_some slot.poll) self.old.table.slots ≡ 0 → result ≡ Drained.Empty }
+        ensures woken { self.old.woken ≡ true → result ≡ Drained.Empty }
+    {
+        for _ in 0..u64::MAX {
+            if self.woken || self.table.awaited() == 0 {
+                return Drained::Empty;
+            }
+            let drained = drain(&self.peers, &mut self.table, buffer);
+            if matches!(drained, Drained::Handed(_, _) | Drained::Failed) {
+                return drained;
+            }
+            let Some(left) = time_left(self.end, self.rt.monotonic()) else {
+                return Drained::Empty;
+            };
+            if drained == Drained::Empty && !self.pause(left) {
+                return Drained::Failed;
+            }
+        }
+        Drained::Empty
+    }
+}
+
+/// A link over UDP for the rounds of a daemon. It knows its peers by their addresses: peer `i` has the address at place
+/// `i`.
+///
+/// A round begins with the first packet that is sent after a `receive` or after a fault. Then the link drops the packets
+/// that still wait in the socket, at most [`MAX_DROPPED`]. So an answer that came too late takes no turn of a later
+/// round.
+///
+/// A peer is awaited if a poll was sent to it in this round, and no answer to this poll has come from it since: an
+/// answer is a message of TTP2 with the machine, the source, the nonce and the epoch of the poll. `receive` waits only
+/// while a peer is awaited. All waits of a round share one time, the `wait` of [`RoundLink::new`], from the beginning of
+/// the round by the clock of the system. If the clock cannot be read, the link does not wait.
+///
+/// In a round, `receive` hands up at most [`TURNS_PER_PEER`] packets of each peer: the answer to its poll, and up to
+/// three others. It drops the others beyond these, and all packets of other addresses. So what is sent from one address
+/// takes no turn of another peer, and what others send takes none of the answer's.
+///
+/// A packet that cannot be sent to a peer, whatever the reason, is lost: `send` answers that all is well, the peer is
+/// not awaited, and [`RoundLink::unsent`] counts the packet. So is a packet to a peer that has no address. A fault says
+/// that the socket itself is useless. [`RoundLink::renew`] goes on over another one.
+///
+/// Nothing is claimed about what the socket delivers, or about time. If a call answers a fault, it has counted a
+/// failure.
+///
+/// [`TURNS_PER_PEER`]: crate::TURNS_PER_PEER
+#[derive(Drop)]
+pub struct RoundLink<'a, R> {
+    hearing: Hearing<'a, R>,
+    failures: u64,
+}
+
+impl<'a, R: SystemClock> RoundLink<'a, R> {
+    /// The link over this socket to these peers, and a waker: once it was woken, the link waits no more. The waker may
+    /// be dropped. Only the first 256 peers have a number. All waits of a round together are as long as `wait`, rounded
+    /// up to milliseconds.
+    ///
+    /// The call makes the socket non-blocking. Refuses with the error of the system if this fails, or if the socket and
+    /// the waker cannot be waited for, and with `OutOfMemory` if an allocation fails.
+    pub fn new(
+        rt: &'a R,
+        alloc: Global,
+        socket: UdpSocket,
+        peers: Vec<SocketAddr>,
+        wait: Duration,
+    ) -> io::Result<(RoundLink<'a, R>, Waker)>
+    where
+        R: Net,
+    {
+        let events = match Events::with_capacity(alloc, MAX_EVENTS) {
+            Ok(events) => events,
+            Err(_) => return Err(io::Error::from(ErrorKind::OutOfMemory)),
+        };
+        let poll = Poll::new(rt)?;
+        let waker = Waker::new(poll.registry(), WAKER)?;
+        listen(&poll, &socket)?;
+        let link = RoundLink {
+            hearing: Hearing {
+                rt,
+                peers: Peers::new(socket, peers),
+                table: PeerTable::new(),
+                poll,
+                events,
+                wait,
+                end: None,
+                sending: false,
+                woken: false,
+            },
+            failures: 0,
+        };
+        Ok((link, waker))
+    }
+
+    /// Goes on over this socket, to the same peers, with a new round. The call makes the socket non-blocking. Refuses
+    /// with the error of the system if this fails, or if the socket cannot be waited for; then nothing has changed.
+    pub fn renew(&mut self, socket: UdpSocket) -> io::Result<()>
+        ensures same { self.new.failures ≡ self.old.failures }
+    {
+        listen(&self.hearing.poll, &socket)?;
+        // The old socket is closed here, which ends the waits for it.
+        let _old = self.hearing.peers.replace(socket);
+        self.hearing.table.begin();
+        self.hearing.sending = false;
+        Ok(())
+    }
+
+    /// How many packets to this peer could not be sent so far, at most 2^64 - 1.
+    pub fn unsent(&self, peer: u8) -> u64
+        ensures { result ≡ unsent_at self.now.hearing.table.unsent peer }
+    {
+        self.hearing.table.unsent(peer)
+    }
+
+    /// Counts a failure. The next packet that is sent begins a round.
+    fn fault(&mut self) -> LinkFault
+        ensures rose { HasFailed self.old.failures self.new.failures }
+        ensures over { self.new.hearing.sending ≡ false }
+        ensures table { self.new.hearing.table ≡ self.old.hearing.table }
+    {
+        self.hearing.sending = false;
+        self.failures = self.failures.saturating_add(1);
+        LinkFault::Failed
+    }
+
+    /// Notes what became of these bytes, which were to be sent to the peer. A packet that was lost is no fault.
+    fn settle(&mut self, peer: u8, bytes: &[u8], fate: Fate) -> Result<(), LinkFault>
+        ensures lost { IsErr result ↔ (fate ≡ Fate.Broke) }
+        ensures slots { self.new.hearing.table.slots ≡ slice_set self.old.hearing.table.slots peer (slot_sent fate bytes.now (slot_at self.old.hearing.table.slots peer)) }
+        ensures unsent { self.new.hearing.table.unsent ≡ slice_set self.old.hearing.table.unsent peer (unsent_after fate (unsent_at self.old.hearing.table.unsent peer)) }
+        ensures sound { OnOk result (self.new.failures ≡ self.old.failures) }
+        ensures cause { OnErr result (HasFailed self.old.failures self.new.failures × (self.new.hearing.sending ≡ false)) }
+    {
+        self.hearing.table.sent(peer, bytes, fate);
+        match fate {
+            Fate::Went | Fate::Lost => Ok(()),
+            Fate::Broke => Err(self.fault()),
+        }
+    }
+}
+
+/// Makes the socket non-blocking, and has the poll wait for its packets.
+fn listen(poll: &Poll, socket: &UdpSocket) -> io::Result<()> {
+    socket.set_nonblocking(true)?;
+    let number = socket.as_raw_fd();
+    poll.registry()
+        .register(&mut SourceFd(&number), SOCKET, Interest::READABLE)
+}
+
+impl<'a, R: SystemClock> Link for RoundLink<'a, R> {
+    ghost does = { λ _ _ _ _. Unit {0} };
+
+    ghost failed = { λ link. link.failures };
+
+    fn send(&mut self, peer: u8, bytes: &[u8]) -> Result<(), LinkFault> {
+        let fate = self.hearing.send(peer, bytes);
+        self.settle(peer, bytes, fate)
+    }
+
+    fn receive(&mut self, buffer: &mut [u8; PACKET_LEN]) -> Result<Option<(u8, usize)>, LinkFault> {
+        self.hearing.sending = false;
+        match self.hearing.next(buffer) {
+            Drained::Handed(peer, length) => Ok(Some((peer, length))),
+            Drained::Empty | Drained::More => Ok(None),
+            Drained::Failed => Err(self.fault()),
+        }
+    }
+
+    fn failures(&self) -> u64 {
+        self.failures
+    }
+}

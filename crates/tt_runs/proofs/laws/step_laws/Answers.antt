@@ -1,8 +1,0 @@
-use Rattle.tt_runs.proofs.Living.{made_by-steps, goes_on_by-steps}
-use Rattle.tt_runs.proofs.laws.step_laws.Goals as goal
-
-pub returns : goal.returns
-returns c = record {
-  made_by_steps = made_by-steps;
-  goes_on_by_steps = goes_on_by-steps;
-}

@@ -1,9 +1,0 @@
--- The numbers of the refusals of a station.
-use Rattle.std.specs.Prelude.{ℕ}
-use Rattle.tt_station.specs.declared.faults.StationFault.{StationFault}
-use Rattle.tt_station.specs.declared.faults.StationFault.TheVariants.{FloorAboveCap, ClientLeft}
-
--- the number of each refusal
-abbrev pub number_of : StationFault → ℕ
-number_of FloorAboveCap = 1821
-number_of ClientLeft = 1822

@@ -1,3 +1,0 @@
-pub mod Fault
-pub mod Station
-pub mod Sessions
