@@ -1,5 +1,5 @@
 -- Items one after the other.
-use Rattle.std.proofs.Common.{◌≡◌, List, [], ◌∷◌, ◌++◌, length, Result, Ok, Err, refl, arith}
+use Rattle.std.proofs.Common.{◌≡◌, ℕ, suc, List, [], ◌∷◌, ◌++◌, length, Result, Ok, Err, refl, arith}
 use Rattle.toml.specs.Data.{Data, Items, no_items, item}
 use Rattle.toml.specs.View.{items_view}
 use Rattle.toml.specs.declared.value.Value.{Value}
@@ -22,11 +22,11 @@ both_steps (Ok x) f y h = (x, refl, h)
 both_steps (Err fault) f y h = absurd (cc)
 
 -- each item that is read gives one
-pub length-each : {A : Type 0} (f : Data → Result A ScriptFault) (ds : Items) (xs : List A) → each f ds ≡ Ok xs → length xs ≡ count_of ds
-length-each f no_items xs h = let e : [] ≡ xs = cc in rw (← e)
-length-each f (item d rest) xs h =
-    let front = both_steps (f d) (λ x. each f rest >>= (λ ys. Ok (x ∷ ys))) xs h in
-    let back = both_steps (each f rest) (λ ys. Ok (front.0 ∷ ys)) xs front.2 in
+pub length-each : {A : Type 0} (f : ℕ → Data → Result A ScriptFault) (n : ℕ) (ds : Items) (xs : List A) → each f n ds ≡ Ok xs → length xs ≡ count_of ds
+length-each f n no_items xs h = let e : [] ≡ xs = cc in rw (← e)
+length-each f n (item d rest) xs h =
+    let front = both_steps (f n d) (λ x. each f (suc n) rest >>= (λ ys. Ok (x ∷ ys))) xs h in
+    let back = both_steps (each f (suc n) rest) (λ ys. Ok (front.0 ∷ ys)) xs front.2 in
     let e : front.0 ∷ back.0 ≡ xs = cc (back.2) in
-    let same = length-each f rest back.0 back.1 in
+    let same = length-each f (suc n) rest back.0 back.1 in
     rw (← e) (omega (arith, same))

@@ -1,5 +1,5 @@
 -- The acts of a master, as texts.
-use Rattle.std.specs.Prelude.{codes, ℕ, ◌&&◌, nat_eq, nat_lt, nat_le, if◌then◌else◌, List, ◌++◌, length, drop, Option, Some, None, Result, Ok, Err}
+use Rattle.std.specs.Prelude.{codes, ℕ, ◌&&◌, nat_eq, nat_le, if◌then◌else◌, List, ◌++◌, length, drop, Option, Some, None, Result, Ok, Err}
 use Rattle.std.specs.Cmp.Lexicographic.{pointwise}
 use Rattle.std.specs.Fmt.{decimal}
 use Rattle.std.specs.Str.Parse.{digits_value}
@@ -7,10 +7,11 @@ use Rattle.toml.specs.Data.{Data, Items, as_str, as_array}
 use Rattle.tt_span.specs.Time.{max_time}
 use Rattle.tt_master.specs.declared.acts.Act.{Act}
 use Rattle.tt_master.specs.declared.acts.Act.TheVariants.{Honest, Ahead, Behind, Silent, Garbage, Repeat}
+use Rattle.tt_script.specs.declared.keys.Key.TheVariants as key
+use Rattle.tt_script.specs.declared.faults.Part.{Part}
 use Rattle.tt_script.specs.declared.faults.ScriptFault.{ScriptFault}
-use Rattle.tt_script.specs.declared.faults.ScriptFault.TheVariants.{WrongValue}
-use Rattle.tt_script.specs.Fault.{◌>>=◌}
-use Rattle.tt_script.specs.Lookup.{count_of, each, typed_value}
+use Rattle.tt_script.specs.Fault.{wrong, ◌>>=◌}
+use Rattle.tt_script.specs.Lookup.{has_few, each, typed_value}
 
 -- the text of an act
 abbrev pub act_text : Act → List ℕ
@@ -40,38 +41,42 @@ time_behind word text =
     if pointwise nat_eq text (word ++ digits) then time_of digits else None
 
 -- an act that is ahead, or behind, by a time that is written
-abbrev pub act_with_time : Option ℕ → Option ℕ → Result Act ScriptFault
-act_with_time (Some ahead) behind = Ok (Ahead ahead)
-act_with_time None (Some behind) = Ok (Behind behind)
-act_with_time None None = Err WrongValue
+abbrev pub act_with_time : Option ℕ → Option ℕ → Option Act
+act_with_time (Some ahead) behind = Some (Ahead ahead)
+act_with_time None (Some behind) = Some (Behind behind)
+act_with_time None None = None
 
 -- the act that a text writes
-abbrev pub act_in : List ℕ → Result Act ScriptFault
+abbrev pub act_in : List ℕ → Option Act
 act_in text =
-    if pointwise nat_eq text (codes "honest") then Ok Honest
-    else if pointwise nat_eq text (codes "silent") then Ok Silent
-    else if pointwise nat_eq text (codes "garbage") then Ok Garbage
-    else if pointwise nat_eq text (codes "repeat") then Ok Repeat
+    if pointwise nat_eq text (codes "honest") then Some Honest
+    else if pointwise nat_eq text (codes "silent") then Some Silent
+    else if pointwise nat_eq text (codes "garbage") then Some Garbage
+    else if pointwise nat_eq text (codes "repeat") then Some Repeat
     else act_with_time (time_behind (codes "ahead ") text) (time_behind (codes "behind ") text)
 
 -- the act that a value writes
-abbrev pub act_of : Data → Result Act ScriptFault
-act_of d = do
-  text ← typed_value (as_str d)
-  act_in text
+abbrev pub act_of : Part → Data → Result Act ScriptFault
+act_of p d = do
+  text ← typed_value p key.Acts (as_str d)
+  typed_value p key.Acts (act_in text)
+
+-- the act that an item of an array writes, whatever its number is
+abbrev pub act_at : Part → ℕ → Data → Result Act ScriptFault
+act_at p n d = act_of p d
 
 -- from 1 to 64 acts
-abbrev pub acts_if : Items → Result Items ScriptFault
-acts_if items = if nat_lt 0 (count_of items) && nat_le (count_of items) 64 then Ok items else Err WrongValue
+abbrev pub acts_if : Part → Items → Result Items ScriptFault
+acts_if p items = if has_few key.Acts items then Ok items else Err (wrong p key.Acts)
 
 -- the items of an array of acts
-abbrev pub act_items_in : Data → Result Items ScriptFault
-act_items_in d = do
-  items ← typed_value (as_array d)
-  acts_if items
+abbrev pub act_items_in : Part → Data → Result Items ScriptFault
+act_items_in p d = do
+  items ← typed_value p key.Acts (as_array d)
+  acts_if p items
 
 -- the acts that an array lists
-abbrev pub acts_in : Data → Result (List Act) ScriptFault
-acts_in d = do
-  items ← act_items_in d
-  each act_of items
+abbrev pub acts_in : Part → Data → Result (List Act) ScriptFault
+acts_in p d = do
+  items ← act_items_in p d
+  each (act_at p) 0 items

@@ -1,3 +1,4 @@
+pub mod Key
 pub mod Fault
 pub mod Lookup
 pub mod Machines

@@ -1,12 +1,11 @@
 -- A whole script.
-use Rattle.std.specs.Prelude.{ℕ, ◌<◌, ◌≤◌, List, length, Option, Some, None, Result, Ok, Err}
+use Rattle.std.specs.Prelude.{ℕ, ◌<◌, ◌≤◌, List, length, Option, ok_or, Result, Ok}
 use Rattle.toml.specs.Data.{Members}
 use Rattle.toml.specs.Parse.{parse_document}
 use Rattle.tt_daemon.specs.Config.{Configuration}
 use Rattle.tt_world.specs.declared.events.Event.{Event}
 use Rattle.tt_script.specs.declared.faults.ScriptFault.{ScriptFault}
-use Rattle.tt_script.specs.declared.faults.ScriptFault.TheVariants.{NotToml}
-use Rattle.tt_script.specs.Fault.{◌>>=◌}
+use Rattle.tt_script.specs.Fault.{not_toml, ◌>>=◌}
 use Rattle.tt_script.specs.Machines.{machines_in}
 use Rattle.tt_script.specs.Events.{events_in}
 use Rattle.tt_script.specs.Lives.{LiveRun, live_at}
@@ -31,11 +30,12 @@ script_of t = do
   live ← live_at t
   Ok (record { configs = configs; events = events; live = live })
 
--- a text that is no document is refused first
-abbrev pub script_if : Option Members → Result Scenario ScriptFault
-script_if None = Err NotToml
-script_if (Some t) = script_of t
+-- the document that a text is
+abbrev pub document_in : List ℕ → Result Members ScriptFault
+document_in text = ok_or (parse_document text) not_toml
 
 -- the script that a text says, or the first refusal
 abbrev pub script_in : List ℕ → Result Scenario ScriptFault
-script_in text = script_if (parse_document text)
+script_in text = do
+  t ← document_in text
+  script_of t

@@ -1,15 +1,16 @@
 //! The acts of a master, as texts.
 
-ghost use Rattle.std.specs.Prelude.{◌≡◌, ◌≢◌, ◌⊎◌, ◌<◌, ◌≤◌, List, ℕ, codes, length, slice_index, IsTrue, IsFalse, Ok, Err, MatchResult};
+ghost use Rattle.std.specs.Prelude.{◌≡◌, ◌≢◌, ◌⊎◌, ◌<◌, ◌≤◌, List, ℕ, codes, length, slice_index, IsTrue, IsFalse, Ok, Err, Some, MatchResult};
 ghost use Rattle.toml.specs.View.{view, array_view};
 ghost use Rattle.tt_span.specs.Time.{max_time};
 ghost use Rattle.tt_master.specs.declared.acts.Act.{Act as AnyAct};
 ghost use Rattle.tt_script.specs.Fault.{IsRefusal};
 ghost use Rattle.tt_script.specs.Lookup.{each};
-ghost use Rattle.tt_script.specs.Acts.{act_text, offset_of, time_of, time_behind, act_with_time, act_in, act_of, act_items_in, acts_in};
+ghost use Rattle.tt_script.specs.Acts.{act_text, offset_of, time_of, time_behind, act_with_time, act_at, act_in, act_of, act_items_in, acts_in};
 
-use crate::faults::ScriptFault;
-use crate::lookups::{has_at_most, has_none, items_in};
+use crate::faults::{Part, ScriptFault, wrong};
+use crate::keys::Key;
+use crate::lookups::{has_few, items_in};
 use std::alloc::Global;
 use std::marker::Model;
 use toml::Value;
@@ -54,76 +55,80 @@ impl Acts {
 /// If the time of an act is in range, the text of the act is read as this act. If a text is read as an act, it is the
 /// text of this act.
 pub fn act_laws()
-    ensures reads_back { (act : AnyAct) → offset_of act ≤ max_time → act_in (act_text act) ≡ Ok act }
-    ensures only { (text : List ℕ) (act : AnyAct) → act_in text ≡ Ok act → (act_text act ≡ text) × (offset_of act ≤ max_time) }
+    ensures reads_back { (act : AnyAct) → offset_of act ≤ max_time → act_in (act_text act) ≡ Some act }
+    ensures only { (text : List ℕ) (act : AnyAct) → act_in text ≡ Some act → (act_text act ≡ text) × (offset_of act ≤ max_time) }
 {}
 
 /// The acts that an array lists.
-pub(crate) fn acts_in(alloc: Global, value: &Value) -> Result<Acts, ScriptFault>
-    ensures { let defined = acts_in (view value.now) in
+pub(crate) fn acts_in(alloc: Global, part: Part, value: &Value) -> Result<Acts, ScriptFault>
+    ensures { let defined = acts_in part (view value.now) in
         MatchResult result (λ acts. defined ≡ Ok acts) (IsRefusal defined) }
 {
-    let items = acts_of(alloc, act_items_in(value)?)?;
+    let items = acts_of(alloc, part, act_items_in(part, value)?)?;
     Ok(Acts { items })
 }
 
 /// The items of an array of acts: from one to [`MAX_ACTS`].
-fn act_items_in(value: &Value) -> Result<&Array, ScriptFault>
-    ensures { let defined = act_items_in (view value.now) in
+fn act_items_in(part: Part, value: &Value) -> Result<&Array, ScriptFault>
+    ensures { let defined = act_items_in part (view value.now) in
         MatchResult result (λ items. defined ≡ Ok (array_view items.now)) (λ fault. defined ≡ Err fault) }
 {
-    let items = items_in(value)?;
-    if has_none(items) || !has_at_most(items, MAX_ACTS) {
-        return Err(ScriptFault::WrongValue);
+    let items = items_in(part, Key::Acts, value)?;
+    if has_few(Key::Acts, items) {
+        Ok(items)
+    } else {
+        Err(wrong(part, Key::Acts))
     }
-    Ok(items)
 }
 
 /// The acts, one after the other.
-fn acts_of(alloc: Global, items: &Array) -> Result<Vec<Act>, ScriptFault>
-    ensures { let defined = each act_of (array_view items.now) in
+fn acts_of(alloc: Global, part: Part, items: &Array) -> Result<Vec<Act>, ScriptFault>
+    ensures { let defined = each (act_at part) 0 (array_view items.now) in
         MatchResult result (λ acts. defined ≡ Ok acts.items) (IsRefusal defined) }
 {
     let mut acts = Vec::new(alloc);
     for item in items {
-        acts.push(act_of(item)?)?;
+        acts.push(act_of(part, item)?)?;
     }
     Ok(acts)
 }
 
 /// The act in this value.
-fn act_of(value: &Value) -> Result<Act, ScriptFault>
-    ensures { result ≡ act_of (view value.now) }
+fn act_of(part: Part, value: &Value) -> Result<Act, ScriptFault>
+    ensures { result ≡ act_of part (view value.now) }
 {
-    match value.as_str() {
-        Some(text) => act_in(text),
-        None => Err(ScriptFault::WrongValue),
+    let Some(text) = value.as_str() else {
+        return Err(wrong(part, Key::Acts));
+    };
+    match act_in(text) {
+        Some(act) => Ok(act),
+        None => Err(wrong(part, Key::Acts)),
     }
 }
 
-/// The act of this text, as [`act_laws`] says. Refuses any other text with 1303 `WrongValue`.
-pub fn act_in(text: &str) -> Result<Act, ScriptFault>
+/// The act of this text, as [`act_laws`] says. None for any other text.
+pub fn act_in(text: &str) -> Option<Act>
     ensures { result ≡ act_in text.now }
 {
     match text {
-        "honest" => Ok(Act::Honest),
-        "silent" => Ok(Act::Silent),
-        "garbage" => Ok(Act::Garbage),
-        "repeat" => Ok(Act::Repeat),
+        "honest" => Some(Act::Honest),
+        "silent" => Some(Act::Silent),
+        "garbage" => Some(Act::Garbage),
+        "repeat" => Some(Act::Repeat),
         _ => act_with_time(text),
     }
 }
 
 /// The act with a time in this text.
-fn act_with_time(text: &str) -> Result<Act, ScriptFault>
+fn act_with_time(text: &str) -> Option<Act>
     ensures { result ≡ act_with_time (time_behind (codes "ahead ") text.now) (time_behind (codes "behind ") text.now) }
 {
     if let Some(time) = time_behind("ahead ", text) {
-        return Ok(Act::Ahead(time));
+        return Some(Act::Ahead(time));
     }
     match time_behind("behind ", text) {
-        Some(time) => Ok(Act::Behind(time)),
-        None => Err(ScriptFault::WrongValue),
+        Some(time) => Some(Act::Behind(time)),
+        None => None,
     }
 }
 

@@ -15,20 +15,19 @@
 //! workers = 1
 //! ```
 //!
-//! docs/FORMATS.md lists its keys. [`read`] gives the script of a text, or the first refusal in the order of that list.
-//! Keys that are not listed are ignored.
+//! docs/FORMATS.md lists its keys. [`read`] gives the script of a text, or the first refusal in the order of that list,
+//! with its place. Keys that are not listed are ignored; [`read_noting`] names them.
 //!
-//! - `scripts`: a whole script, and [`read`].
+//! - `scripts`: a whole script, [`read`] and [`read_noting`].
+//! - `keys`: the keys of each table, what each is called, and what it takes. A new key of a table begins there.
 //! - `machines`: the machines' configurations.
 //! - `words`: the words of events.
 //! - `events`: the events, and the keys of each word.
 //! - `lives`: the part for a run in threads: [`Live`], its masters and its sessions.
 //! - `acts`: the acts of a master.
 //! - `lookups`: values of a table by their keys.
-//! - `faults`: why a text is refused.
-//! - `places`: where a text is refused, for a person: [`refusal_of`].
-//! - `unknown`: keys that no rule names: [`unknown_keys`].
-//! - `keys`: the keys of each table.
+//! - `faults`: why and where a text is refused.
+//! - `unknown`: keys that no rule names.
 #![tactic(auto)]
 
 mod acts;
@@ -38,16 +37,15 @@ mod keys;
 mod lives;
 mod lookups;
 mod machines;
-mod places;
 mod scripts;
 mod unknown;
 mod words;
 
 pub use acts::{Acts, MAX_ACTS, act_in, act_laws};
 pub use events::MAX_EVENTS;
-pub use faults::ScriptFault;
+pub use faults::{Misfit, Part, Place, Reason, ScriptFault};
+pub use keys::Key;
 pub use lives::{Line, Live, LiveMaster, MAX_LIMIT, Session};
-pub use machines::DEFAULT_DRIFT;
-pub use places::{Refusal, refusal_of};
-pub use scripts::{Script, read};
-pub use unknown::{MAX_UNKNOWN, unknown_keys};
+pub use scripts::{Script, read, read_noting};
+pub use unknown::MAX_UNKNOWN;
+pub use words::Word;

@@ -1,23 +1,24 @@
 //! The part of a script for a run in threads.
 
-ghost use Rattle.std.specs.Prelude.{◌≡◌, ◌<◌, ◌≤◌, length, option_copied, Ok, Err, MatchResult};
+ghost use Rattle.std.specs.Prelude.{◌≡◌, ◌<◌, ◌≤◌, length, Ok, Err, MatchResult};
 ghost use Rattle.toml.specs.View.{view, table_view, array_view};
 ghost use Rattle.tt_span.specs.Time.{max_time};
 ghost use Rattle.tt_span.specs.Interval.{IsInterval};
 ghost use Rattle.tt_script.specs.Fault.{IsRefusal};
-ghost use Rattle.tt_script.specs.Lookup.{each, of_table};
-ghost use Rattle.tt_script.specs.Lives.{limit_at, master_in, masters_in, tables_in, line_in, session_in, sessions_in, lease_in, live_in, live_at};
+ghost use Rattle.tt_script.specs.Lookup.{each};
+ghost use Rattle.tt_script.specs.Lives.{master_in, master_of, masters_in, line_at, line_in, session_in, sessions_in, live_in, live_at};
 
 use crate::acts::{Acts, acts_in};
-use crate::events::span_if;
-use crate::faults::ScriptFault;
-use crate::lookups::{are_tables, found_at, items_in, number_at, optional_at, time_at, value_at};
+use crate::events::span_in;
+use crate::faults::{Part, ScriptFault, wrong};
+use crate::keys::Key;
+use crate::lookups::{are_tables, found_at, items_in, middle_at, number_at, table_in, value_at};
 use std::alloc::Global;
 use std::marker::Model;
 use toml::value::Array;
 use toml::{Table, Value};
 use tt_master::Act;
-use tt_span::{MAX_TIME, Span};
+use tt_span::Span;
 
 /// The most rounds of a run in threads, and the most turns of a round.
 pub const MAX_LIMIT: u64 = 1000;
@@ -184,21 +185,11 @@ pub(crate) fn live_at(alloc: Global, table: &Table) -> Result<Option<Live>, Scri
     ensures { let defined = live_at (table_view table.now) in
         MatchResult result (λ live. defined ≡ Ok live) (IsRefusal defined) }
 {
-    match found_at(table, "live") {
-        Some(value) => Ok(Some(live_of(alloc, value)?)),
-        None => Ok(None),
-    }
-}
-
-/// The part for a run in threads in this value.
-fn live_of(alloc: Global, value: &Value) -> Result<Live, ScriptFault>
-    ensures { let defined = of_table live_in (view value.now) in
-        MatchResult result (λ live. defined ≡ Ok live) (IsRefusal defined) }
-{
-    match value.as_table() {
-        Some(table) => live_in(alloc, table),
-        None => Err(ScriptFault::WrongValue),
-    }
+    let Some(value) = found_at(table, Key::Live) else {
+        return Ok(None);
+    };
+    let table = table_in(Part::Document, Key::Live, value)?;
+    Ok(Some(live_in(alloc, table)?))
 }
 
 /// The part for a run in threads, by its table.
@@ -207,141 +198,112 @@ fn live_in(alloc: Global, table: &Table) -> Result<Live, ScriptFault>
         MatchResult result (λ live. defined ≡ Ok live) (IsRefusal defined) }
 {
     Ok(Live {
-        base: time_at(table, "base")?,
-        rounds: limit_at(table, "rounds")?,
-        turns: limit_at(table, "turns")?,
-        masters: masters_in(alloc, value_at(table, "masters")?)?,
-        sessions: sessions_in(alloc, value_at(table, "sessions")?)?,
-        lease: lease_in(table)?,
+        base: number_at(Part::Live, table, Key::Base)?,
+        rounds: middle_at(Part::Live, table, Key::Rounds)?,
+        turns: middle_at(Part::Live, table, Key::Turns)?,
+        masters: masters_in(alloc, table)?,
+        sessions: sessions_in(alloc, table)?,
+        lease: span_in(Part::Live, table, Key::LeaseLo, Key::LeaseHi)?,
     })
 }
 
-/// A number from 1 to [`MAX_LIMIT`].
-pub(crate) fn limit_at(table: &Table, key: &str) -> Result<u32, ScriptFault>
-    ensures { result ≡ limit_at key.now (table_view table.now) }
-{
-    let limit = number_at(table, key, MAX_LIMIT)?;
-    if limit > 0 {
-        Ok(limit as u32)
-    } else {
-        Err(ScriptFault::WrongValue)
-    }
-}
-
-/// The lease. If an end is not given, it is 0 or the greatest time.
-fn lease_in(table: &Table) -> Result<Span, ScriptFault>
-    ensures { result ≡ lease_in (table_view table.now) }
-{
-    let lo = optional_at(table, "lease_lo", 0, MAX_TIME)?;
-    let hi = optional_at(table, "lease_hi", MAX_TIME, MAX_TIME)?;
-    span_if(lo, hi)
-}
-
-/// The masters that an array of tables lists.
-fn masters_in(alloc: Global, value: &Value) -> Result<Vec<LiveMaster>, ScriptFault>
-    ensures { let defined = masters_in (view value.now) in
+/// The masters.
+fn masters_in(alloc: Global, table: &Table) -> Result<Vec<LiveMaster>, ScriptFault>
+    ensures { let defined = masters_in (table_view table.now) in
         MatchResult result (λ masters. defined ≡ Ok masters.items) (IsRefusal defined) }
 {
-    masters_of(alloc, tables_in(value)?)
-}
-
-/// The items of an array of tables.
-pub(crate) fn tables_in(value: &Value) -> Result<&Array, ScriptFault>
-    ensures { let defined = tables_in (view value.now) in
-        MatchResult result (λ items. defined ≡ Ok (array_view items.now)) (λ fault. defined ≡ Err fault) }
-{
-    let items = items_in(value)?;
-    if are_tables(items) {
-        Ok(items)
-    } else {
-        Err(ScriptFault::WrongValue)
+    let value = value_at(Part::Live, table, Key::Masters)?;
+    let items = items_in(Part::Live, Key::Masters, value)?;
+    if !are_tables(items) {
+        return Err(wrong(Part::Live, Key::Masters));
     }
+    masters_of(alloc, items)
 }
 
 /// The masters, one after the other.
 fn masters_of(alloc: Global, items: &Array) -> Result<Vec<LiveMaster>, ScriptFault>
-    ensures { let defined = each (of_table master_in) (array_view items.now) in
+    ensures { let defined = each master_of 0 (array_view items.now) in
         MatchResult result (λ masters. defined ≡ Ok masters.items) (IsRefusal defined) }
 {
     let mut masters = Vec::new(alloc);
     for item in items {
-        masters.push(master_of(alloc, item)?)?;
+        masters.push(master_of(alloc, masters.len(), item)?)?;
     }
     Ok(masters)
 }
 
-/// The master in this value.
-pub(crate) fn master_of(alloc: Global, value: &Value) -> Result<LiveMaster, ScriptFault>
-    ensures { let defined = of_table master_in (view value.now) in
+/// The master with this number.
+fn master_of(alloc: Global, index: usize, value: &Value) -> Result<LiveMaster, ScriptFault>
+    ensures { let defined = master_of index (view value.now) in
         MatchResult result (λ master. defined ≡ Ok master) (IsRefusal defined) }
 {
-    match value.as_table() {
-        Some(table) => master_in(alloc, table),
-        None => Err(ScriptFault::WrongValue),
-    }
+    let part = Part::Master(index);
+    master_in(alloc, part, table_in(part, Key::Masters, value)?)
 }
 
 /// A master, by its table.
-fn master_in(alloc: Global, table: &Table) -> Result<LiveMaster, ScriptFault>
-    ensures { let defined = master_in (table_view table.now) in
+fn master_in(alloc: Global, part: Part, table: &Table) -> Result<LiveMaster, ScriptFault>
+    ensures { let defined = master_in part (table_view table.now) in
         MatchResult result (λ master. defined ≡ Ok master) (IsRefusal defined) }
 {
     Ok(LiveMaster {
-        uncertainty: time_at(table, "uncertainty")?,
-        acts: acts_in(alloc, value_at(table, "acts")?)?,
+        uncertainty: number_at(part, table, Key::Uncertainty)?,
+        acts: acts_in(alloc, part, value_at(part, table, Key::Acts)?)?,
     })
 }
 
-/// The sessions that an array lists.
-fn sessions_in(alloc: Global, value: &Value) -> Result<Vec<Session>, ScriptFault>
-    ensures { let defined = sessions_in (view value.now) in
+/// The sessions.
+fn sessions_in(alloc: Global, table: &Table) -> Result<Vec<Session>, ScriptFault>
+    ensures { let defined = sessions_in (table_view table.now) in
         MatchResult result (λ sessions. defined ≡ Ok sessions.items) (IsRefusal defined) }
 {
-    sessions_of(alloc, items_in(value)?)
+    let value = value_at(Part::Live, table, Key::Sessions)?;
+    sessions_of(alloc, items_in(Part::Live, Key::Sessions, value)?)
 }
 
 /// The sessions, one after the other.
 fn sessions_of(alloc: Global, items: &Array) -> Result<Vec<Session>, ScriptFault>
-    ensures { let defined = each session_in (array_view items.now) in
+    ensures { let defined = each session_in 0 (array_view items.now) in
         MatchResult result (λ sessions. defined ≡ Ok sessions.items) (IsRefusal defined) }
 {
     let mut sessions = Vec::new(alloc);
     for item in items {
-        sessions.push(session_in(alloc, item)?)?;
+        sessions.push(session_in(alloc, sessions.len(), item)?)?;
     }
     Ok(sessions)
 }
 
-/// The session of these lines.
-pub(crate) fn session_in(alloc: Global, value: &Value) -> Result<Session, ScriptFault>
-    ensures { let defined = session_in (view value.now) in
+/// The lines of the session with this number.
+fn session_in(alloc: Global, index: usize, value: &Value) -> Result<Session, ScriptFault>
+    ensures { let defined = session_in index (view value.now) in
         MatchResult result (λ session. defined ≡ Ok session) (IsRefusal defined) }
 {
-    let lines = lines_of(alloc, items_in(value)?)?;
+    let part = Part::Session(index);
+    let lines = lines_of(alloc, part, items_in(part, Key::Sessions, value)?)?;
     Ok(Session { lines })
 }
 
 /// The lines, one after the other.
-fn lines_of(alloc: Global, items: &Array) -> Result<Vec<Line>, ScriptFault>
-    ensures { let defined = each line_in (array_view items.now) in
+fn lines_of(alloc: Global, part: Part, items: &Array) -> Result<Vec<Line>, ScriptFault>
+    ensures { let defined = each (line_at part) 0 (array_view items.now) in
         MatchResult result (λ lines. defined ≡ Ok lines.items) (IsRefusal defined) }
 {
     let mut lines = Vec::new(alloc);
     for item in items {
-        lines.push(line_in(alloc, item)?)?;
+        lines.push(line_in(alloc, part, item)?)?;
     }
     Ok(lines)
 }
 
 /// The line of this text.
-fn line_in(alloc: Global, value: &Value) -> Result<Line, ScriptFault>
-    ensures { let defined = line_in (view value.now) in
+fn line_in(alloc: Global, part: Part, value: &Value) -> Result<Line, ScriptFault>
+    ensures { let defined = line_in part (view value.now) in
         MatchResult result (λ line. defined ≡ Ok line) (IsRefusal defined) }
 {
     match value.as_str() {
         Some(text) => Ok(Line {
             text: String::from_str(alloc, text)?,
         }),
-        None => Err(ScriptFault::WrongValue),
+        None => Err(wrong(part, Key::Sessions)),
     }
 }

@@ -1,122 +1,131 @@
 //! Values of a table by their keys.
 
-ghost use Rattle.std.specs.Prelude.{◌≡◌, Ok, Err, IsTrue, MatchResult, nat_le, option_map};
-ghost use Rattle.toml.specs.Data.{get_member, as_array};
+ghost use Rattle.std.specs.Prelude.{◌≡◌, ◌≤◌, ◌<◌, ◌^◌, Ok, Err, IfOk, MatchResult, nat_le, option_map};
+ghost use Rattle.toml.specs.Data.{get_member, as_array, as_table};
 ghost use Rattle.toml.specs.View.{view, table_view, array_view};
-ghost use Rattle.tt_script.specs.Lookup.{value_at, number_in, number_at, any_at, time_at, small_at, session_at, optional_at, text_at, count_of, are_tables, typed_value};
+ghost use Rattle.tt_script.specs.Key.{InRange, rule_of};
+ghost use Rattle.tt_script.specs.Lookup.{found_at, value_at, number_at, within, text_at, count_of, is_in, has_few, are_tables, typed_value};
 
-use crate::faults::ScriptFault;
+use crate::faults::{Misfit, Part, ScriptFault, missing, wrong};
+use crate::keys::{Key, Range};
 use toml::value::Array;
 use toml::{Table, Value};
-use tt_span::MAX_TIME;
+
+/// The value under a name, if it is there.
+fn member_at<'a>(table: &'a Table, name: &str) -> Option<&'a Value>
+    ensures { option_map (λ value. view value.now) result ≡ get_member name.now (table_view table.now) }
+{
+    table.get(name)
+}
 
 /// The value at a key, if it is there.
-pub(crate) fn found_at<'a>(table: &'a Table, key: &str) -> Option<&'a Value>
-    ensures { option_map (λ value. view value.now) result ≡ get_member key.now (table_view table.now) }
+pub(crate) fn found_at(table: &Table, key: Key) -> Option<&Value>
+    ensures { option_map (λ value. view value.now) result ≡ found_at key (table_view table.now) }
 {
-    table.get(key)
+    member_at(table, key.rule().name)
 }
 
 /// The value at a key that has to be there.
-pub(crate) fn value_at<'a>(table: &'a Table, key: &str) -> Result<&'a Value, ScriptFault>
-    ensures { let defined = value_at key.now (table_view table.now) in
+pub(crate) fn value_at(part: Part, table: &Table, key: Key) -> Result<&Value, ScriptFault>
+    ensures { let defined = value_at part key (table_view table.now) in
         MatchResult result (λ value. defined ≡ Ok (view value.now)) (λ fault. defined ≡ Err fault) }
 {
     match found_at(table, key) {
         Some(value) => Ok(value),
-        None => Err(ScriptFault::MissingKey),
+        None => Err(missing(part, key)),
     }
 }
 
-/// A whole number from 0 to the greatest.
-fn number_in(value: &Value, most: u64) -> Result<u64, ScriptFault>
-    ensures { result ≡ number_in most (view value.now) }
+/// A whole number that the key takes.
+fn number_in(part: Part, key: Key, found: Option<i64>) -> Result<u64, ScriptFault>
+    ensures value { result ≡ within part key found }
+    ensures range { IfOk result (InRange (rule_of key).range) }
 {
-    match value.as_integer() {
+    let range = key.rule().range;
+    match found {
         Some(number) => match u64::try_from(number) {
-            Ok(number) if number <= most => Ok(number),
-            _ => Err(ScriptFault::WrongValue),
+            Ok(number) if range.least <= number && number <= range.most => Ok(number),
+            _ => Err(ScriptFault::WrongValue(Misfit { part, key, found })),
         },
-        None => Err(ScriptFault::WrongValue),
+        None => Err(wrong(part, key)),
     }
 }
 
-/// The number at a key, from 0 to the greatest.
-pub(crate) fn number_at(table: &Table, key: &str, most: u64) -> Result<u64, ScriptFault>
-    ensures { result ≡ number_at key.now most (table_view table.now) }
+/// The number at a key, or its default.
+pub(crate) fn number_at(part: Part, table: &Table, key: Key) -> Result<u64, ScriptFault>
+    ensures value { result ≡ number_at part key (table_view table.now) }
+    ensures range { IfOk result (InRange (rule_of key).range) }
 {
-    number_in(value_at(table, key)?, most)
+    match found_at(table, key) {
+        Some(value) => number_in(part, key, value.as_integer()),
+        None => match key.rule().range.default {
+            Some(default) => Ok(default),
+            None => Err(missing(part, key)),
+        },
+    }
 }
 
-/// The number at a key: any number that a key can hold.
-pub(crate) fn any_at(table: &Table, key: &str) -> Result<u64, ScriptFault>
-    ensures { result ≡ any_at key.now (table_view table.now) }
+/// The number at a key that takes at most 255.
+pub(crate) fn small_at(part: Part, table: &Table, key: Key) -> Result<u8, ScriptFault>
+    requires { (rule_of key).range.most ≤ 255 }
+    ensures { result ≡ number_at part key (table_view table.now) }
 {
-    number_at(table, key, u64::MAX)
-}
-
-/// The time or clock reading at a key, in nanoseconds.
-pub(crate) fn time_at(table: &Table, key: &str) -> Result<u64, ScriptFault>
-    ensures { result ≡ time_at key.now (table_view table.now) }
-{
-    number_at(table, key, MAX_TIME)
-}
-
-/// The number of a machine, a source or a worker at a key.
-pub(crate) fn small_at(table: &Table, key: &str) -> Result<u8, ScriptFault>
-    ensures { result ≡ small_at key.now (table_view table.now) }
-{
-    match number_at(table, key, 255) {
+    match number_at(part, table, key) {
         Ok(number) => Ok(number as u8),
         Err(fault) => Err(fault),
     }
 }
 
-/// The number of a session at a key.
-pub(crate) fn session_at(table: &Table, key: &str) -> Result<u32, ScriptFault>
-    ensures { result ≡ session_at key.now (table_view table.now) }
+/// The number at a key that takes at most 4294967295.
+pub(crate) fn middle_at(part: Part, table: &Table, key: Key) -> Result<u32, ScriptFault>
+    requires { (rule_of key).range.most < 2 ^ 32 }
+    ensures value { result ≡ number_at part key (table_view table.now) }
+    ensures range { IfOk result (InRange (rule_of key).range) }
 {
-    match number_at(table, key, u64::from(u32::MAX)) {
+    match number_at(part, table, key) {
         Ok(number) => Ok(number as u32),
         Err(fault) => Err(fault),
     }
 }
 
-/// The number at a key, from 0 to the greatest, or the default if the key is absent.
-pub(crate) fn optional_at(
-    table: &Table,
-    key: &str,
-    default: u64,
-    most: u64,
-) -> Result<u64, ScriptFault>
-    ensures { result ≡ optional_at key.now default most (table_view table.now) }
+/// The text at a key.
+pub(crate) fn text_at(part: Part, table: &Table, key: Key) -> Result<&str, ScriptFault>
+    ensures { let defined = text_at part key (table_view table.now) in
+        MatchResult result (λ text. defined ≡ Ok text.now) (λ fault. defined ≡ Err fault) }
 {
-    match found_at(table, key) {
-        Some(value) => number_in(value, most),
-        None => Ok(default),
+    match value_at(part, table, key)?.as_str() {
+        Some(text) => Ok(text),
+        None => Err(wrong(part, key)),
     }
 }
 
-/// The text at a key.
-pub(crate) fn text_at<'a>(table: &'a Table, key: &str) -> Result<&'a str, ScriptFault>
-    ensures { let defined = text_at key.now (table_view table.now) in
-        MatchResult result (λ text. defined ≡ Ok text.now) (λ fault. defined ≡ Err fault) }
+/// The table in a value of the key.
+pub(crate) fn table_in(part: Part, key: Key, value: &Value) -> Result<&Table, ScriptFault>
+    ensures { let defined = typed_value part key (as_table (view value.now)) in
+        MatchResult result (λ table. defined ≡ Ok (table_view table.now)) (λ fault. defined ≡ Err fault) }
 {
-    match value_at(table, key)?.as_str() {
-        Some(text) => Ok(text),
-        None => Err(ScriptFault::WrongValue),
+    match value.as_table() {
+        Some(table) => Ok(table),
+        None => Err(wrong(part, key)),
     }
 }
 
 /// The items of an array.
-pub(crate) fn items_in(value: &Value) -> Result<&Array, ScriptFault>
-    ensures { let defined = typed_value (as_array (view value.now)) in
+pub(crate) fn items_in(part: Part, key: Key, value: &Value) -> Result<&Array, ScriptFault>
+    ensures { let defined = typed_value part key (as_array (view value.now)) in
         MatchResult result (λ items. defined ≡ Ok (array_view items.now)) (λ fault. defined ≡ Err fault) }
 {
     match value.as_array() {
         Some(items) => Ok(items),
-        None => Err(ScriptFault::WrongValue),
+        None => Err(wrong(part, key)),
     }
+}
+
+/// How many items there are.
+fn count_of(items: &Array) -> u64
+    ensures { result ≡ count_of (array_view items.now) }
+{
+    items.len() as u64
 }
 
 /// Whether there are no items.
@@ -126,11 +135,18 @@ pub(crate) fn has_none(items: &Array) -> bool
     items.is_empty()
 }
 
-/// Whether there are at most `most` items.
-pub(crate) fn has_at_most(items: &Array, most: usize) -> bool
-    ensures { result ≡ nat_le (count_of (array_view items.now)) most }
+/// Whether a number is in a range.
+fn is_in(range: Range, number: u64) -> bool
+    ensures { result ≡ is_in range number }
 {
-    items.len() <= most
+    range.least <= number && number <= range.most
+}
+
+/// Whether there are as many items as the key takes.
+pub(crate) fn has_few(key: Key, items: &Array) -> bool
+    ensures { result ≡ has_few key (array_view items.now) }
+{
+    is_in(key.rule().range, count_of(items))
 }
 
 /// Whether each item is a table.

@@ -2,13 +2,14 @@
 
 ghost use Rattle.std.specs.Prelude.{◌≡◌, ◌<◌, ◌≤◌, length, option_copied, IfOk, IfErr, Ok, MatchResult};
 ghost use Rattle.toml.specs.View.{table_view};
-ghost use Rattle.tt_script.specs.Fault.{IsRefusal};
-ghost use Rattle.tt_script.specs.Script.{script_of, script_in};
+ghost use Rattle.tt_script.specs.Fault.{IsRefusal, IsTextRefusal};
+ghost use Rattle.tt_script.specs.Script.{document_in, script_of, script_in};
 
 use crate::events::events_in;
-use crate::faults::ScriptFault;
+use crate::faults::{ScriptFault, reason_of};
 use crate::lives::{Live, live_at};
 use crate::machines::machines_in;
+use crate::unknown::push_unknown;
 use std::alloc::Global;
 use std::marker::Model;
 use toml::Table;
@@ -74,16 +75,51 @@ impl Script {
 /// - Of the part `live`: 1303 where it is not a table, then 1302 and 1303 for its keys in the order `base`, `rounds`,
 ///   `turns`, `masters` (of each master `uncertainty`, then `acts`), `sessions`, `lease_lo`, `lease_hi`.
 ///
-/// In place of each of these it may refuse with 1 `Memory`, if it is out of memory. Keys with other names are ignored,
+/// The fault says where that is. In place of each of these it may refuse with 1 `Memory`, if it is out of memory. Keys with other names are ignored,
 /// whatever they hold.
+#[tactic(auto, using(crate::proofs::Texts::document_refused, crate::proofs::Texts::script_refused))]
 pub fn read(alloc: Global, text: &str) -> Result<Script, ScriptFault>
     ensures found { IfOk result (λ script. script_in text.now ≡ Ok script) }
-    ensures refused { IfErr result (IsRefusal (script_in text.now)) }
+    ensures refused { IfErr result (IsTextRefusal (script_in text.now)) }
+{
+    match document_in(alloc, text) {
+        Ok(document) => script_of(alloc, &document),
+        Err(fault) => Err(fault),
+    }
+}
+
+/// As [`read`]. Adds the keys that no rule names, with their places, as
+/// `event 3 (send): "clok": unknown key; did you mean clock?`: the first [`MAX_UNKNOWN`](crate::MAX_UNKNOWN) of them.
+/// [`read`] ignores such a key, which may be a mistyped one. The wording is not fixed. If it is out of memory, fewer
+/// are added.
+#[tactic(auto, using(crate::proofs::Texts::document_refused, crate::proofs::Texts::script_refused))]
+pub fn read_noting(
+    alloc: Global,
+    text: &str,
+    unknown: &mut Vec<String>,
+) -> Result<Script, ScriptFault>
+    ensures found { IfOk result (λ script. script_in text.now ≡ Ok script) }
+    ensures refused { IfErr result (IsTextRefusal (script_in text.now)) }
+{
+    match document_in(alloc, text) {
+        Ok(document) => {
+            let _ = push_unknown(unknown, alloc, &document);
+            script_of(alloc, &document)
+        }
+        Err(fault) => Err(fault),
+    }
+}
+
+/// The document that a text is. Refuses with 1301 `NotToml`, and with 1 `Memory`.
+#[tactic(auto, using(crate::proofs::Texts::not_document))]
+fn document_in(alloc: Global, text: &str) -> Result<Table, ScriptFault>
+    ensures found { IfOk result (λ document. document_in text.now ≡ Ok (table_view document)) }
+    ensures refused { IfErr result (IsTextRefusal (document_in text.now)) }
 {
     match toml::table_from_str(alloc, text) {
-        Ok(table) => script_of(alloc, &table),
+        Ok(table) => Ok(table),
         Err(error) if error.is_memory() => Err(ScriptFault::Memory),
-        Err(_) => Err(ScriptFault::NotToml),
+        Err(error) => Err(ScriptFault::NotToml(reason_of(&error))),
     }
 }
 

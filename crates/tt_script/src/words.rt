@@ -3,11 +3,11 @@
 ghost use Rattle.std.specs.Prelude.{◌≡◌};
 ghost use Rattle.tt_script.specs.Words.{word_of};
 
-use crate::faults::ScriptFault;
+use std::fmt::{self, Display, Formatter, Write};
 
 /// The word of an event, which names its action.
-#[derive(Clone, Copy)]
-pub(crate) enum Word {
+#[derive(Clone, Copy, Debug, PartialEq, Eq)]
+pub enum Word {
     Send,
     Answer,
     Forge,
@@ -22,23 +22,42 @@ pub(crate) enum Word {
     Restart,
 }
 
+impl Display for Word {
+    fn fmt<W: Write>(&self, f: &mut Formatter<W>) -> fmt::Result {
+        f.write_str(match self {
+            Word::Send => "send",
+            Word::Answer => "answer",
+            Word::Forge => "forge",
+            Word::Deliver => "deliver",
+            Word::Fuse => "fuse",
+            Word::Arrive => "arrive",
+            Word::Read => "read",
+            Word::Stamp => "stamp",
+            Word::Queue => "queue",
+            Word::Release => "release",
+            Word::Lease => "lease",
+            Word::Restart => "restart",
+        })
+    }
+}
+
 /// The word of this text.
-pub(crate) fn word_of(text: &str) -> Result<Word, ScriptFault>
+pub(crate) fn word_of(text: &str) -> Option<Word>
     ensures { result ≡ word_of text.now }
 {
     match text {
-        "send" => Ok(Word::Send),
-        "answer" => Ok(Word::Answer),
-        "forge" => Ok(Word::Forge),
-        "deliver" => Ok(Word::Deliver),
-        "fuse" => Ok(Word::Fuse),
-        "arrive" => Ok(Word::Arrive),
-        "read" => Ok(Word::Read),
-        "stamp" => Ok(Word::Stamp),
-        "queue" => Ok(Word::Queue),
-        "release" => Ok(Word::Release),
-        "lease" => Ok(Word::Lease),
-        "restart" => Ok(Word::Restart),
-        _ => Err(ScriptFault::UnknownStep),
+        "send" => Some(Word::Send),
+        "answer" => Some(Word::Answer),
+        "forge" => Some(Word::Forge),
+        "deliver" => Some(Word::Deliver),
+        "fuse" => Some(Word::Fuse),
+        "arrive" => Some(Word::Arrive),
+        "read" => Some(Word::Read),
+        "stamp" => Some(Word::Stamp),
+        "queue" => Some(Word::Queue),
+        "release" => Some(Word::Release),
+        "lease" => Some(Word::Lease),
+        "restart" => Some(Word::Restart),
+        _ => None,
     }
 }

@@ -2,6 +2,7 @@
 use Rattle.std.specs.Prelude.{codes, ℕ, ◌&&◌, nat_eq, nat_lt, nat_le, if◌then◌else◌, List, ◌++◌, length, drop, Option, None, ok_or, Result, Ok, Err}
 use Rattle.std.specs.Cmp.Lexicographic.{pointwise}
 use Rattle.toml.specs.Data.{Data, Items, Members, as_str, as_array}
+use Rattle.tt_span.specs.Sources.{max_sources}
 use Rattle.tt_settings.specs.declared.keys.Key.{Key}
 use Rattle.tt_settings.specs.declared.keys.Key.TheVariants.{Masters}
 use Rattle.tt_settings.specs.declared.faults.SettingsFault.{SettingsFault}
@@ -28,9 +29,9 @@ address_at key t = do
   d ← value_at key t
   port_in key d
 
--- from 1 to 16 masters
+-- from 1 to the most sources of a machine
 abbrev pub masters_if : Items → Result Items SettingsFault
-masters_if items = if nat_lt 0 (count_of items) && nat_le (count_of items) 16 then Ok items else Err (WrongValue Masters)
+masters_if items = if nat_lt 0 (count_of items) && nat_le (count_of items) max_sources then Ok items else Err (WrongValue Masters)
 
 -- the items of the masters
 abbrev pub master_items_in : Members → Result Items SettingsFault

@@ -1,5 +1,7 @@
 -- Refusals: their numbers, and the first of several.
-use Rattle.std.specs.Prelude.{◌≡◌, ◌⊎◌, ℕ, Result, Ok, Err}
+use Rattle.std.specs.Prelude.{◌≡◌, ◌⊎◌, ℕ, Option, Some, None, Result, Ok, Err}
+use Rattle.tt_settings.specs.declared.keys.Key.{Key}
+use Rattle.tt_settings.specs.declared.keys.Key.TheVariants.{Masters, Faulty, Workers}
 use Rattle.tt_settings.specs.declared.faults.SettingsFault.{SettingsFault}
 use Rattle.tt_settings.specs.declared.faults.SettingsFault.TheVariants.{NotToml, UnknownKey, MissingKey, WrongValue, NotLocal, TooManyFaulty, TooFewWorkers, SamePath, SameMaster, Memory}
 
@@ -15,6 +17,17 @@ number_of TooFewWorkers = 1810
 number_of (SamePath key) = 1817
 number_of SameMaster = 1818
 number_of Memory = 1
+
+-- the key that is refused, where it is one that is known
+abbrev pub key_in : SettingsFault → Option Key
+key_in (MissingKey key) = Some key
+key_in (WrongValue key) = Some key
+key_in (NotLocal key) = Some key
+key_in (TooManyFaulty masters faulty most) = Some Faulty
+key_in TooFewWorkers = Some Workers
+key_in (SamePath key) = Some key
+key_in SameMaster = Some Masters
+key_in _ = None
 
 -- the second step, where the first was not refused: so the first line of a `do` that refuses is the answer
 infixl 10 ◌>>=◌

@@ -1,53 +1,70 @@
 -- The keys of a configuration file.
-use Rattle.std.specs.Prelude.{codes, ℕ, Bool, true, false, nat_eq, if◌then◌else◌, ◌&&◌, List}
+use Rattle.std.specs.Prelude.{codes, ℕ, ◌*◌, nat_eq, if◌then◌else◌, List, [], ◌∷◌, Option, Some, None}
 use Rattle.std.specs.Cmp.Lexicographic.{pointwise}
 use Rattle.toml.specs.Data.{Members, no_members, member}
+use Rattle.tt_span.specs.Drift.{max_drift}
+use Rattle.tt_span.specs.Time.{max_time}
+use Rattle.tt_poll.specs.Message.{max_machine}
+use Rattle.tt_daemon.specs.Config.{max_workers}
 use Rattle.tt_settings.specs.declared.keys.Key.{Key}
 use Rattle.tt_settings.specs.declared.keys.Key.TheVariants.{Machine, Masters, Faulty, Workers, Drift, Poll, Wait, FloorAhead, Idle, LeaseLo, LeaseHi, Listen, Log, Socket, State, Shared, Status}
+use Rattle.tt_settings.specs.declared.keys.ValueKind.{ValueKind}
+use Rattle.tt_settings.specs.declared.keys.ValueKind.TheVariants as kind
 
--- the key as the file writes it
+-- a millisecond and a second, in nanoseconds
+abbrev pub millisecond : ℕ
+millisecond = 1000000
+
+abbrev pub second : ℕ
+second = 1000000000
+
+-- the key as the file writes it, and what its value has to be: the one description of a key
+abbrev pub entry_of : Key → List ℕ × ValueKind
+entry_of Machine = (codes "machine", kind.Number 0 max_machine)
+entry_of Masters = (codes "masters", kind.Addresses)
+entry_of Faulty = (codes "faulty", kind.Number 0 max_time)
+entry_of Workers = (codes "workers", kind.Number 1 max_workers)
+entry_of Drift = (codes "drift", kind.Number 0 max_drift)
+entry_of Poll = (codes "poll", kind.Duration millisecond (3600 * second))
+entry_of Wait = (codes "wait", kind.Duration millisecond (10 * second))
+entry_of FloorAhead = (codes "floor_ahead", kind.Duration 0 (10 * second))
+entry_of Idle = (codes "idle", kind.Duration second (86400 * second))
+entry_of LeaseLo = (codes "lease_lo", kind.Number 0 max_time)
+entry_of LeaseHi = (codes "lease_hi", kind.Number 0 max_time)
+entry_of Listen = (codes "listen", kind.Address)
+entry_of Log = (codes "log", kind.Form)
+entry_of Socket = (codes "socket", kind.Path)
+entry_of State = (codes "state", kind.Path)
+entry_of Shared = (codes "shared", kind.Path)
+entry_of Status = (codes "status", kind.Path)
+
 abbrev pub text_of : Key → List ℕ
-text_of Machine = codes "machine"
-text_of Masters = codes "masters"
-text_of Faulty = codes "faulty"
-text_of Workers = codes "workers"
-text_of Drift = codes "drift"
-text_of Poll = codes "poll"
-text_of Wait = codes "wait"
-text_of FloorAhead = codes "floor_ahead"
-text_of Idle = codes "idle"
-text_of LeaseLo = codes "lease_lo"
-text_of LeaseHi = codes "lease_hi"
-text_of Listen = codes "listen"
-text_of Log = codes "log"
-text_of Socket = codes "socket"
-text_of State = codes "state"
-text_of Shared = codes "shared"
-text_of Status = codes "status"
+text_of key = (entry_of key).0
 
--- whether a text is a key
-abbrev pub is_key : List ℕ → Bool
-is_key text =
-    if pointwise nat_eq text (codes "machine") then true
-    else if pointwise nat_eq text (codes "masters") then true
-    else if pointwise nat_eq text (codes "faulty") then true
-    else if pointwise nat_eq text (codes "workers") then true
-    else if pointwise nat_eq text (codes "drift") then true
-    else if pointwise nat_eq text (codes "poll") then true
-    else if pointwise nat_eq text (codes "wait") then true
-    else if pointwise nat_eq text (codes "floor_ahead") then true
-    else if pointwise nat_eq text (codes "idle") then true
-    else if pointwise nat_eq text (codes "lease_lo") then true
-    else if pointwise nat_eq text (codes "lease_hi") then true
-    else if pointwise nat_eq text (codes "listen") then true
-    else if pointwise nat_eq text (codes "log") then true
-    else if pointwise nat_eq text (codes "socket") then true
-    else if pointwise nat_eq text (codes "state") then true
-    else if pointwise nat_eq text (codes "shared") then true
-    else if pointwise nat_eq text (codes "status") then true
-    else false
+abbrev pub kind_of : Key → ValueKind
+kind_of key = (entry_of key).1
 
--- whether each name of a table is a key
-abbrev pub are_keys : Members → Bool
-are_keys no_members = true
-are_keys (member name d rest) = is_key name && are_keys rest
+-- all keys
+abbrev pub all_keys : List Key
+all_keys =
+    Machine ∷ Masters ∷ Faulty ∷ Workers ∷ Drift ∷ Poll ∷ Wait ∷ FloorAhead ∷ Idle ∷ LeaseLo ∷ LeaseHi ∷ Listen ∷ Log ∷ Socket ∷ State
+    ∷ Shared ∷ Status ∷ []
+
+-- the first of these keys that a text is
+abbrev pub key_among : List ℕ → List Key → Option Key
+key_among text [] = None
+key_among text (key ∷ rest) = if pointwise nat_eq (text_of key) text then Some key else key_among text rest
+
+-- the key that a text is
+abbrev pub key_of : List ℕ → Option Key
+key_of text = key_among text all_keys
+
+-- this name, where it is no key, or else the other
+abbrev pub unknown_or : Option Key → List ℕ → Option (List ℕ) → Option (List ℕ)
+unknown_or (Some key) name other = other
+unknown_or None name other = Some name
+
+-- the first name of a table that is no key
+abbrev pub first_unknown : Members → Option (List ℕ)
+first_unknown no_members = None
+first_unknown (member name d rest) = unknown_or (key_of name) name (first_unknown rest)

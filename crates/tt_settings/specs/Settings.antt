@@ -1,5 +1,5 @@
 -- What a configuration file means.
-use Rattle.std.specs.Prelude.{ℕ, Bool, true, false, List, Option, Some, None, Result, Ok, Err}
+use Rattle.std.specs.Prelude.{ℕ, List, Option, Some, None, Result, Ok, Err}
 use Rattle.toml.specs.Data.{Members}
 use Rattle.toml.specs.Parse.{parse_document}
 use Rattle.tt_span.specs.Interval.{Interval}
@@ -10,8 +10,8 @@ use Rattle.tt_settings.specs.declared.faults.SettingsFault.{SettingsFault}
 use Rattle.tt_settings.specs.declared.faults.SettingsFault.TheVariants.{NotToml, UnknownKey}
 use Rattle.tt_settings.specs.declared.plans.Pauses.{Pauses}
 use Rattle.tt_settings.specs.Fault.{◌>>=◌}
-use Rattle.tt_settings.specs.Key.{are_keys}
-use Rattle.tt_settings.specs.Lookup.{number_at, count_of, each}
+use Rattle.tt_settings.specs.Key.{first_unknown}
+use Rattle.tt_settings.specs.Lookup.{amount_at, count_of, each}
 use Rattle.tt_settings.specs.Address.{address_at, master_items_in, master_in}
 use Rattle.tt_settings.specs.Plan.{configuration_in, pauses_in, lease_in}
 use Rattle.tt_settings.specs.Form.{log_at}
@@ -32,16 +32,16 @@ pub record Meaning : Type 0 where
   pub shared : Option (List ℕ)
   pub status : Option (List ℕ)
 
--- names that are all keys
-abbrev pub keys_if : Bool → Result (Unit {0}) SettingsFault
-keys_if true = Ok tt
-keys_if false = Err UnknownKey
+-- a table without a name that is no key
+abbrev pub keys_if : Option (List ℕ) → Result (Unit {0}) SettingsFault
+keys_if None = Ok tt
+keys_if (Some name) = Err UnknownKey
 
 -- what the keys of a document mean, each by itself
 abbrev pub keys_of : Members → Result Meaning SettingsFault
 keys_of t = do
-  all_known ← keys_if (are_keys t)
-  machine ← number_at Machine 0 7 t
+  all_known ← keys_if (first_unknown t)
+  machine ← amount_at Machine t
   items ← master_items_in t
   config ← configuration_in (count_of items) t
   pauses ← pauses_in t

@@ -2,6 +2,7 @@
 
 ghost use Rattle.std.specs.Prelude.{◌≡◌, ◌<◌, ◌≤◌, IfOk, Ok, Err, MatchResult};
 ghost use Rattle.toml.specs.View.{view, table_view, array_view};
+ghost use Rattle.tt_span.specs.Sources.{max_sources};
 ghost use Rattle.tt_settings.specs.Fault.{IsRefusal};
 ghost use Rattle.tt_settings.specs.Lookup.{each, count_of};
 ghost use Rattle.tt_settings.specs.Address.{port_of, port_in, address_at, master_in, master_items_in};
@@ -13,9 +14,7 @@ use crate::numerals::number_of;
 use std::alloc::Global;
 use toml::value::Array;
 use toml::{Table, Value};
-
-/// The most masters of a machine.
-const MAX_MASTERS: usize = 16;
+use tt_span::MAX_SOURCES;
 
 /// The port of an address of this host. The text is `127.0.0.1:` and the port, from 0 to 65535, in decimal digits
 /// without leading zeros. None for any other text.
@@ -48,14 +47,14 @@ pub(crate) fn address_at(table: &Table, key: Key) -> Result<u16, SettingsFault>
     port_in(key, value_at(table, key)?)
 }
 
-/// The items of the masters: from one to [`MAX_MASTERS`].
+/// The items of the masters: from one to [`MAX_SOURCES`].
 pub(crate) fn master_items_in(table: &Table) -> Result<&Array, SettingsFault>
     ensures value { let defined = master_items_in (table_view table.now) in
         MatchResult result (λ items. defined ≡ Ok (array_view items.now)) (λ fault. defined ≡ Err fault) }
-    ensures count { IfOk result (λ items. (0 < count_of (array_view items.now)) × (count_of (array_view items.now) ≤ 16)) }
+    ensures count { IfOk result (λ items. (0 < count_of (array_view items.now)) × (count_of (array_view items.now) ≤ max_sources)) }
 {
     let items = items_in(Key::Masters, value_at(table, Key::Masters)?)?;
-    if has_none(items) || !has_at_most(items, MAX_MASTERS) {
+    if has_none(items) || !has_at_most(items, MAX_SOURCES) {
         return Err(SettingsFault::WrongValue(Key::Masters));
     }
     Ok(items)

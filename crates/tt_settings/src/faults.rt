@@ -1,7 +1,7 @@
 //! Why a configuration is refused, and where.
 
 ghost use Rattle.std.specs.Prelude.{◌≡◌};
-ghost use Rattle.tt_settings.specs.Fault.{number_of};
+ghost use Rattle.tt_settings.specs.Fault.{number_of, key_in};
 
 use crate::keys::Key;
 use std::alloc::{AllocError, AllocFailed};
@@ -14,7 +14,7 @@ impl Display for Key {
     }
 }
 
-/// Why a configuration is refused. The message begins with the key, if there is one.
+/// Why a configuration is refused. [`Refusal`](crate::Refusal) tells a person more.
 #[derive(Clone, Copy, Debug, PartialEq, Eq, Error)]
 pub enum SettingsFault {
     #[error("the text is not TOML")]
@@ -60,6 +60,22 @@ impl SettingsFault {
             SettingsFault::SamePath(_) => 1817,
             SettingsFault::SameMaster => 1818,
             SettingsFault::Memory => 1,
+        }
+    }
+
+    /// The key that is refused, if it is one that is known.
+    pub fn key(&self) -> Option<Key>
+        ensures { result ≡ key_in self.now }
+    {
+        match self {
+            SettingsFault::MissingKey(key)
+            | SettingsFault::WrongValue(key)
+            | SettingsFault::NotLocal(key)
+            | SettingsFault::SamePath(key) => Some(*key),
+            SettingsFault::TooManyFaulty { .. } => Some(Key::Faulty),
+            SettingsFault::TooFewWorkers => Some(Key::Workers),
+            SettingsFault::SameMaster => Some(Key::Masters),
+            SettingsFault::NotToml | SettingsFault::UnknownKey | SettingsFault::Memory => None,
         }
     }
 }

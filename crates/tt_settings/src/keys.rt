@@ -1,7 +1,23 @@
 //! The keys of a configuration file.
 
 ghost use Rattle.std.specs.Prelude.{◌≡◌};
-ghost use Rattle.tt_settings.specs.Key.{text_of, is_key};
+ghost use Rattle.tt_settings.specs.Key.{text_of, kind_of, key_among, key_of};
+
+use tt_daemon::MAX_WORKERS;
+use tt_poll::MAX_MACHINE;
+use tt_span::{MAX_DRIFT, MAX_TIME};
+
+/// A millisecond, in nanoseconds.
+pub(crate) const MILLISECOND: u64 = 1_000_000;
+
+/// A second, in nanoseconds.
+pub(crate) const SECOND: u64 = 1_000_000_000;
+
+/// An hour, in nanoseconds.
+const HOUR: u64 = 3600 * SECOND;
+
+/// A day, in nanoseconds.
+const DAY: u64 = 24 * HOUR;
 
 /// A key of a configuration file.
 #[derive(Clone, Copy, Debug, PartialEq, Eq)]
@@ -25,55 +41,133 @@ pub enum Key {
     Status,
 }
 
+/// All keys.
+pub(crate) const KEYS: [Key; 17] = [
+    Key::Machine,
+    Key::Masters,
+    Key::Faulty,
+    Key::Workers,
+    Key::Drift,
+    Key::Poll,
+    Key::Wait,
+    Key::FloorAhead,
+    Key::Idle,
+    Key::LeaseLo,
+    Key::LeaseHi,
+    Key::Listen,
+    Key::Log,
+    Key::Socket,
+    Key::State,
+    Key::Shared,
+    Key::Status,
+];
+
+/// What the value of a key has to be.
+#[derive(Clone, Copy, Debug, PartialEq, Eq)]
+pub(crate) enum ValueKind {
+    /// A whole number, from the least to the greatest.
+    Number { least: u64, most: u64 },
+    /// The text of a length of time, from the least to the greatest, in nanoseconds.
+    Duration { least: u64, most: u64 },
+    /// The text of an address of this host.
+    Address,
+    /// Addresses of this host.
+    Addresses,
+    /// The form of the log.
+    Form,
+    /// A path.
+    Path,
+}
+
+/// What is to be known of a key.
+#[derive(Clone, Copy)]
+struct Description {
+    /// The key as the file writes it.
+    text: &'static str,
+    /// What its value has to be.
+    kind: ValueKind,
+}
+
+/// The description of a key whose value is a number.
+fn number(text: &'static str, least: u64, most: u64) -> Description
+    ensures { (result.text.now ≡ text.now) × (result.kind ≡ ValueKind.Number least most) }
+{
+    let kind = ValueKind::Number { least, most };
+    Description { text, kind }
+}
+
+/// The description of a key whose value is a length of time.
+fn duration(text: &'static str, least: u64, most: u64) -> Description
+    ensures { (result.text.now ≡ text.now) × (result.kind ≡ ValueKind.Duration least most) }
+{
+    let kind = ValueKind::Duration { least, most };
+    Description { text, kind }
+}
+
+/// The description of a key whose value is of this kind.
+fn plain(text: &'static str, kind: ValueKind) -> Description
+    ensures { (result.text.now ≡ text.now) × (result.kind ≡ kind) }
+{
+    Description { text, kind }
+}
+
 impl Key {
+    /// What is to be known of each key: this is all that reading and refusing it need.
+    fn described(self) -> Description
+        ensures text { result.text.now ≡ text_of self }
+        ensures kind { result.kind ≡ kind_of self }
+    {
+        match self {
+            Key::Machine => number("machine", 0, MAX_MACHINE as u64),
+            Key::Masters => plain("masters", ValueKind::Addresses),
+            Key::Faulty => number("faulty", 0, MAX_TIME),
+            Key::Workers => number("workers", 1, MAX_WORKERS as u64),
+            Key::Drift => number("drift", 0, MAX_DRIFT as u64),
+            Key::Poll => duration("poll", MILLISECOND, HOUR),
+            Key::Wait => duration("wait", MILLISECOND, 10 * SECOND),
+            Key::FloorAhead => duration("floor_ahead", 0, 10 * SECOND),
+            Key::Idle => duration("idle", SECOND, DAY),
+            Key::LeaseLo => number("lease_lo", 0, MAX_TIME),
+            Key::LeaseHi => number("lease_hi", 0, MAX_TIME),
+            Key::Listen => plain("listen", ValueKind::Address),
+            Key::Log => plain("log", ValueKind::Form),
+            Key::Socket => plain("socket", ValueKind::Path),
+            Key::State => plain("state", ValueKind::Path),
+            Key::Shared => plain("shared", ValueKind::Path),
+            Key::Status => plain("status", ValueKind::Path),
+        }
+    }
+
     /// The key as the file writes it.
     pub fn text(self) -> &'static str
         ensures { result.now ≡ text_of self }
     {
-        match self {
-            Key::Machine => "machine",
-            Key::Masters => "masters",
-            Key::Faulty => "faulty",
-            Key::Workers => "workers",
-            Key::Drift => "drift",
-            Key::Poll => "poll",
-            Key::Wait => "wait",
-            Key::FloorAhead => "floor_ahead",
-            Key::Idle => "idle",
-            Key::LeaseLo => "lease_lo",
-            Key::LeaseHi => "lease_hi",
-            Key::Listen => "listen",
-            Key::Log => "log",
-            Key::Socket => "socket",
-            Key::State => "state",
-            Key::Shared => "shared",
-            Key::Status => "status",
-        }
+        self.described().text
+    }
+
+    /// What the value of the key has to be.
+    pub(crate) fn kind(self) -> ValueKind
+        ensures { result ≡ kind_of self }
+    {
+        self.described().kind
     }
 }
 
-/// Whether a text is a key.
-pub(crate) fn is_key(text: &str) -> bool
-    ensures { result ≡ is_key text.now }
+/// The first of these keys that a text is.
+fn key_among(text: &str, keys: &[Key]) -> Option<Key>
+    ensures { result ≡ key_among text.now keys.now }
 {
-    matches!(
-        text,
-        "machine"
-            | "masters"
-            | "faulty"
-            | "workers"
-            | "drift"
-            | "poll"
-            | "wait"
-            | "floor_ahead"
-            | "idle"
-            | "lease_lo"
-            | "lease_hi"
-            | "listen"
-            | "log"
-            | "socket"
-            | "state"
-            | "shared"
-            | "status"
-    )
+    for key in keys {
+        if key.text() == text {
+            return Some(*key);
+        }
+    }
+    None
+}
+
+/// The key that a text is, if it is one.
+pub(crate) fn key_of(text: &str) -> Option<Key>
+    ensures { result ≡ key_of text.now }
+{
+    key_among(text, &KEYS)
 }

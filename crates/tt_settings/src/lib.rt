@@ -15,7 +15,7 @@
 //! - `forms`: the form of the log. `addresses`: addresses of this host. `durations`: lengths of time with a unit. `numerals`: decimal numbers.
 //! - `checks`: what is refused of settings that can be read. `paths`: which files paths name.
 //! - `keys`: the keys of the file. `lookups`: values of a table by their keys.
-//! - `faults`: why a text is refused, with the place.
+//! - `faults`: why a text is refused. `refusals`: the same for a person, in the words of `wordings`. `places`: where a text has a key.
 #![tactic(auto)]
 
 mod addresses;
@@ -27,9 +27,12 @@ mod keys;
 mod lookups;
 mod numerals;
 mod paths;
+mod places;
 mod plans;
+mod refusals;
 mod settings;
 mod texts;
+mod wordings;
 
 pub use addresses::port_of;
 pub use durations::duration_of;
@@ -38,5 +41,6 @@ pub use forms::log_format_of;
 pub use keys::Key;
 pub use numerals::number_of;
 pub use plans::Pauses;
+pub use refusals::Refusal;
 pub use settings::{Settings, read};
 pub use texts::FilePath;

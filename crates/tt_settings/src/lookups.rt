@@ -1,14 +1,14 @@
 //! Values of a table by their keys.
 
-ghost use Rattle.std.specs.Prelude.{◌≡◌, Ok, Err, MatchResult, nat_le, option_map};
+ghost use Rattle.std.specs.Prelude.{◌≡◌, Ok, Err, MatchResult, nat_le, option_map, option_copied};
 ghost use Rattle.toml.specs.Data.{get_member, as_array, as_str};
 ghost use Rattle.toml.specs.View.{view, table_view, array_view};
-ghost use Rattle.tt_settings.specs.Key.{text_of, are_keys};
-ghost use Rattle.tt_settings.specs.Lookup.{value_at, number_in, number_at, optional_at, count_of, typed_value, duration_in, duration_at};
+ghost use Rattle.tt_settings.specs.Key.{text_of, first_unknown};
+ghost use Rattle.tt_settings.specs.Lookup.{value_at, whole_in, within, amount_in, amount_at, amount_or, count_of, typed_value};
 
 use crate::durations::duration_of;
 use crate::faults::SettingsFault;
-use crate::keys::{Key, is_key};
+use crate::keys::{Key, ValueKind, key_of};
 use toml::value::Array;
 use toml::{Table, Value};
 
@@ -37,43 +37,55 @@ pub(crate) fn value_at(table: &Table, key: Key) -> Result<&Value, SettingsFault>
     }
 }
 
-/// A whole number from the least to the greatest.
-fn number_in(key: Key, least: u64, most: u64, value: &Value) -> Result<u64, SettingsFault>
-    ensures { result ≡ number_in key least most (view value.now) }
+/// The whole number that a value is, if it is one and not below 0.
+fn whole_in(value: &Value) -> Option<u64>
+    ensures { result ≡ whole_in (view value.now) }
 {
     match value.as_integer() {
         Some(number) => match u64::try_from(number) {
-            Ok(number) if least <= number && number <= most => Ok(number),
-            _ => Err(SettingsFault::WrongValue(key)),
+            Ok(number) => Some(number),
+            Err(_) => None,
         },
-        None => Err(SettingsFault::WrongValue(key)),
+        None => None,
     }
 }
 
-/// The number at a key, from the least to the greatest.
-pub(crate) fn number_at(
-    table: &Table,
-    key: Key,
-    least: u64,
-    most: u64,
-) -> Result<u64, SettingsFault>
-    ensures { result ≡ number_at key least most (table_view table.now) }
+/// An amount from the least to the greatest, if there is one.
+fn within(key: Key, least: u64, most: u64, amount: Option<u64>) -> Result<u64, SettingsFault>
+    ensures { result ≡ within key least most amount }
 {
-    number_in(key, least, most, value_at(table, key)?)
+    match amount {
+        Some(amount) if least <= amount && amount <= most => Ok(amount),
+        _ => Err(SettingsFault::WrongValue(key)),
+    }
 }
 
-/// The number at a key, from the least to the greatest, or the default if the key is absent.
-pub(crate) fn optional_at(
-    table: &Table,
-    key: Key,
-    default: u64,
-    least: u64,
-    most: u64,
-) -> Result<u64, SettingsFault>
-    ensures { result ≡ optional_at key default least most (table_view table.now) }
+/// The amount that the value of a key is: a number, or the nanoseconds of a length of time.
+pub(crate) fn amount_in(key: Key, value: &Value) -> Result<u64, SettingsFault>
+    ensures { result ≡ amount_in key (view value.now) }
+{
+    match key.kind() {
+        ValueKind::Number { least, most } => within(key, least, most, whole_in(value)),
+        ValueKind::Duration { least, most } => {
+            within(key, least, most, duration_of(text_in(key, value)?))
+        }
+        _ => Err(SettingsFault::WrongValue(key)),
+    }
+}
+
+/// The amount at a key.
+pub(crate) fn amount_at(table: &Table, key: Key) -> Result<u64, SettingsFault>
+    ensures { result ≡ amount_at key (table_view table.now) }
+{
+    amount_in(key, value_at(table, key)?)
+}
+
+/// The amount at a key, or the default if the key is absent.
+pub(crate) fn amount_or(table: &Table, key: Key, default: u64) -> Result<u64, SettingsFault>
+    ensures { result ≡ amount_or key default (table_view table.now) }
 {
     match found_at(table, key) {
-        Some(value) => number_in(key, least, most, value),
+        Some(value) => amount_in(key, value),
         None => Ok(default),
     }
 }
@@ -86,32 +98,6 @@ pub(crate) fn text_in(key: Key, value: &Value) -> Result<&str, SettingsFault>
     match value.as_str() {
         Some(text) => Ok(text),
         None => Err(SettingsFault::WrongValue(key)),
-    }
-}
-
-/// A length of time from the least to the greatest, in nanoseconds.
-fn duration_in(key: Key, least: u64, most: u64, value: &Value) -> Result<u64, SettingsFault>
-    ensures { result ≡ duration_in key least most (view value.now) }
-{
-    match duration_of(text_in(key, value)?) {
-        Some(time) if least <= time && time <= most => Ok(time),
-        _ => Err(SettingsFault::WrongValue(key)),
-    }
-}
-
-/// The length of time at a key, from the least to the greatest, or the default if the key is absent.
-pub(crate) fn duration_at(
-    table: &Table,
-    key: Key,
-    default: u64,
-    least: u64,
-    most: u64,
-) -> Result<u64, SettingsFault>
-    ensures { result ≡ duration_at key default least most (table_view table.now) }
-{
-    match found_at(table, key) {
-        Some(value) => duration_in(key, least, most, value),
-        None => Ok(default),
     }
 }
 
@@ -147,14 +133,14 @@ pub(crate) fn count_of(items: &Array) -> u64
     items.len() as u64
 }
 
-/// Whether each name of a table is a key.
-pub(crate) fn are_keys(table: &Table) -> bool
-    ensures { result ≡ are_keys (table_view table.now) }
+/// The first name of a table that is no key.
+pub(crate) fn first_unknown(table: &Table) -> Option<&str>
+    ensures { option_copied result ≡ first_unknown (table_view table.now) }
 {
     for (name, _value) in table.iter() {
-        if !is_key(name.as_str()) {
-            return false;
+        if key_of(name.as_str()).is_none() {
+            return Some(name.as_str());
         }
     }
-    true
+    None
 }

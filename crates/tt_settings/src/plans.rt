@@ -3,20 +3,28 @@
 ghost use Rattle.std.specs.Prelude.{◌≡◌, ◌<◌, ◌≤◌};
 ghost use Rattle.toml.specs.View.{table_view};
 ghost use Rattle.tt_span.specs.Drift.{max_drift};
+ghost use Rattle.tt_span.specs.Sources.{max_sources};
+ghost use Rattle.tt_daemon.specs.Config.{max_workers};
 ghost use Rattle.tt_settings.specs.Plan.{configuration_if, configuration_in, lease_in, pauses_in};
 
 use crate::faults::SettingsFault;
-use crate::keys::Key;
-use crate::lookups::{duration_at, optional_at};
+use crate::keys::{Key, MILLISECOND, SECOND};
+use crate::lookups::amount_or;
 use toml::Table;
-use tt_daemon::{Config, MAX_WORKERS};
-use tt_span::{Drift, MAX_DRIFT, MAX_TIME, Span};
+use tt_daemon::{Config, DEFAULT_DRIFT, MAX_WORKERS};
+use tt_span::{Drift, MAX_TIME, Span};
 
-/// A millisecond, in nanoseconds.
-const MILLISECOND: u64 = 1_000_000;
+/// The pause between two rounds of polls if no other is given, in nanoseconds.
+const DEFAULT_POLL: u64 = SECOND;
 
-/// A second, in nanoseconds.
-const SECOND: u64 = 1_000_000_000;
+/// How long a round waits for answers if nothing else is given, in nanoseconds.
+const DEFAULT_WAIT: u64 = 250 * MILLISECOND;
+
+/// How far a floor may lie ahead if nothing else is given, in nanoseconds.
+const DEFAULT_FLOOR_AHEAD: u64 = SECOND;
+
+/// After how long the connection of a silent client is closed if nothing else is given, in nanoseconds.
+const DEFAULT_IDLE: u64 = 60 * SECOND;
 
 /// How long the parts of a machine wait, in nanoseconds.
 #[derive(Clone, Copy, Debug, PartialEq, Eq)]
@@ -34,13 +42,13 @@ pub struct Pauses {
 /// The configuration of a machine with this many masters.
 pub(crate) fn configuration_in(table: &Table, masters: u64) -> Result<Config, SettingsFault>
     requires some { 0 < masters }
-    requires few { masters ≤ 16 }
+    requires few { masters ≤ max_sources }
     ensures { result ≡ configuration_in masters (table_view table.now) }
 {
     let most = (masters - 1) / 2;
-    let faulty = optional_at(table, Key::Faulty, most, 0, MAX_TIME)?;
-    let workers = optional_at(table, Key::Workers, 32, 1, MAX_WORKERS as u64)?;
-    let drift = optional_at(table, Key::Drift, 200, 0, u64::from(MAX_DRIFT))?;
+    let faulty = amount_or(table, Key::Faulty, most)?;
+    let workers = amount_or(table, Key::Workers, MAX_WORKERS as u64)?;
+    let drift = amount_or(table, Key::Drift, u64::from(DEFAULT_DRIFT))?;
     configuration_if(masters, faulty, workers, drift)
 }
 
@@ -53,9 +61,9 @@ fn configuration_if(
     drift: u64,
 ) -> Result<Config, SettingsFault>
     requires some { 0 < masters }
-    requires few { masters ≤ 16 }
+    requires few { masters ≤ max_sources }
     requires some_worker { 0 < workers }
-    requires few_workers { workers ≤ 32 }
+    requires few_workers { workers ≤ max_workers }
     requires drift { drift ≤ max_drift }
     ensures { result ≡ configuration_if masters faulty workers drift }
 {
@@ -80,16 +88,10 @@ fn configuration_if(
 pub(crate) fn pauses_in(table: &Table) -> Result<Pauses, SettingsFault>
     ensures { result ≡ pauses_in (table_view table.now) }
 {
-    let poll = duration_at(table, Key::Poll, SECOND, MILLISECOND, 3600 * SECOND)?;
-    let wait = duration_at(
-        table,
-        Key::Wait,
-        250 * MILLISECOND,
-        MILLISECOND,
-        10 * SECOND,
-    )?;
-    let floor_ahead = duration_at(table, Key::FloorAhead, SECOND, 0, 10 * SECOND)?;
-    let idle = duration_at(table, Key::Idle, 60 * SECOND, SECOND, 86400 * SECOND)?;
+    let poll = amount_or(table, Key::Poll, DEFAULT_POLL)?;
+    let wait = amount_or(table, Key::Wait, DEFAULT_WAIT)?;
+    let floor_ahead = amount_or(table, Key::FloorAhead, DEFAULT_FLOOR_AHEAD)?;
+    let idle = amount_or(table, Key::Idle, DEFAULT_IDLE)?;
     Ok(Pauses {
         poll,
         wait,
@@ -102,8 +104,8 @@ pub(crate) fn pauses_in(table: &Table) -> Result<Pauses, SettingsFault>
 pub(crate) fn lease_in(table: &Table) -> Result<Span, SettingsFault>
     ensures { result ≡ lease_in (table_view table.now) }
 {
-    let lo = optional_at(table, Key::LeaseLo, 0, 0, MAX_TIME)?;
-    let hi = optional_at(table, Key::LeaseHi, MAX_TIME, 0, MAX_TIME)?;
+    let lo = amount_or(table, Key::LeaseLo, 0)?;
+    let hi = amount_or(table, Key::LeaseHi, MAX_TIME)?;
     match Span::new(lo, hi) {
         Ok(span) => Ok(span),
         Err(_) => Err(SettingsFault::WrongValue(Key::LeaseHi)),

@@ -1,7 +1,8 @@
 //! The settings of a machine.
 
-ghost use Rattle.std.specs.Prelude.{◌≡◌, option_copied, IfOk, IfErr, Ok, MatchResult};
+ghost use Rattle.std.specs.Prelude.{◌≡◌, ◌≤◌, option_copied, IfOk, IfErr, Ok, MatchResult};
 ghost use Rattle.toml.specs.View.{table_view};
+ghost use Rattle.tt_poll.specs.Message.{max_machine};
 ghost use Rattle.tt_settings.specs.Fault.{IsRefusal};
 ghost use Rattle.tt_settings.specs.Check.{all_fit};
 ghost use Rattle.tt_settings.specs.Settings.{keys_of, settings_of, settings_in};
@@ -11,8 +12,9 @@ use crate::checks::{check_masters, check_paths, check_workers};
 use crate::faults::SettingsFault;
 use crate::forms::log_at;
 use crate::keys::Key;
-use crate::lookups::{are_keys, count_of, number_at};
+use crate::lookups::{amount_at, count_of, first_unknown};
 use crate::plans::{Pauses, configuration_in, lease_in, pauses_in};
+use crate::refusals::Refusal;
 use crate::texts::{FilePath, optional_path, path_at};
 use std::alloc::Global;
 use std::marker::Model;
@@ -38,17 +40,22 @@ pub struct Settings {
 }
 
 impl Model for Settings {
+    ghost use Rattle.std.specs.Prelude.{◌≤◌};
+    ghost use Rattle.tt_poll.specs.Message.{max_machine};
     ghost use Rattle.tt_settings.specs.Settings.{Meaning};
 
     ghost Value = { Meaning };
 
     ghost view = { λ s. record { machine = s.machine; config = s.config; pauses = s.pauses; lease = s.lease; listen = s.listen; log = s.log; masters = s.masters.items; state = s.state; socket = s.socket; shared = s.shared; status = s.status } };
+
+    ghost invariant = { λ s. s.machine ≤ max_machine };
 }
 
 impl Settings {
     /// The number of the machine, from 0 to 7.
     pub fn machine(&self) -> u8
         ensures value { result ≡ self.now.machine }
+        ensures valid { self.now.machine ≤ max_machine }
     {
         self.machine
     }
@@ -151,14 +158,18 @@ impl Settings {
 ///   followed.
 ///
 /// In place of each of these it may refuse with 1 `Memory`, if it is out of memory.
-pub fn read(alloc: Global, text: &str) -> Result<Settings, SettingsFault>
+pub fn read(alloc: Global, text: &str) -> Result<Settings, Refusal>
     ensures found { IfOk result (λ settings. settings_in text.now ≡ Ok settings) }
     ensures refused { IfErr result (IsRefusal (settings_in text.now)) }
 {
-    match toml::table_from_str(alloc, text) {
-        Ok(table) => settings_of(alloc, &table),
-        Err(error) if error.is_memory() => Err(SettingsFault::Memory),
-        Err(_) => Err(SettingsFault::NotToml),
+    let table = match toml::table_from_str(alloc, text) {
+        Ok(table) => table,
+        Err(error) if error.is_memory() => return Err(Refusal::of_memory(alloc)),
+        Err(error) => return Err(Refusal::of_text(alloc, text, &error)),
+    };
+    match settings_of(alloc, &table) {
+        Ok(settings) => Ok(settings),
+        Err(fault) => Err(Refusal::of_table(alloc, text, &table, fault)),
     }
 }
 
@@ -193,10 +204,10 @@ fn keys_of(alloc: Global, table: &Table) -> Result<Settings, SettingsFault>
     ensures { let defined = keys_of (table_view table.now) in
         MatchResult result (λ settings. defined ≡ Ok settings) (IsRefusal defined) }
 {
-    if !are_keys(table) {
+    if first_unknown(table).is_some() {
         return Err(SettingsFault::UnknownKey);
     }
-    let machine = number_at(table, Key::Machine, 0, 7)? as u8;
+    let machine = amount_at(table, Key::Machine)? as u8;
     let items = master_items_in(table)?;
     let config = configuration_in(table, count_of(items))?;
     let pauses = pauses_in(table)?;

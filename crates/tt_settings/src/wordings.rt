@@ -1,0 +1,217 @@
+//! What is wrong with the value of a key, in words for a person.
+
+use crate::addresses::port_of;
+use crate::durations::duration_of;
+use crate::faults::SettingsFault;
+use crate::keys::{Key, MILLISECOND, SECOND, ValueKind};
+use crate::lookups::found_at;
+use crate::places::is_plain;
+use std::alloc::{AllocError, Global};
+use toml::value::Array;
+use toml::{Table, Value};
+use tt_span::MAX_SOURCES;
+
+/// The most characters of a text that are shown.
+const MOST_SHOWN: usize = 80;
+
+/// What is wrong with the value of this key in a document that is refused with this fault.
+pub(crate) fn words_of(
+    alloc: Global,
+    table: &Table,
+    key: Key,
+    fault: SettingsFault,
+) -> Result<String, AllocError> {
+    let mut words = String::new(alloc);
+    match (found_at(table, key), fault) {
+        (
+            _,
+            SettingsFault::TooManyFaulty {
+                masters,
+                faulty,
+                most,
+            },
+        ) => {
+            write!(
+                words,
+                "{faulty} is above {most}, the most of {masters} masters"
+            )?;
+        }
+        (Some(value), SettingsFault::SamePath(_)) => {
+            push_shown(&mut words, alloc, value)?;
+            words.push_str(": the path, its draft or its lock has another purpose as well")?;
+        }
+        (Some(value), SettingsFault::TooFewWorkers) => {
+            push_shown(&mut words, alloc, value)?;
+            words.push_str(" is below 2, since socket takes one of its own")?;
+        }
+        (Some(value), _) => push_wrong(&mut words, alloc, key, value)?,
+        (None, _) => {
+            words.push_str("missing: ")?;
+            push_wanted(&mut words, key.kind())?;
+        }
+    }
+    Ok(words)
+}
+
+/// Adds what is wrong with the value of a key.
+fn push_wrong(
+    words: &mut String,
+    alloc: Global,
+    key: Key,
+    value: &Value,
+) -> Result<(), AllocError> {
+    match (key.kind(), value) {
+        (ValueKind::Number { least, most }, Value::Integer(number)) => {
+            push_number(words, *number, least, most)
+        }
+        (ValueKind::Duration { least, most }, Value::String(text)) => {
+            push_time(words, alloc, text.as_str(), least, most)
+        }
+        (ValueKind::Addresses, Value::Array(items)) => push_masters(words, alloc, items),
+        (kind, value) => push_value(words, alloc, kind, value),
+    }
+}
+
+/// Adds a value, and what would be right in its place.
+fn push_value(
+    words: &mut String,
+    alloc: Global,
+    kind: ValueKind,
+    value: &Value,
+) -> Result<(), AllocError> {
+    push_shown(words, alloc, value)?;
+    words.push_str(": ")?;
+    push_wanted(words, kind)?;
+    match (kind, value) {
+        (ValueKind::Addresses, _) => words.push_str(", in brackets"),
+        (ValueKind::Number { .. }, _) | (_, Value::String(_)) => Ok(()),
+        _ => words.push_str(", in quotes"),
+    }
+}
+
+/// Adds what the value of a key has to be.
+fn push_wanted(words: &mut String, kind: ValueKind) -> Result<(), AllocError> {
+    match kind {
+        ValueKind::Number { least, most } => write!(words, "a whole number from {least} to {most}"),
+        ValueKind::Duration { .. } => words.push_str("a whole number and ns, us, ms or s"),
+        ValueKind::Address => words.push_str("an address of this host, as 127.0.0.1:7001"),
+        ValueKind::Addresses => write!(words, "from 1 to {MAX_SOURCES} addresses of this host"),
+        ValueKind::Form => words.push_str("\"text\" or \"json\""),
+        ValueKind::Path => words.push_str("a path"),
+    }
+}
+
+/// Adds which end of its range a number is beyond. A number in its range is the end of a lease before its beginning.
+fn push_number(words: &mut String, number: i64, least: u64, most: u64) -> Result<(), AllocError> {
+    match u64::try_from(number) {
+        Ok(amount) if amount > most => write!(words, "{number} is above {most}"),
+        Ok(amount) if amount >= least => write!(words, "{number} is below lease_lo"),
+        _ => write!(words, "{number} is below {least}"),
+    }
+}
+
+/// Adds which end of its range a length of time is beyond, or what would be right in its place.
+fn push_time(
+    words: &mut String,
+    alloc: Global,
+    text: &str,
+    least: u64,
+    most: u64,
+) -> Result<(), AllocError> {
+    push_text(words, alloc, text)?;
+    let end = match duration_of(text) {
+        Some(time) if time < least => {
+            words.push_str(" is below ")?;
+            least
+        }
+        Some(_) => {
+            words.push_str(" is above ")?;
+            most
+        }
+        None => {
+            words.push_str(": ")?;
+            return push_wanted(words, ValueKind::Duration { least, most });
+        }
+    };
+    if end % SECOND == 0 {
+        write!(words, "{}s", end / SECOND)
+    } else {
+        write!(words, "{}ms", end / MILLISECOND)
+    }
+}
+
+/// Adds what is wrong with the masters: how many there are, one that can't be asked, or one that is named twice.
+fn push_masters(words: &mut String, alloc: Global, items: &Array) -> Result<(), AllocError> {
+    if items.is_empty() || items.len() > MAX_SOURCES {
+        write!(words, "{} addresses: ", items.len())?;
+        return push_wanted(words, ValueKind::Addresses);
+    }
+    for item in items {
+        if port_in(item).is_none() {
+            return push_value(words, alloc, ValueKind::Address, item);
+        }
+    }
+    for item in items {
+        if port_in(item) == Some(0) {
+            push_shown(words, alloc, item)?;
+            return words.push_str(": no master answers at port 0");
+        }
+    }
+    push_twice(words, alloc, items)
+}
+
+/// Adds that a master is named twice.
+fn push_twice(words: &mut String, alloc: Global, items: &Array) -> Result<(), AllocError> {
+    let mut before = Vec::new(alloc);
+    for item in items {
+        let port = port_in(item);
+        if before.contains(&port) {
+            push_shown(words, alloc, item)?;
+            return words.push_str(" is named twice");
+        }
+        before.push(port)?;
+    }
+    Ok(())
+}
+
+/// The port of the address that a value is.
+fn port_in(value: &Value) -> Option<u16> {
+    match value.as_str() {
+        Some(text) => port_of(text),
+        None => None,
+    }
+}
+
+/// Adds a value as the file may write it.
+fn push_shown(words: &mut String, alloc: Global, value: &Value) -> Result<(), AllocError> {
+    match value {
+        Value::String(text) => push_text(words, alloc, text.as_str()),
+        Value::Array(_) => words.push_str("a list"),
+        Value::Table(_) => words.push_str("a table"),
+        _ => write!(words, "{value}"),
+    }
+}
+
+/// Adds the name of a key as a file may write it: in quotes, unless it is a plain one.
+pub(crate) fn push_name(words: &mut String, alloc: Global, name: &str) -> Result<(), AllocError> {
+    let is_plain = name.len() <= MOST_SHOWN
+        && !name.is_empty()
+        && name.as_bytes().iter().all(|byte| is_plain(*byte));
+    if is_plain {
+        words.push_str(name)
+    } else {
+        push_text(words, alloc, name)
+    }
+}
+
+/// Adds a text in quotes and without line feeds. Of a long one only its beginning is shown.
+fn push_text(words: &mut String, alloc: Global, text: &str) -> Result<(), AllocError> {
+    let quoted = format!(in alloc; "{text:?}")?;
+    for (place, part) in quoted.as_str().chars().enumerate() {
+        if place == MOST_SHOWN {
+            return words.push_str("..");
+        }
+        words.push(part)?;
+    }
+    Ok(())
+}
