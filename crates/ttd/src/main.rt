@@ -1,31 +1,46 @@
-//! The program `ttd`: the commands of `ttd_commands` and the services of `ttd_services`, with the arguments of the
-//! process, its standard input and its standard output. A refusal is also explained in a sentence on standard error.
+//! The program `ttd`: the commands of `ttd_commands`, and the services, which talk to other processes: `master` answers
+//! polls, `serve` runs a machine, `ask` sends lines to a machine, and `read` reads the time that a machine shares in a
+//! file.
 //!
-//! - `arguments`: the arguments with which the program was started.
+//! [`run`](program::run) does what the arguments ask for, with the process's standard input and standard output. A
+//! refusal is also explained in a sentence on standard error.
+//!
+//! - `arguments`: the arguments with which the program was started. `program`: what they ask for is done.
+//! - `commands`: what is said of a command that has ended. `services`: the services, and how each ended.
+//! - `clocks`: this computer's clocks. `links`: the link of a master to the senders of polls. `masters`: the service
+//!   `master`.
+//! - `lines`: lines from a device. `asking`: the service `ask`.
+//! - `reading`: the service `read`. `serving`: the service `serve`. `standard`: the descriptors 0 to 2.
+//! - `faults`: why a service refuses.
 #![tactic(auto)]
 
 mod arguments;
+mod asking;
+mod clocks;
+mod commands;
+mod faults;
+mod lines;
+mod links;
+mod masters;
+mod program;
+mod reading;
+mod services;
+mod serving;
+mod standard;
 
-use arguments::{end_without_memory, main_from, say, service_from, words_given};
+use arguments::words_given;
+use program::{reject, run};
 use std::alloc::AllocError;
 use std::process::ExitCode;
 use tt_stream::Counted;
+use ttd_words::WordsFault;
 
 fn main(rt: HostRuntime) -> ExitCode {
     let mut input = Counted::new(rt.stdin());
     let mut output = Counted::new(rt.stdout());
-    let Ok(words) = words_given(&rt) else {
-        return ExitCode::from(end_without_memory(&mut output, &mut rt.stderr()));
+    let status = match words_given(&rt) {
+        Ok(words) => run(&rt, words.as_slice(), &mut input, &mut output),
+        Err(AllocError) => reject(&rt, &[], WordsFault::Memory, &mut output),
     };
-    let words = words.as_slice();
-    match service_from(&rt, words, &mut input, &mut output) {
-        Ok(Some(status)) => ExitCode::from(status),
-        Ok(None) => {
-            let mut notes = String::new(rt.alloc());
-            let ended = main_from(&rt, words, &mut input, &mut output, &mut notes);
-            say(rt.alloc(), &mut rt.stderr(), words, &ended, notes.as_str());
-            ExitCode::from(ended.status)
-        }
-        Err(AllocError) => ExitCode::from(end_without_memory(&mut output, &mut rt.stderr())),
-    }
+    ExitCode::from(status)
 }

@@ -8,8 +8,8 @@ use Rattle.tt_live.specs.declared.faults.LiveFault.{LiveFault}
 use Rattle.tt_stream.specs.Counts.{HasFailed}
 use Rattle.ttd_commands.specs.declared.ending.CommandOutput.{CommandOutput}
 use Rattle.ttd_commands.specs.declared.ending.CommandOutput.TheVariants as output
-use Rattle.ttd_commands.specs.declared.ending.Status.{Status}
-use Rattle.ttd_commands.specs.declared.ending.Status.TheVariants.{Fine, Memory as NoMemory, Bad, Broken, Device}
+use Rattle.ttd_words.specs.declared.ending.Status.{Status}
+use Rattle.ttd_words.specs.declared.ending.Status.TheVariants.{Fine, Memory as NoMemory, Bad, Broken, Device}
 use Rattle.ttd_commands.specs.declared.faults.Fault.{Fault}
 use Rattle.ttd_commands.specs.declared.faults.Fault.TheVariants.{BadWords, BadHex, BadInput, ReadFailed, Poll, Source, Fusion, Certificate, History, Script, Twin, World, Live, Memory}
 use Rattle.ttd_commands.specs.Answer.{Answer, answer_in, answer_of, refusal_line}
@@ -112,3 +112,13 @@ pub told_given : (reply : Result CommandOutput Fault) (refusal : Option Fault) (
     → IfSome refusal (λ told. Gives (answer_of (Err told)) before after status)
 told_given (Ok text) refusal before after status gives some none = rw none tt
 told_given (Err fault) refusal before after status gives some none = rw some gives
+
+-- where the program does not end as at a failed device, no device failed
+pub sound_given : {T : Type 0} (shows : T → Answer) (result : Result T Fault) (before after : Output) (status : Status)
+    → Gives (answer_of (result_map_both shows (λ fault. fault) result)) before after status → (status ≡ Device → ⊥)
+    → (result ≡ Err ReadFailed → ⊥) × (after.failed ≡ before.failed)
+sound_given {T} shows result before after status (inr cut) other = absurd (other cut.status_is)
+sound_given {T} shows result before after status (inl written) other = (
+  λ failed. other (written.status_is ∙ ap (λ (r : Result T Fault). (answer_of (result_map_both shows (λ fault. fault) r)).status) failed),
+  written.sound,
+)

@@ -9,7 +9,7 @@ use Rattle.tt_judge.specs.Terms.{IsTermJudgementOf}
 use Rattle.tt_judge.specs.declared.faults.HistoryFault.{HistoryFault}
 use Rattle.tt_judge.specs.declared.faults.HistoryFault.TheVariants.{BadLine, Memory}
 use Rattle.tt_judge.specs.declared.history.Commit.{Commit}
-use Rattle.tt_judge.specs.declared.history.History.{History}
+use Rattle.tt_judge.specs.declared.history.CommitHistory.{CommitHistory}
 use Rattle.tt_judge.specs.declared.history.Line.{Line}
 use Rattle.tt_judge.specs.declared.history.ShardCommit.{ShardCommit}
 use Rattle.tt_judge.specs.declared.terms.TermJudgement.{TermJudgement}
@@ -20,7 +20,7 @@ use Rattle.ttd_commands.specs.Judging.{IsJudgeReply, TellsJudgement, history_fau
 
 module _ {T : Type 0} (shows : T → Answer) (input : List ℕ) (result : Result T Fault) where
   -- what is told of the history that was read
-  pub history_replied : (history : History) → IsHistoryOf input history → ((lines : List Line) → IsHistoryText input lines → IsStored lines history) →
+  pub history_replied : (history : CommitHistory) → IsHistoryOf input history → ((lines : List Line) → IsHistoryText input lines → IsStored lines history) →
       (terms : Option TermJudgement) → MatchOption terms (length history.of_shards.items ≡ 0) (IsTermJudgementOf history.of_shards.items) →
       HasReply shows (TellsJudgement history.commits.items terms) result → HasReply shows (IsJudgeReply input) result
   history_replied history found only terms exact (inr memory) = inr memory

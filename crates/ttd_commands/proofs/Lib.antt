@@ -1,4 +1,3 @@
-pub mod Writing
 pub mod Replies
 pub mod Scripted
 pub mod Twinned

@@ -1,7 +1,7 @@
 -- What is replied to a script whose run is to be drawn.
 use Rattle.std.proofs.Common.{◌≡◌, ◌∙◌, ap, ℕ, List, Ok}
 use Rattle.tt_daemon.specs.Config.{Configuration}
-use Rattle.tt_picture.specs.Picture.{picture_text_of}
+use Rattle.tt_trace.specs.Picture.{picture_text_of}
 use Rattle.tt_script.specs.Script.{Scenario}
 use Rattle.tt_world.specs.declared.events.Event.{Event}
 use Rattle.tt_world.specs.Trace.{IsTraceOf, RunTrace}

@@ -3,15 +3,15 @@ use Rattle.std.proofs.Common.{◌≡◌, ◌≢◌, ◌⊎◌, ◌<◌, ◌≤�
 use Rattle.std.specs.Io.KnownBytes.{IsAtEnd}
 use Rattle.std.proofs.lemmas.List.{length-replicate}
 use Rattle.tt_stream.specs.Counts.{HasFailed}
-use Rattle.ttd_cli.specs.declared.words.Command.{Command}
+use Rattle.ttd_words.specs.declared.requests.Command.{Command}
 use Rattle.ttd_commands.specs.declared.faults.Fault.{Fault}
 use Rattle.ttd_commands.specs.declared.faults.Fault.TheVariants.{BadInput, BadWords, Memory, ReadFailed}
 use Rattle.std.specs.Result.{result_map_both}
-use Rattle.ttd_commands.specs.declared.ending.Status.{Status}
+use Rattle.ttd_words.specs.declared.ending.Status.{Status}
 use Rattle.ttd_commands.specs.Answer.{Answer, answer_of, fine}
 use Rattle.ttd_commands.specs.Command.{HasReply, IsCommandReply, IsReply, IsReplyRead, most_of}
 use Rattle.ttd_commands.specs.Input.{IsInputFault}
-use Rattle.ttd_commands.specs.Run.{Answers, Gives, GivesHelp, Input, Output, RefusesOrHelps}
+use Rattle.ttd_commands.specs.Run.{Answers, Gives, GivesHelp, Input, Output, RefusesOrHelps, RefusesWords}
 
 -- an input that has more bytes than some number has some bytes that are more
 pub longer_input : (left : Option (List ℕ)) (most : ℕ) → IfSome left (λ all. most < length all)
@@ -73,3 +73,10 @@ pub untaken_given : {T : Type 0} (shows : T → Answer) (old new : Input) (resul
 untaken_given shows old new result before after status (same, inl (inl bad)) gives = inl (same, inl (rw bad at gives))
 untaken_given shows old new result before after status (same, inl (inr memory)) gives = inl (same, inr (rw memory at gives))
 untaken_given shows old new result before after status (same, inr told) gives = inr (same, (told.0, inl (rw told.1 at gives)))
+
+-- what is written where the words are refused
+pub refused_given : {T : Type 0} (shows : T → Answer) (old new : Input) (result : Result T Fault) (before after : Output) (status : Status)
+    → (new ≡ old) × ((result ≡ Err BadWords) ⊎ (result ≡ Err Memory))
+    → Gives (answer_of (result_map_both shows (λ fault. fault) result)) before after status → RefusesWords old new before after status
+refused_given shows old new result before after status (same, inl bad) gives = (same, inl (rw bad at gives))
+refused_given shows old new result before after status (same, inr memory) gives = (same, inr (rw memory at gives))

@@ -3,7 +3,7 @@ use Rattle.std.proofs.Common.{◌≡◌, ◌∙◌, ℕ, List, Result, Ok, inl, 
 use Rattle.std.specs.Prelude.{Err, IsUtf8}
 use Rattle.std.specs.Result.{result_map_both}
 use Rattle.tt_script.specs.declared.faults.ScriptFault.{ScriptFault}
-use Rattle.tt_script.specs.Fault.{IsRefusal}
+use Rattle.tt_script.specs.Fault.{IsTextRefusal}
 use Rattle.tt_script.specs.Script.{Scenario, script_in}
 use Rattle.ttd_commands.specs.declared.faults.Fault.{Fault}
 use Rattle.ttd_commands.specs.declared.faults.Fault.TheVariants.{BadInput}
@@ -26,11 +26,11 @@ module _ {T : Type 0} (shows : T → Answer) (Tells : Scenario → Result Answer
   script_refused fault is (inl (not_text, bad)) =
       let refused : result ≡ Err BadInput = cc in
       inl (record { bad = λ not_utf8. rw refused refl; read = λ utf8. absurd (not_text utf8) })
-  script_refused fault is (inr (inl (text, (script_fault, is_in, told)))) =
-      let refused : result ≡ Err (script_fault_of script_fault) = cc in
+  script_refused fault is (inr (inl (text, (script_fault, told, is_in, shown, named)))) =
+      let refused : result ≡ Err (script_fault_of told) = cc in
       inl (record {
         bad = λ not_text. absurd (not_text text);
-        read = λ utf8. subst (λ (s : Result Scenario ScriptFault). TellsScript Tells s (result_map_both shows (λ fault. fault) result)) (sym is_in) (rw refused refl);
+        read = λ utf8. subst (λ (s : Result Scenario ScriptFault). TellsScript Tells s (result_map_both shows (λ fault. fault) result)) (sym is_in) (told, shown, rw refused refl);
       })
   script_refused fault is (inr (inr memory)) = inr (let wrong : result ≡ Err fault = is in cc)
 
@@ -39,9 +39,9 @@ pub text_read : (input text : List ℕ) (script : Scenario) → text ≡ input �
 text_read input text script same utf8 is = record { utf8 = utf8; is = rw same at is }
 
 -- why none was read
-pub text_refused : (input text : List ℕ) (refused : ScriptFault) (fault : Fault) → text ≡ input → IsUtf8 input → IsRefusal (script_in text) refused → fault ≡ script_fault_of refused
+pub text_refused : (input text : List ℕ) (told : ScriptFault) (fault : Fault) → text ≡ input → IsUtf8 input → IsTextRefusal (script_in text) told → fault ≡ script_fault_of told
     → IsScriptFault input fault
-text_refused input text refused fault same utf8 (inl memory) told = inr (inr (told ∙ ap script_fault_of memory))
-text_refused input text refused fault same utf8 (inr is) told =
+text_refused input text told fault same utf8 (inl memory) named = inr (inr (named ∙ ap script_fault_of memory))
+text_refused input text told fault same utf8 (inr (refused, is, shown)) named =
     let found : script_in input ≡ Err refused = rw same at is in
-    inr (inl (utf8, (refused, found, told)))
+    inr (inl (utf8, (refused, told, found, shown, named)))

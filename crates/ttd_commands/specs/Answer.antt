@@ -1,24 +1,11 @@
 -- What the program writes, and how it ends.
-use Rattle.std.specs.Prelude.{◌≡◌, ℕ, List, [], ◌∷◌, ◌++◌, codes, decimal, string_bytes, Result, Ok, Err}
+use Rattle.std.specs.Prelude.{◌≡◌, ℕ, List, string_bytes, Result, Ok, Err}
+pub use Rattle.ttd_words.specs.Answer.{Answer, fine, refusal, refusal_line}
 use Rattle.ttd_commands.specs.declared.ending.CommandOutput.{CommandOutput}
-use Rattle.ttd_commands.specs.declared.ending.Status.{Status}
 use Rattle.ttd_commands.specs.declared.ending.CommandOutput.TheVariants as reply
-use Rattle.ttd_commands.specs.declared.ending.Status.TheVariants.{Fine, Broken}
+use Rattle.ttd_words.specs.declared.ending.Status.TheVariants.{Fine, Broken}
 use Rattle.ttd_commands.specs.declared.faults.Fault.{Fault}
 use Rattle.ttd_commands.specs.Fault.{number_of, status_of}
-
--- What is written to the output, and the status with which the program ends.
-pub record Answer : Type 0 where
-  pub text : List ℕ
-  pub status : Status
-
--- The one line of a refusal.
-abbrev pub refusal_line : ℕ → List ℕ
-refusal_line number = codes "refused " ++ (decimal number ++ 10 ∷ [])
-
--- The text after which the program ends as fine.
-abbrev pub fine : List ℕ → Answer
-fine text = record { text = text; status = Fine }
 
 -- The answer that a command's reply is.
 abbrev pub answer_in : CommandOutput → Answer
@@ -33,4 +20,4 @@ EndsFine IsSuch (Err fault) = IsSuch (Err fault)
 -- An answer is written as it is; of a refusal the one line is written, with its status.
 abbrev pub answer_of : Result Answer Fault → Answer
 answer_of (Ok answer) = answer
-answer_of (Err fault) = record { text = refusal_line (number_of fault); status = status_of fault }
+answer_of (Err fault) = refusal (number_of fault) (status_of fault)

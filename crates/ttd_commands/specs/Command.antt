@@ -3,12 +3,10 @@ use Rattle.std.specs.Prelude.{◌≡◌, ◌⊎◌, ℕ, ◌<◌, ◌≤◌, Lis
 use Rattle.std.specs.Result.{result_map_both}
 use Rattle.tt_stream.specs.Counts.{HasFailed}
 use Rattle.ttd_commands.specs.Run.{Input, IsRead}
-use Rattle.ttd_cli.specs.declared.words.Asked.{Asked}
-use Rattle.ttd_cli.specs.declared.words.Asked.TheVariants.{Run, Help}
-use Rattle.ttd_cli.specs.declared.words.Command.{Command}
-use Rattle.ttd_cli.specs.declared.words.Command.TheVariants.{Age, Fuse, Check, Run as RunScript, Trace, Twin, Picture, Live, Judge}
-use Rattle.ttd_cli.specs.declared.words.WordsFault.{WordsFault}
-use Rattle.ttd_cli.specs.declared.words.WordsFault.TheVariants.{BadWords as BadWordsAsked, Memory as NoMemory}
+use Rattle.ttd_words.specs.declared.requests.Command.{Command}
+use Rattle.ttd_words.specs.declared.requests.Command.TheVariants.{Age, Fuse, Check, Run as RunScript, Trace, Twin, Picture, Live, Judge}
+use Rattle.ttd_words.specs.declared.faults.WordsFault.{WordsFault}
+use Rattle.ttd_words.specs.declared.faults.WordsFault.TheVariants.{BadWords as BadWordsAsked, BadValue, Memory as NoMemory}
 use Rattle.ttd_commands.specs.declared.faults.Fault.{Fault}
 use Rattle.ttd_commands.specs.declared.faults.Fault.TheVariants.{BadInput, BadWords, ReadFailed, Memory}
 use Rattle.ttd_commands.specs.Answer.{Answer, EndsFine}
@@ -22,7 +20,7 @@ use Rattle.ttd_commands.specs.Picturing.{IsPictureReply}
 use Rattle.ttd_commands.specs.Tracing.{IsTraceReply}
 use Rattle.ttd_commands.specs.Judging.{IsJudgeReply}
 use Rattle.ttd_commands.specs.Living.{IsLiveReply}
-use Rattle.ttd_cli.specs.Reading.{AreForHelp, AreMistaken, AreTaken, IsUnlessMemory, asked_of}
+use Rattle.ttd_words.specs.Reading.{AreForHelp, AreMistaken, AreTaken, IsRefused, IsUnlessMemory, Meaning, Request, ToHelp, ToRun, ToServe, asked_of}
 use Rattle.clap.specs.Walk.{Text}
 
 -- The reply is what the command answers to an input of allowed length.
@@ -48,13 +46,13 @@ IsReply command input reply =
     ((most_of command < length input) × (reply ≡ Err BadInput)) ⊎ ((length input ≤ most_of command) × IsCommandReply command input reply)
 
 -- The same for the command that the words ask to run; where they ask for none, no reply is one.
-abbrev pub IsReplyTo : Result Asked WordsFault → List ℕ → Result Answer Fault → Type 0
-IsReplyTo (Ok (Run command)) input reply = IsReply command input reply
+abbrev pub IsReplyTo : Result Request WordsFault → List ℕ → Result Answer Fault → Type 0
+IsReplyTo (Ok (ToRun command)) input reply = IsReply command input reply
 IsReplyTo _ input reply = ⊥
 
 -- How many bytes of input are allowed to the command that the words ask to run.
-abbrev pub most_to : Result Asked WordsFault → ℕ
-most_to (Ok (Run command)) = most_of command
+abbrev pub most_to : Result Request WordsFault → ℕ
+most_to (Ok (ToRun command)) = most_of command
 most_to _ = most_input
 
 -- What the result shows, or its refusal, is such a reply, or memory ran out.
@@ -72,12 +70,14 @@ IsReplyRead most shows IsReplyOf old new result =
 -- What the program says of words that are rejected.
 abbrev pub words_fault_of : WordsFault → Fault
 words_fault_of BadWordsAsked = BadWords
+words_fault_of (BadValue given) = BadWords
 words_fault_of NoMemory = Memory
 
 -- The result is what these words ask for, as `read_words` says it.
-pub record IsAskedBy (words : List Text) (result : Result Asked WordsFault) : Type 0 where
+pub record IsAskedBy (words : List Text) (result : Result Request WordsFault) : Type 0 where
   pub taken : AreTaken words → IsOk (asked_of words) × IsUnlessMemory NoMemory (asked_of words) result
-  pub mistaken : AreMistaken words → IsUnlessMemory NoMemory (Err BadWordsAsked) result
-  pub helped : AreForHelp words → IsUnlessMemory NoMemory (Ok Help) result
-  pub help : result ≡ Ok Help → ¬ (AreTaken words)
-  pub commands : (command : Command) → result ≡ Ok (Run command) → AreTaken words
+  pub mistaken : AreMistaken words → IsRefused (asked_of words) × IsUnlessMemory NoMemory (asked_of words) result
+  pub helped : AreForHelp words → IsUnlessMemory NoMemory (Ok ToHelp) result
+  pub help : result ≡ Ok ToHelp → ¬ (AreTaken words)
+  pub commands : (command : Command) → result ≡ Ok (ToRun command) → AreTaken words
+  pub services : (service : Meaning) → result ≡ Ok (ToServe service) → AreTaken words

@@ -9,8 +9,8 @@ use Rattle.tt_script.specs.Fault.{number_of as script_number}
 use Rattle.tt_twin.specs.TwinFault.{number_of as twin_number}
 use Rattle.tt_world.specs.Fault.{number_of as world_number}
 use Rattle.tt_live.specs.Fault.{number_of as live_number}
-use Rattle.ttd_commands.specs.declared.ending.Status.{Status}
-use Rattle.ttd_commands.specs.declared.ending.Status.TheVariants.{Fine, Memory as NoMemory, Bad, Broken, Device}
+use Rattle.ttd_words.specs.declared.ending.Status.{Status}
+use Rattle.ttd_words.specs.declared.ending.Status.TheVariants.{Memory as NoMemory, Bad, Device}
 use Rattle.ttd_commands.specs.declared.faults.Fault.{Fault}
 use Rattle.ttd_commands.specs.declared.faults.Fault.TheVariants.{BadWords, BadHex, BadInput, ReadFailed, Poll, Source, Fusion, Certificate, History, Script, Twin, World, Live, Memory}
 
@@ -45,11 +45,3 @@ status_of ReadFailed = Device
 status_of Memory = NoMemory
 status_of (Live fault) = status_at (live_number fault)
 status_of _ = Bad
-
--- The status as a number.
-abbrev pub code_of : Status → ℕ
-code_of Fine = 0
-code_of NoMemory = 1
-code_of Bad = 2
-code_of Broken = 3
-code_of Device = 4

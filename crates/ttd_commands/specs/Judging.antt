@@ -12,8 +12,8 @@ use Rattle.tt_judge.specs.declared.judging.Judgement.{Judgement}
 use Rattle.tt_judge.specs.declared.history.Line.{Line}
 use Rattle.tt_judge.specs.declared.terms.TermJudgement.{TermJudgement}
 use Rattle.ttd_commands.specs.Answer.{Answer}
-use Rattle.ttd_commands.specs.declared.ending.Status.{Status}
-use Rattle.ttd_commands.specs.declared.ending.Status.TheVariants.{Fine, Broken}
+use Rattle.ttd_words.specs.declared.ending.Status.{Status}
+use Rattle.ttd_words.specs.declared.ending.Status.TheVariants.{Fine, Broken}
 use Rattle.ttd_commands.specs.declared.faults.Fault.{Fault}
 use Rattle.ttd_commands.specs.declared.faults.Fault.TheVariants.{Memory, History}
 

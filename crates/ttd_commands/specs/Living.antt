@@ -4,12 +4,12 @@ use Rattle.tt_audit.specs.declared.live.LiveReport.{LiveReport}
 use Rattle.tt_live.specs.Plan.{refusal_of}
 use Rattle.tt_live.specs.declared.faults.LiveFault.{LiveFault}
 use Rattle.tt_live.specs.declared.faults.LiveFault.TheVariants.{Node}
-use Rattle.tt_node.specs.declared.faults.NodeFault.{NodeFault}
+use Rattle.tt_rounds.specs.declared.faults.NodeFault.{NodeFault}
 use Rattle.tt_script.specs.Script.{Scenario}
 use Rattle.ttd_commands.specs.Answer.{Answer}
 use Rattle.ttd_commands.specs.Scripted.{IsScriptReply}
-use Rattle.ttd_commands.specs.declared.ending.Status.{Status}
-use Rattle.ttd_commands.specs.declared.ending.Status.TheVariants.{Fine, Broken}
+use Rattle.ttd_words.specs.declared.ending.Status.{Status}
+use Rattle.ttd_words.specs.declared.ending.Status.TheVariants.{Fine, Broken}
 use Rattle.ttd_commands.specs.declared.faults.Fault.{Fault}
 use Rattle.ttd_commands.specs.declared.faults.Fault.TheVariants.{Live}
 

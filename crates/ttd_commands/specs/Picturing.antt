@@ -1,8 +1,8 @@
 -- What `picture` answers to its input.
 use Rattle.std.specs.Prelude.{◌≡◌, ℕ, List, Result, Ok}
-use Rattle.tt_picture.specs.declared.faults.PictureFault.{PictureFault}
-use Rattle.tt_picture.specs.declared.faults.PictureFault.TheVariants.{Memory as NoMemoryToDraw}
-use Rattle.tt_picture.specs.Picture.{picture_text_of}
+use Rattle.tt_trace.specs.declared.faults.PictureFault.{PictureFault}
+use Rattle.tt_trace.specs.declared.faults.PictureFault.TheVariants.{Memory as NoMemoryToDraw}
+use Rattle.tt_trace.specs.Picture.{picture_text_of}
 use Rattle.tt_script.specs.Script.{Scenario}
 use Rattle.tt_world.specs.Trace.{IsTraceOf, RunTrace}
 use Rattle.ttd_commands.specs.Answer.{Answer, fine}

@@ -4,11 +4,12 @@ use Rattle.std.specs.Io.KnownBytes.{Appends, IsAtEnd}
 use Rattle.tt_stream.specs.Counts.{HasFailed}
 use Rattle.tt_stream.specs.declared.device.ByteReader as reader
 use Rattle.tt_stream.specs.declared.device.ByteWriter as writer
-use Rattle.ttd_commands.specs.declared.ending.Status.{Status}
-use Rattle.ttd_commands.specs.declared.ending.Status.TheVariants.{Device}
+use Rattle.ttd_words.specs.declared.ending.Status.{Status}
+use Rattle.ttd_words.specs.declared.ending.Status.TheVariants.{Device}
 use Rattle.ttd_commands.specs.declared.faults.Fault.{Fault}
 use Rattle.ttd_commands.specs.declared.faults.Fault.TheVariants.{BadWords, ReadFailed, Memory}
 use Rattle.ttd_commands.specs.Answer.{Answer, answer_of, fine}
+pub use Rattle.ttd_words.specs.Answer.{Gives, IsCutShort, IsWritten, Output, output_of}
 
 -- What the input shows: the bytes that are still to come, where the device keeps them, and its failures and reads so far.
 pub record Input : Type 0 where
@@ -16,37 +17,9 @@ pub record Input : Type 0 where
   pub failed : ℕ
   pub asked : ℕ
 
--- What the output shows: the bytes that were written, where the device keeps them, its failures so far, and whether it holds none of the
--- bytes back.
-pub record Output : Type 0 where
-  pub taken : Option (List ℕ)
-  pub failed : ℕ
-  pub flushed : Bool
-
 -- What a reader shows.
 abbrev pub input_of : {R : Type 0} → reader.Ghosts R → R → Input
 input_of shows device = record { left = shows.left device; failed = shows.failed device; asked = shows.asked device }
-
--- What a writer shows.
-abbrev pub output_of : {W : Type 0} → writer.Ghosts W → W → Output
-output_of shows device = record { taken = shows.taken device; failed = shows.failed device; flushed = shows.flushed device }
-
--- The output gained exactly the answer's text and was flushed, no write failed, and the program ends with the answer's status.
-pub record IsWritten (answer : Answer) (old new : Output) (status : Status) : Type 0 where
-  pub status_is : status ≡ answer.status
-  pub text : Appends old.taken new.taken answer.text
-  pub flushed : new.flushed ≡ true
-  pub sound : new.failed ≡ old.failed
-
--- A write or the flush failed: the output gained a front of the answer's text, and the program ends with a device fault.
-pub record IsCutShort (answer : Answer) (old new : Output) (status : Status) : Type 0 where
-  pub status_is : status ≡ Device
-  pub front : (n : ℕ) × Appends old.taken new.taken (take n answer.text)
-  pub failed : HasFailed old.failed new.failed
-
--- The answer was written, unless the output failed.
-abbrev pub Gives : Answer → Output → Output → Status → Type 0
-Gives answer old new status = IsWritten answer old new status ⊎ IsCutShort answer old new status
 
 -- The refusal of out of memory.
 abbrev pub memory_answer : Answer

@@ -11,8 +11,8 @@ use Rattle.tt_world.specs.declared.faults.WorldFault.TheVariants.{Memory as NoMe
 use Rattle.tt_world.specs.Trace.{IsTraceOf, RunTrace}
 use Rattle.ttd_commands.specs.Answer.{Answer}
 use Rattle.ttd_commands.specs.Scripted.{IsScriptReply}
-use Rattle.ttd_commands.specs.declared.ending.Status.{Status}
-use Rattle.ttd_commands.specs.declared.ending.Status.TheVariants.{Fine, Broken}
+use Rattle.ttd_words.specs.declared.ending.Status.{Status}
+use Rattle.ttd_words.specs.declared.ending.Status.TheVariants.{Fine, Broken}
 use Rattle.ttd_commands.specs.declared.faults.Fault.{Fault}
 use Rattle.ttd_commands.specs.declared.faults.Fault.TheVariants.{Memory, World}
 

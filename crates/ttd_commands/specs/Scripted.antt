@@ -2,6 +2,7 @@
 use Rattle.std.specs.Prelude.{◌≡◌, ◌⊎◌, List, ℕ, Result, Ok, Err, IsUtf8}
 use Rattle.tt_script.specs.declared.faults.ScriptFault.{ScriptFault}
 use Rattle.tt_script.specs.declared.faults.ScriptFault.TheVariants.{Memory as NoMemoryToRead}
+use Rattle.tt_script.specs.Fault.{IsTold}
 use Rattle.tt_script.specs.Script.{Scenario, script_in}
 use Rattle.ttd_commands.specs.Answer.{Answer}
 use Rattle.ttd_commands.specs.declared.faults.Fault.{Fault}
@@ -14,7 +15,7 @@ script_fault_of fault = Script fault
 
 -- The reply to what a text says: the first refusal of its script, or what is told of the script.
 abbrev pub TellsScript : (Scenario → Result Answer Fault → Type 0) → Result Scenario ScriptFault → Result Answer Fault → Type 0
-TellsScript Tells (Err fault) reply = reply ≡ Err (script_fault_of fault)
+TellsScript Tells (Err fault) reply = (told : ScriptFault) × IsTold fault told × (reply ≡ Err (script_fault_of told))
 TellsScript Tells (Ok script) reply = Tells script reply
 
 -- What a command that tells of a script answers to an input: that it is no text, or what the text says.
@@ -30,5 +31,5 @@ pub record IsScriptText (input : List ℕ) (script : Scenario) : Type 0 where
 -- Why an input gives no script: it is no text; or its text is refused; or memory ran out.
 abbrev pub IsScriptFault : List ℕ → Fault → Type 0
 IsScriptFault input fault = (¬ (IsUtf8 input) × (fault ≡ BadInput))
-    ⊎ ((IsUtf8 input × ((refused : ScriptFault) × (script_in input ≡ Err refused) × (fault ≡ script_fault_of refused)))
+    ⊎ ((IsUtf8 input × ((refused told : ScriptFault) × (script_in input ≡ Err refused) × IsTold refused told × (fault ≡ script_fault_of told)))
     ⊎ (fault ≡ Memory))

@@ -13,8 +13,8 @@ use Rattle.tt_world.specs.declared.events.Event.{Event}
 use Rattle.tt_world.specs.declared.events.Reply.TheVariants as replies
 use Rattle.tt_world.specs.Past.{time_of}
 use Rattle.tt_world.specs.Reply.{replies_from}
-use Rattle.ttd_cli.specs.declared.words.Side.{Side}
-use Rattle.ttd_cli.specs.declared.words.Side.TheVariants.{Low, High}
+use Rattle.ttd_words.specs.declared.requests.Side.{Side}
+use Rattle.ttd_words.specs.declared.requests.Side.TheVariants.{Low, High}
 use Rattle.ttd_commands.specs.Answer.{Answer, fine}
 use Rattle.ttd_commands.specs.Scripted.{IsScriptReply}
 use Rattle.ttd_commands.specs.declared.faults.Fault.{Fault}

@@ -2,7 +2,7 @@
 
 ghost use Rattle.std.specs.Prelude.{◌≡◌, ◌≢◌, Err, string_bytes};
 ghost use Rattle.hex.specs.Hex.{decode_of};
-ghost use Rattle.ttd_cli.specs.Reading.{IsUnlessMemory};
+ghost use Rattle.ttd_words.specs.Reading.{IsUnlessMemory};
 ghost use Rattle.tt_live.specs.declared.faults.LiveFault.{LiveFault};
 ghost use Rattle.ttd_commands.specs.Age.{age_of, aged_hex, aged_of, answer_span_of as answered_of, without_line_feed as without_line_feed_of};
 ghost use Rattle.ttd_commands.specs.Command.{HasReply};
@@ -63,10 +63,14 @@ fn aged(ageing: &Ageing, span: Span) -> Result<Span, Fault>
     ensures no_device { result ≢ Err Fault.ReadFailed }
     ensures no_run { (live : LiveFault) → result ≢ Err (Fault.Live live) }
 {
-    let statement = Statement::new(span, ageing.sent, ageing.got).map_err(Fault::Source)?;
-    statement
-        .aged(ageing.drift, ageing.clock)
-        .map_err(Fault::Source)
+    let statement = match Statement::new(span, ageing.sent, ageing.got) {
+        Ok(statement) => statement,
+        Err(fault) => return Err(Fault::Source(fault)),
+    };
+    match statement.aged(ageing.drift, ageing.clock) {
+        Ok(aged) => Ok(aged),
+        Err(fault) => Err(Fault::Source(fault)),
+    }
 }
 
 /// The aged span of the message in this hex text.

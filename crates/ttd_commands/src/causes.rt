@@ -4,7 +4,7 @@
 use std::alloc::AllocError;
 use tt_daemon::DaemonFault;
 use tt_live::LiveEnd;
-use tt_node::{RefusedFusions, RefusedPackets, Rounds};
+use tt_rounds::{RefusedFusions, RefusedPackets, Rounds};
 use tt_source::SourceFault;
 
 /// Adds to the notes what the daemon counted, if no worker gave a reading or nothing was published.

@@ -4,7 +4,6 @@ ghost use Rattle.std.specs.Prelude.{◌≡◌};
 ghost use Rattle.ttd_commands.specs.declared.faults.Fault.TheVariants.{Certificate, Fusion};
 ghost use Rattle.ttd_commands.specs.Fault.{number_of, status_at, status_of};
 
-use crate::ending::Status;
 use thiserror::Error;
 use tt_cert::CertFault;
 use tt_fuse::FuseFault;
@@ -15,6 +14,7 @@ use tt_script::ScriptFault;
 use tt_source::SourceFault;
 use tt_twin::TwinFault;
 use tt_world::WorldFault;
+use ttd_words::Status;
 
 /// Why the program prints a refusal in place of an answer.
 #[derive(Clone, Copy, Debug, PartialEq, Eq, Error)]

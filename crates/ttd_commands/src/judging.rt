@@ -10,8 +10,8 @@ use crate::ending::CommandOutput;
 use crate::faults::Fault;
 use std::alloc::Global;
 use tt_judge::{
-    Commit, History, HistoryFault, Judgement, TermJudgement, judge, judge_terms, judgement_text,
-    read_history,
+    Commit, CommitHistory, HistoryFault, Judgement, TermJudgement, judge, judge_terms,
+    judgement_text, read_history,
 };
 
 impl From<HistoryFault> for Fault {
@@ -39,7 +39,7 @@ pub(crate) fn judge_reply(alloc: Global, input: &[u8]) -> Result<CommandOutput, 
 {
     match read_history(alloc, input) {
         Ok(history) => {
-            let History { commits, of_shards } = history;
+            let CommitHistory { commits, of_shards } = history;
             let terms = judge_terms(of_shards);
             judged(alloc, commits.as_slice(), &terms)
         }

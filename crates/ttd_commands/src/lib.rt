@@ -30,7 +30,7 @@
 //!
 //! [`main_with`] is the whole program over any devices. Its contract says what is written for all arguments and all
 //! inputs. It uses no threads, and rejects `live` like invalid arguments. [`live_with`] is the same with threads, also
-//! for `live`.
+//! for `live`. Both reject the services of the program like invalid arguments.
 //!
 //! ```text
 //! let mut input = Counted::new(rt.stdin());      // the input is "faulty 1\nspan 0 10\nspan 5 15\nspan 12 20\n"
@@ -44,7 +44,7 @@
 //! what spans text is. `specs/Answer.antt` has the lines and statuses of the replies.
 //!
 //! - `program`: the program over any devices.
-//! - `input` reads, `output` writes; `ending` has the statuses and `faults` the refusals.
+//! - `input` reads, `output` writes; `ending` has what they answer and `faults` the refusals.
 //! - For standard error: `causes`, why `live` gave no reading; `places`, where an input is refused;
 //!   `certificate_places`, where a certificate is refused.
 //! - `age`, `fuse`, `check`, `running`, `tracing`, `twinning`, `picturing`, `living` and `judging`: the commands.
@@ -71,9 +71,10 @@ mod spans_text;
 mod tracing;
 mod twinning;
 
-pub use ending::{CommandOutput, Ended, Status};
+pub use ending::{CommandOutput, Ended};
 pub use faults::Fault;
 pub use input::{MOST_HISTORY, MOST_INPUT};
 pub use living::live_word_laws;
-pub use output::{explain, give};
-pub use program::{answer_live, answer_with, live_with, main_with};
+pub use output::give;
+pub use program::{answer_asked, answer_with, asked_by, live_with, main_with};
+pub use ttd_words::Status;

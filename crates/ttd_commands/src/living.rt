@@ -2,7 +2,7 @@
 
 ghost use Rattle.std.specs.Prelude.{◌≡◌, ◌≢◌, [], ◌∷◌, codes, Err, IfOk, Ok, string_bytes};
 ghost use Rattle.tt_audit.specs.declared.live.LiveReport.{LiveReport};
-ghost use Rattle.ttd_cli.specs.Reading.{AreForHelp, AreTaken, asked_of};
+ghost use Rattle.ttd_words.specs.Reading.{AreForHelp, AreTaken, Request, asked_of};
 ghost use Rattle.ttd_commands.specs.Answer.{answer_in};
 ghost use Rattle.ttd_commands.specs.Command.{HasReply};
 ghost use Rattle.ttd_commands.specs.Living.{IsLiveReply, TellsLive, report_answer};
@@ -19,7 +19,7 @@ use std::time::Clock;
 use tt_audit::LiveReport;
 use tt_live::{LiveEnd, live};
 use tt_script::Script;
-use ttd_cli::{Asked, Command};
+use ttd_words::Command;
 
 /// The answer of `live` to its input, a script: the report on its run. The program ends as fine if no reading was
 /// wrong, otherwise as broken.
@@ -33,7 +33,7 @@ pub(crate) fn live_reply<
     ensures value { HasReply answer_in (IsLiveReply input.now) result }
     ensures no_device { result ≢ Err Fault.ReadFailed }
 {
-    match script_from(alloc, input) {
+    match script_from(alloc, input, notes) {
         Ok(script) => lived(rt, alloc, &script, notes),
         Err(fault) => Err(fault),
     }
@@ -81,6 +81,6 @@ fn report_text(alloc: Global, report: &LiveReport) -> Result<String, AllocError>
 
 /// Laws of the arguments: `live` alone asks for the command, and `live --help` asks for help.
 pub fn live_word_laws()
-    ensures live { AreTaken (codes "live" ∷ []) × (asked_of (codes "live" ∷ []) ≡ Ok (Asked.Run Command.Live)) }
+    ensures live { AreTaken (codes "live" ∷ []) × (asked_of (codes "live" ∷ []) ≡ Ok (Request.ToRun Command.Live)) }
     ensures help { AreForHelp (codes "live" ∷ codes "--help" ∷ []) }
 {}

@@ -10,8 +10,8 @@ use crate::ending::CommandOutput;
 use crate::faults::Fault;
 use crate::scripts::script_from;
 use std::alloc::Global;
-use tt_picture::{PictureFault, picture};
 use tt_script::Script;
+use tt_trace::{PictureFault, picture};
 use tt_world::run;
 
 impl From<PictureFault> for Fault {
@@ -29,12 +29,16 @@ impl From<PictureFault> for Fault {
 ///
 /// Refuses, in this order: 1603 `BadInput` where the input is not UTF-8; 1301 to 1305 where it is not a valid script;
 /// and 1 `Memory`.
-pub(crate) fn picture_reply(alloc: Global, input: &[u8]) -> Result<CommandOutput, Fault>
+pub(crate) fn picture_reply(
+    alloc: Global,
+    input: &[u8],
+    notes: &mut String,
+) -> Result<CommandOutput, Fault>
     ensures value { HasReply answer_in (IsPictureReply input.now) result }
     ensures no_device { result ≢ Err Fault.ReadFailed }
     ensures no_run { (live : LiveFault) → result ≢ Err (Fault.Live live) }
 {
-    let script = script_from(alloc, input)?;
+    let script = script_from(alloc, input, notes)?;
     shown(alloc, &script)
 }
 

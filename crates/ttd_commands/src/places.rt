@@ -7,14 +7,12 @@ use crate::ending::CommandOutput;
 use crate::faults::Fault;
 use crate::spans_text::{SpansText, read_spans};
 use std::alloc::{AllocError, Global};
-use std::str;
 use tt_cert::{CertFault, Certificate, Stretch, read_text};
-use tt_script::{refusal_of, unknown_keys};
 use tt_span::{Span, SpanFault};
 use tt_text::numbers_behind;
-use ttd_cli::Command;
+use ttd_words::Command;
 
-/// Adds to the notes where the command refused its input, and which keys of a script no rule names.
+/// Adds to the notes where the command refused its input. Where a script is refused, the refusal itself says.
 pub(crate) fn note(
     alloc: Global,
     notes: &mut String,
@@ -23,38 +21,10 @@ pub(crate) fn note(
     reply: &Result<CommandOutput, Fault>,
 ) {
     let _ = match command {
-        Command::Run | Command::Trace | Command::Twin { .. } | Command::Picture | Command::Live =>
-            note_script(alloc, notes, input, reply),
         Command::Fuse => note_spans(notes, input, reply),
         Command::Check => note_check(alloc, notes, input, reply),
-        Command::Age { .. } | Command::Judge => Ok(()),
+        _ => Ok(()),
     };
-}
-
-/// Adds where a script is refused, and which of its keys no rule names.
-fn note_script(
-    alloc: Global,
-    notes: &mut String,
-    input: &[u8],
-    reply: &Result<CommandOutput, Fault>,
-) -> Result<(), AllocError> {
-    let Ok(text) = str::from_utf8(input) else {
-        return Ok(());
-    };
-    if let Err(Fault::Script(fault)) = reply {
-        if let Some(refusal) = refusal_of(alloc, text)? {
-            if refusal.fault() == *fault {
-                let place = refusal.place();
-                write!(notes, "ttd: {place}\n")?;
-            }
-        }
-    }
-    let keys = unknown_keys(alloc, text)?;
-    for key in keys.as_slice() {
-        let key = key.as_str();
-        write!(notes, "ttd: warning: {key} is ignored, no rule names it\n")?;
-    }
-    Ok(())
 }
 
 /// Adds which line of a spans text is bad, if the text was refused because of it.

@@ -6,7 +6,7 @@ ghost use Rattle.clap.specs.Walk.{texts};
 ghost use Rattle.tt_live.specs.declared.faults.LiveFault.{LiveFault};
 ghost use Rattle.tt_stream.specs.Counts.{HasFailed};
 ghost use Rattle.tt_stream.specs.DeviceBytes.{ReadsOn};
-ghost use Rattle.ttd_cli.specs.Reading.{AreForHelp, AreMistaken, AreTaken, asked_of};
+ghost use Rattle.ttd_words.specs.Reading.{AreForHelp, AreMistaken, AreTaken, IsForService, Request, asked_of, request_in, request_of};
 ghost use Rattle.ttd_commands.specs.Answer.{answer_in, answer_of, fine};
 ghost use Rattle.ttd_commands.specs.Command.{HasReply, IsAskedBy, IsCommandReply, IsReply, IsReplyRead, IsReplyTo, most_of as most_input_of, most_to, words_fault_of};
 ghost use Rattle.ttd_commands.specs.Input.{most_history};
@@ -14,7 +14,7 @@ ghost use Rattle.ttd_commands.specs.Run.{Answers, Gives, GivesHelp, IsWritten, R
 
 use crate::age::{Ageing, age_text};
 use crate::check::check_text;
-use crate::ending::{CommandOutput, Ended, Status, fine};
+use crate::ending::{CommandOutput, Ended, fine};
 use crate::faults::Fault;
 use crate::fuse::fuse_text;
 use crate::input::{MOST_HISTORY, MOST_INPUT, read_input};
@@ -32,14 +32,14 @@ use std::sync::Wait;
 use std::thread::Threads;
 use std::time::Clock;
 use tt_stream::{ByteReader, ByteWriter};
-use ttd_cli::{Asked, Command, WordsFault, help_text, read_words};
+use ttd_words::{Asked, Command, Status, WordsFault, help_text, read_words};
 
 impl From<WordsFault> for Fault {
     ghost from_gives = { λ words fault. fault ≡ words_fault_of words };
 
     fn from(words: WordsFault) -> Fault {
         match words {
-            WordsFault::BadWords => Fault::BadWords,
+            WordsFault::BadWords | WordsFault::BadValue(_) => Fault::BadWords,
             WordsFault::Memory => Fault::Memory,
         }
     }
@@ -56,8 +56,13 @@ fn most_of(command: &Command) -> usize
     }
 }
 
-/// The answer to this input of a command that uses no threads.
-fn reply_to(alloc: Global, command: &Command, input: &[u8]) -> Result<CommandOutput, Fault>
+/// The answer to this input of a command that uses no threads. Adds to the notes which keys of a script no rule names.
+fn reply_to(
+    alloc: Global,
+    command: &Command,
+    input: &[u8],
+    notes: &mut String,
+) -> Result<CommandOutput, Fault>
     requires { command.now ≢ Command.Live }
     ensures value { HasReply answer_in (IsCommandReply command.now input.now) result }
     ensures no_device { result ≢ Err Fault.ReadFailed }
@@ -80,10 +85,10 @@ fn reply_to(alloc: Global, command: &Command, input: &[u8]) -> Result<CommandOut
         }
         Command::Fuse => fine(fuse_text(alloc, input)),
         Command::Check => fine(check_text(alloc, input)),
-        Command::Run => run_reply(alloc, input),
-        Command::Trace => trace_reply(alloc, input),
-        Command::Twin { event, side } => twin_reply(alloc, *event, *side, input),
-        Command::Picture => picture_reply(alloc, input),
+        Command::Run => run_reply(alloc, input, notes),
+        Command::Trace => trace_reply(alloc, input, notes),
+        Command::Twin { event, side } => twin_reply(alloc, *event, *side, input, notes),
+        Command::Picture => picture_reply(alloc, input, notes),
         Command::Judge => judge_reply(alloc, input),
         Command::Live => unreachable!(),
     }
@@ -108,7 +113,7 @@ fn command_reply<R: ByteReader>(
 {
     let bytes = read_input(alloc, input, most_of(command))?;
     let text = bytes.as_slice();
-    let reply = reply_to(alloc, command, text);
+    let reply = reply_to(alloc, command, text, notes);
     note(alloc, notes, command, text, &reply);
     reply
 }
@@ -132,33 +137,55 @@ fn live_command_reply<
 }
 
 /// What the arguments ask for.
-fn asked_by(alloc: Global, words: &[&str]) -> Result<Asked, WordsFault>
-    ensures { IsAskedBy (texts words.now) result }
+pub fn asked_by<'a>(alloc: Global, words: &'a [&'a str]) -> Result<Asked<'a>, WordsFault>
+    ensures { IsAskedBy (texts words.entry.now) (request_in result) }
 {
     read_words(alloc, words)
 }
 
 /// Whether these arguments ask for `live`.
-fn asks_live(asked: &Result<Asked, WordsFault>) -> bool
-    ensures { IsTrue result ↔ (asked.now ≡ Ok (Asked.Run Command.Live)) }
+fn asks_live(asked: &Result<Asked<'_>, WordsFault>) -> bool
+    ensures { IsTrue result ↔ (request_in asked.now ≡ Ok (Request.ToRun Command.Live)) }
 {
     matches!(asked, Ok(Asked::Run(Command::Live)))
 }
 
-/// What the program has to write after the arguments were read: the text that they ask for, or a refusal. Arguments
-/// that ask for `live` are rejected like invalid arguments.
-fn reply<R: ByteReader>(
+/// The answer of a command that uses no threads. `live` is rejected like invalid arguments.
+fn command_reply_unless_live<R: ByteReader>(
     alloc: Global,
-    words: &[&str],
-    asked: &Result<Asked, WordsFault>,
+    command: &Command,
     input: &mut R,
     notes: &mut String,
 ) -> Result<CommandOutput, Fault>
-    requires { IsAskedBy (texts words.now) asked.now }
-    ensures taken { AreTaken (texts words.now) → asked_of (texts words.now) ≢ Ok (Asked.Run Command.Live) →
+    ensures value { command.now ≢ Command.Live → IsReplyRead (most_input_of command.now) answer_in (IsReply command.now) (input_of R.ByteReader input.old) (input_of R.ByteReader input.new) result }
+    ensures live { command.now ≡ Command.Live → (input_of R.ByteReader input.new ≡ input_of R.ByteReader input.old) × (result ≡ Err Fault.BadWords) }
+    ensures failed { IsErrOf result Fault.ReadFailed → HasFailed (R.failed input.old) (R.failed input.new) }
+    ensures sound { (result ≢ Err Fault.ReadFailed) → R.failed input.new ≡ R.failed input.old }
+    ensures no_run { (live : LiveFault) → result ≢ Err (Fault.Live live) }
+    ensures rest { ReadsOn (R.left input.old) (R.left input.new) }
+{
+    match command {
+        Command::Live => Err(Fault::BadWords),
+        _ => command_reply(alloc, command, input, notes),
+    }
+}
+
+/// What the program has to write after the arguments were taken: the text that they ask for, or a refusal. Arguments
+/// that ask for `live` or a service are rejected like invalid arguments.
+fn reply_to_asked<R: ByteReader>(
+    alloc: Global,
+    words: &[&str],
+    asked: &Asked<'_>,
+    input: &mut R,
+    notes: &mut String,
+) -> Result<CommandOutput, Fault>
+    requires { IsAskedBy (texts words.now) (Ok (request_of asked.now)) }
+    ensures taken { AreTaken (texts words.now) → ¬ (IsForService (asked_of (texts words.now))) → asked_of (texts words.now) ≢ Ok (Request.ToRun Command.Live) →
         IsReplyRead (most_to (asked_of (texts words.now))) answer_in (IsReplyTo (asked_of (texts words.now)))
         (input_of R.ByteReader input.old) (input_of R.ByteReader input.new) result }
-    ensures live { AreTaken (texts words.now) → asked_of (texts words.now) ≡ Ok (Asked.Run Command.Live) →
+    ensures live { AreTaken (texts words.now) → asked_of (texts words.now) ≡ Ok (Request.ToRun Command.Live) →
+        (input_of R.ByteReader input.new ≡ input_of R.ByteReader input.old) × ((result ≡ Err Fault.BadWords) ⊎ (result ≡ Err Fault.Memory)) }
+    ensures service { AreTaken (texts words.now) → IsForService (asked_of (texts words.now)) →
         (input_of R.ByteReader input.new ≡ input_of R.ByteReader input.old) × ((result ≡ Err Fault.BadWords) ⊎ (result ≡ Err Fault.Memory)) }
     ensures mistaken { AreMistaken (texts words.now) → (input_of R.ByteReader input.new ≡ input_of R.ByteReader input.old)
         × ((result ≡ Err Fault.BadWords) ⊎ (result ≡ Err Fault.Memory)) }
@@ -167,18 +194,50 @@ fn reply<R: ByteReader>(
     ensures untaken { ¬ (AreTaken (texts words.now)) → (input_of R.ByteReader input.new ≡ input_of R.ByteReader input.old)
         × (((result ≡ Err Fault.BadWords) ⊎ (result ≡ Err Fault.Memory))
         ⊎ ((text : List ℕ) × (result_map_both answer_in (λ fault. fault) result ≡ Ok (fine text)))) }
-    ensures memory { asked.now ≡ Err WordsFault.Memory → (input_of R.ByteReader input.new ≡ input_of R.ByteReader input.old) × (result ≡ Err Fault.Memory) }
     ensures failed { IsErrOf result Fault.ReadFailed → HasFailed (R.failed input.old) (R.failed input.new) }
     ensures sound { (result ≢ Err Fault.ReadFailed) → R.failed input.new ≡ R.failed input.old }
     ensures no_run { (live : LiveFault) → result ≢ Err (Fault.Live live) }
     ensures rest { ReadsOn (R.left input.old) (R.left input.new) }
 {
-    let asked = *asked;
     match asked {
-        Ok(Asked::Help) => fine(Ok(help_text(alloc, words)?)),
-        Ok(Asked::Run(Command::Live)) => Err(Fault::BadWords),
-        Ok(Asked::Run(command)) => command_reply(alloc, &command, input, notes),
-        Err(fault) => Err(Fault::from(fault)),
+        Asked::Help => fine(Ok(help_text(alloc, words)?)),
+        Asked::Serve(_) => Err(Fault::BadWords),
+        Asked::Run(command) => command_reply_unless_live(alloc, command, input, notes),
+    }
+}
+
+/// What the program has to write after the arguments were read: as `reply_to_asked` says, or why they are rejected.
+fn reply<R: ByteReader>(
+    alloc: Global,
+    words: &[&str],
+    asked: &Result<Asked<'_>, WordsFault>,
+    input: &mut R,
+    notes: &mut String,
+) -> Result<CommandOutput, Fault>
+    requires { IsAskedBy (texts words.now) (request_in asked.now) }
+    ensures taken { AreTaken (texts words.now) → ¬ (IsForService (asked_of (texts words.now))) → asked_of (texts words.now) ≢ Ok (Request.ToRun Command.Live) →
+        IsReplyRead (most_to (asked_of (texts words.now))) answer_in (IsReplyTo (asked_of (texts words.now)))
+        (input_of R.ByteReader input.old) (input_of R.ByteReader input.new) result }
+    ensures live { AreTaken (texts words.now) → asked_of (texts words.now) ≡ Ok (Request.ToRun Command.Live) →
+        (input_of R.ByteReader input.new ≡ input_of R.ByteReader input.old) × ((result ≡ Err Fault.BadWords) ⊎ (result ≡ Err Fault.Memory)) }
+    ensures service { AreTaken (texts words.now) → IsForService (asked_of (texts words.now)) →
+        (input_of R.ByteReader input.new ≡ input_of R.ByteReader input.old) × ((result ≡ Err Fault.BadWords) ⊎ (result ≡ Err Fault.Memory)) }
+    ensures mistaken { AreMistaken (texts words.now) → (input_of R.ByteReader input.new ≡ input_of R.ByteReader input.old)
+        × ((result ≡ Err Fault.BadWords) ⊎ (result ≡ Err Fault.Memory)) }
+    ensures helped { AreForHelp (texts words.now) → (input_of R.ByteReader input.new ≡ input_of R.ByteReader input.old)
+        × (((text : List ℕ) × (result_map_both answer_in (λ fault. fault) result ≡ Ok (fine text))) ⊎ (result ≡ Err Fault.Memory)) }
+    ensures untaken { ¬ (AreTaken (texts words.now)) → (input_of R.ByteReader input.new ≡ input_of R.ByteReader input.old)
+        × (((result ≡ Err Fault.BadWords) ⊎ (result ≡ Err Fault.Memory))
+        ⊎ ((text : List ℕ) × (result_map_both answer_in (λ fault. fault) result ≡ Ok (fine text)))) }
+    ensures memory { request_in asked.now ≡ Err WordsFault.Memory → (input_of R.ByteReader input.new ≡ input_of R.ByteReader input.old) × (result ≡ Err Fault.Memory) }
+    ensures failed { IsErrOf result Fault.ReadFailed → HasFailed (R.failed input.old) (R.failed input.new) }
+    ensures sound { (result ≢ Err Fault.ReadFailed) → R.failed input.new ≡ R.failed input.old }
+    ensures no_run { (live : LiveFault) → result ≢ Err (Fault.Live live) }
+    ensures rest { ReadsOn (R.left input.old) (R.left input.new) }
+{
+    match asked {
+        Ok(asked) => reply_to_asked(alloc, words, asked, input, notes),
+        Err(fault) => Err(Fault::from(*fault)),
     }
 }
 
@@ -190,12 +249,16 @@ fn reply_in_threads<
     rt: &H,
     alloc: Global,
     words: &[&str],
+    asked: &Result<Asked<'_>, WordsFault>,
     input: &mut R,
     notes: &mut String,
 ) -> Result<CommandOutput, Fault>
-    ensures taken { AreTaken (texts words.now) →
+    requires { IsAskedBy (texts words.now) (request_in asked.now) }
+    ensures taken { AreTaken (texts words.now) → ¬ (IsForService (asked_of (texts words.now))) →
         IsReplyRead (most_to (asked_of (texts words.now))) answer_in (IsReplyTo (asked_of (texts words.now)))
         (input_of R.ByteReader input.old) (input_of R.ByteReader input.new) result }
+    ensures service { AreTaken (texts words.now) → IsForService (asked_of (texts words.now)) →
+        (input_of R.ByteReader input.new ≡ input_of R.ByteReader input.old) × ((result ≡ Err Fault.BadWords) ⊎ (result ≡ Err Fault.Memory)) }
     ensures mistaken { AreMistaken (texts words.now) → (input_of R.ByteReader input.new ≡ input_of R.ByteReader input.old)
         × ((result ≡ Err Fault.BadWords) ⊎ (result ≡ Err Fault.Memory)) }
     ensures helped { AreForHelp (texts words.now) → (input_of R.ByteReader input.new ≡ input_of R.ByteReader input.old)
@@ -207,11 +270,10 @@ fn reply_in_threads<
     ensures sound { (result ≢ Err Fault.ReadFailed) → R.failed input.new ≡ R.failed input.old }
     ensures rest { ReadsOn (R.left input.old) (R.left input.new) }
 {
-    let asked = asked_by(alloc, words);
-    if asks_live(&asked) {
+    if asks_live(asked) {
         live_command_reply(rt, alloc, input, notes)
     } else {
-        reply(alloc, words, &asked, input, notes)
+        reply(alloc, words, asked, input, notes)
     }
 }
 
@@ -222,11 +284,14 @@ pub fn answer_with<R: ByteReader, W: ByteWriter>(
     input: &mut R,
     output: &mut W,
 ) -> Ended
-    ensures taken { AreTaken (texts words.now) → asked_of (texts words.now) ≢ Ok (Asked.Run Command.Live) →
+    ensures taken { AreTaken (texts words.now) → ¬ (IsForService (asked_of (texts words.now))) → asked_of (texts words.now) ≢ Ok (Request.ToRun Command.Live) →
         Answers (most_to (asked_of (texts words.now))) (IsReplyTo (asked_of (texts words.now)))
         (input_of R.ByteReader input.old) (input_of R.ByteReader input.new)
         (output_of W.ByteWriter output.old) (output_of W.ByteWriter output.new) result.status }
-    ensures live { AreTaken (texts words.now) → asked_of (texts words.now) ≡ Ok (Asked.Run Command.Live) → RefusesWords
+    ensures live { AreTaken (texts words.now) → asked_of (texts words.now) ≡ Ok (Request.ToRun Command.Live) → RefusesWords
+        (input_of R.ByteReader input.old) (input_of R.ByteReader input.new)
+        (output_of W.ByteWriter output.old) (output_of W.ByteWriter output.new) result.status }
+    ensures service { AreTaken (texts words.now) → IsForService (asked_of (texts words.now)) → RefusesWords
         (input_of R.ByteReader input.old) (input_of R.ByteReader input.new)
         (output_of W.ByteWriter output.old) (output_of W.ByteWriter output.new) result.status }
     ensures mistaken { AreMistaken (texts words.now) → RefusesWords
@@ -255,16 +320,28 @@ pub fn answer_with<R: ByteReader, W: ByteWriter>(
     give(output, reply)
 }
 
-/// Runs the program as [`live_with`] does. It also answers what was refused. Adds lines for standard error to the
-/// notes: where the input was refused, and which keys of a script no rule names. A place is exact, or it is not said;
-/// the wording is not fixed.
-pub fn answer_live<
+/// Runs the program as [`live_with`] does, after [`asked_by`] has read what the arguments ask for. It also answers what
+/// was refused. Adds lines for standard error to the notes: where the input was refused, and which keys of a script no
+/// rule names. A place is exact, or it is not said; the wording is not fixed.
+pub fn answer_asked<
     H: Threads + Wait + Clock + Sync + Net<Listener = TcpListener, Stream = TcpStream>,
     R: ByteReader,
     W: ByteWriter,
->(rt: &H, alloc: Global, words: &[&str], input: &mut R, output: &mut W, notes: &mut String) -> Ended
-    ensures taken { AreTaken (texts words.now) →
+>(
+    rt: &H,
+    alloc: Global,
+    words: &[&str],
+    asked: &Result<Asked<'_>, WordsFault>,
+    input: &mut R,
+    output: &mut W,
+    notes: &mut String,
+) -> Ended
+    requires { IsAskedBy (texts words.now) (request_in asked.now) }
+    ensures taken { AreTaken (texts words.now) → ¬ (IsForService (asked_of (texts words.now))) →
         Answers (most_to (asked_of (texts words.now))) (IsReplyTo (asked_of (texts words.now)))
+        (input_of R.ByteReader input.old) (input_of R.ByteReader input.new)
+        (output_of W.ByteWriter output.old) (output_of W.ByteWriter output.new) result.status }
+    ensures service { AreTaken (texts words.now) → IsForService (asked_of (texts words.now)) → RefusesWords
         (input_of R.ByteReader input.old) (input_of R.ByteReader input.new)
         (output_of W.ByteWriter output.old) (output_of W.ByteWriter output.new) result.status }
     ensures mistaken { AreMistaken (texts words.now) → RefusesWords
@@ -286,7 +363,7 @@ pub fn answer_live<
     ensures rest { ReadsOn (R.left input.old) (R.left input.new) }
     ensures refused { IfSome result.refusal (λ told. Gives (answer_of (Err told)) (output_of W.ByteWriter output.old) (output_of W.ByteWriter output.new) result.status) }
 {
-    let reply = reply_in_threads(rt, alloc, words, input, notes);
+    let reply = reply_in_threads(rt, alloc, words, asked, input, notes);
     give(output, reply)
 }
 
@@ -331,19 +408,22 @@ pub fn answer_live<
 /// (1605), which then has taken a prefix of the answer. Out of memory is `refused 1`, with [`Status::Memory`]; it takes
 /// no memory to write a refusal. Nothing but the answer is ever written, and it is flushed.
 ///
-/// `live` is rejected with 1601, like other invalid arguments, before any read: [`live_with`](crate::live_with) runs
-/// it.
+/// `live` and the services are rejected with 1601, like other invalid arguments, before any read:
+/// [`live_with`](crate::live_with) runs `live`.
 pub fn main_with<R: ByteReader, W: ByteWriter>(
     alloc: Global,
     words: &[&str],
     input: &mut R,
     output: &mut W,
 ) -> Status
-    ensures taken { AreTaken (texts words.now) → asked_of (texts words.now) ≢ Ok (Asked.Run Command.Live) →
+    ensures taken { AreTaken (texts words.now) → ¬ (IsForService (asked_of (texts words.now))) → asked_of (texts words.now) ≢ Ok (Request.ToRun Command.Live) →
         Answers (most_to (asked_of (texts words.now))) (IsReplyTo (asked_of (texts words.now)))
         (input_of R.ByteReader input.old) (input_of R.ByteReader input.new)
         (output_of W.ByteWriter output.old) (output_of W.ByteWriter output.new) result }
-    ensures live { AreTaken (texts words.now) → asked_of (texts words.now) ≡ Ok (Asked.Run Command.Live) → RefusesWords
+    ensures live { AreTaken (texts words.now) → asked_of (texts words.now) ≡ Ok (Request.ToRun Command.Live) → RefusesWords
+        (input_of R.ByteReader input.old) (input_of R.ByteReader input.new)
+        (output_of W.ByteWriter output.old) (output_of W.ByteWriter output.new) result }
+    ensures service { AreTaken (texts words.now) → IsForService (asked_of (texts words.now)) → RefusesWords
         (input_of R.ByteReader input.old) (input_of R.ByteReader input.new)
         (output_of W.ByteWriter output.old) (output_of W.ByteWriter output.new) result }
     ensures mistaken { AreMistaken (texts words.now) → RefusesWords
@@ -370,7 +450,8 @@ pub fn main_with<R: ByteReader, W: ByteWriter>(
 /// Runs the program as [`main_with`] does, and also the command `live`, whose only argument is `live`. This command
 /// reads a script from the input, runs its machine in threads ([`tt_live::live`]), and writes `readings N` and
 /// `wrong N`: how many readings its workers gave, and how many of them were wrong. The program then ends with
-/// [`Status::Fine`], or with [`Status::Broken`] if a reading was wrong. `live --help` writes the help.
+/// [`Status::Fine`], or with [`Status::Broken`] if a reading was wrong. `live --help` writes the help. The services are
+/// rejected with 1601, like other invalid arguments.
 ///
 /// `live` writes each refusal as the one line `refused N`. N is the first number that applies: 1603 more than 1,048,576
 /// bytes of input, 1604 reading failed; 1603 not UTF-8; 1301 to 1305 not a valid script; 1302 no part for a run in
@@ -382,8 +463,11 @@ pub fn live_with<
     R: ByteReader,
     W: ByteWriter,
 >(rt: &H, alloc: Global, words: &[&str], input: &mut R, output: &mut W) -> Status
-    ensures taken { AreTaken (texts words.now) →
+    ensures taken { AreTaken (texts words.now) → ¬ (IsForService (asked_of (texts words.now))) →
         Answers (most_to (asked_of (texts words.now))) (IsReplyTo (asked_of (texts words.now)))
+        (input_of R.ByteReader input.old) (input_of R.ByteReader input.new)
+        (output_of W.ByteWriter output.old) (output_of W.ByteWriter output.new) result }
+    ensures service { AreTaken (texts words.now) → IsForService (asked_of (texts words.now)) → RefusesWords
         (input_of R.ByteReader input.old) (input_of R.ByteReader input.new)
         (output_of W.ByteWriter output.old) (output_of W.ByteWriter output.new) result }
     ensures mistaken { AreMistaken (texts words.now) → RefusesWords
@@ -402,6 +486,7 @@ pub fn live_with<
     ensures memory { result ≡ Status.Memory → IsWritten memory_answer (output_of W.ByteWriter output.old) (output_of W.ByteWriter output.new) result }
     ensures rest { ReadsOn (R.left input.old) (R.left input.new) }
 {
+    let asked = asked_by(alloc, words);
     let mut notes = String::new(alloc);
-    answer_live(rt, alloc, words, input, output, &mut notes).status
+    answer_asked(rt, alloc, words, &asked, input, output, &mut notes).status
 }

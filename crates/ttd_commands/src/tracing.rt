@@ -23,12 +23,16 @@ use tt_world::{Event, Reply, run};
 ///
 /// Refuses, in this order: 1603 `BadInput` where the input is not UTF-8; 1301 to 1305 where it is not a valid script;
 /// and 1 `Memory`.
-pub(crate) fn trace_reply(alloc: Global, input: &[u8]) -> Result<CommandOutput, Fault>
+pub(crate) fn trace_reply(
+    alloc: Global,
+    input: &[u8],
+    notes: &mut String,
+) -> Result<CommandOutput, Fault>
     ensures value { HasReply answer_in (IsTraceReply input.now) result }
     ensures no_device { result ≢ Err Fault.ReadFailed }
     ensures no_run { (live : LiveFault) → result ≢ Err (Fault.Live live) }
 {
-    let script = script_from(alloc, input)?;
+    let script = script_from(alloc, input, notes)?;
     traced(alloc, &script)
 }
 

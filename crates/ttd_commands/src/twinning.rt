@@ -19,7 +19,7 @@ use tt_script::Script;
 use tt_trace::push_event;
 use tt_twin::{TwinFault, twin, twin_laws};
 use tt_world::{Event, run};
-use ttd_cli::Side;
+use ttd_words::Side;
 
 impl From<TwinFault> for Fault {
     ghost from_gives = { λ twin fault. fault ≡ twin_fault_of twin };
@@ -54,12 +54,13 @@ pub(crate) fn twin_reply(
     k: u64,
     side: Side,
     input: &[u8],
+    notes: &mut String,
 ) -> Result<CommandOutput, Fault>
     ensures value { HasReply answer_in (IsTwinReply k side input.now) result }
     ensures no_device { result ≢ Err Fault.ReadFailed }
     ensures no_run { (live : LiveFault) → result ≢ Err (Fault.Live live) }
 {
-    let script = script_from(alloc, input)?;
+    let script = script_from(alloc, input, notes)?;
     found(alloc, &script, k as usize, side)
 }
 

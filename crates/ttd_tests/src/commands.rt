@@ -2,11 +2,9 @@
 
 use std::alloc::Global;
 use std::test::Fail;
-use tt_live::LiveFault;
 use tt_scenes::{ANY_MAY_LIE, COMMIT_WAIT, LAST_TIME, WORKED_RUNS};
-use tt_source::SourceFault;
 use tt_stream::{MemoryReader, MemoryWriter};
-use ttd_commands::{Fault, Status, explain, give, main_with};
+use ttd_commands::{Status, main_with};
 
 const AGE: [&str; 7] = [
     "age",
@@ -28,11 +26,18 @@ const ANSWER2: &str =
 // Without its last byte.
 const SHORT: &str = "54545031020001000000000000000001000000003b9aca00000000003b9acd";
 
-// Runs the program over memory, and says whether this is how it ends and what it writes.
+// Runs the program over memory: how it ends, and what it writes.
+fn answer(alloc: Global, words: &[&str], input: &str) -> (Status, MemoryWriter) {
+    let mut reader = MemoryReader::new(input.as_bytes(), 4096, None);
+    let mut writer = MemoryWriter::new(alloc, 4096, None);
+    let status = main_with(alloc, words, &mut reader, &mut writer);
+    (status, writer)
+}
+
+// Whether this is how it ends and what it writes.
 fn writes(alloc: Global, words: &[&str], input: &str, status: Status, text: &str) -> bool {
-    let mut reader = MemoryReader::new(input.as_bytes(), 64, None);
-    let mut writer = MemoryWriter::new(alloc, 64, None);
-    main_with(alloc, words, &mut reader, &mut writer) == status && writer.taken() == text.as_bytes()
+    let (ended, writer) = answer(alloc, words, input);
+    ended == status && writer.taken() == text.as_bytes()
 }
 
 #[test]
@@ -108,7 +113,7 @@ fn fuses_and_checks_three_spans(rt: HostRuntime) -> Result<(), Fail> {
 }
 
 #[test]
-fn reports_on_the_worked_runs(rt: HostRuntime) {
+fn worked_runs_reply_and_report(rt: HostRuntime) {
     for worked in WORKED_RUNS {
         let status = if worked.report.contains("broken") {
             Status::Broken
@@ -116,6 +121,8 @@ fn reports_on_the_worked_runs(rt: HostRuntime) {
             Status::Fine
         };
         assert!(rt; writes(rt.alloc(), &["run"], worked.script, status, worked.report));
+        let (_status, traced) = answer(rt.alloc(), &["trace"], worked.script);
+        assert!(rt; traced.taken().starts_with(worked.trace.as_bytes()));
     }
     for (input, text) in [("", "refused 1302\n"), ("x =", "refused 1301\n")] {
         assert!(rt; writes(rt.alloc(), &["run"], input, Status::Bad, text));
@@ -167,52 +174,10 @@ fn live_is_no_command_without_threads(rt: HostRuntime) {
 }
 
 #[test]
-fn a_reader_fails_in_mid_stream(rt: HostRuntime) {
-    let mut reader = MemoryReader::new(ANSWER.as_bytes(), 7, Some(3));
-    let mut writer = MemoryWriter::new(rt.alloc(), 5, None);
-    assert!(rt; main_with(rt.alloc(), &AGE, &mut reader, &mut writer) == Status::Device);
-    assert!(rt; writer.taken() == b"refused 1604\n".as_slice());
-}
-
-#[test]
 fn a_writer_fails(rt: HostRuntime) {
-    // One that takes nothing, one that fails in mid-stream, and one that takes the whole answer by its first call and
-    // fails at its flush.
-    let whole = "aged 30994000000 31006001401\n";
-    for (piece, fails_at, text) in [
-        (0, None, ""),
-        (5, Some(3), "aged 30994"),
-        (4096, Some(2), whole),
-    ] {
-        let mut reader = MemoryReader::new(ANSWER.as_bytes(), 7, None);
-        let mut writer = MemoryWriter::new(rt.alloc(), piece, fails_at);
-        assert!(rt; main_with(rt.alloc(), &AGE, &mut reader, &mut writer) == Status::Device);
-        assert!(rt; writer.taken() == text.as_bytes());
-    }
-}
-
-#[test]
-fn out_of_memory_is_a_refusal(rt: HostRuntime) {
-    let mut writer = MemoryWriter::new(rt.alloc(), 5, None);
-    let ended = give(&mut writer, Err(Fault::Memory));
-    assert!(rt; ended.status == Status::Memory);
-    assert!(rt; ended.refusal == Some(Fault::Memory));
-    assert!(rt; writer.taken() == b"refused 1\n".as_slice());
-    let mut writer = MemoryWriter::new(rt.alloc(), 5, Some(2));
-    assert!(rt; give(&mut writer, Err(Fault::Memory)).status == Status::Device);
-    assert!(rt; writer.taken() == b"refus".as_slice());
-}
-
-#[test]
-fn says_refusals_in_a_sentence(rt: HostRuntime) {
-    for (fault, start) in [
-        (Fault::Source(SourceFault::ClockBack), "ttd: refused 402: "),
-        (Fault::Live(LiveFault::NoLive), "ttd: refused 1302: "),
-    ] {
-        let mut errors = Vec::new(rt.alloc());
-        explain(rt.alloc(), &mut errors, &fault);
-        assert!(rt;
-            errors.as_slice().starts_with(start.as_bytes()) && errors.as_slice().ends_with(b"\n")
-        );
-    }
+    // It takes the whole answer by its first call, and fails at its flush.
+    let mut reader = MemoryReader::new(ANSWER.as_bytes(), 4096, None);
+    let mut writer = MemoryWriter::new(rt.alloc(), 4096, Some(2));
+    assert!(rt; main_with(rt.alloc(), &AGE, &mut reader, &mut writer) == Status::Device);
+    assert!(rt; writer.taken() == b"aged 30994000000 31006001401\n".as_slice());
 }

@@ -1,14 +1,13 @@
-//! Tests of the command line (`ttd_cli`), of the program's commands (`ttd_commands`), and of runs of a machine in threads
-//! (`tt_live`). What the commands answer beyond the worked examples is in `tests`.
+//! Tests of the program's commands (`ttd_commands`) by worked examples over devices in memory, and of the twins of the worked
+//! runs. What the commands answer beyond these is in `tests`.
 //!
 //! They stand in a crate of their own, since a crate with tests is proved twice.
 //!
 //! Modules:
 //!
-//! - `words`: command lines.
-//! - `commands`: the worked examples over devices in memory, and devices that fail.
-//! - `live`: the command `live`.
-//! - `lives`: runs of a machine in threads, and the replies that its clients take.
+//! - `commands`: the worked examples.
+//! - `live`: the command `live`, with a run on this computer.
+//! - `twins`: the twins of the readings of the worked runs.
 #![tactic(auto)]
 
 #[cfg(test)]
@@ -16,6 +15,4 @@ mod commands;
 #[cfg(test)]
 mod live;
 #[cfg(test)]
-mod lives;
-#[cfg(test)]
-mod words;
+mod twins;

@@ -1,6 +1,6 @@
 use Rattle.std.proofs.Common.{List, ℕ, subst, arith}
 use Rattle.std.proofs.lemmas.Result.{err_from_is_err_and}
-use Rattle.ttd_cli.specs.declared.words.Command.TheVariants.{Live}
+use Rattle.ttd_words.specs.declared.requests.Command.TheVariants.{Live}
 use Rattle.ttd_commands.specs.Answer.{answer_in}
 use Rattle.ttd_commands.specs.Command.{HasReply, IsCommandReply}
 use Rattle.ttd_commands.proofs.Replies.{command_replied, fault_replied}

@@ -1,5 +1,5 @@
 use Rattle.std.proofs.Common.{sym, subst}
-use Rattle.ttd_cli.specs.declared.words.Command.{Command}
+use Rattle.ttd_words.specs.declared.requests.Command.{Command}
 use Rattle.ttd_commands.specs.Answer.{answer_in}
 use Rattle.ttd_commands.specs.Command.{HasReply, IsCommandReply}
 use Rattle.ttd_commands.proofs.program.reply_to.Goals as goal

@@ -1,0 +1,160 @@
+//! Why a service refuses, and how the program ends after it.
+
+ghost use Rattle.std.specs.Prelude.{◌≡◌};
+ghost use Rattle.ttd.specs.Fault.{number_of, status_of, status_of_epoch, status_of_publish, status_of_server, status_of_settings, status_of_shared, status_of_words};
+ghost use Rattle.ttd.specs.declared.faults.ServiceFault.TheVariants.{Memory};
+
+use std::alloc::{AllocError, AllocFailed};
+use thiserror::Error;
+use tt_epoch::EpochFault;
+use tt_publish::PublishFault;
+use tt_server::ServerFault;
+use tt_settings::SettingsFault;
+use tt_shared::SharedFault;
+use ttd_words::{Status, WordsFault};
+
+/// Why a service prints a refusal.
+#[derive(Clone, Copy, Debug, PartialEq, Eq, Error)]
+pub enum ServiceFault {
+    /// The arguments after the program's name are rejected.
+    #[error("{0}")]
+    Words(WordsFault),
+    /// The configuration file is longer than 1 MiB, or is not UTF-8.
+    #[error("the file is longer than 1048576 bytes, or is not UTF-8")]
+    BadFile,
+    /// The configuration file or standard input can't be read.
+    #[error("reading failed")]
+    ReadFailed,
+    /// A socket can't be opened, or the connection failed.
+    #[error("the link failed")]
+    LinkFailed,
+    /// The configuration is refused.
+    #[error("not a configuration")]
+    Settings(SettingsFault),
+    /// The shared file gives no reading.
+    #[error("no reading: {0}")]
+    Shared(SharedFault),
+    /// The machine does not serve.
+    #[error("the machine does not serve: {0}")]
+    Server(ServerFault),
+    /// Out of memory: an allocation failed.
+    #[error("out of memory")]
+    Memory,
+}
+
+impl ServiceFault {
+    /// The number of the refusal: 1603 `BadFile`, 1604 `ReadFailed`, 1501 `LinkFailed`, the number of the inner fault for
+    /// `Words`, `Settings`, `Shared` and `Server`, and 1 `Memory`.
+    pub fn number(&self) -> u16
+        ensures { result ≡ number_of self.now }
+    {
+        match self {
+            ServiceFault::Words(fault) => fault.number(),
+            ServiceFault::BadFile => 1603,
+            ServiceFault::ReadFailed => 1604,
+            ServiceFault::LinkFailed => 1501,
+            ServiceFault::Settings(fault) => fault.number(),
+            ServiceFault::Shared(fault) => fault.number(),
+            ServiceFault::Server(fault) => fault.number(),
+            ServiceFault::Memory => 1,
+        }
+    }
+
+    /// How the program ends after this refusal.
+    pub fn status(&self) -> Status
+        ensures { result ≡ status_of self.now }
+    {
+        match self {
+            ServiceFault::Words(fault) => status_of_words(*fault),
+            ServiceFault::ReadFailed | ServiceFault::LinkFailed => Status::Device,
+            ServiceFault::Settings(fault) => status_of_settings(*fault),
+            ServiceFault::Shared(fault) => status_of_shared(*fault),
+            ServiceFault::Server(fault) => status_of_server(*fault),
+            ServiceFault::Memory => Status::Memory,
+            _ => Status::Bad,
+        }
+    }
+}
+
+/// How the program ends if arguments are rejected.
+fn status_of_words(fault: WordsFault) -> Status
+    ensures { result ≡ status_of_words fault }
+{
+    match fault {
+        WordsFault::Memory => Status::Memory,
+        _ => Status::Bad,
+    }
+}
+
+/// How the program ends if a configuration is refused.
+fn status_of_settings(fault: SettingsFault) -> Status
+    ensures { result ≡ status_of_settings fault }
+{
+    match fault {
+        SettingsFault::Memory => Status::Memory,
+        _ => Status::Bad,
+    }
+}
+
+/// How the program ends if a shared file gives no reading.
+fn status_of_shared(fault: SharedFault) -> Status
+    ensures { result ≡ status_of_shared fault }
+{
+    match fault {
+        SharedFault::CannotOpen | SharedFault::ClockFailed => Status::Device,
+        _ => Status::Bad,
+    }
+}
+
+/// How the program ends if a machine has no epoch: as after a failed device where its file can't be read or written.
+fn status_of_epoch(fault: EpochFault) -> Status
+    ensures { result ≡ status_of_epoch fault }
+{
+    match fault {
+        EpochFault::ReadFailed | EpochFault::WriteFailed => Status::Device,
+        EpochFault::Memory => Status::Memory,
+        _ => Status::Bad,
+    }
+}
+
+/// How the program ends if nothing can be published.
+fn status_of_publish(fault: PublishFault) -> Status
+    ensures { result ≡ status_of_publish fault }
+{
+    match fault {
+        PublishFault::Memory => Status::Memory,
+        _ => Status::Bad,
+    }
+}
+
+/// How the program ends if a machine does not serve: as after a failed device where it has not its sockets, and by what
+/// is wrong with its epoch and its publications.
+fn status_of_server(fault: ServerFault) -> Status
+    ensures { result ≡ status_of_server fault }
+{
+    match fault {
+        ServerFault::CannotListen | ServerFault::CannotPoll | ServerFault::CannotListenSocket => {
+            Status::Device
+        }
+        ServerFault::Epoch(fault) => status_of_epoch(fault),
+        ServerFault::Publish(fault) => status_of_publish(fault),
+        ServerFault::Memory => Status::Memory,
+        _ => Status::Bad,
+    }
+}
+
+impl From<AllocError> for ServiceFault {
+    ghost from_gives = { λ _ fault. fault ≡ Memory };
+
+    fn from(_error: AllocError) -> ServiceFault {
+        ServiceFault::Memory
+    }
+}
+
+impl<T: Drop> From<AllocFailed<T>> for ServiceFault {
+    ghost from_gives = { λ _ fault. fault ≡ Memory };
+
+    fn from(_error: AllocFailed<T>) -> ServiceFault {
+        ServiceFault::Memory
+    }
+}

@@ -1,0 +1,38 @@
+//! The service `read`.
+
+use crate::clocks::Monotonic;
+use crate::faults::ServiceFault;
+use crate::services::Stop;
+use std::fs::{File, Files};
+use std::io::Eprint;
+use std::time::Clock as SystemClock;
+use tt_shared::open_view;
+use tt_stream::ByteWriter;
+use tt_text::short_line;
+use ttd_words::write;
+
+/// Writes the reading of a shared file. Standard error says if it is stale.
+///
+/// Refuses with 1701 `CannotOpen` where the file can't be opened, with 1702 `BadFile` where it is not a shared file,
+/// and then as the reader does: 801, 802, 803, 1701, 1703, 1704.
+pub(crate) fn read<H: Files<File = File> + SystemClock + Eprint, O: ByteWriter>(
+    rt: &H,
+    file: &str,
+    output: &mut O,
+) -> Result<(), Stop> {
+    let mut reader = match open_view(rt, file) {
+        Ok(reader) => reader,
+        Err(fault) => return Err(Stop::Refused(ServiceFault::Shared(fault))),
+    };
+    match reader.now(&mut Monotonic::new(rt)) {
+        Ok(seen) => {
+            let ends = [seen.reading.earliest(), seen.reading.latest()];
+            let line = short_line::<64>("now", &ends);
+            if !seen.fresh {
+                let _ = eprint!(rt; "stale\n");
+            }
+            write(output, line.as_str().as_bytes()).map_err(|_| Stop::Unwritten)
+        }
+        Err(fault) => Err(Stop::Refused(ServiceFault::Shared(fault))),
+    }
+}

@@ -1,0 +1,128 @@
+//! The services, and how each ended.
+
+ghost use Rattle.std.specs.Prelude.{◌≡◌};
+ghost use Rattle.ttd.specs.declared.services.Stop.TheVariants.{Refused};
+
+use crate::asking::ask;
+use crate::faults::ServiceFault;
+use crate::masters::{MasterPlan, serve_polls};
+use crate::reading::read;
+use crate::serving::run_server;
+use crate::standard::fill_standard;
+use std::fs::{File, Files};
+use std::io::{Eprint, Input, Read};
+use std::net::{Net, TcpListener, TcpStream};
+use std::sync::Wait;
+use std::thread::Threads;
+use std::time::Clock;
+use tt_report::Disk;
+use tt_stream::{ByteReader, ByteWriter};
+use ttd_words::{Service, Status, explain, explain_unwritten, refuse};
+
+/// Why a service stops before its answer is complete.
+#[derive(Clone, Copy, Debug, PartialEq, Eq)]
+pub(crate) enum Stop {
+    /// The service refused.
+    Refused(ServiceFault),
+    /// The output failed.
+    Unwritten,
+    /// All was written, and the program ends so.
+    Told(Status),
+}
+
+impl From<ServiceFault> for Stop {
+    ghost from_gives = { λ fault stop. stop ≡ Refused fault };
+
+    fn from(fault: ServiceFault) -> Stop {
+        Stop::Refused(fault)
+    }
+}
+
+/// Runs a service, and answers how the program ends. Standard error says what a refusal means.
+pub(crate) fn serve<
+    S: Read + Send + Drop,
+    H: AllocGlobal
+        + Threads
+        + Wait
+        + Clock
+        + Sync
+        + Eprint
+        + Input<Reader = S>
+        + Files<File = File>
+        + Net<Listener = TcpListener, Stream = TcpStream>
+        + Disk
+        + Copy
+        + Send
+        + 'static,
+    I: ByteReader,
+    O: ByteWriter,
+>(rt: &H, service: &Service<'_>, input: &mut I, output: &mut O) -> Status {
+    match run_service(rt, service, input, output) {
+        Ok(()) => Status::Fine,
+        Err(Stop::Refused(fault)) => {
+            explain(rt, u64::from(fault.number()), &fault);
+            refuse(output, fault.number(), fault.status())
+        }
+        Err(Stop::Unwritten) => {
+            explain_unwritten(rt);
+            Status::Device
+        }
+        Err(Stop::Told(status)) => status,
+    }
+}
+
+/// Runs a service.
+fn run_service<
+    S: Read + Send + Drop,
+    H: AllocGlobal
+        + Threads
+        + Wait
+        + Clock
+        + Sync
+        + Eprint
+        + Input<Reader = S>
+        + Files<File = File>
+        + Net<Listener = TcpListener, Stream = TcpStream>
+        + Disk
+        + Copy
+        + Send
+        + 'static,
+    I: ByteReader,
+    O: ByteWriter,
+>(rt: &H, service: &Service<'_>, input: &mut I, output: &mut O) -> Result<(), Stop> {
+    fill_standard(rt)?;
+    match service {
+        Service::Master {
+            source,
+            port,
+            uncertainty,
+            offset,
+            acts,
+            log,
+        } => {
+            let plan = MasterPlan {
+                source: *source,
+                port: *port,
+                uncertainty: *uncertainty,
+                offset: *offset,
+                acts: acts.as_slice(),
+                log: *log,
+            };
+            serve_polls(rt, plan)?;
+            Ok(())
+        }
+        Service::Serve {
+            file,
+            check,
+            until_eof,
+        } => run_server(rt, file, *check, *until_eof, output),
+        Service::Ask { peer, line, retry } => {
+            let text = match line {
+                Some(line) => Some(line.as_str()),
+                None => None,
+            };
+            ask(rt, *peer, text, *retry, input, output)
+        }
+        Service::Read { file } => read(rt, file, output),
+    }
+}

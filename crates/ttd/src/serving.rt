@@ -1,0 +1,107 @@
+//! The service `serve`.
+
+use crate::faults::ServiceFault;
+use crate::services::Stop;
+use std::alloc::Global;
+use std::fs::{File, Files, OpenOptions};
+use std::io::{Eprint, Input, Read};
+use std::net::{Net, TcpListener, TcpStream};
+use std::str;
+use std::sync::Wait;
+use std::thread::Threads;
+use std::time::Clock;
+use tt_files::open_regular;
+use tt_report::Disk;
+use tt_server::{ServerFault, outline, serve};
+use tt_settings::{Refusal, Settings, SettingsFault};
+use tt_stream::{ByteWriter, Counted, ReadFault, read_to_end};
+use ttd_words::write;
+
+/// The most bytes of a configuration: 1 MiB.
+const MOST_FILE: usize = 1_048_576;
+
+/// The bytes of a regular file. Anything else at the path is refused unopened.
+fn bytes_of<H: Files<File = File>>(
+    rt: &H,
+    alloc: Global,
+    path: &str,
+) -> Result<Vec<u8>, ServiceFault> {
+    let mut how = OpenOptions::new();
+    how.read(true);
+    let Ok(file) = open_regular(rt, path, &how) else {
+        return Err(ServiceFault::ReadFailed);
+    };
+    let mut reader = Counted::new(file);
+    match read_to_end(alloc, &mut reader, MOST_FILE, MOST_FILE as u32 + 2) {
+        Ok(bytes) => Ok(bytes),
+        Err(ReadFault::Memory) => Err(ServiceFault::Memory),
+        Err(ReadFault::TooLong) => Err(ServiceFault::BadFile),
+        Err(_) => Err(ServiceFault::ReadFailed),
+    }
+}
+
+/// The settings in a file. If the configuration is refused, standard error says why, and at which line.
+fn settings_of<H: Files<File = File> + Eprint>(
+    rt: &H,
+    alloc: Global,
+    path: &str,
+) -> Result<Settings, ServiceFault> {
+    let bytes = bytes_of(rt, alloc, path)?;
+    let Ok(text) = str::from_utf8(bytes.as_slice()) else {
+        return Err(ServiceFault::BadFile);
+    };
+    match tt_settings::read(alloc, text) {
+        Ok(settings) => Ok(settings),
+        Err(refusal) => match refusal.fault() {
+            SettingsFault::Memory => Err(ServiceFault::Memory),
+            fault => {
+                say_refusal(rt, path, &refusal);
+                Err(ServiceFault::Settings(fault))
+            }
+        },
+    }
+}
+
+/// Says on standard error why a configuration is refused, behind its path and the line.
+fn say_refusal<H: Eprint>(rt: &H, path: &str, refusal: &Refusal) {
+    let _ = match refusal.line() {
+        Some(line) => eprint!(rt; "{path}:{line}: {refusal}\n"),
+        None => eprint!(rt; "{path}: {refusal}\n"),
+    };
+}
+
+/// Runs the machine of a configuration until it is ended. With `check` it only writes what the machine would do.
+///
+/// Refuses with 1604 `ReadFailed` where the file is not a regular one or can't be read, with 1603 `BadFile` where it is
+/// longer than 1 MiB or is not UTF-8, with 1801 to 1806, 1810, 1817 or 1818 where the configuration is refused, and with
+/// what ended the server.
+pub(crate) fn run_server<
+    S: Read + Send + Drop,
+    H: AllocGlobal
+        + Threads
+        + Wait
+        + Clock
+        + Sync
+        + Eprint
+        + Input<Reader = S>
+        + Files<File = File>
+        + Net<Listener = TcpListener, Stream = TcpStream>
+        + Disk
+        + Copy
+        + Send
+        + 'static,
+    O: ByteWriter,
+>(rt: &H, file: &str, check: bool, until_eof: bool, output: &mut O) -> Result<(), Stop> {
+    let settings = settings_of(rt, rt.alloc(), file)?;
+    if !check {
+        return match serve(rt, &settings, until_eof) {
+            Ok(_end) => Ok(()),
+            Err(ServerFault::Memory) => Err(Stop::Refused(ServiceFault::Memory)),
+            Err(fault) => Err(Stop::Refused(ServiceFault::Server(fault))),
+        };
+    }
+    match outline(rt.alloc(), &settings) {
+        Ok(text) => write(output, text.as_str().as_bytes()).map_err(|_| Stop::Unwritten),
+        Err(_) => Err(Stop::Refused(ServiceFault::Memory)),
+    }
+}

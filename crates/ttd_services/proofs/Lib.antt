@@ -1,4 +1,0 @@
-mod ParsedWords
-mod GivenRows
-mod Replied
-mod Written

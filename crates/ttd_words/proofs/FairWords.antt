@@ -1,0 +1,110 @@
+-- What words ask of a service is never refused for want of memory.
+use Rattle.std.proofs.Common.{◌≡◌, ◌||◌, ℕ, Bool, cond, true, false, List, [], ◌∷◌, length, Option, Some, None, Result, Ok, Err, codes, nat_eq, nat_le}
+use Rattle.std.specs.Prelude.{ok_or}
+use Rattle.std.specs.Str.{bytes_eq}
+use Rattle.clap.specs.Walk.{Row, Text, all_of, first_of}
+use Rattle.tt_span.specs.Time.{max_time}
+use Rattle.tt_poll.specs.Message.{max_source}
+use Rattle.tt_master.specs.declared.acts.Act.{Act}
+use Rattle.tt_script.specs.Acts.{act_in}
+use Rattle.tt_settings.specs.Address.{port_of}
+use Rattle.tt_settings.specs.Form.{log_format_of}
+use Rattle.tt_settings.specs.Numeral.{number_of as time_of}
+use Rattle.ttd_words.specs.Fault.{◌>>=◌}
+use Rattle.ttd_words.specs.Reading.{AtPath, act_of, acts_at, acts_in, ask_of, has_byte, log_at, master_of, number_at, number_to, offset_at, offset_by, place_at, place_by, place_in, port_at, read_of, serve_of, service_of, text_at, time_behind, up_to}
+use Rattle.ttd_words.specs.declared.faults.Given.TheVariants as given
+use Rattle.ttd_words.specs.declared.faults.WordsFault.{WordsFault}
+use Rattle.ttd_words.specs.declared.faults.WordsFault.TheVariants.{BadWords, BadValue, Memory}
+
+-- the result is no refusal for want of memory
+abbrev pub IsFair : {A : Type 0} → Result A WordsFault → Type 0
+IsFair (Ok a) = Unit {0}
+IsFair (Err fault) = fault ≡ Memory → ⊥
+
+-- two fair steps are one
+then_fair : {A B : Type 0} (r : Result A WordsFault) (f : A → Result B WordsFault) → IsFair r → ((a : A) → IsFair (f a)) → IsFair (r >>= f)
+then_fair (Ok a) f first next = next a
+then_fair (Err fault) f first next = first
+
+some_fair : {A : Type 0} (o : Option A) (fault : WordsFault) → (fault ≡ Memory → ⊥) → IsFair (ok_or o fault)
+some_fair (Some a) fault other = tt
+some_fair None fault other = other
+
+bad_words : BadWords ≡ Memory → ⊥
+bad_words e = cc
+
+up_to_fair : (most : ℕ) (o : Option ℕ) → IsFair (up_to most o)
+up_to_fair most None = bad_words
+up_to_fair most (Some n) = go (nat_le n most)
+  where
+    go : (b : Bool) → IsFair (cond b (Ok n) (Err BadWords))
+    go true = tt
+    go false = bad_words
+
+text_fair : (id : Text) (rows : List Row) → IsFair (text_at id rows)
+text_fair id rows = some_fair (first_of id rows) BadWords bad_words
+
+place_by_fair : (text : Text) (o : Option ℕ) → IsFair (place_by text o)
+place_by_fair text (Some port) = tt
+place_by_fair text None = go (nat_eq (length text) 0 || has_byte 58 text)
+  where
+    go : (b : Bool) → IsFair (cond b (Err (BadValue given.Address)) (Ok (AtPath text)))
+    go true = λ e. cc
+    go false = tt
+
+place_in_fair : (text : Text) → IsFair (place_in text)
+place_in_fair text = go (has_byte 47 text)
+  where
+    go : (b : Bool) → IsFair (cond b (Ok (AtPath text)) (place_by text (port_of text)))
+    go true = tt
+    go false = place_by_fair text (port_of text)
+
+offset_fair : (a b c : Option ℕ) → IsFair (offset_by a b c)
+offset_fair (Some earlier) b c = tt
+offset_fair None (Some later) c = tt
+offset_fair None None (Some later) = tt
+offset_fair None None None = λ e. cc
+
+act_fair : (found : Option Act) → IsFair (act_of found)
+act_fair (Some act) = tt
+act_fair None = λ e. cc
+
+acts_in_fair : (texts : List Text) → IsFair (acts_in texts)
+acts_in_fair [] = tt
+acts_in_fair (text ∷ rest) =
+    then_fair (act_of (act_in text)) _ (act_fair (act_in text)) (λ act. then_fair (acts_in rest) _ (acts_in_fair rest) (λ acts. tt))
+
+acts_fair : (all : Option (List Text)) → IsFair (acts_at all)
+acts_fair None = tt
+acts_fair (Some texts) = acts_in_fair texts
+
+master_fair : (rows : List Row) → IsFair (master_of rows)
+master_fair rows =
+    then_fair (number_to (codes "source") max_source rows) _ (up_to_fair max_source (number_at (codes "source") rows)) (λ source.
+    then_fair (port_at (codes "listen") rows) _ (then_fair (text_at (codes "listen") rows) _ (text_fair (codes "listen") rows) (λ text. some_fair (port_of text) (BadValue given.Listen) (λ e. cc))) (λ port.
+    then_fair (number_to (codes "uncertainty") max_time rows) _ (up_to_fair max_time (number_at (codes "uncertainty") rows)) (λ uncertainty.
+    then_fair (offset_at (codes "offset") rows) _ (then_fair (text_at (codes "offset") rows) _ (text_fair (codes "offset") rows) (λ text. offset_fair (time_behind (codes "-") text) (time_behind (codes "+") text) (time_of max_time text))) (λ offset.
+    then_fair (log_at (codes "log") rows) _ (then_fair (text_at (codes "log") rows) _ (text_fair (codes "log") rows) (λ text. some_fair (log_format_of text) (BadValue given.Log) (λ e. cc))) (λ log.
+    then_fair (acts_at (all_of (codes "act") rows)) _ (acts_fair (all_of (codes "act") rows)) (λ acts. tt))))))
+
+ask_fair : (rows : List Row) → IsFair (ask_of rows)
+ask_fair rows =
+    then_fair (place_at (codes "address") rows) _ (then_fair (text_at (codes "address") rows) _ (text_fair (codes "address") rows) place_in_fair) (λ place.
+    then_fair (number_to (codes "retry") 9999 rows) _ (up_to_fair 9999 (number_at (codes "retry") rows)) (λ retry. tt))
+
+serve_fair : (rows : List Row) → IsFair (serve_of rows)
+serve_fair rows = then_fair (text_at (codes "file") rows) _ (text_fair (codes "file") rows) (λ file. tt)
+
+read_fair : (rows : List Row) → IsFair (read_of rows)
+read_fair rows = then_fair (text_at (codes "file") rows) _ (text_fair (codes "file") rows) (λ file. tt)
+
+-- what is asked of a service is never refused for want of memory
+pub service_fair : (name : Text) (rows : List Row) → IsFair (service_of name rows)
+service_fair name rows = go (bytes_eq name (codes "master")) (bytes_eq name (codes "serve")) (bytes_eq name (codes "ask")) (bytes_eq name (codes "read"))
+  where
+    go : (a b c d : Bool) → IsFair (cond a (master_of rows) (cond b (serve_of rows) (cond c (ask_of rows) (cond d (read_of rows) (Err BadWords)))))
+    go true b c d = master_fair rows
+    go false true c d = serve_fair rows
+    go false false true d = ask_fair rows
+    go false false false true = read_fair rows
+    go false false false false = bad_words

@@ -1,0 +1,9 @@
+pub mod RowLemmas
+pub mod WalkKeeps
+pub mod LevelKeeps
+pub mod NumberLemmas
+pub mod GivenRows
+pub mod FairWords
+pub mod TakenWords
+pub mod ParsedWords
+pub mod Writing

@@ -1,0 +1,15 @@
+use Rattle.std.proofs.Common.{◌≡◌, ◌∙◌, ap, ap₂}
+use Rattle.std.proofs.lemmas.Result.{IfOk-weaker}
+use Rattle.clap.specs.Simple.{App, Shape, app_of, with_subcommand}
+use Rattle.ttd_words.specs.CommandLine.{ask_app, servers_app, ttd_app}
+use Rattle.ttd_words.proofs.tree.ttd_command.Goals as goal
+
+pub returns : goal.returns
+unfolding ttd_app
+returns c =
+    let top : App → Shape = λ a. a.top in
+    let with_ask : app_of c.in_ok-with_ask.with_ask ≡ with_subcommand servers_app ask_app.top =
+    c.in_ok-with_ask.ensures.shape c.in_ok-ask.ensures.local ∙ ap₂ with_subcommand c.in_ok-servers.ensures.app (ap top c.in_ok-ask.ensures.app) in
+    record {
+      app = IfOk-weaker c.subcommand-2.result _ _ (λ r h. h.shape c.in_ok-read.ensures.local ∙ ap₂ with_subcommand with_ask (ap top c.in_ok-read.ensures.app)) c.subcommand-2.ensures;
+    }

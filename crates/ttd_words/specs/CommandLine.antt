@@ -1,0 +1,139 @@
+-- The command line of `ttd`, as clap is told it.
+use Rattle.std.specs.Prelude.{ℕ, Bool, true, false, ◌||◌, List, [], ◌∷◌, Option, Some, None, codes}
+use Rattle.std.specs.Str.{bytes_eq}
+use Rattle.clap.specs.Walk.{Row, Rule, Text}
+use Rattle.clap.specs.Simple.{App, new_app, new_rule, on_top, subcommand_of, with_rule, with_subcommand}
+use Rattle.clap.specs.Faults.{fault_of}
+use Rattle.clap.specs.Kinds.{Kinds}
+use Rattle.clap.specs.declared.builder.action.ArgAction.TheVariants.{Append, SetTrue}
+use Rattle.clap.specs.declared.builder.value_parser.ValueParser.TheVariants as vp
+use Rattle.tt_span.specs.Drift.{max_drift}
+use Rattle.tt_span.specs.Time.{max_time}
+use Rattle.tt_poll.specs.Message.{max_source}
+
+-- The greatest number of 64 bits.
+abbrev pub max_number : ℕ
+max_number = 18446744073709551615
+
+-- An option `--NAME N` with a number of at most `most`.
+abbrev pub number_rule : Text → ℕ → Rule
+number_rule name most = record (new_rule name) {
+  long = Some name;
+  value_names = 1;
+  parser = Some (vp.Unsigned 0 most);
+}
+
+-- Such an option that has to be given, with any number of 64 bits.
+abbrev pub given_rule : Text → Rule
+given_rule name = record (number_rule name max_number) { required = true }
+
+-- The option `--drift N`, which is 200 where it is not given, and at most the greatest drift.
+abbrev pub drift_rule : Rule
+drift_rule = record (number_rule (codes "drift") max_drift) { defaults = codes "200" ∷ [] }
+
+-- The command `age` with its four options.
+abbrev pub age_app : App
+age_app = with_rule (with_rule (with_rule (with_rule (new_app (codes "age")) drift_rule)
+    (given_rule (codes "sent"))) (given_rule (codes "got"))) (given_rule (codes "clock"))
+
+-- An option `--NAME TEXT` with any text, which has to be given.
+abbrev pub text_rule : Text → Rule
+text_rule name = record (new_rule name) { long = Some name; value_names = 1; required = true }
+
+-- The command `twin` with its two options.
+abbrev pub twin_app : App
+twin_app = with_rule (with_rule (new_app (codes "twin")) (given_rule (codes "event"))) (text_rule (codes "side"))
+
+-- An option `--NAME N` with a number of at most `most`, which has to be given.
+abbrev pub needed_rule : Text → ℕ → Rule
+needed_rule name most = record (number_rule name most) { required = true }
+
+-- The option `--offset NS`, which is 0 where it is not given.
+abbrev pub offset_rule : Rule
+offset_rule = record (new_rule (codes "offset")) { long = Some (codes "offset"); value_names = 1; defaults = codes "0" ∷ [] }
+
+-- The option `--act ACT`, which may be given often.
+abbrev pub act_rule : Rule
+act_rule = record (new_rule (codes "act")) { long = Some (codes "act"); value_names = 1; action = Some Append }
+
+-- The option `--log FORM`, which is `text` where it is not given.
+abbrev pub log_rule : Rule
+log_rule = record (new_rule (codes "log")) { long = Some (codes "log"); value_names = 1; defaults = codes "text" ∷ [] }
+
+-- The option `--retry N`, which is 50 where it is not given.
+abbrev pub retry_rule : Rule
+retry_rule = record (number_rule (codes "retry") 9999) { defaults = codes "50" ∷ [] }
+
+-- A flag `--NAME`.
+abbrev pub flag_rule : Text → Rule
+flag_rule name = record (new_rule name) { long = Some name; action = Some SetTrue }
+
+-- A word by its place, which has to be given.
+abbrev pub place_rule : Text → Rule
+place_rule name = record (new_rule name) { value_names = 1; required = true }
+
+-- All further words.
+abbrev pub words_rule : Rule
+words_rule = record (new_rule (codes "words")) { value_names = 1; action = Some Append }
+
+-- The command `master` with the options that have to be given.
+abbrev pub plain_master_app : App
+plain_master_app = with_rule (with_rule (with_rule (new_app (codes "master")) (needed_rule (codes "source") max_source))
+    (text_rule (codes "listen"))) (needed_rule (codes "uncertainty") max_time)
+
+-- The command `master` with its options.
+abbrev pub master_app : App
+master_app = with_rule (with_rule (with_rule plain_master_app offset_rule) act_rule) log_rule
+
+-- The command `serve` with its file and its flags.
+abbrev pub serve_app : App
+serve_app = with_rule (with_rule (with_rule (new_app (codes "serve")) (place_rule (codes "file"))) (flag_rule (codes "check"))) (flag_rule (codes "until-eof"))
+
+-- The command `ask` with its address, the words of a line, and its option.
+abbrev pub ask_app : App
+ask_app = with_rule (with_rule (with_rule (new_app (codes "ask")) (place_rule (codes "address"))) words_rule) retry_rule
+
+-- The command `read` with its file.
+abbrev pub read_app : App
+read_app = with_rule (new_app (codes "read")) (place_rule (codes "file"))
+
+-- The program with no command yet: its words begin with no name of the program, and one command has to be named.
+abbrev pub bare_app : App
+bare_app = on_top (λ s. record s { has_version = true; no_binary_name = true; subcommand_required = true }) (new_app (codes "ttd"))
+
+-- The program with the commands that read what sources answered.
+abbrev pub sources_app : App
+sources_app = with_subcommand (with_subcommand (with_subcommand bare_app age_app.top) (new_app (codes "fuse")).top) (new_app (codes "check")).top
+
+-- The program with these and the commands that tell of a script's run.
+abbrev pub runs_app : App
+runs_app = with_subcommand (with_subcommand (with_subcommand sources_app (new_app (codes "run")).top) (new_app (codes "trace")).top) twin_app.top
+
+-- The program with these and all other commands that read their input and end.
+abbrev pub inputs_app : App
+inputs_app = with_subcommand (with_subcommand (with_subcommand runs_app (new_app (codes "picture")).top) (new_app (codes "live")).top) (new_app (codes "judge")).top
+
+-- The program with these and the services that run until they are ended.
+abbrev pub servers_app : App
+servers_app = with_subcommand (with_subcommand inputs_app master_app.top) serve_app.top
+
+-- The program with all its commands.
+unfoldable pub ttd_app : App
+ttd_app = with_subcommand (with_subcommand servers_app ask_app.top) read_app.top
+
+-- What clap finds wrong with the words: nothing where it takes them, and else the kinds of error that it may answer.
+unfoldable pub faults_of : List Text → Kinds
+faults_of words = fault_of ttd_app words
+
+-- The command that the words name, and what they give for each of its options.
+unfoldable pub named_by : List Text → Option (Text × List Row)
+named_by words = subcommand_of ttd_app words
+
+-- A word names a service.
+abbrev pub is_service : Text → Bool
+is_service word = bytes_eq word (codes "master") || (bytes_eq word (codes "serve") || (bytes_eq word (codes "ask") || bytes_eq word (codes "read")))
+
+-- The command that is named is a service.
+abbrev pub names_service : Option (Text × List Row) → Bool
+names_service None = false
+names_service (Some named) = is_service named.0

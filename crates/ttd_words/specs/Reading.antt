@@ -1,0 +1,342 @@
+-- What words ask for.
+use Rattle.std.specs.Prelude.{◌≡◌, ◌⊎◌, ◌||◌, ◌≤◌, ℕ, Bool, true, false, List, [], ◌∷◌, ◌++◌, length, drop, Option, Some, None, ok_or, Result, Ok, Err, IsOk, IsSome, IfSome, MatchResult, if◌then◌else◌, nat_eq, nat_le, codes, string_bytes, option_and_then, option_map, not}
+use Rattle.std.specs.Cmp.Lexicographic.{pointwise}
+use Rattle.std.specs.List.{join_by, list_all, list_any}
+use Rattle.std.specs.Option.{option_map_or}
+use Rattle.std.specs.Str.{bytes_eq}
+use Rattle.std.specs.Str.Parse.{digits_value, without_leading_plus}
+use Rattle.clap.specs.Walk.{Row, Text, all_of, first_of, one_of}
+use Rattle.clap.specs.ValueTests.{is_unsigned_in}
+use Rattle.clap.specs.Kinds.{Kinds}
+use Rattle.clap.specs.declared.error.kind.ErrorKind.{ErrorKind}
+use Rattle.clap.specs.declared.error.kind.ErrorKind.TheVariants.{DisplayHelp, DisplayVersion}
+use Rattle.tt_span.specs.Drift.{max_drift}
+use Rattle.tt_span.specs.Time.{max_time}
+use Rattle.tt_poll.specs.Message.{max_source}
+use Rattle.tt_master.specs.declared.acts.Act.{Act}
+use Rattle.tt_master.specs.declared.acts.Act.TheVariants.{Honest}
+use Rattle.tt_script.specs.Acts.{act_in}
+use Rattle.tt_status.specs.declared.lines.LogFormat.{LogFormat}
+use Rattle.tt_settings.specs.Address.{port_of}
+use Rattle.tt_settings.specs.Form.{log_format_of}
+use Rattle.tt_settings.specs.Numeral.{number_of as time_of}
+use Rattle.ttd_words.specs.CommandLine.{faults_of, max_number, named_by, names_service}
+use Rattle.ttd_words.specs.Fault.{◌>>=◌}
+use Rattle.ttd_words.specs.declared.requests.Asked.{Asked}
+use Rattle.ttd_words.specs.declared.requests.Asked.TheVariants as asks
+use Rattle.ttd_words.specs.declared.requests.Command.{Command}
+use Rattle.ttd_words.specs.declared.requests.Command.TheVariants.{Age, Fuse, Check, Run as RunScript, Trace, Twin, Picture, Live, Judge}
+use Rattle.ttd_words.specs.declared.requests.Offset.{Offset}
+use Rattle.ttd_words.specs.declared.requests.Offset.TheVariants.{Later, Earlier}
+use Rattle.ttd_words.specs.declared.requests.Peer.{Peer}
+use Rattle.ttd_words.specs.declared.requests.Peer.TheVariants as peer
+use Rattle.ttd_words.specs.declared.requests.Service.{Service}
+use Rattle.ttd_words.specs.declared.requests.Service.TheVariants as service
+use Rattle.ttd_words.specs.declared.requests.Side.{Side}
+use Rattle.ttd_words.specs.declared.requests.Side.TheVariants.{Low, High}
+use Rattle.ttd_words.specs.declared.faults.Given.TheVariants as given
+use Rattle.ttd_words.specs.declared.faults.WordsFault.{WordsFault}
+use Rattle.ttd_words.specs.declared.faults.WordsFault.TheVariants.{BadWords, BadValue, Memory}
+
+-- The number that a text writes in decimal digits, after one plus or none, where it is a number of 64 bits.
+abbrev pub number_in : Text → Option ℕ
+number_in text = if is_unsigned_in 0 max_number text then Some (digits_value 10 (without_leading_plus text)) else None
+
+-- The number that was given for an option, or else its default.
+abbrev pub number_at : Text → List Row → Option ℕ
+number_at id rows = option_and_then number_in (one_of id rows)
+
+-- The command `age` by its drift and the three clock readings.
+abbrev pub age_by : Option ℕ → Option ℕ → Option ℕ → Option ℕ → Result Command WordsFault
+age_by (Some drift) (Some sent) (Some got) (Some clock) = Ok (Age drift sent got clock)
+age_by _ _ _ _ = Err BadWords
+
+-- The command `age` by what was found for its options.
+abbrev pub age_of : List Row → Result Command WordsFault
+age_of rows = age_by (number_at (codes "drift") rows) (number_at (codes "sent") rows)
+    (number_at (codes "got") rows) (number_at (codes "clock") rows)
+
+-- Where a machine is asked, by its text.
+pub data Place : Type 0 where
+  AtPort : ℕ → Place
+  AtPath : Text → Place
+
+-- Where a machine is asked.
+abbrev pub place_of : Peer → Place
+place_of (peer.Port port) = AtPort port
+place_of (peer.Path path) = AtPath path.now
+
+-- What a service is to do, without its memory.
+pub data Meaning : Type 0 where
+  Master : ℕ → ℕ → ℕ → Offset → List Act → LogFormat → Meaning
+  Serve : Text → Bool → Bool → Meaning
+  Ask : Place → Option Text → ℕ → Meaning
+  Read : Text → Meaning
+
+-- What a service is to do.
+abbrev pub meaning_of : Service → Meaning
+meaning_of (service.Master source port uncertainty offset acts log) = Master source port uncertainty offset acts.items log
+meaning_of (service.Serve file check until_eof) = Serve file.now check until_eof
+meaning_of (service.Ask peer line retry) = Ask (place_of peer) (option_map string_bytes line) retry
+meaning_of (service.Read file) = Read file.now
+
+-- A number of at most `most`, where there is one.
+abbrev pub up_to : ℕ → Option ℕ → Result ℕ WordsFault
+up_to most (Some n) = if nat_le n most then Ok n else Err BadWords
+up_to most None = Err BadWords
+
+-- The number of at most `most` that was given for an option, or else its default.
+abbrev pub number_to : Text → ℕ → List Row → Result ℕ WordsFault
+number_to id most rows = up_to most (number_at id rows)
+
+-- The text that was given for an option or a place, or else its default.
+abbrev pub text_at : Text → List Row → Result Text WordsFault
+text_at id rows = ok_or (first_of id rows) BadWords
+
+-- The port of the address of this host that was given.
+abbrev pub port_at : Text → List Row → Result ℕ WordsFault
+port_at id rows = do
+  text ← text_at id rows
+  ok_or (port_of text) (BadValue given.Listen)
+
+-- A byte is in a text.
+abbrev pub has_byte : ℕ → Text → Bool
+has_byte byte text = list_any (λ other. nat_eq other byte) text
+
+-- Where a text without a slash says that a machine is asked: at its port, where it is an address of this host.
+abbrev pub place_by : Text → Option ℕ → Result Place WordsFault
+place_by text (Some port) = Ok (AtPort port)
+place_by text None = if nat_eq (length text) 0 || has_byte 58 text then Err (BadValue given.Address) else Ok (AtPath text)
+
+-- Where a text says that a machine is asked.
+abbrev pub place_in : Text → Result Place WordsFault
+place_in text = if has_byte 47 text then Ok (AtPath text) else place_by text (port_of text)
+
+-- Where the machine that was given is asked.
+abbrev pub place_at : Text → List Row → Result Place WordsFault
+place_at id rows = do
+  text ← text_at id rows
+  place_in text
+
+-- Whether a flag was given.
+abbrev pub flag_at : Text → List Row → Bool
+flag_at id rows = option_map_or (λ text. bytes_eq text (codes "true")) (first_of id rows) false
+
+-- The time that the text writes behind a word.
+abbrev pub time_behind : Text → Text → Option ℕ
+time_behind word text =
+    let digits = drop (length word) text in
+    if pointwise nat_eq text (word ++ digits) then time_of max_time digits else None
+
+-- An offset by the time behind a minus, that behind a plus, and that of the whole text.
+abbrev pub offset_by : Option ℕ → Option ℕ → Option ℕ → Result Offset WordsFault
+offset_by (Some earlier) _ _ = Ok (Earlier earlier)
+offset_by None (Some later) _ = Ok (Later later)
+offset_by None None (Some later) = Ok (Later later)
+offset_by None None None = Err (BadValue given.Offset)
+
+-- The offset that a text writes.
+abbrev pub offset_in : Text → Result Offset WordsFault
+offset_in text = offset_by (time_behind (codes "-") text) (time_behind (codes "+") text) (time_of max_time text)
+
+-- The offset that was given for an option.
+abbrev pub offset_at : Text → List Row → Result Offset WordsFault
+offset_at id rows = do
+  text ← text_at id rows
+  offset_in text
+
+-- The form of the log that was given for an option.
+abbrev pub log_at : Text → List Row → Result LogFormat WordsFault
+log_at id rows = do
+  text ← text_at id rows
+  ok_or (log_format_of text) (BadValue given.Log)
+
+-- The act that a script's word is.
+abbrev pub act_of : Option Act → Result Act WordsFault
+act_of (Some act) = Ok act
+act_of None = Err (BadValue given.Act)
+
+-- The acts that texts write, one after the other.
+abbrev pub acts_in : List Text → Result (List Act) WordsFault
+acts_in [] = Ok []
+acts_in (text ∷ rest) = do
+  act ← act_of (act_in text)
+  acts ← acts_in rest
+  Ok (act ∷ acts)
+
+-- The acts that were given, and honesty where there are none.
+abbrev pub acts_at : Option (List Text) → Result (List Act) WordsFault
+acts_at None = Ok (Honest ∷ [])
+acts_at (Some texts) = acts_in texts
+
+-- The words of a line as one text, where there are words.
+abbrev pub line_at : Option (List Text) → Option Text
+line_at words = option_map (join_by (λ text. text) (codes " ")) words
+
+-- The command `master` by what was found for its options.
+abbrev pub master_of : List Row → Result Meaning WordsFault
+master_of rows = do
+  source ← number_to (codes "source") max_source rows
+  port ← port_at (codes "listen") rows
+  uncertainty ← number_to (codes "uncertainty") max_time rows
+  offset ← offset_at (codes "offset") rows
+  log ← log_at (codes "log") rows
+  acts ← acts_at (all_of (codes "act") rows)
+  Ok (Master source port uncertainty offset acts log)
+
+-- The command `serve` by what was found.
+abbrev pub serve_of : List Row → Result Meaning WordsFault
+serve_of rows = do
+  file ← text_at (codes "file") rows
+  Ok (Serve file (flag_at (codes "check") rows) (flag_at (codes "until-eof") rows))
+
+-- The command `ask` by what was found.
+abbrev pub ask_of : List Row → Result Meaning WordsFault
+ask_of rows = do
+  place ← place_at (codes "address") rows
+  retry ← number_to (codes "retry") 9999 rows
+  Ok (Ask place (line_at (all_of (codes "words") rows)) retry)
+
+-- The command `read` by what was found.
+abbrev pub read_of : List Row → Result Meaning WordsFault
+read_of rows = do
+  file ← text_at (codes "file") rows
+  Ok (Read file)
+
+-- A service by its name and what was found.
+abbrev pub service_of : Text → List Row → Result Meaning WordsFault
+service_of name rows = if bytes_eq name (codes "master") then master_of rows
+    else (if bytes_eq name (codes "serve") then serve_of rows
+    else (if bytes_eq name (codes "ask") then ask_of rows
+    else (if bytes_eq name (codes "read") then read_of rows else Err BadWords)))
+
+-- The side that a text names.
+abbrev pub side_in : Text → Result Side WordsFault
+side_in text = if bytes_eq text (codes "low") then Ok Low else (if bytes_eq text (codes "high") then Ok High else Err (BadValue given.Side))
+
+-- The side that was given for an option.
+abbrev pub side_at : Text → List Row → Result Side WordsFault
+side_at id rows = do
+  text ← text_at id rows
+  side_in text
+
+-- The command `twin` by its event and its side.
+abbrev pub twin_by : Option ℕ → Result Side WordsFault → Result Command WordsFault
+twin_by (Some event) (Ok side) = Ok (Twin event side)
+twin_by (Some event) (Err fault) = Err fault
+twin_by None side = Err BadWords
+
+-- The command `twin` by what was found for its options.
+abbrev pub twin_of : List Row → Result Command WordsFault
+twin_of rows = twin_by (number_at (codes "event") rows) (side_at (codes "side") rows)
+
+-- A command by its name and its options.
+abbrev pub command_of : Text → List Row → Result Command WordsFault
+command_of name rows = if bytes_eq name (codes "age") then age_of rows
+    else (if bytes_eq name (codes "fuse") then Ok Fuse
+    else (if bytes_eq name (codes "check") then Ok Check
+    else (if bytes_eq name (codes "run") then Ok RunScript
+    else (if bytes_eq name (codes "trace") then Ok Trace
+    else (if bytes_eq name (codes "twin") then twin_of rows
+    else (if bytes_eq name (codes "picture") then Ok Picture
+    else (if bytes_eq name (codes "live") then Ok Live
+    else (if bytes_eq name (codes "judge") then Ok Judge else Err BadWords))))))))
+
+-- The command that is named, and bad words where none is.
+abbrev pub command_named : Option (Text × List Row) → Result Command WordsFault
+command_named None = Err BadWords
+command_named (Some named) = command_of named.0 named.1
+
+-- The service that is named, and bad words where none is.
+abbrev pub service_named : Option (Text × List Row) → Result Meaning WordsFault
+service_named None = Err BadWords
+service_named (Some named) = service_of named.0 named.1
+
+-- The result is the service that is meant, or the refusal, or out of memory.
+abbrev pub IsMeant : Result Meaning WordsFault → Result Service WordsFault → Type 0
+IsMeant defined result = MatchResult result (λ found. defined ≡ Ok (meaning_of found)) (λ fault. (defined ≡ Err fault) ⊎ (fault ≡ Memory))
+
+-- What words ask for: to run a command, to run a service, or help.
+pub data Request : Type 0 where
+  ToRun : Command → Request
+  ToServe : Meaning → Request
+  ToHelp : Request
+
+-- What is asked for, without its memory.
+abbrev pub request_of : Asked → Request
+request_of (asks.Run command) = ToRun command
+request_of (asks.Serve service) = ToServe (meaning_of service)
+request_of asks.Help = ToHelp
+
+-- The same of an answer.
+abbrev pub request_in : Result Asked WordsFault → Result Request WordsFault
+request_in (Ok asked) = Ok (request_of asked)
+request_in (Err fault) = Err fault
+
+-- To run the command, unless there is a fault.
+abbrev pub to_run : Result Command WordsFault → Result Request WordsFault
+to_run (Ok command) = Ok (ToRun command)
+to_run (Err fault) = Err fault
+
+-- To run the service, unless there is a fault.
+abbrev pub to_serve : Result Meaning WordsFault → Result Request WordsFault
+to_serve (Ok service) = Ok (ToServe service)
+to_serve (Err fault) = Err fault
+
+-- What is asked for by the command that is named.
+abbrev pub request_named : Option (Text × List Row) → Result Request WordsFault
+request_named named = if names_service named then to_serve (service_named named) else to_run (command_named named)
+
+-- An answer of clap that shows the help or the version, and is no mistake in the words.
+abbrev pub is_help : ErrorKind → Bool
+is_help DisplayHelp = true
+is_help DisplayVersion = true
+is_help _ = false
+
+-- What words ask for, by what clap finds wrong with them and the command that they name.
+abbrev pub asked_by : Kinds → Option (Text × List Row) → Result Request WordsFault
+asked_by [] named = request_named named
+asked_by (kind ∷ kinds) named = if is_help kind then Ok ToHelp else Err BadWords
+
+-- What the words ask for, or that they are bad.
+abbrev pub asked_of : List Text → Result Request WordsFault
+asked_of words = asked_by (faults_of words) (named_by words)
+
+-- clap finds nothing wrong with the words, and they name a command with options that it can have.
+abbrev pub AreTaken : List Text → Type 0
+AreTaken words = (faults_of words ≡ []) × IsOk (request_named (named_by words))
+
+-- Each of some kinds, of which there is one at least, passes the test.
+abbrev pub all_and_some : (ErrorKind → Bool) → Kinds → Bool
+all_and_some test [] = false
+all_and_some test (kind ∷ kinds) = list_all test (kind ∷ kinds)
+
+-- A request is refused.
+abbrev pub IsRefused : Result Request WordsFault → Type 0
+IsRefused asked = (fault : WordsFault) × (asked ≡ Err fault)
+
+-- The words are a mistake, whichever of its answers clap gives; or it finds nothing wrong, and a value is refused that was given.
+abbrev pub AreMistaken : List Text → Type 0
+AreMistaken words = (all_and_some (λ kind. not (is_help kind)) (faults_of words) ≡ true)
+    ⊎ ((faults_of words ≡ []) × IsRefused (request_named (named_by words)))
+
+-- The words ask for help, whichever of its answers clap gives.
+abbrev pub AreForHelp : List Text → Type 0
+AreForHelp words = all_and_some is_help (faults_of words) ≡ true
+
+-- The words ask to run a service.
+abbrev pub IsForService : Result Request WordsFault → Type 0
+IsForService asked = (service : Meaning) × (asked ≡ Ok (ToServe service))
+
+-- The result is this one, or out of memory, which is this fault.
+abbrev pub IsUnlessMemory : {T E : Type 0} → E → Result T E → Result T E → Type 0
+IsUnlessMemory memory expected result = (result ≡ expected) ⊎ (result ≡ Err memory)
+
+-- The options of `age` were found, with a drift in range.
+abbrev pub HasAge : List Row → Type 0
+HasAge rows = IsOk (age_of rows) × IfSome (number_at (codes "drift") rows) (λ drift. drift ≤ max_drift)
+
+-- What was found for the options of the command that is named has the numbers that the command needs.
+abbrev pub HasNumbers : Option (Text × List Row) → Type 0
+HasNumbers None = Unit {0}
+HasNumbers (Some named) = (named.0 ≡ codes "age" → HasAge named.1) × (named.0 ≡ codes "twin" → IsSome (number_at (codes "event") named.1))

@@ -1,0 +1,123 @@
+//! What the arguments can ask for.
+
+use tt_master::Act;
+use tt_span::Drift;
+use tt_status::LogFormat;
+
+/// A command that reads its input and ends, with its options.
+#[derive(Clone, Copy, Debug, PartialEq, Eq)]
+pub enum Command {
+    /// `age`: ages the answer that is read.
+    Age {
+        /// The drift of the clock: 200 parts per million if it was not given.
+        drift: Drift,
+        /// The clock when the poll was sent, in nanoseconds.
+        sent: u64,
+        /// The clock when the answer came, in nanoseconds.
+        got: u64,
+        /// The clock now, in nanoseconds.
+        clock: u64,
+    },
+    /// `fuse`: fuses the spans that are read, and certifies the fusion.
+    Fuse,
+    /// `check`: checks a certificate for the spans that are read.
+    Check,
+    /// `run`: runs the script that is read, and reports on the run.
+    Run,
+    /// `trace`: runs the script that is read, and prints each event with its reply.
+    Trace,
+    /// `twin`: gives the twin of a reading in the run of the script that is read.
+    Twin {
+        /// The place of the reading's event among the events, counted from 0.
+        event: u64,
+        /// The end of the reading at which the true time lies in the twin.
+        side: Side,
+    },
+    /// `picture`: draws the run of the script that is read.
+    Picture,
+    /// `live`: runs the machine of the script that is read, in threads.
+    Live,
+    /// `judge`: judges whether the history of commits that is read is externally consistent.
+    Judge,
+}
+
+/// An end of a reading.
+#[derive(Clone, Copy, Debug, PartialEq, Eq)]
+pub enum Side {
+    /// `low`: the earliest time that it allows.
+    Low,
+    /// `high`: the latest time that it allows.
+    High,
+}
+
+/// How far a master's clock is off on purpose, in nanoseconds.
+#[derive(Clone, Copy, Debug, PartialEq, Eq)]
+pub enum Offset {
+    /// It shows this much more than this computer's clock.
+    Later(u64),
+    /// It shows this much less than this computer's clock.
+    Earlier(u64),
+}
+
+/// Where a machine is asked.
+#[derive(Clone, Copy, Debug, PartialEq, Eq)]
+pub enum Peer<'a> {
+    /// At this port of 127.0.0.1.
+    Port(u16),
+    /// At the Unix socket with this path.
+    Path(&'a str),
+}
+
+/// A command that speaks to other processes, with its options.
+#[derive(Debug, Drop)]
+pub enum Service<'a> {
+    /// `master`: answers polls until it is ended.
+    Master {
+        /// The number of the source that it is, at most [`MAX_SOURCE`](tt_poll::MAX_SOURCE).
+        source: u64,
+        /// The port of 127.0.0.1 at which it is polled.
+        port: u16,
+        /// What its clock may be wrong by, in nanoseconds, at most [`MAX_TIME`](tt_span::MAX_TIME).
+        uncertainty: u64,
+        /// How far its clock is off on purpose.
+        offset: Offset,
+        /// Its acts: one for each poll in order, and the last one for all further polls.
+        acts: Vec<Act>,
+        /// The form of its log.
+        log: LogFormat,
+    },
+    /// `serve`: runs a machine until it is ended.
+    Serve {
+        /// The path of its configuration.
+        file: &'a str,
+        /// Whether it only says what it would do.
+        check: bool,
+        /// Whether it ends when standard input ends.
+        until_eof: bool,
+    },
+    /// `ask`: asks a machine.
+    Ask {
+        /// Where the machine listens.
+        peer: Peer<'a>,
+        /// The words of the line, with one space between two words. None if there are no words.
+        line: Option<String>,
+        /// The most times that a line is sent again while nothing is published, at most 9999.
+        retry: u64,
+    },
+    /// `read`: reads the time from a shared file.
+    Read {
+        /// The path of the file.
+        file: &'a str,
+    },
+}
+
+/// What the arguments ask for.
+#[derive(Debug, Drop)]
+pub enum Asked<'a> {
+    /// To run a command.
+    Run(Command),
+    /// To run a service.
+    Serve(Service<'a>),
+    /// The help, of the program or of one command, or the program's version: [`help_text`](crate::help_text) gives it.
+    Help,
+}

@@ -1,0 +1,29 @@
+//! What the numbers mean with which a machine refuses a line.
+
+ghost use Rattle.std.specs.Prelude.{◌≡◌};
+ghost use Rattle.ttd_words.specs.Sentence.{sentence_of};
+
+/// The sentence for standard error about the reply `refused N` of a machine.
+pub fn sentence_of(number: u64) -> &'static str
+    ensures { result.now ≡ sentence_of number }
+{
+    match number {
+        1 => "the machine is out of memory",
+        801 => "the machine has published nothing so far",
+        802 => "the machine's clock went back, or is above the greatest time",
+        803 => "the machine's clock could not be read",
+        901 => "no stamp is left up to the greatest time",
+        902 => "the floor is too far ahead of the latest time",
+        903 => "the machine's lease is over",
+        1001 => "the machine's queue of commits is full",
+        1002 => "a commit with this id is pending, or was released",
+        1003 => "a commit with this stamp is pending, or was released",
+        1101 => "the line is not a request",
+        1102 => "the line is longer than 64 bytes",
+        1103 => "the id of the commit is below the last one of this connection",
+        1104 => "another commit of this connection is pending",
+        1821 => "the floor is further ahead than the machine allows",
+        1822 => "the connection or the machine ended while the commit was pending",
+        _ => "docs/FORMATS.md says what the number means",
+    }
+}
