@@ -10,8 +10,9 @@ use std::sync::{Mutex, Wait};
 use std::thread;
 use std::time::Duration;
 use tt_master::{Act, Master, MemoryReference};
-use tt_node::{Gate, Link, LinkFault, PACKET_LEN};
+use tt_node::Gate;
 use tt_publish::{Clock, ClockFault};
+use tt_rounds::{Link, LinkFault, PACKET_LEN};
 use tt_stream::{ByteWriter, DeviceFault};
 
 /// How long a gate or a link pauses where it says no, in microseconds.
@@ -132,8 +133,6 @@ pub(crate) struct Marks {
     pub(crate) first: AtomicU64,
     /// The calls of worker 1 that were answered.
     pub(crate) second: AtomicU64,
-    /// The calls of worker 2 that were answered.
-    pub(crate) third: AtomicU64,
 }
 
 impl Marks {
@@ -142,7 +141,6 @@ impl Marks {
             sent: AtomicU64::new(0),
             first: AtomicU64::new(0),
             second: AtomicU64::new(0),
-            third: AtomicU64::new(0),
         }
     }
 }
@@ -157,9 +155,6 @@ pub(crate) enum Plan {
     /// Worker 0 waits for the second request, worker 1 for two calls of worker 0, and call 2 of worker 0 for two of
     /// worker 1.
     InTurn,
-    /// Worker 1 waits for the second request, worker 0 for two calls of worker 1, worker 2 for two of worker 0, and call 2 of
-    /// the others for two of worker 2.
-    Relay,
 }
 
 /// A gate that follows a plan.
@@ -190,7 +185,6 @@ impl<'a, R: std::time::Clock> Gate for PlannedGate<'a, R> {
         let sent = self.marks.sent.load(Ordering::SeqCst);
         let first = self.marks.first.load(Ordering::SeqCst);
         let second = self.marks.second.load(Ordering::SeqCst);
-        let third = self.marks.third.load(Ordering::SeqCst);
         let open = match self.plan {
             Plan::Holds(held) => {
                 let other = if held == 0 { second } else { first };
@@ -203,13 +197,6 @@ impl<'a, R: std::time::Clock> Gate for PlannedGate<'a, R> {
                 (1, 0) => first > 1,
                 _ => true,
             },
-            Plan::Relay => match (worker, call) {
-                (1, 0) => sent > 1,
-                (0, 0) => second > 1,
-                (2, 0) => first > 1,
-                (0, 2) | (1, 2) => third > 1,
-                _ => true,
-            },
         };
         if !open {
             thread::sleep(self.rt, Duration::from_micros(PAUSE));
@@ -220,8 +207,7 @@ impl<'a, R: std::time::Clock> Gate for PlannedGate<'a, R> {
     fn answered(&mut self, worker: u32, _call: u64) {
         let calls = match worker {
             0 => &self.marks.first,
-            1 => &self.marks.second,
-            _ => &self.marks.third,
+            _ => &self.marks.second,
         };
         calls.fetch_add(1, Ordering::SeqCst);
     }
@@ -317,21 +303,27 @@ impl<'a, R: Wait> ByteWriter for PageWriter<'a, R> {
     }
 }
 
+/// A packet that was sent: its peer, its length, and its first byte.
+pub(crate) type Sent = (u8, usize, u8);
+
 /// A link that gives these packets in turn, each from a peer, and keeps what is sent. Its call number `fails_at`,
 /// counted from 1, fails.
 #[derive(Drop)]
-pub(crate) struct ListLink {
-    queue: VecDeque<Arrival>,
-    sent: ArrayVec<(u8, [u8; PACKET_LEN]), 8>,
+pub(crate) struct ListLink<'a> {
+    packets: &'a [(u8, &'a [u8])],
+    /// How many of the packets came.
+    came: usize,
+    sent: ArrayVec<Sent, 8>,
     fails_at: Option<u64>,
     calls: u64,
     failures: u64,
 }
 
-impl ListLink {
-    pub(crate) fn new(alloc: Global, fails_at: Option<u64>) -> Self {
+impl<'a> ListLink<'a> {
+    pub(crate) fn new(packets: &'a [(u8, &'a [u8])], fails_at: Option<u64>) -> Self {
         ListLink {
-            queue: VecDeque::new(alloc),
+            packets,
+            came: 0,
             sent: ArrayVec::new(),
             fails_at,
             calls: 0,
@@ -339,13 +331,8 @@ impl ListLink {
         }
     }
 
-    /// A packet is to come from this peer, if there is memory for it.
-    pub(crate) fn come(&mut self, peer: u8, packet: &[u8]) -> bool {
-        self.queue.push_back(arrival_of(peer, packet)).is_ok()
-    }
-
-    /// What was sent, with the peers that it went to.
-    pub(crate) fn sent(&self) -> &[(u8, [u8; PACKET_LEN])] {
+    /// What was sent.
+    pub(crate) fn sent(&self) -> &[Sent] {
         &self.sent
     }
 
@@ -358,7 +345,7 @@ impl ListLink {
     }
 }
 
-impl Link for ListLink {
+impl<'a> Link for ListLink<'a> {
     ghost does = { λ _ _ _ _. Unit {0} };
 
     ghost failed = { λ link. link.failures };
@@ -368,9 +355,8 @@ impl Link for ListLink {
             self.failures = self.failures.saturating_add(1);
             return Err(LinkFault::Failed);
         }
-        let packet = arrival_of(peer, bytes);
-        let kept = packet.bytes;
-        self.sent.push((peer, kept));
+        let first = bytes.first().copied().unwrap_or(0);
+        self.sent.push((peer, bytes.len(), first));
         Ok(())
     }
 
@@ -379,9 +365,11 @@ impl Link for ListLink {
             self.failures = self.failures.saturating_add(1);
             return Err(LinkFault::Failed);
         }
-        let Some(packet) = self.queue.pop_front() else {
+        let Some(&(peer, bytes)) = self.packets.get(self.came) else {
             return Ok(None);
         };
+        self.came = self.came.saturating_add(1);
+        let packet = arrival_of(peer, bytes);
         let bytes = packet.bytes;
         *buffer = bytes;
         Ok(Some((packet.peer, packet.length.min(PACKET_LEN))))

@@ -6,8 +6,8 @@ use std::sync::Wait;
 use std::test::Fail;
 use tt_daemon::{Config, Daemon};
 use tt_master::{Act, Master, MemoryReference};
-use tt_node::{NodeFault, daemon_rounds, master_rounds};
 use tt_publish::{MemoryClock, ReadFault, Reading, Watch, open};
+use tt_rounds::{NodeFault, daemon_rounds, master_rounds};
 use tt_span::Drift;
 
 /// What the watch reads at clock 0.
@@ -34,7 +34,7 @@ fn two_rounds<R: Wait>(
     let mut came = [(None, Err(0)); 2];
     if let Some(mut watch) = watches.pop() {
         for one in came.iter_mut() {
-            let did = daemon_rounds(rt, &mut daemon, &mut link, &mut clock, &mut teller, 1, 2);
+            let did = daemon_rounds(rt, &mut daemon, &mut link, &mut clock, &mut teller, 1, 4);
             *one = (did.err(), seen(&mut watch));
         }
     }
@@ -45,18 +45,14 @@ fn two_rounds<R: Wait>(
 #[test]
 fn rounds_end_where_a_device_fails_and_may_be_done_again(rt: HostRuntime) -> Result<(), Fail> {
     let good = (None, Ok((1000, 1000)));
-    // A round sends once and receives twice; it reads the clock when it polls, when it takes and when it fuses.
-    for call in 1..4 {
+    // A round sends once and receives four times; it reads the clock when it polls, when it takes and when it fuses.
+    for call in 1..6 {
         let came = two_rounds(&rt, rt.alloc(), Some(call), None)?;
-        assert!(rt;
-            came == [(Some(NodeFault::LinkFailed), Err(801)), good],
-            "call {call}"
-        );
+        assert!(rt; came == [(Some(NodeFault::LinkFailed), Err(801)), good]);
+    }
+    for call in 1..4 {
         let came = two_rounds(&rt, rt.alloc(), None, Some(call))?;
-        assert!(rt;
-            came == [(Some(NodeFault::ClockFailed), Err(801)), good],
-            "call {call}"
-        );
+        assert!(rt; came == [(Some(NodeFault::ClockFailed), Err(801)), good]);
     }
     assert!(rt; two_rounds(&rt, rt.alloc(), None, None)? == [good, good]);
     Ok(())
@@ -70,14 +66,11 @@ const REQUEST: [u8; 24] = [
 /// What a master plays in three turns, on a link on which that request comes eight times and whose call of this number
 /// fails, as that of the reference does; how often it sent; and what it plays in three turns more.
 fn six_turns(
-    alloc: Global,
     link_fails: Option<u64>,
     reference_fails: Option<u64>,
 ) -> (Result<u32, NodeFault>, usize, Result<u32, NodeFault>) {
-    let mut link = ListLink::new(alloc, link_fails);
-    for _ in 0..8 {
-        let _ = link.come(3, &REQUEST);
-    }
+    let packets: [(u8, &[u8]); 8] = [(3, &REQUEST); 8];
+    let mut link = ListLink::new(&packets, link_fails);
     let mut master = Master::new(0, 0, MemoryReference::new(&[1000; 8], reference_fails));
     let played = master_rounds(&mut link, &mut master, &[Act::Honest], 3);
     let sent = link.sent().len();
@@ -88,19 +81,13 @@ fn six_turns(
 #[test]
 fn a_master_ends_where_a_device_fails_and_goes_on_when_it_is_called_again(rt: HostRuntime) {
     // Each of three turns receives, reads the reference and sends.
-    for call in 1..7 {
-        let wanted = (Err(NodeFault::LinkFailed), (call - 1) / 2, Ok(3));
-        assert!(rt;
-            six_turns(rt.alloc(), Some(call as u64), None) == wanted,
-            "call {call}"
-        );
+    for (call, sent) in [(1, 0), (2, 0), (3, 1), (4, 1), (5, 2), (6, 2)] {
+        let wanted = (Err(NodeFault::LinkFailed), sent, Ok(3));
+        assert!(rt; six_turns(Some(call), None) == wanted);
     }
-    for call in 1..4 {
-        let wanted = (Err(NodeFault::ReferenceFailed), call - 1, Ok(3));
-        assert!(rt;
-            six_turns(rt.alloc(), None, Some(call as u64)) == wanted,
-            "call {call}"
-        );
+    for (call, sent) in [(1, 0), (2, 1), (3, 2)] {
+        let wanted = (Err(NodeFault::ReferenceFailed), sent, Ok(3));
+        assert!(rt; six_turns(None, Some(call)) == wanted);
     }
-    assert!(rt; six_turns(rt.alloc(), None, None) == (Ok(3), 3, Ok(3)));
+    assert!(rt; six_turns(None, None) == (Ok(3), 3, Ok(3)));
 }
