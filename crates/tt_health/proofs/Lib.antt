@@ -1,0 +1,3 @@
+pub mod Newest
+pub mod Seconds
+pub mod Rating

@@ -1,0 +1,42 @@
+//! What a daemon notices of itself, of its host and of its sources.
+//!
+//! The functions here judge numbers that a daemon has read: they read no clock, file or socket themselves, take no memory,
+//! and never fail. What they notice is of two kinds. Signs that an assumption of the service is broken: publications that
+//! do not meet, a host that slept, a guest whose clock was disrupted. And measures of the sources: since when enough of
+//! them have answered, how fast their time goes, how long their answers take.
+//!
+//! ```text
+//! if !meets_last(&last, drift, &fused) { .. }              // too many sources are faulty, or the clock broke its bound
+//! let slept = slept_between(&earlier, &later);             // 0 where delays explain the difference of the two looks
+//! let answers = answers_after(&answers, &report.sources);  // after each round
+//! let since = nth_newest(&answers, n, n - f);              // since when n - f of the sources have answered
+//! ```
+//!
+//! - `answers`: the last answers of the sources, and since when so many of them have answered.
+//! - `breaks`: whether a publication meets the last one, aged to its clock reading.
+//! - `guests`: what the host tells a guest of its clock.
+//! - `pauses`: what is kept of a life that ended by a break, and how long the next start waits.
+//! - `rates`: how fast the time of a source goes against the clock of the machine.
+//! - `sleeps`: how long the host slept. `uptimes`: the text of `/proc/uptime`.
+//! - `trips`: classes of round trips.
+#![tactic(auto)]
+
+mod answers;
+mod breaks;
+mod guests;
+mod pauses;
+mod rates;
+mod sleeps;
+mod trips;
+mod uptimes;
+
+pub use answers::{Answer, answer_laws, answers_after, nth_newest};
+pub use breaks::{aged_last, meets_last};
+pub use guests::disruptions_in;
+pub use pauses::{
+    BreakRecord, breaks_in_a_row, pause_before_start, record_after, record_of, record_text,
+};
+pub use rates::{Rate, Sample, Track};
+pub use sleeps::{Lead, Look, is_wide, narrowed, sleep_laws, slept_between};
+pub use trips::{TRIP_BOUNDS, trip_place};
+pub use uptimes::{uptime_in, uptime_laws};

@@ -1,0 +1,93 @@
+//! Starts after lives that ended by a break, and the record that is kept of them.
+
+ghost use Rattle.std.specs.Prelude.{◌≡◌, ◌≤◌, ℕ, MatchOption};
+ghost use Rattle.tt_health.specs.Pause.{IsBreakRecord, breaks_in_a_row as breaks_of, longest_pause, pause_of, record_after as next_record, text_of};
+ghost use Rattle.tt_health.specs.declared.pauses.BreakRecord.{BreakRecord as TheRecord};
+
+use arrayvec::ArrayString;
+use tt_text::{numbers_behind, short_line};
+
+/// Breaks are in a row where a start comes no later than this after the record of the last one, in nanoseconds.
+const BREAK_WINDOW: u64 = 60_000_000_000;
+
+/// The pause after one break, in nanoseconds.
+const FIRST_PAUSE: u64 = 100_000_000;
+
+/// The longest pause, in nanoseconds.
+const LONGEST_PAUSE: u64 = 30_000_000_000;
+
+/// What is kept when a life ends by a break: how many breaks came in a row, this one among them, and what the monotonic
+/// clock of the host showed, in nanoseconds.
+#[derive(Clone, Copy, Debug, PartialEq, Eq)]
+pub struct BreakRecord {
+    pub breaks: u64,
+    pub clock: u64,
+}
+
+/// The text of a record: `tt-break 1 `, the number of breaks, a space and the clock reading, both in decimal digits, and
+/// a line feed. At most 53 bytes.
+pub fn record_text(last: &BreakRecord) -> ArrayString<64>
+    ensures written { result.bytes ≡ text_of last.now }
+{
+    short_line("tt-break 1", &[last.breaks, last.clock])
+}
+
+/// The record of this text, if it is as [`record_text`] writes it. None for any other text: another version, a number
+/// above 2^64 - 1 or with a leading zero or a sign, a byte too few or too many.
+pub fn record_of(text: &[u8]) -> Option<BreakRecord>
+    ensures read { MatchOption result ((last : TheRecord) → IsBreakRecord last → text.now ≡ text_of last → ⊥) (λ last. text.now ≡ text_of last) }
+{
+    let Some(numbers) = numbers_behind(b"tt-break 1", text) else {
+        return None;
+    };
+    if numbers.len() != 2 {
+        return None;
+    }
+    Some(BreakRecord {
+        breaks: numbers[0],
+        clock: numbers[1],
+    })
+}
+
+/// How many lives in a row ended by a break before a start at the clock reading `now`, in nanoseconds: those of the
+/// record, if it is no more than a minute old. 0 without a record, and where its clock is above `now`: then the host was
+/// started anew since.
+pub fn breaks_in_a_row(last: Option<BreakRecord>, now: u64) -> u64
+    ensures value { result ≡ breaks_of last now }
+{
+    match last {
+        Some(record) if record.clock <= now && now - record.clock <= BREAK_WINDOW => {
+            record.breaks
+        },
+        _ => 0,
+    }
+}
+
+/// How long a start waits after so many breaks in a row, in nanoseconds: not at all after none, 100 ms after one, and
+/// twice as long after each further one, at most 30 s.
+pub fn pause_before_start(breaks: u64) -> u64
+    ensures value { result ≡ pause_of breaks }
+    ensures bound { result ≤ longest_pause }
+{
+    if breaks == 0 {
+        return 0;
+    }
+    // After ten breaks the pause is the longest one.
+    let doublings = (breaks - 1).min(9);
+    let mut pause = FIRST_PAUSE;
+    for _doubling in 0..doublings {
+        pause = (2 * pause).min(LONGEST_PAUSE);
+    }
+    pause
+}
+
+/// The record of a life that ends by a break at the clock reading `now`, in nanoseconds: one more than the breaks in a
+/// row before it, at most 2^64 - 1.
+pub fn record_after(last: Option<BreakRecord>, now: u64) -> BreakRecord
+    ensures value { result ≡ next_record last now }
+{
+    BreakRecord {
+        breaks: breaks_in_a_row(last, now).saturating_add(1),
+        clock: now,
+    }
+}
