@@ -1,6 +1,6 @@
 /* truetime.h: the time with an error bound, read from shared memory.
  *
- * The time daemon of a machine keeps its last publication in a file of 192 bytes. A client maps that file once, with
+ * The time daemon of a machine keeps its last publication in a file of 320 bytes. A client maps that file once, with
  * tt_open, and calls tt_now as often as it likes. tt_now takes no lock, never waits, and makes no system call where
  * clock_gettime makes none.
  *
@@ -16,7 +16,7 @@
  * Where an owner of the file or of its folder truncates the file, a mapped one raises SIGBUS. Open it with tt_open_unmapped,
  * and tt_now refuses instead; it makes three system calls more.
  *
- * Reads version 1 of the format (its first four bytes are TTS1). Needs Linux on a little-endian 64-bit machine, and
+ * Reads version 2 of the format (its first four bytes are TTS2), and refuses a file of version 1 with 1702. Needs Linux on a little-endian 64-bit machine, and
  * GCC or Clang: C11 or later with POSIX (-std=gnu11, or -std=c11 -D_POSIX_C_SOURCE=200809L), or C++17.
  */
 #ifndef TRUETIME_H
@@ -52,13 +52,14 @@ extern "C" {
 
 /* The refusals. */
 enum tt_refusal {
-    TT_NOTHING = 801,      /* the daemon has published nothing so far */
+    TT_NOTHING = 801,      /* the daemon has published nothing so far, or nothing is published any more */
     TT_CLOCK_BACK = 802,   /* the clock is below that of the publication, or above the greatest time */
     TT_CLOCK_FAILED = 803, /* the clock gave no reading */
     TT_NO_FILE = 1701,     /* the file cannot be opened, mapped or read, or the client is not open */
     TT_OTHER_FILE = 1702,  /* not such a file, or of another owner, writable by others, of another boot or another clock */
     TT_NO_SLOT = 1703,     /* no daemon wrote what stands there */
-    TT_BUSY = 1704         /* another publication came during each of the tries */
+    TT_BUSY = 1704,        /* another publication came during each of the tries */
+    TT_TOO_WIDE = 1708     /* the clock is past the last reading at which the publication may be used */
 };
 
 /* A file. Set it by tt_open or tt_open_unmapped; after that any number of threads may use it. */
@@ -70,11 +71,12 @@ typedef struct tt_client {
 
 /* What the daemon published. */
 typedef struct tt_publication {
-    uint64_t clock_ns;       /* the machine's clock at the fusion */
-    uint64_t lo_ns, hi_ns;   /* the interval that held the true time then */
-    uint64_t valid_until_ns; /* the last clock reading at which a newer publication is not overdue */
-    uint64_t epoch, number;  /* the daemon's life, and the publication's number in it */
-    uint64_t drift_ppm;      /* how far the clock may drift */
+    uint64_t clock_ns;        /* the machine's clock at the fusion */
+    uint64_t lo_ns, hi_ns;    /* the interval that held the true time then */
+    uint64_t valid_until_ns;  /* the last clock reading at which a newer publication is not overdue */
+    uint64_t usable_until_ns; /* the last clock reading at which it may be used; UINT64_MAX: no limit; 0: none */
+    uint64_t epoch, number;   /* the daemon's life, and the publication's number in it */
+    uint64_t drift_ppm;       /* how far the clock may drift */
 } tt_publication;
 
 /* What is known of the true time: it lies in [earliest_ns, latest_ns], both ends included. */
@@ -84,7 +86,7 @@ typedef struct tt_reading {
     bool fresh;             /* false: the daemon is late or gone. The interval is right, and widens until it is back */
 } tt_reading;
 
-enum { TT_BYTES = 192, TT_INDEX_WORD = 2, TT_FIRST_SLOT = 8, TT_SLOT_WORDS = 8, TT_TRIES = 1000 };
+enum { TT_BYTES = 320, TT_INDEX_WORD = 2, TT_FIRST_SLOT = 8, TT_SLOT_WORDS = 16, TT_USED_WORDS = 9, TT_TRIES = 1000 };
 
 /* Whether CLOCK_MONOTONIC is here what it is to the daemon: the same boot, and no time namespace that shifts it. */
 static inline bool tt_is_same_clock(const char *boot) {
@@ -118,7 +120,7 @@ static inline int tt_check_file(int file, uid_t owner) {
         return TT_OTHER_FILE;
     if (!tt_pread(file, head, sizeof head, 0)) return TT_NO_FILE;
     /* The format, the length, and the clock: 1 is CLOCK_MONOTONIC. The boot has 36 letters, and 4 zeros follow. */
-    if (memcmp(head, "TTS1\xc0\0\0\0\1\0\0\0\0\0\0\0", 16) != 0 || memcmp(head + 60, "\0\0\0\0", 4) != 0 ||
+    if (memcmp(head, "TTS2\x40\1\0\0\1\0\0\0\0\0\0\0", 16) != 0 || memcmp(head + 60, "\0\0\0\0", 4) != 0 ||
         !tt_is_same_clock(head + 24))
         return TT_OTHER_FILE;
     return 0;
@@ -183,7 +185,7 @@ static inline int tt_copy_unmapped(const tt_client *client, uint64_t *index, uin
     return again == *index ? 0 : TT_BUSY;
 }
 
-/* The last publication. Refuses with 1701, 801, 1704 and 1703. */
+/* The last publication. Refuses with 1701, 801, 1704 and 1703, and then with 801 where nothing is published any more. */
 static inline int tt_read(const tt_client *client, tt_publication *published) {
     uint64_t index, word[TT_SLOT_WORDS];
     for (int tries = 0;; tries++) {
@@ -192,9 +194,12 @@ static inline int tt_read(const tt_client *client, tt_publication *published) {
         if (refused == TT_NO_FILE || tries + 1 == TT_TRIES) return refused;
     }
     if (index == 0) return TT_NOTHING;
+    uint64_t behind = 0; /* zeros fill the slot */
+    for (int place = TT_USED_WORDS; place < TT_SLOT_WORDS; place++) behind |= word[place];
     if (word[0] != index || word[1] > TT_MAX_TIME_NS || word[2] > word[3] || word[3] > TT_MAX_TIME_NS ||
-        word[7] > TT_MAX_DRIFT_PPM)
+        word[7] > TT_MAX_DRIFT_PPM || behind != 0)
         return TT_NO_SLOT;
+    if (word[8] == 0) return TT_NOTHING;
     published->clock_ns = word[1];
     published->lo_ns = word[2];
     published->hi_ns = word[3];
@@ -202,6 +207,7 @@ static inline int tt_read(const tt_client *client, tt_publication *published) {
     published->epoch = word[5];
     published->number = word[6];
     published->drift_ppm = word[7];
+    published->usable_until_ns = word[8];
     return 0;
 }
 
@@ -210,9 +216,10 @@ static inline uint64_t tt_widening(uint64_t drift_ppm, uint64_t elapsed_ns) {
     return elapsed_ns / 1000000 * drift_ppm + (elapsed_ns % 1000000 * drift_ppm + 999999) / 1000000;
 }
 
-/* The reading of a publication at a clock reading. Refuses with 802, and then the reading stays as it was. */
+/* The reading of a publication at a clock reading. Refuses with 802 and 1708, and then the reading stays as it was. */
 static inline int tt_read_at(const tt_publication *published, uint64_t clock_ns, tt_reading *reading) {
     if (clock_ns < published->clock_ns || clock_ns > TT_MAX_TIME_NS) return TT_CLOCK_BACK;
+    if (clock_ns > published->usable_until_ns) return TT_TOO_WIDE;
     uint64_t elapsed = clock_ns - published->clock_ns;
     uint64_t widening = tt_widening(published->drift_ppm, elapsed); /* at most elapsed */
     uint64_t low = published->lo_ns + (elapsed - widening), high = published->hi_ns + (elapsed + widening);
@@ -235,7 +242,7 @@ static inline int tt_clock(uint64_t *clock_ns) {
 }
 
 /* The time now. The clock is read after the publication, so it is not below that of the publication. Refuses with
- * 1701, 801, 1704, 1703, 803 and 802; the reading is then the interval of all times, and not fresh. */
+ * 1701, 801, 1704, 1703, 803, 802 and 1708; the reading is then the interval of all times, and not fresh. */
 static inline int tt_now(const tt_client *client, tt_reading *reading) {
     tt_publication published;
     uint64_t clock_ns = 0;

@@ -10,31 +10,37 @@ type Refusal uint16
 
 // The refusals that a caller may want to tell apart; docs/FORMATS.md has all.
 const (
-	Nothing       Refusal = 801  // the daemon has published nothing so far
-	ClockBack     Refusal = 802  // the clock is below that of the publication, or above the greatest time
-	ClockFailed   Refusal = 803  // the clock gave no reading
-	FloorTooFar   Refusal = 902  // the floor is too far ahead
-	LeaseOver     Refusal = 903  // the least timestamp is above the upper end of the lease
-	CommitPending Refusal = 1104 // the last commit is not known as released
-	NoFile        Refusal = 1701 // the file cannot be opened, mapped or read, or the client is closed
-	OtherFile     Refusal = 1702 // not such a file, or of another owner, writable by others, of another boot or another clock
-	NoSlot        Refusal = 1703 // no daemon wrote what stands there
-	Busy          Refusal = 1704 // another publication came during each of the tries
-	FloorAboveCap Refusal = 1821 // the floor, or the lower end of the lease, is further ahead than the machine allows
+	Nothing        Refusal = 801  // the daemon has published nothing so far, or nothing is published any more
+	ClockBack      Refusal = 802  // the clock is below that of the publication, or above the greatest time
+	ClockFailed    Refusal = 803  // the clock gave no reading
+	FloorTooFar    Refusal = 902  // the floor is too far ahead
+	LeaseOver      Refusal = 903  // the least timestamp is above the upper end of the lease
+	CommitPending  Refusal = 1104 // the last commit is not known as released
+	NoFile         Refusal = 1701 // the file cannot be opened, mapped or read, or the client is closed
+	OtherFile      Refusal = 1702 // not such a file, or of another owner, writable by others, of another boot or another clock
+	NoSlot         Refusal = 1703 // no daemon wrote what stands there
+	Busy           Refusal = 1704 // another publication came during each of the tries
+	TooWide        Refusal = 1708 // the clock is past the last reading at which the publication may be used
+	FloorAboveCap  Refusal = 1821 // the floor, or the lower end of the lease, is further ahead than the machine allows
+	Broken         Refusal = 1823 // the machine knows that an assumption of the service is broken
+	ReadingTooWide Refusal = 1824 // the reading is wider than the machine allows
 )
 
 var meanings = map[Refusal]string{
-	Nothing:       "the daemon has published nothing so far",
-	ClockBack:     "the clock is below that of the publication, or above the greatest time",
-	ClockFailed:   "the clock gave no reading",
-	FloorTooFar:   "the floor is too far ahead",
-	LeaseOver:     "the least timestamp is above the upper end of the lease",
-	CommitPending: "the last commit is not known as released",
-	NoFile:        "the file cannot be opened, mapped or read, or the client is closed",
-	OtherFile:     "not such a file, or of another owner, writable by others, of another boot or another clock",
-	NoSlot:        "no daemon wrote what stands there",
-	Busy:          "another publication came during each of the tries",
-	FloorAboveCap: "the floor, or the lower end of the lease, is further ahead than the machine allows",
+	Nothing:        "the daemon has published nothing so far, or nothing is published any more",
+	ClockBack:      "the clock is below that of the publication, or above the greatest time",
+	ClockFailed:    "the clock gave no reading",
+	FloorTooFar:    "the floor is too far ahead",
+	LeaseOver:      "the least timestamp is above the upper end of the lease",
+	CommitPending:  "the last commit is not known as released",
+	NoFile:         "the file cannot be opened, mapped or read, or the client is closed",
+	OtherFile:      "not such a file, or of another owner, writable by others, of another boot or another clock",
+	NoSlot:         "no daemon wrote what stands there",
+	Busy:           "another publication came during each of the tries",
+	TooWide:        "the clock is past the last reading at which the publication may be used",
+	FloorAboveCap:  "the floor, or the lower end of the lease, is further ahead than the machine allows",
+	Broken:         "the machine knows that an assumption of the service is broken",
+	ReadingTooWide: "the reading is wider than the machine allows",
 }
 
 func (r Refusal) Error() string {

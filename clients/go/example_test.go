@@ -111,7 +111,7 @@ func ExampleOpen() {
 }
 
 func ExamplePublication_At() {
-	published := truetime.Publication{Clock: 1000, Lo: 5, Hi: 15, Drift: 200, ValidUntil: 5000}
+	published := truetime.Publication{Clock: 1000, Lo: 5, Hi: 15, Drift: 200, ValidUntil: 5000, UsableUntil: 1<<64 - 1}
 	now, err := published.At(6000)
 	fmt.Println(now.Earliest, now.Latest, now.Fresh, err)
 	fmt.Println(now.After(5003), now.After(5004), now.Before(5016), now.Before(5017))

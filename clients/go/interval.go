@@ -31,18 +31,22 @@ type Reading struct {
 
 // A Publication is what the daemon published.
 type Publication struct {
-	Clock      uint64 // the machine's clock at the fusion
-	Lo, Hi     uint64 // the interval that held the true time then
-	ValidUntil uint64 // the last clock reading at which a newer publication is not overdue
-	Epoch      uint64 // the daemon's life
-	Number     uint64 // the publication's number in that life
-	Drift      uint64 // how far the clock may drift, in parts per million
+	Clock       uint64 // the machine's clock at the fusion
+	Lo, Hi      uint64 // the interval that held the true time then
+	ValidUntil  uint64 // the last clock reading at which a newer publication is not overdue
+	UsableUntil uint64 // the last clock reading at which it may be used; 1<<64 - 1: no limit; 0: nothing is published any more
+	Epoch       uint64 // the daemon's life
+	Number      uint64 // the publication's number in that life
+	Drift       uint64 // how far the clock may drift, in parts per million
 }
 
-// At gives the reading of this publication at a clock reading. It refuses with ClockBack.
+// At gives the reading of this publication at a clock reading. It refuses with ClockBack and TooWide.
 func (p *Publication) At(clock uint64) (Reading, error) {
 	if clock < p.Clock || clock > MaxTime {
 		return Reading{Interval: allTimes}, ClockBack
+	}
+	if clock > p.UsableUntil {
+		return Reading{Interval: allTimes}, TooWide
 	}
 	elapsed := clock - p.Clock
 	widening := elapsed/1_000_000*p.Drift + (elapsed%1_000_000*p.Drift+999_999)/1_000_000 // rounded up; at most elapsed

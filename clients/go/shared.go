@@ -16,14 +16,15 @@ import (
 )
 
 const (
-	fileBytes = 192
-	fileWords = fileBytes / 8
+	fileWords = firstSlot + 2*slotWords
+	fileBytes = 8 * fileWords
 	indexWord = 2
 	firstSlot = 8
-	slotWords = 8
+	slotWords = 16
+	usedWords = 9 // zeros follow
 	tries     = 1000
 	// The format, the length, and the clock: 1 is CLOCK_MONOTONIC.
-	head = "TTS1\xc0\x00\x00\x00\x01\x00\x00\x00\x00\x00\x00\x00"
+	head = "TTS2\x40\x01\x00\x00\x01\x00\x00\x00\x00\x00\x00\x00"
 )
 
 // A Client reads the time from a file of a daemon. Any number of goroutines may use it.
@@ -76,8 +77,8 @@ func (c *Client) Close() error {
 	return nil
 }
 
-// Read gives the last publication. It refuses with Nothing, Busy and NoSlot, and with NoFile where the client is closed, or
-// where the file is not mapped and has become shorter.
+// Read gives the last publication. It refuses with Nothing, Busy and NoSlot, then with Nothing where nothing is published any
+// more, and with NoFile where the client is closed, or where the file is not mapped and has become shorter.
 func (c *Client) Read() (Publication, error) {
 	var published Publication
 	if err := c.read(&published); err != nil {
@@ -86,7 +87,7 @@ func (c *Client) Read() (Publication, error) {
 	return published, nil
 }
 
-// Now gives the time now. It refuses as Read, and with ClockFailed and ClockBack.
+// Now gives the time now. It refuses as Read, and with ClockFailed, ClockBack and TooWide.
 func (c *Client) Now() (Reading, error) {
 	var published Publication
 	if err := c.read(&published); err != nil {
@@ -103,12 +104,13 @@ func (c *Client) Now() (Reading, error) {
 func (c *Client) read(published *Publication) error {
 	mapped := c.mapped.Load()
 	for try := 0; try < tries; try++ {
-		var index, echo, again uint64
+		var index, again uint64
+		var word [slotWords]uint64
 		if mapped != nil {
-			index, echo, again = mapped.copy(published)
+			index, again = mapped.copy(&word)
 		} else {
 			var err error
-			if index, echo, again, err = copyUnmapped(c.file, published); err != nil {
+			if index, again, err = copyUnmapped(c.file, &word); err != nil {
 				return NoFile
 			}
 		}
@@ -118,8 +120,12 @@ func (c *Client) read(published *Publication) error {
 		if index == 0 {
 			return Nothing
 		}
-		if echo != index || !published.isInRange() {
+		*published = Publication{word[1], word[2], word[3], word[4], word[8], word[5], word[6], word[7]}
+		if word[0] != index || !published.isInRange() || !isZero(word[usedWords:]) {
 			return NoSlot
+		}
+		if published.UsableUntil == 0 {
+			return Nothing
 		}
 		return nil
 	}
@@ -132,39 +138,41 @@ func slotOf(index uint64) int {
 	return firstSlot + slotWords*(bits.OnesCount64(index&0x0101010101010101)&1)
 }
 
-// copy gives the index, the index in the slot that is current at it, the publication in that slot, and the index again. The
-// copy is whole where the first and the last are the same: a publication changes the index before the next one writes into
-// this slot, and no index comes twice. Atomic loads of Go stay in their order.
-func (m *mapping) copy(published *Publication) (index, echo, again uint64) {
+func isZero(words []uint64) bool {
+	for _, word := range words {
+		if word != 0 {
+			return false
+		}
+	}
+	return true
+}
+
+// copy copies the slot that is current at the index, and gives the index and the index again. The copy is whole where both
+// are the same: a publication changes the index before the next one writes into this slot, and no index comes twice. Atomic
+// loads of Go stay in their order.
+func (m *mapping) copy(word *[slotWords]uint64) (index, again uint64) {
 	index = atomic.LoadUint64(&m.words[indexWord])
 	slot := (*[slotWords]uint64)(m.words[slotOf(index):])
-	echo = atomic.LoadUint64(&slot[0])
-	published.Clock = atomic.LoadUint64(&slot[1])
-	published.Lo = atomic.LoadUint64(&slot[2])
-	published.Hi = atomic.LoadUint64(&slot[3])
-	published.ValidUntil = atomic.LoadUint64(&slot[4])
-	published.Epoch = atomic.LoadUint64(&slot[5])
-	published.Number = atomic.LoadUint64(&slot[6])
-	published.Drift = atomic.LoadUint64(&slot[7])
+	for place := range slot {
+		word[place] = atomic.LoadUint64(&slot[place])
+	}
 	again = atomic.LoadUint64(&m.words[indexWord])
 	runtime.KeepAlive(m) // it is not unmapped before
-	return index, echo, again
+	return index, again
 }
 
 // copyUnmapped is the same of a file that is not mapped.
-func copyUnmapped(file *os.File, published *Publication) (index, echo, again uint64, err error) {
-	var word [slotWords]uint64
-	if err = readWords(file, indexWord, word[:1]); err != nil {
-		return 0, 0, 0, err
+func copyUnmapped(file *os.File, word *[slotWords]uint64) (index, again uint64, err error) {
+	var one [1]uint64
+	if err = readWords(file, indexWord, one[:]); err != nil {
+		return 0, 0, err
 	}
-	index = word[0]
+	index = one[0]
 	if err = readWords(file, slotOf(index), word[:]); err != nil {
-		return 0, 0, 0, err
+		return 0, 0, err
 	}
-	*published = Publication{word[1], word[2], word[3], word[4], word[5], word[6], word[7]}
-	echo = word[0]
-	err = readWords(file, indexWord, word[:1])
-	return index, echo, word[0], err
+	err = readWords(file, indexWord, one[:])
+	return index, one[0], err
 }
 
 // readWords reads words of a file from this place on. It fails where the file has not that many.

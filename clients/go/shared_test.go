@@ -36,12 +36,13 @@ func publicationOf(n uint64) Publication {
 	if lo > hi {
 		lo, hi = hi, lo
 	}
-	return Publication{scattered(n, 3) % 1_000_000, lo, hi, scattered(n, 4), scattered(n, 5), n, scattered(n, 6) % (MaxDrift + 1)}
+	usable := scattered(n, 7) | 1 // 0: nothing is published any more
+	return Publication{scattered(n, 3) % 1_000_000, lo, hi, scattered(n, 4), usable, scattered(n, 5), n, scattered(n, 6) % (MaxDrift + 1)}
 }
 
 // slotWith gives the words of a slot with this publication.
 func slotWith(count uint64, p Publication) [slotWords]uint64 {
-	return [slotWords]uint64{indexOf(count), p.Clock, p.Lo, p.Hi, p.ValidUntil, p.Epoch, p.Number, p.Drift}
+	return [slotWords]uint64{indexOf(count), p.Clock, p.Lo, p.Hi, p.ValidUntil, p.Epoch, p.Number, p.Drift, p.UsableUntil}
 }
 
 // makeFile makes a file with this publication, and gives its path.
@@ -84,7 +85,7 @@ func TestNow(t *testing.T) {
 	const lo, hi = 1_000_000_000, 1_000_000_100
 	for way := range ways {
 		for _, until := range []uint64{0, MaxTime} {
-			client := openFor(t, way, makeFile(t, 1, Publication{Clock: clock, Lo: lo, Hi: hi, ValidUntil: until, Epoch: 7, Number: 9}))
+			client := openFor(t, way, makeFile(t, 1, Publication{Clock: clock, Lo: lo, Hi: hi, ValidUntil: until, UsableUntil: noLimit, Epoch: 7, Number: 9}))
 			before, _ := readSystemClock()
 			now, err := client.Now()
 			after, _ := readSystemClock()
@@ -109,15 +110,19 @@ func TestRefusals(t *testing.T) {
 			want  error
 		}{
 			{0, Publication{}, Nothing},
-			{1, Publication{Clock: clock + 1_000_000_000_000}, ClockBack},
+			{1, Publication{}, Nothing},
+			{1, Publication{Clock: clock + 1_000_000_000_000}, Nothing},
+			{1, Publication{Clock: clock + 1_000_000_000_000, UsableUntil: noLimit}, ClockBack},
+			{1, Publication{Clock: clock + 1_000_000_000_000, UsableUntil: 1}, ClockBack},
+			{1, Publication{UsableUntil: 1}, TooWide},
 			{1, Publication{Lo: 2, Hi: 1}, NoSlot},
-			{1, Publication{Drift: MaxDrift + 1}, NoSlot},
+			{1, Publication{Drift: MaxDrift + 1, UsableUntil: noLimit}, NoSlot},
 		} {
 			if now, err := openFor(t, way, makeFile(t, try.count, try.p)).Now(); err != try.want || now.Interval != allTimes || now.Fresh {
 				t.Error(way, now, err, "in place of", try.want)
 			}
 		}
-		path := makeFile(t, 1, Publication{})
+		path := makeFile(t, 1, Publication{UsableUntil: noLimit})
 		if _, err := open(path+"-not", me()); err != NoFile {
 			t.Error(way, err)
 		}
@@ -256,7 +261,7 @@ func TestNowBesideWriter(t *testing.T) {
 	var words page
 	publish := func(n uint64) {
 		clock, _ := readSystemClock()
-		words.publish(n, Publication{Clock: clock, Hi: MaxTime, Number: n})
+		words.publish(n, Publication{Clock: clock, Hi: MaxTime, UsableUntil: noLimit, Number: n})
 	}
 	publish(1)
 	client := words.client()
@@ -311,7 +316,7 @@ func TestShorter(t *testing.T) {
 		t.Fatal(err)
 	}
 	client := openFor(t, "unmapped", path)
-	for _, length := range []int{191, 128, 23, 16, 0} {
+	for _, length := range []int{319, 192, 23, 16, 0} {
 		if err := os.WriteFile(path, whole[:length], 0o644); err != nil {
 			t.Fatal(err)
 		}
@@ -332,7 +337,7 @@ func TestShorter(t *testing.T) {
 
 // TestAllocations has a mapped file read without allocating.
 func TestAllocations(t *testing.T) {
-	client := openFor(t, "mapped", makeFile(t, 1, Publication{}))
+	client := openFor(t, "mapped", makeFile(t, 1, Publication{UsableUntil: noLimit}))
 	if often := testing.AllocsPerRun(1000, func() { client.Now() }); often != 0 {
 		t.Error(often)
 	}
@@ -341,7 +346,7 @@ func TestAllocations(t *testing.T) {
 var sum uint64
 
 func benchmarkNow(b *testing.B, way string, byRuntime bool) {
-	client := openFor(b, way, makeFile(b, 1, Publication{}))
+	client := openFor(b, way, makeFile(b, 1, Publication{UsableUntil: noLimit}))
 	client.byRuntime = byRuntime
 	b.ResetTimer()
 	for turn := 0; turn < b.N; turn++ {
@@ -358,7 +363,7 @@ func BenchmarkNowSyscall(b *testing.B) { benchmarkNow(b, "mapped", false) }
 func BenchmarkUnmapped(b *testing.B)   { benchmarkNow(b, "unmapped", isRuntimeClock()) }
 
 func BenchmarkRead(b *testing.B) {
-	client := openFor(b, "mapped", makeFile(b, 1, Publication{}))
+	client := openFor(b, "mapped", makeFile(b, 1, Publication{UsableUntil: noLimit}))
 	b.ResetTimer()
 	for turn := 0; turn < b.N; turn++ {
 		p, err := client.Read()

@@ -19,7 +19,7 @@ import java.util.Map;
 /**
  * The time with an error bound, read from shared memory.
  *
- * <p>The time daemon of a machine keeps its last publication in a file of 192 bytes. A client maps that file once and
+ * <p>The time daemon of a machine keeps its last publication in a file of 320 bytes. A client maps that file once and
  * reads it as often as it likes, without a lock and without waiting:
  *
  * <pre>{@code
@@ -32,8 +32,8 @@ import java.util.Map;
  * InternalError}, at some moment. A client of {@link #openUnmapped} refuses instead; each of its calls makes three system
  * calls more.
  *
- * <p>Reads version 1 of the format (its first four bytes are TTS1). Needs Linux on a little-endian 64-bit machine and
- * Java 17 or later. A mapping lives as long as its client object does. {@link System#nanoTime} has to show
+ * <p>Reads version 2 of the format (its first four bytes are TTS2), and refuses a file of version 1 with 1702. Needs Linux
+ * on a little-endian 64-bit machine and Java 17 or later. A mapping lives as long as its client object does. {@link System#nanoTime} has to show
  * CLOCK_MONOTONIC, as it does in OpenJDK on Linux.
  */
 public final class TrueTime implements AutoCloseable {
@@ -42,22 +42,26 @@ public final class TrueTime implements AutoCloseable {
     /** The greatest drift of a clock, in parts per million. */
     public static final long MAX_DRIFT_PPM = 100_000;
 
-    private static final int BYTES = 192;
+    private static final int BYTES = 320;
     private static final int INDEX_AT = 16;
     private static final int FIRST_SLOT_AT = 64;
-    private static final int SLOT_BYTES = 64;
+    private static final int SLOT_BYTES = 128;
+    private static final int USED_BYTES = 72;
     private static final int TRIES = 1000;
-    private static final long MAGIC_AND_LENGTH = 0x0000_00c0_3153_5454L;
+    private static final long MAGIC_AND_LENGTH = 0x0000_0140_3253_5454L;
     private static final long LOWEST_BITS = 0x0101_0101_0101_0101L;
     private static final VarHandle WORD = MethodHandles.byteBufferViewVarHandle(long[].class, ByteOrder.LITTLE_ENDIAN);
     private static final Map<Integer, String> MEANINGS = Map.of(
-        801, "the daemon has published nothing so far",
+        801, "the daemon has published nothing so far, or nothing is published any more",
         802, "the clock is below that of the publication, or above the greatest time",
         803, "the clock gave no reading",
         1701, "the file cannot be opened, mapped or read",
         1702, "not such a file, or of another owner, writable by others, of another boot or another clock",
         1703, "no daemon wrote what stands there",
-        1704, "another publication came during each of the tries");
+        1704, "another publication came during each of the tries",
+        1708, "the clock is past the last reading at which the publication may be used",
+        1823, "the machine knows that an assumption of the service is broken",
+        1824, "the reading is wider than the machine allows");
 
     /** One of these is null. */
     private final ByteBuffer mapped;
@@ -101,13 +105,19 @@ public final class TrueTime implements AutoCloseable {
         }
     }
 
-    /** What the daemon published; epoch, number and validUntilNs are unsigned. */
+    /**
+     * What the daemon published; epoch, number, validUntilNs and usableUntilNs are unsigned. The last one is the last clock
+     * reading at which it may be used; -1 (2^64 - 1): there is no limit; 0: nothing is published any more.
+     */
     public record Publication(
-            long clockNs, long loNs, long hiNs, long validUntilNs, long epoch, long number, long driftPpm) {
-        /** The reading of this publication at a clock reading. Refuses with 802. */
+            long clockNs, long loNs, long hiNs, long validUntilNs, long usableUntilNs, long epoch, long number, long driftPpm) {
+        /** The reading of this publication at a clock reading. Refuses with 802 and 1708. */
         public Reading readAt(long nowNs) {
             if (nowNs < clockNs || nowNs > MAX_TIME_NS) {
                 throw new Refused(802);
+            }
+            if (Long.compareUnsigned(nowNs, usableUntilNs) > 0) {
+                throw new Refused(1708);
             }
             long elapsed = nowNs - clockNs;
             long widening = elapsed / 1_000_000 * driftPpm + (elapsed % 1_000_000 * driftPpm + 999_999) / 1_000_000;
@@ -163,7 +173,10 @@ public final class TrueTime implements AutoCloseable {
         }
     }
 
-    /** The last publication. Refuses with 801, 1704 and 1703, and with 1701 where it is not mapped and has become shorter. */
+    /**
+     * The last publication. Refuses with 801, 1704 and 1703, then with 801 where nothing is published any more, and with 1701
+     * where it is not mapped and has become shorter.
+     */
     public Publication read() {
         for (int tries = 0; tries < TRIES; tries++) {
             long index = index();
@@ -172,22 +185,29 @@ public final class TrueTime implements AutoCloseable {
             ByteBuffer copy = mapped == null ? bytesAt(file, at, SLOT_BYTES) : null;
             long echo = word(copy, at, 0);
             Publication published = new Publication(word(copy, at, 8), word(copy, at, 16), word(copy, at, 24), word(copy, at, 32),
-                word(copy, at, 40), word(copy, at, 48), word(copy, at, 56));
+                word(copy, at, 64), word(copy, at, 40), word(copy, at, 48), word(copy, at, 56));
+            long behind = 0; // zeros fill the slot
+            for (int place = USED_BYTES; place < SLOT_BYTES; place += Long.BYTES) {
+                behind |= word(copy, at, place);
+            }
             if (index() != index) {
                 continue;
             }
             if (index == 0) {
                 throw new Refused(801);
             }
-            if (echo != index || !published.isInRange()) {
+            if (echo != index || !published.isInRange() || behind != 0) {
                 throw new Refused(1703);
+            }
+            if (published.usableUntilNs() == 0) {
+                throw new Refused(801);
             }
             return published;
         }
         throw new Refused(1704);
     }
 
-    /** The time now. Refuses as {@link #read}, and with 802. */
+    /** The time now. Refuses as {@link #read}, and with 802 and 1708. */
     public Reading now() {
         Publication published = read();
         // The clock is read after the publication, so it is not below that of the publication.

@@ -1,6 +1,6 @@
 """The time with an error bound, and timestamps for commits, from the time service of this machine.
 
-The time daemon of a machine keeps its last publication in a file of 192 bytes. A client maps that file once and reads
+The time daemon of a machine keeps its last publication in a file of 320 bytes. A client maps that file once and reads
 it as often as it likes, without a lock and without waiting::
 
     import truetime
@@ -19,8 +19,8 @@ Timestamps come from the service itself, over TCP or its Unix socket::
 Where an owner of the file or of its folder truncates the file, a mapped one raises SIGBUS, which ends Python. With
 ``Client(path, owner, mapped=False)`` a call refuses instead; it makes three system calls more.
 
-Reads version 1 of the format (its first four bytes are TTS1). Needs Linux on a little-endian 64-bit machine, Python 3.9
-or later, and nothing but the standard library.
+Reads version 2 of the format (its first four bytes are TTS2), and refuses a file of version 1 with 1702. Needs Linux on
+a little-endian 64-bit machine, Python 3.9 or later, and nothing but the standard library.
 """
 import mmap
 import os
@@ -37,24 +37,28 @@ MAX_TIME_NS = 4_000_000_000_000_000_000
 #: The greatest drift of a clock, in parts per million.
 MAX_DRIFT_PPM = 100_000
 
-_BYTES = 192
+_BYTES = 320
 _INDEX_AT = 16
-_SLOTS_AT = (64, 128)
+_SLOTS_AT = (64, 192)
 _TRIES = 1000
-_HEAD = b"TTS1\xc0\0\0\0\1\0\0\0\0\0\0\0"
+_HEAD = b"TTS2\x40\1\0\0\1\0\0\0\0\0\0\0"
 _LOWEST_BITS = 0x0101010101010101
 # "@" makes CPython copy each number as one word of eight bytes; "<" or "=" would copy it byte by byte.
 _WORD = struct.Struct("@Q")
-_SLOT = struct.Struct("@8Q")
+_SLOT = struct.Struct("@16Q")
+_USED_WORDS = 9
 
 _MEANINGS = {
-    801: "the daemon has published nothing so far",
+    801: "the daemon has published nothing so far, or nothing is published any more",
     802: "the clock is below that of the publication, or above the greatest time",
     803: "the clock gave no reading",
     1701: "the file cannot be opened, mapped or read",
     1702: "not such a file, or of another owner, writable by others, of another boot or another clock",
     1703: "no daemon wrote what stands there",
     1704: "another publication came during each of the tries",
+    1708: "the clock is past the last reading at which the publication may be used",
+    1823: "the machine knows that an assumption of the service is broken",
+    1824: "the reading is wider than the machine allows",
 }
 
 #: How long a session waits for one reply, and for a commit to be released.
@@ -257,15 +261,19 @@ class Publication(NamedTuple):
     hi_ns: int
     #: The last clock reading at which a newer publication is not overdue.
     valid_until_ns: int
+    #: The last clock reading at which it may be used. 2^64 - 1: there is no limit. 0: nothing is published any more.
+    usable_until_ns: int
     epoch: int
     number: int
     #: How far the clock may drift.
     drift_ppm: int
 
     def read_at(self, clock_ns: int) -> Reading:
-        """The reading of this publication at a clock reading. Refuses with 802."""
+        """The reading of this publication at a clock reading. Refuses with 802 and 1708."""
         if clock_ns < self.clock_ns or clock_ns > MAX_TIME_NS:
             raise Refused(802)
+        if clock_ns > self.usable_until_ns:
+            raise Refused(1708)
         elapsed = clock_ns - self.clock_ns
         widening = (elapsed * self.drift_ppm + 999_999) // 1_000_000
         return Reading(
@@ -310,17 +318,20 @@ class Client:
         self.close()
 
     def read(self) -> Publication:
-        """The last publication. Refuses with 801, 1704 and 1703, and with 1701 where it is not mapped and has become shorter."""
+        """The last publication. Refuses with 801, 1704 and 1703, then with 801 where nothing is published any more, and with 1701 where it
+        is not mapped and has become shorter."""
         copied = self._copied_unmapped if self._mapped is None else self._copied
         for _ in range(_TRIES):
-            index, (echo, *words), again = copied()
+            index, word, again = copied()
             if again != index:
                 continue
             if index == 0:
                 raise Refused(801)
-            published = Publication(*words)
-            if echo != index or not _is_in_range(published):
+            published = Publication(*word[1:5], word[8], *word[5:8])
+            if word[0] != index or not _is_in_range(published) or any(word[_USED_WORDS:]):
                 raise Refused(1703)
+            if published.usable_until_ns == 0:
+                raise Refused(801)
             return published
         raise Refused(1704)
 
@@ -345,7 +356,7 @@ class Client:
         self._file = -1
 
     def now(self) -> Reading:
-        """The time now. Refuses as ``read``, and with 803 and 802."""
+        """The time now. Refuses as ``read``, and with 803, 802 and 1708."""
         published = self.read()
         # The clock is read after the publication, so it is not below that of the publication.
         try:

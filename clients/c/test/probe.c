@@ -1,7 +1,7 @@
 /* probe.c: what the reader answers, for the tests.
  *
- *     probe vectors < LINES    for each line `CLOCK LO HI DRIFT NOW`, the reading `EARLIEST LATEST`, or `refused N`
- *     probe open PATH          `published CLOCK LO HI VALID_UNTIL EPOCH NUMBER DRIFT` of the file, or `refused N`
+ *     probe vectors < LINES    for each line `CLOCK LO HI DRIFT USABLE_UNTIL NOW`, the reading `EARLIEST LATEST`, or `refused N`
+ *     probe open PATH          `published CLOCK LO HI VALID_UNTIL USABLE_UNTIL EPOCH NUMBER DRIFT` of the file, or `refused N`
  *     probe files < LINES      for each line `open PATH` the same of a file that is not mapped, and for `again` of that file now
  *     probe session < CALLS    for each call of a session, what it gives, `refused N`, `timed out`, `invalid` or `failed`.
  *                              The calls are `open tcp PORT MILLISECONDS`, `open unix PATH MILLISECONDS`, `now`, `after T`,
@@ -26,8 +26,8 @@ static int try_vectors(void) {
     tt_publication p;
     uint64_t now_ns;
     memset(&p, 0, sizeof p);
-    while (scanf("%" SCNu64 "%" SCNu64 "%" SCNu64 "%" SCNu64 "%" SCNu64, &p.clock_ns, &p.lo_ns, &p.hi_ns, &p.drift_ppm,
-                 &now_ns) == 5)
+    while (scanf("%" SCNu64 "%" SCNu64 "%" SCNu64 "%" SCNu64 "%" SCNu64 "%" SCNu64, &p.clock_ns, &p.lo_ns, &p.hi_ns,
+                 &p.drift_ppm, &p.usable_until_ns, &now_ns) == 6)
         print_reading_at(&p, now_ns);
     return 0;
 }
@@ -36,8 +36,8 @@ static void print_publication(int refused, const tt_publication *p) {
     if (refused != 0)
         printf("refused %d\n", refused);
     else
-        printf("published %" PRIu64 " %" PRIu64 " %" PRIu64 " %" PRIu64 " %" PRIu64 " %" PRIu64 " %" PRIu64 "\n", p->clock_ns,
-               p->lo_ns, p->hi_ns, p->valid_until_ns, p->epoch, p->number, p->drift_ppm);
+        printf("published %" PRIu64 " %" PRIu64 " %" PRIu64 " %" PRIu64 " %" PRIu64 " %" PRIu64 " %" PRIu64 " %" PRIu64 "\n",
+               p->clock_ns, p->lo_ns, p->hi_ns, p->valid_until_ns, p->usable_until_ns, p->epoch, p->number, p->drift_ppm);
     fflush(stdout);
 }
 

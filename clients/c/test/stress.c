@@ -3,7 +3,7 @@
  *     stress PATH WAY READERS READS
  *
  * WAY says how the writer's bytes reach the file: `pwrite` (one write of the slot and one of a byte, as the daemon does),
- * `pieces` (eight writes of eight bytes), `stores` (atomic words through a mapping), `bytes` (single bytes through a
+ * `pieces` (sixteen writes of eight bytes), `stores` (atomic words through a mapping), `bytes` (single bytes through a
  * mapping, the last first), `killed` (as pwrite, killed at any moment and started again), `thread` (as stores, in a thread
  * of this process, for the thread sanitizer), or `unchecked`, a control: as pwrite, and the readers take each copy without
  * the second look at the index. The last of several readers has the file not mapped.
@@ -43,6 +43,7 @@ static tt_publication publication_of(uint64_t n) {
     p.lo_ns = a < b ? a : b;
     p.hi_ns = a < b ? b : a;
     p.valid_until_ns = scattered(n, 4);
+    p.usable_until_ns = scattered(n, 7) | 1; /* 0: nothing is published any more */
     p.epoch = scattered(n, 5);
     p.number = n;
     p.drift_ppm = scattered(n, 6) % (TT_MAX_DRIFT_PPM + 1);
@@ -52,7 +53,7 @@ static tt_publication publication_of(uint64_t n) {
 static bool is_publication(const tt_publication *p) {
     tt_publication q = publication_of(p->number);
     return p->clock_ns == q.clock_ns && p->lo_ns == q.lo_ns && p->hi_ns == q.hi_ns && p->valid_until_ns == q.valid_until_ns &&
-           p->epoch == q.epoch && p->drift_ppm == q.drift_ppm;
+           p->usable_until_ns == q.usable_until_ns && p->epoch == q.epoch && p->drift_ppm == q.drift_ppm;
 }
 
 /* The index of count n: byte i is byte i of n less the next higher byte of n, modulo 256. */
@@ -88,7 +89,7 @@ static void fail(const char *what) {
 }
 
 static void make_file(void) {
-    unsigned char head[TT_BYTES] = "TTS1\xc0\0\0\0\1\0\0\0\0\0\0\0";
+    unsigned char head[TT_BYTES] = "TTS2\x40\1\0\0\1\0\0\0\0\0\0\0";
     FILE *boot = fopen("/proc/sys/kernel/random/boot_id", "r");
     if (boot == NULL || fread(head + 24, 1, 36, boot) != 36) fail("boot_id");
     fclose(boot);
@@ -115,21 +116,23 @@ static void put(const writer *w, const void *bytes, size_t length, off_t at) {
 
 static void publish(writer *w) {
     uint64_t n = ++w->count, index = index_of(n), change = index ^ index_of(n - 1);
-    off_t byte_at = 16 + __builtin_ctzll(change) / 8, slot_at = 64 + 64 * (off_t)(n & 1);
+    off_t byte_at = 16 + __builtin_ctzll(change) / 8, slot_at = 8 * (TT_FIRST_SLOT + TT_SLOT_WORDS * (off_t)(n & 1));
     unsigned char byte = (unsigned char)(index >> 8 * (byte_at - 16));
     tt_publication p = publication_of(n);
-    uint64_t word[8] = {index, p.clock_ns, p.lo_ns, p.hi_ns, p.valid_until_ns, p.epoch, p.number, p.drift_ppm};
-    unsigned char bytes[64];
+    uint64_t word[TT_SLOT_WORDS] = {index,   p.clock_ns, p.lo_ns,     p.hi_ns,          p.valid_until_ns,
+                                    p.epoch, p.number,   p.drift_ppm, p.usable_until_ns};
+    unsigned char bytes[8 * TT_SLOT_WORDS];
     memcpy(bytes, word, sizeof bytes);
     if (chosen == STORES || chosen == THREAD) {
-        for (int i = 0; i < 8; i++) __atomic_store_n((uint64_t *)(void *)(w->mapped + slot_at + 8 * i), word[i], __ATOMIC_RELEASE);
+        for (int i = 0; i < TT_SLOT_WORDS; i++)
+            __atomic_store_n((uint64_t *)(void *)(w->mapped + slot_at + 8 * i), word[i], __ATOMIC_RELEASE);
         __atomic_store_n((uint64_t *)(void *)(w->mapped + 16), index, __ATOMIC_RELEASE);
     } else if (chosen == BYTES) {
-        for (int i = 63; i >= 0; i--) __atomic_store_n(w->mapped + slot_at + i, bytes[i], __ATOMIC_RELEASE);
+        for (int i = sizeof bytes - 1; i >= 0; i--) __atomic_store_n(w->mapped + slot_at + i, bytes[i], __ATOMIC_RELEASE);
         __atomic_store_n(w->mapped + byte_at, byte, __ATOMIC_RELEASE);
     } else {
-        for (int i = 0; chosen == PIECES && i < 8; i++) put(w, bytes + 8 * i, 8, slot_at + 8 * i);
-        if (chosen != PIECES) put(w, bytes, 64, slot_at);
+        for (int i = 0; chosen == PIECES && i < TT_SLOT_WORDS; i++) put(w, bytes + 8 * i, 8, slot_at + 8 * i);
+        if (chosen != PIECES) put(w, bytes, sizeof bytes, slot_at);
         put(w, &byte, 1, byte_at);
     }
 }
@@ -171,7 +174,7 @@ static int read_once(const tt_client *client, tt_publication *p) {
     if (chosen != UNCHECKED) return tt_read(client, p);
     (void)tt_copy(client, &index, word);
     if (index == 0) return TT_NOTHING;
-    *p = (tt_publication){word[1], word[2], word[3], word[4], word[5], word[6], word[7]};
+    *p = (tt_publication){word[1], word[2], word[3], word[4], word[8], word[5], word[6], word[7]};
     return 0;
 }
 

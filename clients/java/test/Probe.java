@@ -19,10 +19,11 @@ public final class Probe {
         long lo = Long.parseLong(words[1]);
         long hi = Long.parseLong(words[2]);
         long drift = Long.parseLong(words[3]);
+        long usable = Long.parseUnsignedLong(words[4]);
         // A clock reading past 2^63 shows as negative, and is refused like each one past the greatest time.
-        long now = Long.parseUnsignedLong(words[4]);
+        long now = Long.parseUnsignedLong(words[5]);
         try {
-            TrueTime.Reading found = new TrueTime.Publication(clock, lo, hi, 0, 0, 0, drift).readAt(now);
+            TrueTime.Reading found = new TrueTime.Publication(clock, lo, hi, 0, usable, 0, 0, drift).readAt(now);
             return found.earliestNs() + " " + found.latestNs();
         } catch (TrueTime.Refused refused) {
             return "refused " + refused.number();
@@ -33,9 +34,9 @@ public final class Probe {
     private static String published(Supplier<TrueTime> reader) {
         try {
             TrueTime.Publication p = reader.get().read();
-            return String.format("published %d %d %d %s %s %s %d", p.clockNs(), p.loNs(), p.hiNs(),
-                Long.toUnsignedString(p.validUntilNs()), Long.toUnsignedString(p.epoch()),
-                Long.toUnsignedString(p.number()), p.driftPpm());
+            return String.format("published %d %d %d %s %s %s %s %d", p.clockNs(), p.loNs(), p.hiNs(),
+                Long.toUnsignedString(p.validUntilNs()), Long.toUnsignedString(p.usableUntilNs()),
+                Long.toUnsignedString(p.epoch()), Long.toUnsignedString(p.number()), p.driftPpm());
         } catch (TrueTime.Refused refused) {
             return "refused " + refused.number();
         }

@@ -10,9 +10,9 @@ import truetime  # noqa: E402
 
 def answer(lines):
     for line in lines:
-        clock, lo, hi, drift, now = map(int, line.split())
+        clock, lo, hi, drift, usable, now = map(int, line.split())
         try:
-            reading = truetime.Publication(clock, lo, hi, 0, 0, 0, drift).read_at(now)
+            reading = truetime.Publication(clock, lo, hi, 0, usable, 0, 0, drift).read_at(now)
             print(reading.earliest_ns, reading.latest_ns)
         except truetime.Refused as refused:
             print("refused", refused.number)

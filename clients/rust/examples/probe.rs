@@ -11,8 +11,8 @@ fn answer_vectors() -> io::Result<()> {
     let mut out = BufWriter::new(io::stdout().lock());
     for line in io::stdin().lines() {
         let numbers: Vec<u64> = line?.split(' ').map(|word| word.parse().expect("a number")).collect();
-        let [clock_ns, lo_ns, hi_ns, drift_ppm, now_ns] = numbers[..] else { panic!("five numbers") };
-        let published = Publication { clock_ns, lo_ns, hi_ns, valid_until_ns: 0, epoch: 0, number: 0, drift_ppm };
+        let [clock_ns, lo_ns, hi_ns, drift_ppm, usable_until_ns, now_ns] = numbers[..] else { panic!("six numbers") };
+        let published = Publication { clock_ns, lo_ns, hi_ns, valid_until_ns: 0, usable_until_ns, epoch: 0, number: 0, drift_ppm };
         match published.read_at(now_ns) {
             Ok(reading) => writeln!(out, "{} {}", reading.earliest_ns, reading.latest_ns)?,
             Err(refused) => writeln!(out, "refused {}", refused.number())?,
@@ -32,8 +32,8 @@ fn read_file(path: &str) -> Result<Publication, Refused> {
 fn print_publication(read: Result<Publication, Refused>) {
     match read {
         Ok(p) => println!(
-            "published {} {} {} {} {} {} {}",
-            p.clock_ns, p.lo_ns, p.hi_ns, p.valid_until_ns, p.epoch, p.number, p.drift_ppm
+            "published {} {} {} {} {} {} {} {}",
+            p.clock_ns, p.lo_ns, p.hi_ns, p.valid_until_ns, p.usable_until_ns, p.epoch, p.number, p.drift_ppm
         ),
         Err(refused) => println!("refused {}", refused.number()),
     }

@@ -1,6 +1,6 @@
 //! The time with an error bound, read from shared memory; timestamps for commits are in [`session`].
 //!
-//! The time daemon of a machine keeps its last publication in a file of 192 bytes. A client maps that file once and reads
+//! The time daemon of a machine keeps its last publication in a file of 320 bytes. A client maps that file once and reads
 //! it as often as it likes, without a lock and without waiting.
 //!
 //! ```no_run
@@ -13,7 +13,7 @@
 //! Where an owner of the file or of its folder truncates the file, a mapped one raises SIGBUS. A client of
 //! [`Client::open_unmapped`] refuses instead; each of its calls makes three system calls more.
 //!
-//! Reads version 1 of the format (its first four bytes are `TTS1`). Needs Linux on a little-endian 64-bit machine.
+//! Reads version 2 of the format (its first four bytes are `TTS2`), and refuses a file of version 1 with 1702. Needs Linux on a little-endian 64-bit machine.
 #![warn(missing_docs)]
 
 #[cfg(not(all(target_os = "linux", target_endian = "little", target_pointer_width = "64")))]
@@ -37,19 +37,19 @@ pub const MAX_TIME_NS: u64 = 4_000_000_000_000_000_000;
 /// The greatest drift of a clock, in parts per million.
 pub const MAX_DRIFT_PPM: u64 = 100_000;
 
-const BYTES: usize = 192;
+const BYTES: usize = 8 * (FIRST_SLOT + 2 * SLOT_WORDS);
 const WORDS: usize = BYTES / 8;
 const INDEX_WORD: usize = 2;
 const FIRST_SLOT: usize = 8;
-const SLOT_WORDS: usize = 8;
+const SLOT_WORDS: usize = 16;
 const TRIES: usize = 1000;
-const HEAD: [u64; 2] = [0x0000_00c0_3153_5454, 1];
+const HEAD: [u64; 2] = [0x0000_0140_3253_5454, 1];
 const LOWEST_BITS: u64 = 0x0101_0101_0101_0101;
 
 /// Why there is no reading.
 #[derive(Clone, Copy, Debug, PartialEq, Eq)]
 pub enum Refused {
-    /// The daemon has published nothing so far.
+    /// The daemon has published nothing so far, or nothing is published any more.
     Nothing,
     /// The clock is below that of the publication, or above the greatest time.
     ClockBack,
@@ -63,6 +63,8 @@ pub enum Refused {
     NoSlot,
     /// Another publication came during each of the tries.
     Busy,
+    /// The clock is past the last reading at which the publication may be used.
+    TooWide,
 }
 
 impl Refused {
@@ -76,6 +78,7 @@ impl Refused {
             Refused::OtherFile => 1702,
             Refused::NoSlot => 1703,
             Refused::Busy => 1704,
+            Refused::TooWide => 1708,
         }
     }
 }
@@ -83,13 +86,14 @@ impl Refused {
 impl fmt::Display for Refused {
     fn fmt(&self, out: &mut fmt::Formatter<'_>) -> fmt::Result {
         let meaning = match self {
-            Refused::Nothing => "the daemon has published nothing so far",
+            Refused::Nothing => "the daemon has published nothing so far, or nothing is published any more",
             Refused::ClockBack => "the clock is below that of the publication, or above the greatest time",
             Refused::ClockFailed => "the clock gave no reading",
             Refused::NoFile => "the file cannot be opened, mapped or read",
             Refused::OtherFile => "not such a file, or of another owner, writable by others, of another boot or another clock",
             Refused::NoSlot => "no daemon wrote what stands there",
             Refused::Busy => "another publication came during each of the tries",
+            Refused::TooWide => "the clock is past the last reading at which the publication may be used",
         };
         write!(out, "refused {}: {meaning}", self.number())
     }
@@ -135,6 +139,8 @@ pub struct Publication {
     pub hi_ns: u64,
     /// The last clock reading at which a newer publication is not overdue.
     pub valid_until_ns: u64,
+    /// The last clock reading at which it may be used. `u64::MAX`: there is no limit. 0: nothing is published any more.
+    pub usable_until_ns: u64,
     /// The daemon's life.
     pub epoch: u64,
     /// The publication's number in that life.
@@ -144,11 +150,14 @@ pub struct Publication {
 }
 
 impl Publication {
-    /// The reading of this publication at a clock reading. Refuses with `ClockBack`.
+    /// The reading of this publication at a clock reading. Refuses with `ClockBack` and `TooWide`.
     #[inline]
     pub fn read_at(&self, clock_ns: u64) -> Result<Reading, Refused> {
         if clock_ns < self.clock_ns || clock_ns > MAX_TIME_NS {
             return Err(Refused::ClockBack);
+        }
+        if clock_ns > self.usable_until_ns {
+            return Err(Refused::TooWide);
         }
         let elapsed = clock_ns - self.clock_ns;
         let widening = elapsed / 1_000_000 * self.drift_ppm + (elapsed % 1_000_000 * self.drift_ppm).div_ceil(1_000_000);
@@ -194,8 +203,8 @@ impl Client {
         Ok(Client { source: Source::Unmapped(file) })
     }
 
-    /// The last publication. Refuses with `Nothing`, `Busy` and `NoSlot`, and with `NoFile` where the file is not mapped and
-    /// has become shorter.
+    /// The last publication. Refuses with `Nothing`, `Busy` and `NoSlot`, then with `Nothing` where nothing is published any
+    /// more, and with `NoFile` where the file is not mapped and has become shorter.
     #[inline]
     pub fn read(&self) -> Result<Publication, Refused> {
         for _ in 0..TRIES {
@@ -209,14 +218,17 @@ impl Client {
             if index == 0 {
                 return Err(Refused::Nothing);
             }
-            let [echo, clock_ns, lo_ns, hi_ns, valid_until_ns, epoch, number, drift_ppm] = word;
-            let published = Publication { clock_ns, lo_ns, hi_ns, valid_until_ns, epoch, number, drift_ppm };
-            return if echo == index && published.is_in_range() { Ok(published) } else { Err(Refused::NoSlot) };
+            let [echo, clock_ns, lo_ns, hi_ns, valid_until_ns, epoch, number, drift_ppm, usable_until_ns, zeros @ ..] = word;
+            let published = Publication { clock_ns, lo_ns, hi_ns, valid_until_ns, usable_until_ns, epoch, number, drift_ppm };
+            if echo != index || !published.is_in_range() || zeros.iter().any(|&word| word != 0) {
+                return Err(Refused::NoSlot);
+            }
+            return if usable_until_ns == 0 { Err(Refused::Nothing) } else { Ok(published) };
         }
         Err(Refused::Busy)
     }
 
-    /// The time now. Refuses as `read`, and with `ClockFailed` and `ClockBack`.
+    /// The time now. Refuses as `read`, and with `ClockFailed`, `ClockBack` and `TooWide`.
     #[inline]
     pub fn now(&self) -> Result<Reading, Refused> {
         let published = self.read()?;

@@ -45,6 +45,7 @@ fn publication() -> Result<SharedSpan> {
         epoch: 1,
         number: 0,
         drift: Drift::new(200).context("a drift")?,
+        usable_until: u64::MAX,
     })
 }
 

@@ -1,12 +1,13 @@
 -- A session of a station is one of its post.
 use Rattle.std.proofs.Common.{◌≡◌, ℕ, List, Bool, Option, Result, Ok, Err, sym, subst}
-use Rattle.std.specs.Prelude.{IfOk, IsErrOf}
+use Rattle.std.specs.Prelude.{IfOk}
 use Rattle.tt_session.specs.Session.{Serves, Breaks}
 use Rattle.tt_session.specs.declared.serving.Served.{Served}
 use Rattle.tt_session.specs.declared.faults.ServeFault.{ServeFault}
 use Rattle.tt_connections.specs.Station.{PostState, StationState, new_station, Allows, ServesSession, BreaksSession}
+use Rattle.tt_connections.specs.declared.presence.Question.{Question}
 
-module _ {C V : Type 0} (gives : C → Option ℕ → C → Type 0) (failed : C → ℕ) (says : V → Bool → Type 0) (waits : ℕ) (left left' taken taken' : Option (List ℕ)) (client : V) (post post' : PostState C) (before after : StationState C V) where
+module _ {C V : Type 0} (gives : C → Option ℕ → C → Type 0) (failed : C → ℕ) (says : V → Question → Bool → Type 0) (waits : ℕ) (left left' taken taken' : Option (List ℕ)) (client : V) (post post' : PostState C) (before after : StationState C V) where
   pub serves : before ≡ new_station post client → post' ≡ after.post → (served : Served) → Serves (Allows gives failed says) waits left left' taken taken' before after served
       → ServesSession gives failed says waits left left' taken taken' client post post' served
   serves begins ends served that = (after, sym ends, subst (λ (s : StationState C V). Serves (Allows gives failed says) waits left left' taken taken' s after served) begins that)

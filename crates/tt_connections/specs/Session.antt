@@ -1,5 +1,5 @@
--- How long a session may go on, and when its client has left.
-use Rattle.std.specs.Prelude.{ℕ, ◌+◌, ◌-◌, ◌/◌, ◌^◌, min, nat_lt, if◌then◌else◌, Bool, true, false, Option, Some, None}
+-- How long a session may go on, when its client has left, and how its waits are counted.
+use Rattle.std.specs.Prelude.{List, [], ◌∷◌, count_by, ℕ, ◌+◌, ◌-◌, ◌/◌, ◌^◌, min, nat_lt, if◌then◌else◌, Bool, true, false, Option, Some, None}
 use Rattle.tt_session.specs.declared.deadlines.Deadline.{Deadline}
 use Rattle.tt_connections.specs.declared.sights.Seen.{Seen}
 use Rattle.tt_connections.specs.declared.sights.Seen.TheVariants.{Open, Closed, Broken}
@@ -7,6 +7,14 @@ use Rattle.tt_connections.specs.declared.sights.Seen.TheVariants.{Open, Closed, 
 -- a day, and as many looks of a fifth of a second as there are in the time that a client may be silent, and one
 abbrev pub deadline_at : ℕ → ℕ → Deadline
 deadline_at now idle = record { at = min (now + 86400000000000) (2 ^ 64 - 1); tries = min (idle / 200000000 + 1) (2 ^ 32 - 1) }
+
+-- the bounds of the waits that are counted together, in nanoseconds
+abbrev pub wait_bounds : List ℕ
+wait_bounds = 100000 ∷ 250000 ∷ 500000 ∷ 1000000 ∷ 2500000 ∷ 5000000 ∷ 10000000 ∷ 25000000 ∷ 50000000 ∷ 100000000 ∷ 250000000 ∷ 1000000000 ∷ []
+
+-- the place of a wait among them: how many lie below it
+abbrev pub place_of : ℕ → ℕ
+place_of wait = count_by (λ bound. nat_lt bound wait) wait_bounds
 
 -- what is seen of a connection after an event: what was seen once stays, and a break counts more than a close
 abbrev pub seen_after : Seen → Bool → Bool → Seen

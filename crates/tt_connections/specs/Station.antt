@@ -1,5 +1,5 @@
 -- The service of one session: each call is calls of the worker's watch and seat, and of the session's book, one after the other.
-use Rattle.std.specs.Prelude.{◌≡◌, ℕ, ◌+◌, ◌<◌, max, min, nat_lt, List, [], Bool, true, false, if◌then◌else◌, MatchBool, Option, Some, None, Result, Ok, Err}
+use Rattle.std.specs.Prelude.{◌≡◌, ℕ, ◌+◌, ◌-◌, ◌<◌, max, min, nat_lt, List, [], Bool, true, false, if◌then◌else◌, MatchBool, Option, Some, None, Result, Ok, Err}
 use Rattle.tt_span.specs.Time.{max_time}
 use Rattle.tt_span.specs.Interval.{Interval, whole}
 use Rattle.tt_span.specs.Fault.{number_of as span_number_of}
@@ -24,15 +24,18 @@ use Rattle.tt_session.specs.declared.calls.Call.{Call}
 use Rattle.tt_session.specs.declared.calls.Call.TheVariants.{Now, Begin, Lease, Pass}
 use Rattle.tt_session.specs.declared.serving.Served.{Served}
 use Rattle.tt_connections.specs.Fault.{number_of}
-use Rattle.tt_connections.specs.declared.faults.StationFault.TheVariants.{FloorAboveCap, ClientLeft}
+use Rattle.tt_connections.specs.declared.faults.StationFault.TheVariants.{FloorAboveCap, ClientLeft, Broken, TooWide}
+use Rattle.tt_connections.specs.declared.presence.Question.{Question}
+use Rattle.tt_connections.specs.declared.presence.Question.TheVariants.{HasLeft, IsBroken}
 
--- what a worker keeps from one session to the next: its watch and its clock, its seat, the lease that it stamps in, and how far a floor may lie ahead
+-- what a worker keeps from one session to the next: its watch and its clock, its seat, the lease that it stamps in, how far a floor may lie ahead, and how wide a reading may be
 pub record PostState (C : Type 0) : Type 0 where
   pub watch : WatchState
   pub clock : C
   pub seat : SeatState
   pub lease : Interval
   pub ahead : ℕ
+  pub max_width : ℕ
 
 -- a session: its worker's post, its client, the lease that the client set, and what happened in its book, newest first
 pub record StationState (C V : Type 0) : Type 0 where
@@ -92,25 +95,40 @@ pub record SetsLease {C V : Type 0} (lo hi : ℕ) (before : StationState C V) (a
   pub says : answer ≡ lease_answer lo hi
   pub set : after ≡ record before { lease = lease_set lo hi before.lease }
 
--- a call that begins with a reading, and then does this with it; the client, the terms and the lease stay
-pub record LooksThen {C V : Type 0} (gives : C → Option ℕ → C → Type 0) (failed : C → ℕ) (before : StationState C V) (Then : Result Interval ReadFault → Type 0) (after : StationState C V) : Type 0 where
+-- a reading that was taken is given, unless the machine is broken, or the reading is wider than the terms allow: then the number of the first of these reasons is
+abbrev pub admission : Bool → ℕ → Interval → Result Interval ℕ
+admission broken max_width reading = if broken then Err (number_of Broken) else (if nat_lt max_width (reading.hi - reading.lo) then Err (number_of TooWide) else Ok reading)
+
+-- what a session is given of one look of its watch: the reading, by what is answered to whether the machine is broken, or the number of its refusal
+abbrev pub Admits : {V : Type 0} → (V → Question → Bool → Type 0) → V → ℕ → Result Interval ReadFault → Result Interval ℕ → Type 0
+Admits says client max_width (Ok reading) given = (broken : Bool) × says client IsBroken broken × (given ≡ admission broken max_width reading)
+Admits says client max_width (Err fault) given = given ≡ Err (read_number_of fault)
+
+-- one look of a post: its watch is read, and this is given of the reading, or of the refusal
+pub record LooksPost {C V : Type 0} (gives : C → Option ℕ → C → Type 0) (failed : C → ℕ) (says : V → Question → Bool → Type 0) (client : V) (before : PostState C) (given : Result Interval ℕ) (after : PostState C) : Type 0 where
+  pub looked : Result Interval ReadFault
+  pub looks : Looks gives failed before.watch before.clock looked after.watch after.clock
+  pub admits : Admits says client before.max_width looked given
+
+-- a call that begins with a look, and then does this with what it is given; the client, the terms and the lease stay
+pub record LooksThen {C V : Type 0} (gives : C → Option ℕ → C → Type 0) (failed : C → ℕ) (says : V → Question → Bool → Type 0) (before : StationState C V) (Then : Result Interval ℕ → Type 0) (after : StationState C V) : Type 0 where
   pub lease : after.post.lease ≡ before.post.lease
   pub ahead : after.post.ahead ≡ before.post.ahead
+  pub max_width : after.post.max_width ≡ before.post.max_width
   pub client : after.client ≡ before.client
   pub own : after.lease ≡ before.lease
-  pub looked : Result Interval ReadFault
-  pub looks : Looks gives failed before.post.watch before.post.clock looked after.post.watch after.post.clock
-  pub rest : Then looked
+  pub given : Result Interval ℕ
+  pub look : LooksPost gives failed says before.client before.post given after.post
+  pub rest : Then given
 
 -- the call gave no stamp, and left the book as it was
 pub record Keeps {C V : Type 0} (before after : StationState C V) : Type 0 where
   pub seat : after.post.seat ≡ before.post.seat
   pub book : after.book ≡ before.book
 
--- the reading, or the number of its refusal, is the answer
-abbrev pub AnswersReading : {C V : Type 0} → StationState C V → Result Interval ℕ → StationState C V → Result Interval ReadFault → Type 0
-AnswersReading before answer after (Ok reading) = (answer ≡ Ok reading) × Keeps before after
-AnswersReading before answer after (Err fault) = (answer ≡ Err (read_number_of fault)) × Keeps before after
+-- what is given is the answer
+abbrev pub AnswersReading : {C V : Type 0} → StationState C V → Result Interval ℕ → StationState C V → Result Interval ℕ → Type 0
+AnswersReading before answer after given = (answer ≡ given) × Keeps before after
 
 -- a commit that has its stamp is queued; where it has none, the number of the refusal is the answer
 abbrev pub QueuesStamped : List Entry → ℕ → Result ℕ ℕ → List Entry → Result ℕ StampFault → Type 0
@@ -124,37 +142,37 @@ CommitsAt before number floor reading answer after =
     (stamped : Result ℕ StampFault) × StampsIn before.lease before.post.lease floor reading before.post.seat stamped after.post.seat
     × QueuesStamped before.book number answer after.book stamped
 
--- a floor, or a start of the session's lease, further ahead of the latest than the terms allow is refused
-abbrev pub BeginsAt : {C V : Type 0} → StationState C V → ℕ → ℕ → Result ℕ ℕ → StationState C V → Result Interval ReadFault → Type 0
+-- a floor, or a start of the session's lease, further ahead of the latest than the terms allow is refused; where no reading is given, the number of the reason is the answer
+abbrev pub BeginsAt : {C V : Type 0} → StationState C V → ℕ → ℕ → Result ℕ ℕ → StationState C V → Result Interval ℕ → Type 0
 BeginsAt before number floor answer after (Ok reading) =
     MatchBool (nat_lt (reading.hi + before.post.ahead) (max floor before.lease.lo)) ((answer ≡ Err (number_of FloorAboveCap)) × Keeps before after) (CommitsAt before number floor reading answer after)
-BeginsAt before number floor answer after (Err fault) = (answer ≡ Err (read_number_of fault)) × Keeps before after
+BeginsAt before number floor answer after (Err reason) = (answer ≡ Err reason) × Keeps before after
 
 -- the answer to whether a commit is released: yes where it has a receipt, on which its stamp is below the earliest of a reading; where it has none, no, or a refusal because the client has left
-abbrev pub AnswersReceipt : {V : Type 0} → (V → Bool → Type 0) → V → Result Bool ℕ → Option Receipt → Type 0
+abbrev pub AnswersReceipt : {V : Type 0} → (V → Question → Bool → Type 0) → V → Result Bool ℕ → Option Receipt → Type 0
 AnswersReceipt says client answer (Some receipt) = (answer ≡ Ok true) × (receipt.stamp < receipt.earliest)
-AnswersReceipt says client answer None = (left : Bool) × says client left × (answer ≡ (if left then Err (number_of ClientLeft) else Ok false))
+AnswersReceipt says client answer None = (left : Bool) × says client HasLeft left × (answer ≡ (if left then Err (number_of ClientLeft) else Ok false))
 
--- what has surely passed at the reading is released; where there is no reading, the number of its refusal is the answer
-abbrev pub PassesAt : {C V : Type 0} → (V → Bool → Type 0) → StationState C V → ℕ → Result Bool ℕ → StationState C V → Result Interval ReadFault → Type 0
+-- what has surely passed at the reading is released; where no reading is given, the number of the reason is the answer
+abbrev pub PassesAt : {C V : Type 0} → (V → Question → Bool → Type 0) → StationState C V → ℕ → Result Bool ℕ → StationState C V → Result Interval ℕ → Type 0
 PassesAt says before number answer after (Ok reading) =
     (after.post.seat ≡ before.post.seat) × (after.book ≡ with_receipts (release_of (waiting_of before.book) reading.lo) before.book)
     × AnswersReceipt says before.client answer (receipt_of after.book (id_at number))
-PassesAt says before number answer after (Err fault) = (answer ≡ Err (read_number_of fault)) × Keeps before after
+PassesAt says before number answer after (Err reason) = (answer ≡ Err reason) × Keeps before after
 
 -- what a station promises of each call of its service
-abbrev pub Allows : {C V : Type 0} → (C → Option ℕ → C → Type 0) → (C → ℕ) → (V → Bool → Type 0) → StationState C V → Call → StationState C V → Type 0
-Allows gives failed says before (Now answer) after = LooksThen gives failed before (AnswersReading before answer after) after
-Allows gives failed says before (Begin number floor answer) after = LooksThen gives failed before (BeginsAt before number floor answer after) after
+abbrev pub Allows : {C V : Type 0} → (C → Option ℕ → C → Type 0) → (C → ℕ) → (V → Question → Bool → Type 0) → StationState C V → Call → StationState C V → Type 0
+Allows gives failed says before (Now answer) after = LooksThen gives failed says before (AnswersReading before answer after) after
+Allows gives failed says before (Begin number floor answer) after = LooksThen gives failed says before (BeginsAt before number floor answer after) after
 Allows gives failed says before (Lease lo hi answer) after = SetsLease lo hi before answer after
-Allows gives failed says before (Pass number answer) after = LooksThen gives failed before (PassesAt says before number answer after) after
+Allows gives failed says before (Pass number answer) after = LooksThen gives failed says before (PassesAt says before number answer after) after
 
 -- bytes were read and a text was written, as a session with a station that was new at its beginning; the worker went from one post to the other
-abbrev pub ServesSession : {C V : Type 0} → (C → Option ℕ → C → Type 0) → (C → ℕ) → (V → Bool → Type 0) → ℕ → Option (List ℕ) → Option (List ℕ) → Option (List ℕ) → Option (List ℕ) → V → PostState C → PostState C → Served → Type 0
+abbrev pub ServesSession : {C V : Type 0} → (C → Option ℕ → C → Type 0) → (C → ℕ) → (V → Question → Bool → Type 0) → ℕ → Option (List ℕ) → Option (List ℕ) → Option (List ℕ) → Option (List ℕ) → V → PostState C → PostState C → Served → Type 0
 ServesSession {C} {V} gives failed says waits left left' taken taken' client post post' served =
     (after : StationState C V) × (after.post ≡ post') × Serves (Allows gives failed says) waits left left' taken taken' (new_station post client) after served
 
 -- bytes were read, and the session of the first of them broke off in its last reply
-abbrev pub BreaksSession : {C V : Type 0} → (C → Option ℕ → C → Type 0) → (C → ℕ) → (V → Bool → Type 0) → ℕ → Option (List ℕ) → Option (List ℕ) → Option (List ℕ) → Option (List ℕ) → V → PostState C → PostState C → Type 0
+abbrev pub BreaksSession : {C V : Type 0} → (C → Option ℕ → C → Type 0) → (C → ℕ) → (V → Question → Bool → Type 0) → ℕ → Option (List ℕ) → Option (List ℕ) → Option (List ℕ) → Option (List ℕ) → V → PostState C → PostState C → Type 0
 BreaksSession {C} {V} gives failed says waits left left' taken taken' client post post' =
     (after : StationState C V) × (after.post ≡ post') × Breaks (Allows gives failed says) waits left left' taken taken' (new_station post client) after

@@ -101,7 +101,7 @@ impl Backlog {
     }
 }
 
-/// The listeners of a machine, and whether it ends. All its threads share them.
+/// The listeners of a machine, whether it ends, and whether it is broken. All its threads share them.
 #[derive(Drop)]
 pub struct Listeners {
     /// The TCP address.
@@ -110,17 +110,22 @@ pub struct Listeners {
     pub side: Option<Backlog>,
     /// Whether the machine has to end.
     pub ended: AtomicBool,
+    /// Whether the machine knows that one of its assumptions is broken. Then its sessions give no reading, begin no commit
+    /// and release none.
+    pub broken: AtomicBool,
     published: AtomicBool,
     waker: Waker,
 }
 
 impl Listeners {
-    /// The listeners of a machine that has published nothing so far. `waker` ends a wait of their acceptor.
+    /// The listeners of a machine that has published nothing so far, and knows of nothing that is broken. `waker` ends a wait
+    /// of their acceptor.
     pub fn new(front: Backlog, side: Option<Backlog>, waker: Waker) -> Listeners {
         Listeners {
             front,
             side,
             ended: AtomicBool::new(false),
+            broken: AtomicBool::new(false),
             published: AtomicBool::new(false),
             waker,
         }
@@ -139,6 +144,12 @@ impl Listeners {
     pub fn open(&self) {
         self.published.store(true, Ordering::SeqCst);
         let _ = self.waker.wake();
+    }
+
+    /// Says that one of the assumptions of the machine is broken, for the rest of its life. It does not wait, and ends no
+    /// session.
+    pub fn break_off(&self) {
+        self.broken.store(true, Ordering::SeqCst);
     }
 
     /// Ends the machine: the acceptor and all workers that wait end their waits. It needs no descriptor and no path.

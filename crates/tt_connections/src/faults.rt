@@ -12,16 +12,22 @@ pub enum StationFault {
     FloorAboveCap,
     #[error("the client has left")]
     ClientLeft,
+    #[error("an assumption of the service is broken on this machine")]
+    Broken,
+    #[error("the reading is wider than this server allows")]
+    TooWide,
 }
 
 impl StationFault {
-    /// The fault's number: 1821 `FloorAboveCap`, 1822 `ClientLeft`.
+    /// The fault's number: 1821 `FloorAboveCap`, 1822 `ClientLeft`, 1823 `Broken`, 1824 `TooWide`.
     pub fn number(&self) -> u16
         ensures { result ≡ number_of self.now }
     {
         match self {
             StationFault::FloorAboveCap => 1821,
             StationFault::ClientLeft => 1822,
+            StationFault::Broken => 1823,
+            StationFault::TooWide => 1824,
         }
     }
 }

@@ -7,12 +7,12 @@
 //! wait for the queue. So a machine ends without a descriptor and without a path.
 //!
 //! A worker serves its clients in turn. What it keeps from one session to the next is a [`Post`]: a watch with its
-//! clock, a seat of the sequencer that all workers share, the lease, and how far a floor may lie ahead. [`Post::serve`]
-//! serves one session. The service of that session alone is a [`Station`], with a book of its own. So no session sees
-//! anything of another one, and its memory is freed when it ends.
+//! clock, a seat of the sequencer that all workers share, the lease, how far a floor may lie ahead, and how wide a reading
+//! may be. [`Post::serve`] serves one session. The service of that session alone is a [`Station`], with a book of its own.
+//! So no session sees anything of another one, and its memory is freed when it ends.
 //!
 //! ```text
-//! let post = Post::new(&rt, rt.alloc(), watch, clock, seat, &sequencer, Terms { lease, ahead });
+//! let post = Post::new(&rt, rt.alloc(), watch, clock, seat, &sequencer, Terms { lease, ahead, max_width });
 //! let (post, first) = post.serve(&client, &mut reader, &mut writer, turns);
 //! // the same post serves the next client
 //! let (post, second) = post.serve(&other_client, &mut other_reader, &mut other_writer, turns);
@@ -20,8 +20,8 @@
 //!
 //! - `listeners`: [`Listener`], and what may stand at the path of a Unix socket. `queues`: [`Queue`].
 //! - `acceptors`: [`Listeners`] and [`Acceptor`]: when connections are handed over, and how long the acceptor waits.
-//! - `lines`: the reader and the writer of a session. `presence`: [`Presence`], whether a client is still there, and
-//!   `sights`: whether the client of a socket has left. `clocks`: [`MachineClock`].
+//! - `lines`: the reader and the writer of a session, and [`Counts`]. `presence`: [`Presence`], whether a client is still
+//!   there and whether the machine is broken, and `sights`: both for the client of a socket. `clocks`: [`MachineClock`].
 //! - `posts`: [`Post`], and [`Post::serve`]. `stations`: [`Station`], the service of one session. `faults`: why a station
 //!   refuses a call.
 //!
@@ -44,10 +44,10 @@ mod stations;
 pub use acceptors::{Acceptor, Backlog, Listeners};
 pub use clocks::{MachineClock, reading_of};
 pub use faults::StationFault;
-pub use lines::{Counts, LineReader, ReplyWriter, deadline_at};
+pub use lines::{Counts, LineReader, ReplyWriter, WAIT_BOUNDS, deadline_at, place_of};
 pub use listeners::{Listener, ListenerFault};
 pub use posts::{Post, Terms};
-pub use presence::{AlwaysThere, Presence};
+pub use presence::{AlwaysThere, Presence, Question};
 pub use queues::{MAX_WAITING, Queue};
 pub use sights::{Client, Sight};
 pub use stations::Station;

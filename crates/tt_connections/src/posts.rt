@@ -1,6 +1,6 @@
 //! What a worker keeps from one session to the next.
 
-ghost use Rattle.std.specs.Prelude.{◌≡◌, ◌≢◌, ◌+◌, nat_lt, Err, OnOk, IfOk, IsErrOf};
+ghost use Rattle.std.specs.Prelude.{◌≡◌, ◌≢◌, ◌+◌, ◌-◌, nat_lt, Err, OnOk, IfOk, IsErrOf};
 ghost use Rattle.std.specs.Io.KnownBytes.{IsAtEnd};
 ghost use Rattle.tt_publish.specs.Looks.{Looks};
 ghost use Rattle.tt_session.specs.declared.serving.Served.{Served};
@@ -17,7 +17,7 @@ use tt_span::Span;
 use tt_stamp::{Seat, Sequencer, StampFault};
 use tt_stream::{ByteReader, ByteWriter};
 
-/// The settings by which commits are stamped.
+/// The settings by which readings are used and commits are stamped.
 #[derive(Clone, Copy, Debug, PartialEq, Eq)]
 pub struct Terms {
     /// The lease of the machine, in which stamps lie.
@@ -25,6 +25,8 @@ pub struct Terms {
     /// How far a floor may lie ahead of the latest of a reading, in nanoseconds. The rule of stamps has a bound too,
     /// [`tt_stamp::MAX_AHEAD`]: the lower of both counts.
     pub ahead: u64,
+    /// How wide a reading may be that is used, in nanoseconds. `u64::MAX` where there is no limit.
+    pub max_width: u64,
 }
 
 /// What a worker keeps from one session to the next: a watch and a clock of its own, by which it takes readings, and a
@@ -44,7 +46,7 @@ impl<'a, R, C> Model for Post<'a, R, C> {
 
     ghost Value = { PostState C };
 
-    ghost view = { λ p. record { watch = p.watch; clock = p.clock; seat = p.seat; lease = p.terms.lease; ahead = p.terms.ahead } };
+    ghost view = { λ p. record { watch = p.watch; clock = p.clock; seat = p.seat; lease = p.terms.lease; ahead = p.terms.ahead; max_width = p.terms.max_width } };
 }
 
 impl<'a, R, C: Drop> Post<'a, R, C> {
@@ -70,7 +72,7 @@ impl<'a, R: Wait, C: Clock> Post<'a, R, C> {
         terms: Terms,
     ) -> Self
         requires of_it { seat.table ≡ sequencer.now }
-        ensures made { result ≡ record { watch = watch; clock = clock; seat = seat; lease = terms.lease; ahead = terms.ahead } }
+        ensures made { result ≡ record { watch = watch; clock = clock; seat = seat; lease = terms.lease; ahead = terms.ahead; max_width = terms.max_width } }
     {
         Post {
             alloc,
@@ -122,6 +124,13 @@ impl<'a, R: Wait, C: Clock> Post<'a, R, C> {
         ensures { result ≡ nat_lt (reading.now.hi + self.now.ahead) floor }
     {
         floor.saturating_sub(reading.latest()) > self.terms.ahead
+    }
+
+    /// Whether this reading is wider than the terms allow.
+    pub(crate) fn is_too_wide(&self, reading: &Reading) -> bool
+        ensures { result ≡ nat_lt self.now.max_width (reading.now.hi - reading.now.lo) }
+    {
+        reading.latest().saturating_sub(reading.earliest()) > self.terms.max_width
     }
 
     /// Waits after a release step: see [`StampSeat::pause`].

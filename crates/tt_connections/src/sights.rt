@@ -1,10 +1,10 @@
-//! Whether the client of a session has left.
+//! Whether the client of a session has left, whether the machine is broken, and how long the client's commits wait.
 
 ghost use Rattle.std.specs.Prelude.{◌≡◌};
 ghost use Rattle.tt_connections.specs.Session.{seen_after, is_gone, is_gone_at};
 
 use crate::clocks::reading_of;
-use crate::lines::is_over;
+use crate::lines::{Counts, is_over};
 use crate::presence::Presence;
 use mio::unix::SourceFd;
 use mio::{Events, Interest, Poll, Token};
@@ -13,12 +13,15 @@ use std::io;
 use std::marker::Model;
 use std::net::{Net, TcpStream};
 use std::os::fd::AsRawFd;
-use std::sync::atomic::{AtomicBool, Ordering};
+use std::sync::atomic::{AtomicBool, AtomicU64, Ordering};
 use std::sync::{Mutex, Wait};
 use std::time::{Clock as SystemClock, Duration};
 
 /// How many events one look reports.
 const EVENTS: usize = 2;
+
+/// In place of a clock reading, if the clock could not be read. It is above all readings.
+const UNREAD: u64 = u64::MAX;
 
 /// What is seen of a connection.
 #[derive(Clone, Copy, Debug, PartialEq, Eq)]
@@ -147,16 +150,25 @@ impl Sight {
 /// It has left if its connection is broken. A client that has closed its side gets the replies to the lines that it sent,
 /// and has left once that was seen longer than `idle` ago. Both are seen also if bytes of it are unread. A TCP client that
 /// has closed both sides looks like one that has closed its own until a reply is written to it. At the end of the machine
-/// all clients have left. While the clock cannot be read, only a broken connection is a client that has left. In contracts
-/// a client is nothing: nothing is claimed of when it leaves.
+/// all clients have left. While the clock cannot be read, only a broken connection is a client that has left.
+///
+/// The machine is broken once [`Listeners::break_off`](crate::Listeners::break_off) said so. The commits of the client that
+/// wait are counted, and how long they waited. In contracts a client is nothing: nothing is claimed of when it leaves, of
+/// when the machine is broken, and of the counts.
 #[derive(Drop)]
 pub struct Client<'a, R> {
     rt: &'a R,
     stream: &'a TcpStream,
     ended: &'a AtomicBool,
+    broken: &'a AtomicBool,
     /// How long a client that has closed its side is still there, in nanoseconds.
     idle: u64,
     sight: &'a Mutex<Sight>,
+    counts: &'a Counts,
+    /// Whether a commit of the session waits.
+    waits: AtomicBool,
+    /// The clock reading at which that commit began to wait, in nanoseconds, or [`UNREAD`].
+    since: AtomicU64,
 }
 
 impl<'a, R> Model for Client<'a, R> {
@@ -166,21 +178,29 @@ impl<'a, R> Model for Client<'a, R> {
 }
 
 impl<'a, R: Wait + SystemClock> Client<'a, R> {
-    /// The client of this connection, which its worker looks at with `sight`.
+    /// The client of this connection, which its worker looks at with `sight`. `ended` and `broken` say whether the machine
+    /// has to end, and whether it is broken. A client that has closed its side is still there for `idle` nanoseconds. Its
+    /// commits are counted in `counts`.
     pub fn new(
         rt: &'a R,
         stream: &'a TcpStream,
         ended: &'a AtomicBool,
+        broken: &'a AtomicBool,
         idle: u64,
         sight: &'a Mutex<Sight>,
+        counts: &'a Counts,
     ) -> Self {
         sight.lock(rt).begin();
         Client {
             rt,
             stream,
             ended,
+            broken,
             idle,
             sight,
+            counts,
+            waits: AtomicBool::new(false),
+            since: AtomicU64::new(UNREAD),
         }
     }
 }
@@ -198,5 +218,30 @@ impl<'a, R: Wait + SystemClock> Presence for Client<'a, R> {
         self.sight
             .lock(self.rt)
             .has_left(self.stream, self.idle, now)
+    }
+
+    fn is_broken(&self) -> bool {
+        self.broken.load(Ordering::SeqCst)
+    }
+
+    fn began_waiting(&self) {
+        let now = reading_of(self.rt).unwrap_or(UNREAD);
+        self.since.store(now, Ordering::SeqCst);
+        if !self.waits.swap(true, Ordering::SeqCst) {
+            self.counts.commits_waiting.fetch_add(1, Ordering::SeqCst);
+        }
+    }
+
+    fn ended_waiting(&self, is_released: bool) {
+        if !self.waits.swap(false, Ordering::SeqCst) {
+            return;
+        }
+        self.counts.commits_waiting.fetch_sub(1, Ordering::SeqCst);
+        let since = self.since.load(Ordering::SeqCst);
+        if let Some(now) = reading_of(self.rt) {
+            if is_released && since != UNREAD {
+                self.counts.add_wait(now.saturating_sub(since));
+            }
+        }
     }
 }

@@ -1,9 +1,13 @@
 //! The service of one session.
 
-ghost use Rattle.std.specs.Prelude.{◌≡◌, ◌⊎◌, [], None, Err};
+ghost use Rattle.std.specs.Prelude.{◌≡◌, ◌⊎◌, nat_lt, length, [], Bool, None, Ok, Err};
 ghost use Rattle.tt_span.specs.Interval.{whole};
+ghost use Rattle.tt_stamp.specs.History.{waiting_of};
 ghost use Rattle.tt_session.specs.Commits.{ReleasesBy};
-ghost use Rattle.tt_connections.specs.Station.{Allows, AnswersReceipt, QueuesPage, SetsLease, book_before};
+ghost use Rattle.tt_session.specs.Fault.{line_number_of};
+ghost use Rattle.tt_session.specs.declared.faults.LineFault.TheVariants.{BadLine};
+ghost use Rattle.tt_connections.specs.declared.presence.Question.TheVariants.{IsBroken};
+ghost use Rattle.tt_connections.specs.Station.{Allows, AnswersReceipt, BeginsAt, LooksPost, QueuesPage, SetsLease, admission, book_before};
 
 use crate::faults::StationFault;
 use crate::posts::Post;
@@ -45,6 +49,13 @@ impl Page {
             alloc,
             stamp: 0,
         }
+    }
+
+    /// Whether a commit is pending.
+    fn is_pending(&self) -> bool
+        ensures { result ≡ nat_lt 0 (length (waiting_of self.now)) }
+    {
+        self.book.waiting() > 0
     }
 
     /// Makes the book ready for a commit: if none is pending, a new book begins.
@@ -109,12 +120,62 @@ impl<'a, 'c, R: Wait, C: Clock, V: Presence> Station<'a, 'c, R, C, V> {
         }
     }
 
-    /// Ends the session, and gives the post back.
+    /// Ends the session, and gives the post back. The client's device is told if a commit is still pending.
     pub fn close(self) -> Post<'a, R, C>
         ensures post { result ≡ self.entry.post }
     {
+        if self.book.is_pending() {
+            self.client.ended_waiting(false);
+        }
         let Station { post, .. } = self;
         post
+    }
+
+    /// This reading, if it may be used. Refuses, in this order: 1823 if the machine knows that one of its assumptions is
+    /// broken, 1824 if the reading is wider than the terms allow.
+    fn admit(&self, reading: Reading) -> Result<Reading, u16>
+        ensures { (broken : Bool) × V.says self.now.client IsBroken broken × (result ≡ admission broken self.now.post.max_width reading) }
+    {
+        if self.client.is_broken() {
+            return Err(StationFault::Broken.number());
+        }
+        if self.post.is_too_wide(&reading) {
+            return Err(StationFault::TooWide.number());
+        }
+        Ok(reading)
+    }
+
+    /// One [`Watch::now`](tt_publish::Watch::now), whose reading may be used. Refuses, in this order: 801, 803, 802 as
+    /// `now` does, 1823 if the machine knows that one of its assumptions is broken, 1824 if the reading is wider than the
+    /// terms allow.
+    fn look(&mut self) -> Result<Reading, u16>
+        ensures looks { LooksPost C.gives C.failed V.says self.old.client self.old.post result self.new.post }
+        ensures same { self.new ≡ record self.old { post = record self.old.post { watch = self.new.post.watch; clock = self.new.post.clock } } }
+    {
+        let reading = self.post.read().map_err(CommitFault::Read)?;
+        self.admit(reading)
+    }
+
+    /// Stamps the commit with this number by this reading, and queues it. Answers the stamp. Refuses with 1821 if the floor
+    /// lies too far ahead, and as [`begin_commit`] does.
+    fn commit_at(&mut self, reading: &Reading, number: u64, floor: u64) -> Result<u64, u16>
+        ensures begins { BeginsAt self.old number floor result self.new (Ok reading.now) }
+        ensures same { self.new ≡ record self.old { post = record self.old.post { seat = self.new.post.seat }; book = self.new.book } }
+    {
+        if self.post.is_above_cap(reading, floor.max(self.lease.lo())) {
+            return Err(StationFault::FloorAboveCap.number());
+        }
+        let id = Id { session: 0, number };
+        let stamp = begin_commit(
+            &mut self.post,
+            &mut self.book,
+            reading,
+            id,
+            floor,
+            &self.lease,
+        )?;
+        self.client.began_waiting();
+        Ok(stamp)
     }
 
     /// The answer for a pending commit: no after a pause, or a refusal if the client has left.
@@ -132,42 +193,31 @@ impl<'a, 'c, R: Wait, C: Clock, V: Presence> Station<'a, 'c, R, C, V> {
 impl<'a, 'c, R: Wait, C: Clock, V: Presence> Service for Station<'a, 'c, R, C, V> {
     ghost allows = { Allows C.gives C.failed V.says };
 
-    /// One [`Watch::now`](tt_publish::Watch::now). Refuses as `now` does, in this order: 801, 803, 802.
+    /// One [`Watch::now`](tt_publish::Watch::now). Refuses, in this order: 801, 803, 802 as `now` does, 1823 if the
+    /// machine knows that one of its assumptions is broken, 1824 if the reading is wider than the terms allow.
     fn now(&mut self) -> Result<Reading, u16> {
-        let reading = self.post.read().map_err(CommitFault::Read)?;
-        Ok(reading)
+        self.look()
     }
 
     /// One [`Watch::now`](tt_publish::Watch::now), then one [`Sequencer::stamp`](tt_stamp::Sequencer::stamp) by this
     /// reading, in the lease, then one [`Book::queue`] of the commit with this number, under the stamp. Answers the
     /// stamp, in nanoseconds. The lease is what the leases of the session and of the machine have in common.
     ///
-    /// Refuses, in this order: 801, 803, 802 if there is no reading, 1821 if the floor, or the lower end of the
-    /// session's lease, lies further ahead of the latest of the reading than the terms allow, 903 if the two leases have
-    /// nothing in common, 902, 901, 903 if there is no stamp, 1001, 1002, 1003, 1 if the commit is not queued: then the
-    /// stamp is lost. After any other refusal the seat has given no stamp, and the book is as it was.
+    /// Refuses, in this order: 801, 803, 802 if there is no reading, 1823, 1824 if it is not used, as at `now`, 1821 if
+    /// the floor, or the lower end of the session's lease, lies further ahead of the latest of the reading than the terms
+    /// allow, 903 if the two leases have nothing in common, 902, 901, 903 if there is no stamp, 1001, 1002, 1003, 1 if the
+    /// commit is not queued: then the stamp is lost. After any other refusal the seat has given no stamp, and the book is
+    /// as it was.
     fn begin(&mut self, number: u64, floor: u64) -> Result<u64, u16> {
-        let reading = self.post.read().map_err(CommitFault::Read)?;
-        if self.post.is_above_cap(&reading, floor.max(self.lease.lo())) {
-            return Err(StationFault::FloorAboveCap.number());
-        }
-        let id = Id { session: 0, number };
-        let stamp = begin_commit(
-            &mut self.post,
-            &mut self.book,
-            &reading,
-            id,
-            floor,
-            &self.lease,
-        )?;
-        Ok(stamp)
+        let now = self.look()?;
+        self.commit_at(&now, number, floor)
     }
 
     /// Sets the lease of the session, by its ends in nanoseconds. Refuses as [`Span::new`] does, and the lease stays:
     /// 101, 102.
     fn lease(&mut self, lo: u64, hi: u64) -> Result<(), u16>
         ensures sets { SetsLease lo hi self.old result self.new }
-        ensures allowed { ((result ≡ Err 1101) × (self.new ≡ self.old)) ⊎ SetsLease lo hi self.old result self.new }
+        ensures allowed { ((result ≡ Err (line_number_of BadLine)) × (self.new ≡ self.old)) ⊎ SetsLease lo hi self.old result self.new }
     {
         match Span::new(lo, hi) {
             Ok(lease) => {
@@ -183,13 +233,16 @@ impl<'a, 'c, R: Wait, C: Clock, V: Presence> Service for Station<'a, 'c, R, C, V
     /// was begun last lies above the earliest of the reading, and at most [`MAX_PAUSE`](tt_session::MAX_PAUSE) and its
     /// margin.
     ///
-    /// Refuses, in this order: 801, 803, 802 if there is no reading, 1822 if the commit is pending and the client has
-    /// left.
+    /// Refuses, in this order: 801, 803, 802 if there is no reading, 1823, 1824 if it is not used, as at `now`, and then
+    /// nothing is released, 1822 if the commit is pending and the client has left.
     fn pass(&mut self, number: u64) -> Result<bool, u16> {
-        let reading = self.post.read().map_err(CommitFault::Read)?;
+        let reading = self.look()?;
         let id = Id { session: 0, number };
         match self.book.release_commits(&reading, id) {
-            Some(_) => Ok(true),
+            Some(_) => {
+                self.client.ended_waiting(true);
+                Ok(true)
+            }
             None => self.put_off(reading.earliest()),
         }
     }

@@ -2,7 +2,6 @@
 use Rattle.std.proofs.Common.{◌≡◌, ℕ, ◌+◌, ◌≤◌, max, min, nat_lt, if◌then◌else◌, List, [], ◌∷◌, ◌++◌, Bool, true, false, Option, Some, None, Result, Ok, Err, refl, sym, ap, ◌∙◌, subst, arith, append_assoc}
 use Rattle.std.specs.Prelude.{IfOk, MatchBool, MatchOption, IsOkUnless}
 use Rattle.tt_span.specs.Interval.{Interval, Holds}
-use Rattle.tt_publish.specs.declared.faults.ReadFault.{ReadFault}
 use Rattle.tt_stamp.specs.History.{receipt_of, first_queue_fault, IsLegalHistory, MayQueue, Waits}
 use Rattle.tt_stamp.specs.Stamping.{SeatState, Continues, Gives}
 use Rattle.tt_stamp.specs.Steps.{Stamps}
@@ -19,9 +18,10 @@ use Rattle.tt_session.specs.Desk.{Queues, AnswersQueued}
 use Rattle.tt_session.specs.declared.calls.Call.{Call}
 use Rattle.tt_session.specs.declared.calls.Call.TheVariants as call
 use Rattle.tt_connections.specs.Fault.{number_of}
-use Rattle.tt_connections.specs.Station.{StationState, StampsIn, SetsLease, common, lease_of, Allows, AnswersReading, AnswersReceipt, BeginsAt, CommitsAt, PassesAt, QueuesStamped, Keeps as KeepsAll, id_at, book_before}
+use Rattle.tt_connections.specs.Station.{StationState, StampsIn, common, lease_of, Allows, AnswersReading, AnswersReceipt, BeginsAt, CommitsAt, PassesAt, QueuesStamped, Keeps as KeepsAll, id_at, book_before}
 use Rattle.tt_connections.specs.declared.faults.StationFault.TheVariants.{FloorAboveCap, ClientLeft}
-use Rattle.tt_consistency.specs.Timed.{looked_of}
+use Rattle.tt_connections.specs.declared.presence.Question.{Question}
+use Rattle.tt_consistency.specs.Timed.{given_of}
 use Rattle.tt_consistency.proofs.Books.{Keeps, keeps-same, keeps-page, keeps-queued, keeps-release, waits-no_receipt}
 
 -- ---- one queueing
@@ -99,7 +99,7 @@ module _ {C V : Type 0} (before after : StationState C V) (number floor : ℕ) w
     began_capped true says = absurd (let is = says.0 in cc)
     began_capped false says = began_stamped says.0 says.1 says.2
 
-  pub began-at : (s : ℕ) (looked : Result Interval ReadFault) → BeginsAt before number floor (Ok s) after looked → (reading : Interval) × (looked ≡ Ok reading) × Began before after number floor s reading
+  pub began-at : (s : ℕ) (given : Result Interval ℕ) → BeginsAt before number floor (Ok s) after given → (reading : Interval) × (given ≡ Ok reading) × Began before after number floor s reading
   began-at s (Ok reading) says = (reading, refl, began_capped s reading (nat_lt (reading.hi + before.post.ahead) (max floor before.lease.lo)) says)
   began-at s (Err fault) says = absurd (let is = says.0 in cc)
 
@@ -118,7 +118,7 @@ module _ {C V : Type 0} (before after : StationState C V) (number floor : ℕ) w
     keeps_reading reading true says = keeps-same before.book after.book time legal says.1.book
     keeps_reading reading false says = keeps_stamped says.0 says.2
 
-    pub keeps-begin : (looked : Result Interval ReadFault) → BeginsAt before number floor answer after looked → Keeps before.book after.book time
+    pub keeps-begin : (given : Result Interval ℕ) → BeginsAt before number floor answer after given → Keeps before.book after.book time
     keeps-begin (Ok reading) says = keeps_reading reading (nat_lt (reading.hi + before.post.ahead) (max floor before.lease.lo)) says
     keeps-begin (Err fault) says = keeps-same before.book after.book time legal says.1.book
 
@@ -128,25 +128,24 @@ module _ {C V : Type 0} (before after : StationState C V) (number floor : ℕ) w
     seat_reading reading false says =
         goes_on-in floor before.lease before.post.lease reading before.post.seat after.post.seat says.0 (nat_lt (min before.lease.hi before.post.lease.hi) (max before.lease.lo before.post.lease.lo)) says.1
 
-    pub seat-begin : (looked : Result Interval ReadFault) → BeginsAt before number floor answer after looked → GoesOn before.post.seat after.post.seat
+    pub seat-begin : (given : Result Interval ℕ) → BeginsAt before number floor answer after given → GoesOn before.post.seat after.post.seat
     seat-begin (Ok reading) says = seat_reading reading (nat_lt (reading.hi + before.post.ahead) (max floor before.lease.lo)) says
     seat-begin (Err fault) says = goes_on-same before.post.seat after.post.seat says.1.seat
 
-module _ {C V : Type 0} (says : V → Bool → Type 0) (before after : StationState C V) where
+module _ {C V : Type 0} (says : V → Question → Bool → Type 0) (before after : StationState C V) where
   -- ---- a release step
-  keeps_pass : (number : ℕ) (answer : Result Bool ℕ) (time : ℕ) → IsLegalHistory before.book → (looked : Result Interval ReadFault) → IfOk looked (λ reading. Holds reading time) → PassesAt says before number answer after looked → Keeps before.book after.book time
+  keeps_pass : (number : ℕ) (answer : Result Bool ℕ) (time : ℕ) → IsLegalHistory before.book → (given : Result Interval ℕ) → IfOk given (λ reading. Holds reading time) → PassesAt says before number answer after given → Keeps before.book after.book time
   keeps_pass number answer time legal (Ok reading) holds passes =
       keeps-release before.book after.book time reading.lo legal holds.0 passes.1
   keeps_pass number answer time legal (Err fault) holds passes =
       keeps-same before.book after.book time legal passes.1.book
 
-  seat_pass : (number : ℕ) (answer : Result Bool ℕ) (looked : Result Interval ReadFault) → PassesAt says before number answer after looked → GoesOn before.post.seat after.post.seat
+  seat_pass : (number : ℕ) (answer : Result Bool ℕ) (given : Result Interval ℕ) → PassesAt says before number answer after given → GoesOn before.post.seat after.post.seat
   seat_pass number answer (Ok reading) passes = goes_on-same before.post.seat after.post.seat passes.0
   seat_pass number answer (Err fault) passes = goes_on-same before.post.seat after.post.seat passes.1.seat
 
-  keeps_now : (answer : Result Interval ℕ) (looked : Result Interval ReadFault) → AnswersReading before answer after looked → KeepsAll before after
-  keeps_now answer (Ok reading) reads = reads.1
-  keeps_now answer (Err fault) reads = reads.1
+  keeps_now : (answer : Result Interval ℕ) (given : Result Interval ℕ) → AnswersReading before answer after given → KeepsAll before after
+  keeps_now answer given reads = reads.1
 
   no_yes : (left : Bool) → ◌≡◌ {A = Result Bool ℕ} (Ok true) (if left then Err (number_of ClientLeft) else Ok false) → ⊥
   no_yes true is = cc
@@ -157,57 +156,57 @@ module _ {C V : Type 0} (says : V → Bool → Type 0) (before after : StationSt
   yes_receipt (Some found) answers = (found, refl)
 
   -- a commit that is said to be released does not wait
-  pub released-at : (number s : ℕ) → IsLegalHistory after.book → (looked : Result Interval ReadFault) → PassesAt says before number (Ok true) after looked → Waits after.book (id_at number) s → ⊥
+  pub released-at : (number s : ℕ) → IsLegalHistory after.book → (given : Result Interval ℕ) → PassesAt says before number (Ok true) after given → Waits after.book (id_at number) s → ⊥
   released-at number s legal (Ok reading) passes waits =
       let found = yes_receipt (receipt_of after.book (id_at number)) passes.2 in
       waits-no_receipt after.book (id_at number) s legal waits found.0 found.1
   released-at number s legal (Err fault) passes waits = absurd (let is = passes.0 in cc)
 
-module _ {C V : Type 0} (gives : C → Option ℕ → C → Type 0) (failed : C → ℕ) (says : V → Bool → Type 0) (before after : StationState C V) where
+module _ {C V : Type 0} (gives : C → Option ℕ → C → Type 0) (failed : C → ℕ) (says : V → Question → Bool → Type 0) (before after : StationState C V) where
   -- ---- any call
-  pub keeps-call : (of : Call) (allowed : Allows gives failed says before of after) (time : ℕ) → IsLegalHistory before.book → IfOk (looked_of gives failed says before of after allowed) (λ reading. Holds reading time) → Keeps before.book after.book time
+  pub keeps-call : (of : Call) (allowed : Allows gives failed says before of after) (time : ℕ) → IsLegalHistory before.book → IfOk (given_of gives failed says before of after allowed) (λ reading. Holds reading time) → Keeps before.book after.book time
   keeps-call (call.Now answer) allowed time legal holds =
-      keeps-same before.book after.book time legal (keeps_now says before after answer allowed.looked allowed.rest).book
+      keeps-same before.book after.book time legal (keeps_now says before after answer allowed.given allowed.rest).book
   keeps-call (call.Begin number floor answer) allowed time legal holds =
-      keeps-begin before after number floor answer time legal allowed.looked allowed.rest
+      keeps-begin before after number floor answer time legal allowed.given allowed.rest
   keeps-call (call.Lease lo hi answer) allowed time legal holds =
       keeps-same before.book after.book time legal (ap (λ (s : StationState C V). s.book) allowed.set)
   keeps-call (call.Pass number answer) allowed time legal holds =
-      keeps_pass says before after number answer time legal allowed.looked holds allowed.rest
+      keeps_pass says before after number answer time legal allowed.given holds allowed.rest
 
   pub seat-call : (of : Call) → Allows gives failed says before of after → GoesOn before.post.seat after.post.seat
   seat-call (call.Now answer) allowed =
-      goes_on-same before.post.seat after.post.seat (keeps_now says before after answer allowed.looked allowed.rest).seat
+      goes_on-same before.post.seat after.post.seat (keeps_now says before after answer allowed.given allowed.rest).seat
   seat-call (call.Begin number floor answer) allowed =
-      seat-begin before after number floor answer allowed.looked allowed.rest
+      seat-begin before after number floor answer allowed.given allowed.rest
   seat-call (call.Lease lo hi answer) allowed =
       goes_on-same before.post.seat after.post.seat (ap (λ (s : StationState C V). s.post.seat) allowed.set)
-  seat-call (call.Pass number answer) allowed = seat_pass says before after number answer allowed.looked allowed.rest
+  seat-call (call.Pass number answer) allowed = seat_pass says before after number answer allowed.given allowed.rest
 
   pub begin-call : (of : Call) (number floor s : ℕ) → of ≡ call.Begin number floor (Ok s) → Allows gives failed says before of after → (reading : Interval) × Began before after number floor s reading
   begin-call of number floor s is allowed =
       let begins : Allows gives failed says before (call.Begin number floor (Ok s)) after = subst (λ (c : Call). Allows gives failed says before c after) is allowed in
-      let began = began-at before after number floor s begins.looked begins.rest in
+      let began = began-at before after number floor s begins.given begins.rest in
       (began.0, began.2)
 
   pub pass-call : (of : Call) (number s : ℕ) → of ≡ call.Pass number (Ok true) → Allows gives failed says before of after → IsLegalHistory after.book → Waits after.book (id_at number) s → ⊥
   pass-call of number s is allowed legal waits =
       let passes : Allows gives failed says before (call.Pass number (Ok true)) after = subst (λ (c : Call). Allows gives failed says before c after) is allowed in
-      released-at says before after number s legal passes.looked passes.rest waits
+      released-at says before after number s legal passes.given passes.rest waits
 
   -- the stamp is no less than the time that the reading holds
-  stamp_at : (number floor s time : ℕ) (looked : Result Interval ReadFault) → IfOk looked (λ reading. Holds reading time) → BeginsAt before number floor (Ok s) after looked → time ≤ s
-  stamp_at number floor s time looked holds begins =
-      let began = began-at before after number floor s looked begins in
-      let held : Holds began.0 time = subst (λ (l : Result Interval ReadFault). IfOk l (λ reading. Holds reading time)) began.1 holds in
+  stamp_at : (number floor s time : ℕ) (given : Result Interval ℕ) → IfOk given (λ reading. Holds reading time) → BeginsAt before number floor (Ok s) after given → time ≤ s
+  stamp_at number floor s time given holds begins =
+      let began = began-at before after number floor s given begins in
+      let held : Holds began.0 time = subst (λ (l : Result Interval ℕ). IfOk l (λ reading. Holds reading time)) began.1 holds in
       omega (arith, held.1, began.2.late)
 
   answer_of : (n f number floor s : ℕ) (answer : Result ℕ ℕ) → ◌≡◌ {A = Call} (call.Begin n f answer) (call.Begin number floor (Ok s)) → answer ≡ Ok s
   answer_of n f number floor s answer is = cc
 
-  pub stamp-call : (of : Call) (allowed : Allows gives failed says before of after) (number floor s time : ℕ) → of ≡ call.Begin number floor (Ok s) → IfOk (looked_of gives failed says before of after allowed) (λ reading. Holds reading time) → time ≤ s
+  pub stamp-call : (of : Call) (allowed : Allows gives failed says before of after) (number floor s time : ℕ) → of ≡ call.Begin number floor (Ok s) → IfOk (given_of gives failed says before of after allowed) (λ reading. Holds reading time) → time ≤ s
   stamp-call (call.Now answer) allowed number floor s time is holds = absurd (cc)
   stamp-call (call.Begin n f answer) allowed number floor s time is holds =
-      stamp_at n f s time allowed.looked holds (subst (λ (a : Result ℕ ℕ). BeginsAt before n f a after allowed.looked) (answer_of n f number floor s answer is) allowed.rest)
+      stamp_at n f s time allowed.given holds (subst (λ (a : Result ℕ ℕ). BeginsAt before n f a after allowed.given) (answer_of n f number floor s answer is) allowed.rest)
   stamp-call (call.Lease lo hi answer) allowed number floor s time is holds = absurd (cc)
   stamp-call (call.Pass n answer) allowed number floor s time is holds = absurd (cc)

@@ -1,5 +1,5 @@
 -- The stamps of a conversation, and its leases.
-use Rattle.std.proofs.Common.{◌≡◌, ℕ, zero, suc, ◌+◌, ◌<◌, List, [], ◌∷◌, Bool, true, false, Option, Some, Result, Ok, Err, refl, sym, ap, ◌∙◌, subst, arith}
+use Rattle.std.proofs.Common.{◌≡◌, ℕ, zero, suc, ◌<◌, List, [], ◌∷◌, Bool, true, false, Option, Some, Result, Ok, Err, refl, ap, ◌∙◌, subst, arith}
 use Rattle.std.specs.Prelude.{if◌then◌else◌, nat_lt}
 use Rattle.std.proofs.lemmas.Option.{same_Some, none-some}
 use Rattle.tt_span.specs.Time.{max_time}
@@ -9,7 +9,8 @@ use Rattle.tt_span.specs.declared.spans.SpanFault.TheVariants.{Backwards, PastMa
 use Rattle.tt_session.specs.Conversation.{Conversation}
 use Rattle.tt_session.specs.declared.calls.Call.{Call}
 use Rattle.tt_session.specs.declared.calls.Call.TheVariants as call
-use Rattle.tt_connections.specs.Station.{StationState, Allows, SetsLease, new_station, lease_of}
+use Rattle.tt_connections.specs.Station.{StationState, Allows, new_station}
+use Rattle.tt_connections.specs.declared.presence.Question.{Question}
 use Rattle.tt_consistency.specs.Timed.{TimedSession}
 use Rattle.tt_consistency.specs.Order.{BeginsAt, LeasesAt, NoLeaseBetween}
 use Rattle.tt_consistency.proofs.Calls.{begin-call}
@@ -36,7 +37,7 @@ set_if old new false false is = refl
 abbrev NoLeaseBefore : List Call → ℕ → Type 0
 NoLeaseBefore calls place = (before lo hi : ℕ) → before < place → LeasesAt calls before lo hi → ⊥
 
-module _ {C V : Type 0} (gives : C → Option ℕ → C → Type 0) (failed : C → ℕ) (says : V → Bool → Type 0) where
+module _ {C V : Type 0} (gives : C → Option ℕ → C → Type 0) (failed : C → ℕ) (says : V → Question → Bool → Type 0) where
   -- ---- one call
   kept-call : (before after : StationState C V) (of : Call) → Allows gives failed says before of after → ((lo hi : ℕ) → of ≡ call.Lease lo hi (Ok tt) → ⊥) → after.lease ≡ before.lease
   kept-call before after (call.Now answer) allowed none = allowed.own

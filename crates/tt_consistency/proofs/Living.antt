@@ -15,7 +15,8 @@ use Rattle.tt_session.specs.declared.serving.Served.{Served}
 use Rattle.tt_stamp.proofs.Ids.{Contains-cases, Contains-nil}
 use Rattle.tt_connections.specs.Sessions.{WorkerSession, AreServedInTurn, post_after}
 use Rattle.tt_connections.specs.Station.{PostState, StationState, Allows, ServesSession, BreaksSession, new_station}
-use Rattle.tt_consistency.specs.Timed.{CallTimes, AreInOrder, TimedSession, IsTimed, looked_of}
+use Rattle.tt_connections.specs.declared.presence.Question.{Question}
+use Rattle.tt_consistency.specs.Timed.{CallTimes, AreInOrder, TimedSession, IsTimed, given_of}
 use Rattle.tt_consistency.specs.Order.{IsSeen, IsSeenAtSome}
 use Rattle.tt_consistency.specs.Calls.{AreInTurn, kept_after}
 use Rattle.tt_consistency.specs.Faulty.{FewFaulty}
@@ -52,13 +53,13 @@ goes_on-same old new same = record { drift = ap (λ (watch : WatchState). watch.
 goes_on-both : (old mid new : WatchState) → GoesOn old mid → GoesOn mid new → GoesOn old new
 goes_on-both old mid new first second = record { drift = second.drift ∙ first.drift; seen = prefix-both old.items mid.items new.items first.seen second.seen }
 
-module _ {C V : Type 0} (gives : C → Option ℕ → C → Type 0) (failed : C → ℕ) (says : V → Bool → Type 0) where
+module _ {C V : Type 0} (gives : C → Option ℕ → C → Type 0) (failed : C → ℕ) (says : V → Question → Bool → Type 0) where
   -- ---- in one conversation
   call-goes_on : (before : StationState C V) (call : Call) (after : StationState C V) → Allows gives failed says before call after → GoesOn before.post.watch after.post.watch
-  call-goes_on before (Now answer) after allowed = record { drift = allowed.looks.same.1; seen = allowed.looks.seen }
-  call-goes_on before (Begin number floor answer) after allowed = record { drift = allowed.looks.same.1; seen = allowed.looks.seen }
+  call-goes_on before (Now answer) after allowed = record { drift = allowed.look.looks.same.1; seen = allowed.look.looks.seen }
+  call-goes_on before (Begin number floor answer) after allowed = record { drift = allowed.look.looks.same.1; seen = allowed.look.looks.seen }
   call-goes_on before (Lease lo hi answer) after allowed = goes_on-same before.post.watch after.post.watch (ap (λ (station : StationState C V). station.post.watch) allowed.set)
-  call-goes_on before (Pass number answer) after allowed = record { drift = allowed.looks.same.1; seen = allowed.looks.seen }
+  call-goes_on before (Pass number answer) after allowed = record { drift = allowed.look.looks.same.1; seen = allowed.look.looks.seen }
 
   calls-go_on : (calls : List Call) (before after : StationState C V) → Conversation (Allows gives failed says) before calls after → GoesOn before.post.watch after.post.watch
   calls-go_on [] before after talked = goes_on-same before.post.watch after.post.watch (ap (λ (station : StationState C V). station.post.watch) talked)
@@ -68,7 +69,7 @@ module _ {C V : Type 0} (gives : C → Option ℕ → C → Type 0) (failed : C 
   -- where the readings of a conversation were taken by the drift bound of a machine, and its watch has seen nothing but what the machine published, its calls looked at the machine's publications
   module _ (machine : Machine) where
     call-looks : (before : StationState C V) (call : Call) (after : StationState C V) (allowed : Allows gives failed says before call after) (time : ℕ) → IsPrefix (map fused_span_of after.post.watch.items) (published_by machine)
-        → IsReadAt gives after.post.watch.drift (clock_moments machine) after.post.watch before.post.clock after.post.clock (looked_of gives failed says before call after allowed) time → LooksBy gives failed says machine before call after allowed time
+        → IsReadAt gives after.post.watch.drift (clock_moments machine) after.post.watch before.post.clock after.post.clock (given_of gives failed says before call after allowed) time → LooksBy gives failed says machine before call after allowed time
     call-looks before (Now answer) after allowed time seen read = record { seen = seen; read = read }
     call-looks before (Begin number floor answer) after allowed time seen read = record { seen = seen; read = read }
     call-looks before (Lease lo hi answer) after allowed time seen read = tt
@@ -84,7 +85,7 @@ module _ {C V : Type 0} (gives : C → Option ℕ → C → Type 0) (failed : C 
         let later : IsPrefix mid.post.watch.items after.post.watch.items = (calls-go_on calls mid after talked.2).seen in (
           call-looks before call mid talked.1 t.read
               (prefix-both (map fused_span_of mid.post.watch.items) (map fused_span_of after.post.watch.items) (published_by machine) (prefix-map fused_span_of mid.post.watch.items after.post.watch.items later) seen)
-              (subst (λ (ppm : ℕ). IsReadAt gives ppm (clock_moments machine) mid.post.watch before.post.clock mid.post.clock (looked_of gives failed says before call mid talked.1) t.read) (sym same) read.0),
+              (subst (λ (ppm : ℕ). IsReadAt gives ppm (clock_moments machine) mid.post.watch before.post.clock mid.post.clock (given_of gives failed says before call mid talked.1) t.read) (sym same) read.0),
           calls-look calls mid after talked.2 times same seen read.1,
         )
 

@@ -54,8 +54,14 @@ taken-holds gives ppm watch before after reading moments published time same hel
     (subst (λ (drift : ℕ). Holds (reading_at drift (fused_span_of taken.last) taken.clock) time) (sym same)
     (reading-holds ppm moments (fused_span_of taken.last) taken.clock time one taken.drift taken.no_earlier taken.in_time taken.can))
 
+-- what was given of a look at what held the true time holds the true time
+pub given-holds : {C Fault : Type 0} (gives : C → Option ℕ → C → Type 0) (ppm : ℕ) (old new : WatchState) (before after : C) (given : Result Interval Fault) (moments : List Moment) (published : List FusedSpan) (time : ℕ) →
+    old.drift ≡ ppm → new.drift ≡ old.drift → AllByRecursion (HeldTrueTime moments) published → IsPrefix (map fused_span_of new.items) published → IsReadAt gives ppm moments new before after given time → IfOk given (λ reading. Holds reading time)
+given-holds gives ppm old new before after (Err fault) moments published time same stays held begins at = tt
+given-holds gives ppm old new before after (Ok reading) moments published time same stays held begins at =
+    taken-holds gives ppm new before after reading moments published time (stays ∙ same) held begins at
+
 pub look-holds : {C : Type 0} (gives : C → Option ℕ → C → Type 0) (failed : C → ℕ) (ppm : ℕ) (old new : WatchState) (before after : C) (answer : Result Interval ReadFault) (moments : List Moment) (published : List FusedSpan) (time : ℕ) →
     old.drift ≡ ppm → Looks gives failed old before answer new after → AllByRecursion (HeldTrueTime moments) published → IsPrefix (map fused_span_of new.items) published → IsReadAt gives ppm moments new before after answer time → IfOk answer (λ reading. Holds reading time)
-look-holds gives failed ppm old new before after (Err fault) moments published time same looks held begins at = tt
-look-holds gives failed ppm old new before after (Ok reading) moments published time same looks held begins at =
-    taken-holds gives ppm new before after reading moments published time (looks.same.1 ∙ same) held begins at
+look-holds gives failed ppm old new before after answer moments published time same looks held begins at =
+    given-holds gives ppm old new before after answer moments published time same looks.same.1 held begins at

@@ -8,24 +8,25 @@ use Rattle.tt_session.specs.Conversation.{Conversation}
 use Rattle.tt_session.specs.declared.calls.Call.{Call}
 use Rattle.tt_session.specs.declared.calls.Call.TheVariants.{Now, Begin, Lease, Pass}
 use Rattle.tt_connections.specs.Station.{StationState, Allows, new_station}
-use Rattle.tt_consistency.specs.Timed.{CallTimes, looked_of, ReadingsHold, TimedSession, IsTimed}
+use Rattle.tt_connections.specs.declared.presence.Question.{Question}
+use Rattle.tt_consistency.specs.Timed.{CallTimes, given_of, ReadingsHold, TimedSession, IsTimed}
 use Rattle.tt_consistency.specs.Order.{IsSeenAtSome}
-use Rattle.tt_consistency.proofs.Reading.{look-holds}
+use Rattle.tt_consistency.proofs.Reading.{given-holds}
 use Rattle.tt_consistency.specs.Running.{Machine, IsRunning, clock_moments, published_by}
 use Rattle.tt_consistency.specs.Served.{LooksBy, AllLookAt, IsServedOn, IsSeenOnOneOf}
 use Rattle.tt_consistency.proofs.Holding.{publications-hold}
 
-module _ {C V : Type 0} (gives : C → Option ℕ → C → Type 0) (failed : C → ℕ) (says : V → Bool → Type 0) where
+module _ {C V : Type 0} (gives : C → Option ℕ → C → Type 0) (failed : C → ℕ) (says : V → Question → Bool → Type 0) where
   module _ (machine : Machine) (running : IsRunning machine) where
     -- the reading of one call
-    call-holds : (before : StationState C V) (call : Call) (after : StationState C V) (allowed : Allows gives failed says before call after) (time : ℕ) → LooksBy gives failed says machine before call after allowed time → IfOk (looked_of gives failed says before call after allowed) (λ reading. Holds reading time)
+    call-holds : (before : StationState C V) (call : Call) (after : StationState C V) (allowed : Allows gives failed says before call after) (time : ℕ) → LooksBy gives failed says machine before call after allowed time → IfOk (given_of gives failed says before call after allowed) (λ reading. Holds reading time)
     call-holds before (Now answer) after allowed time at =
-        look-holds gives failed after.post.watch.drift before.post.watch after.post.watch before.post.clock after.post.clock allowed.looked (clock_moments machine) (published_by machine) time (sym allowed.looks.same.1) allowed.looks (publications-hold machine running) at.seen at.read
+        given-holds gives after.post.watch.drift before.post.watch after.post.watch before.post.clock after.post.clock allowed.given (clock_moments machine) (published_by machine) time (sym allowed.look.looks.same.1) allowed.look.looks.same.1 (publications-hold machine running) at.seen at.read
     call-holds before (Begin number floor answer) after allowed time at =
-        look-holds gives failed after.post.watch.drift before.post.watch after.post.watch before.post.clock after.post.clock allowed.looked (clock_moments machine) (published_by machine) time (sym allowed.looks.same.1) allowed.looks (publications-hold machine running) at.seen at.read
+        given-holds gives after.post.watch.drift before.post.watch after.post.watch before.post.clock after.post.clock allowed.given (clock_moments machine) (published_by machine) time (sym allowed.look.looks.same.1) allowed.look.looks.same.1 (publications-hold machine running) at.seen at.read
     call-holds before (Lease lo hi answer) after allowed time at = tt
     call-holds before (Pass number answer) after allowed time at =
-        look-holds gives failed after.post.watch.drift before.post.watch after.post.watch before.post.clock after.post.clock allowed.looked (clock_moments machine) (published_by machine) time (sym allowed.looks.same.1) allowed.looks (publications-hold machine running) at.seen at.read
+        given-holds gives after.post.watch.drift before.post.watch after.post.watch before.post.clock after.post.clock allowed.given (clock_moments machine) (published_by machine) time (sym allowed.look.looks.same.1) allowed.look.looks.same.1 (publications-hold machine running) at.seen at.read
 
     -- the readings of all calls
     calls-hold : (calls : List Call) (before after : StationState C V) (talked : Conversation (Allows gives failed says) before calls after) (times : List CallTimes) → AllLookAt gives failed says machine before calls after talked times → ReadingsHold gives failed says before calls after talked times

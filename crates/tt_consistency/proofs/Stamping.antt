@@ -10,6 +10,7 @@ use Rattle.tt_session.specs.Conversation.{Conversation}
 use Rattle.tt_session.specs.declared.calls.Call.{Call}
 use Rattle.tt_session.specs.declared.calls.Call.TheVariants as call
 use Rattle.tt_connections.specs.Station.{StationState, Allows, new_station, lease_of}
+use Rattle.tt_connections.specs.declared.presence.Question.{Question}
 use Rattle.tt_consistency.specs.Timed.{TimedSession}
 use Rattle.tt_consistency.specs.Order.{BeginsAt, ShareSequencer}
 use Rattle.tt_consistency.proofs.Calls.{GoesOn, goes_on-both, goes_on-same, seat-call, begin-call}
@@ -62,7 +63,7 @@ given_by : (old new : SeatState) (latest floor : ℕ) (lease : Interval) (stamp 
 given_by old new latest floor lease stamp gave =
     record { entry = given old new latest floor lease stamp gave; there = gave_there old new latest floor lease stamp gave; stamp_is = refl; of_seat = gave.of_seat }
 
-module _ {C V : Type 0} (gives : C → Option ℕ → C → Type 0) (failed : C → ℕ) (says : V → Bool → Type 0) where
+module _ {C V : Type 0} (gives : C → Option ℕ → C → Type 0) (failed : C → ℕ) (says : V → Question → Bool → Type 0) where
   goes_on : (calls : List Call) (before after : StationState C V) → Conversation (Allows gives failed says) before calls after → GoesOn before.post.seat after.post.seat
   goes_on [] before after talked = goes_on-same before.post.seat after.post.seat (ap (λ (s : StationState C V). s.post.seat) talked)
   goes_on (first ∷ calls) before after talked =
@@ -146,7 +147,7 @@ given-apart one other share s t given given_too same =
     let entry : given.entry ≡ given_too.entry = stands_once share.seats share.log share.legal given.entry given_too.entry first second (given.stamp_is ∙ same ∙ sym given_too.stamp_is) in
     share.apart given_too.entry.number (subst (λ (e : Stamping). is_in one.numbers e.number ≡ true) entry given.of_seat) given_too.of_seat
 
-module _ {C V D W : Type 0} (gives : C → Option ℕ → C → Type 0) (failed : C → ℕ) (says : V → Bool → Type 0) (gives' : D → Option ℕ → D → Type 0) (failed' : D → ℕ) (says' : W → Bool → Type 0) where
+module _ {C V D W : Type 0} (gives : C → Option ℕ → C → Type 0) (failed : C → ℕ) (says : V → Question → Bool → Type 0) (gives' : D → Option ℕ → D → Type 0) (failed' : D → ℕ) (says' : W → Question → Bool → Type 0) where
   pub sessions-rise : (session : TimedSession gives failed says) (after : TimedSession gives' failed' says') (place number stamp later other_number other_stamp : ℕ) → Continues session.after.post.seat.seen after.post.seat.seen → BeginsAt session.calls place number stamp → BeginsAt after.calls later other_number other_stamp → stamp < other_stamp
   sessions-rise session after place number stamp later other_number other_stamp goes begins other =
       session-above gives' failed' says' after session.after.post.seat goes session.post.seat.numbers stamp (session-given gives failed says session place number stamp begins) later other_number other_stamp other

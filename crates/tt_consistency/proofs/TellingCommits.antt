@@ -18,6 +18,7 @@ use Rattle.tt_session.specs.declared.replies.LineReply.{LineReply}
 use Rattle.tt_session.specs.declared.replies.LineReply.TheVariants.{Now, Yes, No, Committed, Waiting, Leased, Refused}
 use Rattle.tt_session.specs.declared.requests.Request.{Request}
 use Rattle.tt_session.specs.declared.requests.Request.TheVariants as request
+use Rattle.tt_connections.specs.declared.presence.Question.{Question}
 use Rattle.tt_consistency.specs.Order.{BeginsAt, IsCommitted}
 use Rattle.tt_consistency.specs.Timed.{TimedSession, IsTimed, times_at}
 use Rattle.tt_consistency.specs.Told.{IsTold}
@@ -273,7 +274,7 @@ told-committed waits lines calls before number stamp after last answers =
       committed = is.has.committed;
     }
 
-module _ {C V : Type 0} (gives : C → Option ℕ → C → Type 0) (failed : C → ℕ) (says : V → Bool → Type 0) where
+module _ {C V : Type 0} (gives : C → Option ℕ → C → Type 0) (failed : C → ℕ) (says : V → Question → Bool → Type 0) where
   pub session-told : (session : TimedSession gives failed says) (waits : ℕ) (lines : List (List ℕ)) (before : List LineReply) (number stamp : ℕ) (after : List LineReply) (last : Option Begun) → IsTimed gives failed says session → AnswersLines waits None lines session.calls (before ++ Committed number stamp ∷ after) last → (told : IsTold waits lines session.calls before number stamp) × ((times_at session.times told.begun).read ≤ stamp) × (stamp < (times_at session.times told.released).read)
   session-told session waits lines before number stamp after last timed answers =
       let is : IsTold waits lines session.calls before number stamp = told-committed waits lines session.calls before number stamp after last answers in

@@ -7,6 +7,7 @@ use Rattle.tt_session.specs.Conversation.{Conversation}
 use Rattle.tt_session.specs.declared.calls.Call.{Call}
 use Rattle.tt_session.specs.declared.calls.Call.TheVariants as call
 use Rattle.tt_connections.specs.Station.{StationState, Allows, new_station, id_at, book_before}
+use Rattle.tt_connections.specs.declared.presence.Question.{Question}
 use Rattle.tt_judge.specs.declared.history.Commit.{Commit}
 use Rattle.tt_consistency.specs.Timed.{CallTimes, AreInOrder, ReadingsHold, times_at, TimedSession, IsTimed}
 use Rattle.tt_consistency.specs.Order.{BeginsAt, ReleasesAt, IsCommitted, IsSeen, IsWithin}
@@ -35,7 +36,7 @@ pends_after : (old new : List Entry) (number s from time : ℕ) → from ≤ tim
 pends_after old new number s from time order keeps pends =
     ⊎_elim (λ waits. keeps.waits (id_at number) s waits) (λ below. inr (omega (arith, below, order))) pends
 
-module _ {C V : Type 0} (gives : C → Option ℕ → C → Type 0) (failed : C → ℕ) (says : V → Bool → Type 0) where
+module _ {C V : Type 0} (gives : C → Option ℕ → C → Type 0) (failed : C → ℕ) (says : V → Question → Bool → Type 0) where
   -- a stamp is no less than the time of its reading
   pub begun : (calls : List Call) (before after : StationState C V) (talked : Conversation (Allows gives failed says) before calls after) (times : List CallTimes) → ReadingsHold gives failed says before calls after talked times → (place number s : ℕ) → BeginsAt calls place number s → (times_at times place).read ≤ s
   begun [] before after talked times hold place number s begins = absurd (none-some _ begins.1)

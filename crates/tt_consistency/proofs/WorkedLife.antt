@@ -1,5 +1,5 @@
--- A worked life with the clock that the service runs on, for which every premise of the law of lives holds: its daemon publishes once, and its worker serves a session, whose first call comes too early and gives no reading, and which then commits.
-use Rattle.std.proofs.Common.{◌≡◌, ◌≢◌, ℕ, ◌+◌, ◌≤◌, List, [], ◌∷◌, ◌++◌, Bool, true, Some, None, Result, Ok, Err, inl, inr, refl, sym, ap, ◌∙◌, subst, arith, All}
+-- A worked life with the clock that the service runs on, for which every premise of the law of lives holds: its daemon publishes once, and its worker serves a session, whose first call comes too early and gives no reading, which then commits, and which is given no reading any more once the clock has left its drift bound and the machine knows of it.
+use Rattle.std.proofs.Common.{◌≡◌, ◌≢◌, ℕ, ◌+◌, ◌≤◌, List, [], ◌∷◌, ◌++◌, Bool, true, false, Some, None, Result, Ok, Err, inl, inr, refl, sym, ap, ◌∙◌, subst, arith, All}
 use Rattle.std.specs.Fmt.{decimal}
 use Rattle.std.specs.List.{AllByRecursion, flat_map}
 use Rattle.std.specs.Prelude.{MatchBool}
@@ -10,6 +10,7 @@ use Rattle.tt_span.specs.Interval.{whole}
 use Rattle.tt_daemon.specs.Publication.{Publication}
 use Rattle.tt_publish.specs.Known.{WatchState}
 use Rattle.tt_publish.specs.Looks.{Looks}
+use Rattle.tt_publish.specs.Reading.{reading_at, fused_span_of}
 use Rattle.tt_publish.specs.declared.faults.ReadFault.TheVariants.{Nothing}
 use Rattle.tt_session.specs.Lines.{HasNoEnd, ended}
 use Rattle.tt_session.specs.Replies.{text_of}
@@ -31,11 +32,11 @@ use Rattle.tt_connections.proofs.Leasing.{stamps_whole}
 use Rattle.tt_connections.specs.Clock.{ClockState, MachineGives, ClientSays}
 use Rattle.tt_consistency.specs.Order.{IsSeen}
 use Rattle.tt_consistency.specs.Timed.{CallTimes}
-use Rattle.tt_consistency.specs.Reads.{IsReadAt}
+use Rattle.tt_consistency.specs.Reads.{IsTakenAt}
 use Rattle.tt_consistency.specs.Assumed.{IsAssumed, IsLived, IsSeenInOneOf, IsTimedIn, TimedLife, moments_in, timed_of}
 use Rattle.tt_consistency.specs.Lives.{Life, WorkerLife, WorksIn, IsLife}
 use Rattle.tt_consistency.specs.Running.{clock_moments}
-use Rattle.tt_consistency.proofs.WorkedOrder.{fused, seat, seat_after, gives_at, queues_at, below_cap, receipt, read_at, reads_at, keeps, among-by, call_at, first}
+use Rattle.tt_consistency.proofs.WorkedOrder.{fused, seat, seat_after, gives_at, queues_at, below_cap, receipt, read_at, reads_at, admitted, keeps, among-by, call_at, first}
 use Rattle.tt_consistency.proofs.WorkedRun.{one, start, timeline_of, call_of, machine, is_running-0, published-0}
 
 -- the clock of a machine fails as often as it has counted
@@ -53,7 +54,7 @@ abbrev clock_at : ℕ → ClockState
 clock_at last = record { last = last; failures = 0 }
 
 abbrev post : WatchState → ClockState → PostState ClockState
-post watch clock = record { watch = watch; clock = clock; seat = seat; lease = whole; ahead = 0 }
+post watch clock = record { watch = watch; clock = clock; seat = seat; lease = whole; ahead = 0; max_width = 1000 }
 
 abbrev station : WatchState → ClockState → StationState ClockState (Unit {0})
 station watch clock = new_station (post watch clock) tt
@@ -72,7 +73,7 @@ looks_early = record {
 }
 
 pub allows_early : Allows MachineGives failed ClientSays (station unseen (clock_at 0)) (call.Now (Err 801)) (station unseen (clock_at 0))
-allows_early = record { lease = refl; ahead = refl; client = refl; own = refl; looked = Err Nothing; looks = looks_early; rest = (refl, record { seat = refl; book = refl }) }
+allows_early = record { lease = refl; ahead = refl; max_width = refl; client = refl; own = refl; given = Err 801; look = record { looked = Err Nothing; looks = looks_early; admits = refl }; rest = (refl, record { seat = refl; book = refl }) }
 
 -- the others read what the daemon has published by then
 looks_at : (items : List Publication) (last clock : ℕ) → IsPrefix items (fused ∷ []) → last ≤ clock → 112 ≤ clock → clock ≤ 1000 → Looks MachineGives failed (record unseen { items = items }) (clock_at last) (Ok (read_at clock)) seen (clock_at clock)
@@ -95,10 +96,11 @@ pub allows_begin : Allows MachineGives failed ClientSays (station unseen (clock_
 allows_begin = record {
   lease = refl;
   ahead = refl;
+  max_width = refl;
   client = refl;
   own = refl;
-  looked = Ok (read_at 120);
-  looks = looks_at [] 0 120 (fused ∷ [], refl) (omega arith) (omega arith) (omega arith);
+  given = Ok (read_at 120);
+  look = record { looked = Ok (read_at 120); looks = looks_at [] 0 120 (fused ∷ [], refl) (omega arith) (omega arith) (omega arith); admits = (false, tt, admitted 120) };
   rest = subst (λ (capped : Bool). MatchBool capped (◌≡◌ {A = Result ℕ ℕ} (Ok 1030) (Err (number_of FloorAboveCap)) × Keeps (station unseen (clock_at 0)) begun) (CommitsAt (station unseen (clock_at 0)) 1 0 (read_at 120) (Ok 1030) begun)) (sym (below_cap 120)) (
     Ok 1030,
     stamps_whole 0 whole (read_at 120) seat (Ok 1030) (seat_after 1030) (record { ordered = omega arith; in_time = omega arith }) (λ far. omega (arith, far), gives_at 1030 (omega arith), omega arith, (omega arith, omega arith)),
@@ -111,17 +113,45 @@ abbrev released : StationState ClockState (Unit {0})
 released = record begun { post = record (post seen (clock_at 150)) { seat = seat_after 1030 }; book = Passed (receipt 1030 1038) ∷ Queued (id_at 1) 1030 ∷ [] }
 
 pub allows_pass : Allows MachineGives failed ClientSays begun (call.Pass 1 (Ok true)) released
-allows_pass = record { lease = refl; ahead = refl; client = refl; own = refl; looked = Ok (read_at 150); looks = looks_at (fused ∷ []) 120 150 ([], refl) (omega arith) (omega arith) (omega arith); rest = (refl, refl, (refl, omega arith)) }
+allows_pass = record { lease = refl; ahead = refl; max_width = refl; client = refl; own = refl; given = Ok (read_at 150); look = record { looked = Ok (read_at 150); looks = looks_at (fused ∷ []) 120 150 ([], refl) (omega arith) (omega arith) (omega arith); admits = (false, tt, admitted 150) }; rest = (refl, refl, (refl, omega arith)) }
 
--- ---- its session, of two lines
+-- then the clock jumps to 500000, and the machine knows that it is broken: the next reading is not given
+abbrev jumped : StationState ClockState (Unit {0})
+jumped = record released { post = record (post seen (clock_at 500000)) { seat = seat_after 1030 } }
+
+looks_broken : Looks MachineGives failed seen (clock_at 150) (Ok (reading_at 100 (fused_span_of fused) 500000)) seen (clock_at 500000)
+looks_broken = record {
+  same = (refl, refl);
+  seen = ([], refl);
+  reading = (fused, 500000, refl, (omega arith, refl), (omega arith, omega arith), refl);
+  nothing = (λ is. absurd cc, λ is. absurd cc);
+  unread = λ is. absurd cc;
+  clock_failed = λ is. absurd cc;
+  clock_back = λ is. absurd cc;
+  sound = λ not_failed. refl;
+}
+
+pub allows_broken : Allows MachineGives failed ClientSays released (call.Now (Err 1823)) jumped
+allows_broken = record {
+  lease = refl;
+  ahead = refl;
+  max_width = refl;
+  client = refl;
+  own = refl;
+  given = Err 1823;
+  look = record { looked = Ok (reading_at 100 (fused_span_of fused) 500000); looks = looks_broken; admits = (true, tt, refl) };
+  rest = (refl, record { seat = refl; book = refl });
+}
+
+-- ---- its session, of three lines
 abbrev calls : List Call
-calls = call.Now (Err 801) ∷ call.Begin 1 0 (Ok 1030) ∷ call.Pass 1 (Ok true) ∷ []
+calls = call.Now (Err 801) ∷ call.Begin 1 0 (Ok 1030) ∷ call.Pass 1 (Ok true) ∷ call.Now (Err 1823) ∷ []
 
 abbrev replies : List LineReply
-replies = reply.Refused 801 ∷ reply.Committed 1 1030 ∷ []
+replies = reply.Refused 801 ∷ reply.Committed 1 1030 ∷ reply.Refused 1823 ∷ []
 
 abbrev served : Served
-served = record { lines = 2; refused = 1 }
+served = record { lines = 3; refused = 2 }
 
 -- the line that asks for commit 1, with no floor
 abbrev commit_line : List ℕ
@@ -146,27 +176,27 @@ no_end_now = no_end now_word (λ is. absurd (omega (arith, is)), (λ is. absurd 
 no_end_commit : HasNoEnd commit_line
 no_end_commit = no_end commit_line (λ is. absurd (omega (arith, is)), (λ is. absurd (omega (arith, is)), (λ is. absurd (omega (arith, is)), (λ is. absurd (omega (arith, is)), (λ is. absurd (omega (arith, is)), (λ is. absurd (omega (arith, is)), (λ is. absurd (omega (arith, is)), (λ is. absurd (omega (arith, is)), (λ is. absurd (omega (arith, is)), (λ is. absurd (omega (arith, is)), tt))))))))))
 
-pub serves : Serves (Allows MachineGives failed ClientSays) 1 None None None None (station unseen (clock_at 0)) released served
+pub serves : Serves (Allows MachineGives failed ClientSays) 1 None None None None (station unseen (clock_at 0)) jumped served
 serves = record {
-  bytes = ended now_word ++ ended commit_line;
+  bytes = ended now_word ++ ended commit_line ++ ended now_word;
   text = flat_map text_of replies;
   rest = [];
   last = Some (record { number = 1; stamp = 1030; is_released = true });
   session = record {
-    lines = now_word ∷ commit_line ∷ [];
+    lines = now_word ∷ commit_line ∷ now_word ∷ [];
     calls = calls;
     replies = replies;
-    splits = record { whole = refl; each = All-cons HasNoEnd now_word (commit_line ∷ []) no_end_now (All-cons HasNoEnd commit_line [] no_end_commit (All-nil HasNoEnd)); last = All-nil IsNoEnd };
-    talked = (station unseen (clock_at 0), allows_early, (begun, allows_begin, (released, allows_pass, refl)));
+    splits = record { whole = refl; each = All-cons HasNoEnd now_word (commit_line ∷ now_word ∷ []) no_end_now (All-cons HasNoEnd commit_line (now_word ∷ []) no_end_commit (All-cons HasNoEnd now_word [] no_end_now (All-nil HasNoEnd))); last = All-nil IsNoEnd };
+    talked = (station unseen (clock_at 0), allows_early, (begun, allows_begin, (released, allows_pass, (jumped, allows_broken, refl))));
     answered = (
       call.Now (Err 801) ∷ [],
-      call.Begin 1 0 (Ok 1030) ∷ call.Pass 1 (Ok true) ∷ [],
+      call.Begin 1 0 (Ok 1030) ∷ call.Pass 1 (Ok true) ∷ call.Now (Err 1823) ∷ [],
       None,
       refl,
       inr (omega arith, (Some request.Now, (tt, refl), record { answer = Err 801; called = refl; says = refl; same = refl })),
       (
         call.Begin 1 0 (Ok 1030) ∷ call.Pass 1 (Ok true) ∷ [],
-        [],
+        call.Now (Err 1823) ∷ [],
         Some (record { number = 1; stamp = 1030; is_released = true }),
         refl,
         inr (
@@ -177,7 +207,14 @@ serves = record {
             (Ok 1030, (call.Pass 1 (Ok true) ∷ [], refl, record { answer = Ok true; passes = (0, omega arith, refl); says = refl; keeps = refl })),
           ),
         ),
-        (refl, refl),
+        (
+          call.Now (Err 1823) ∷ [],
+          [],
+          Some (record { number = 1; stamp = 1030; is_released = true }),
+          refl,
+          inr (omega arith, (Some request.Now, (tt, refl), record { answer = Err 1823; called = refl; says = refl; same = refl })),
+          (refl, refl),
+        ),
       ),
     );
     says = refl;
@@ -192,12 +229,12 @@ abbrev session : WorkerSession MachineGives failed ClientSays 1
 session = record {
   client = tt;
   before = post unseen (clock_at 0);
-  after = released.post;
+  after = jumped.post;
   left = None;
   left' = None;
   taken = None;
   taken' = None;
-  served = inl (served, (released, refl, serves));
+  served = inl (served, (jumped, refl, serves));
 }
 
 abbrev worker : WorkerLife MachineGives failed ClientSays 1
@@ -211,6 +248,7 @@ life = record {
   epoch = 1;
   lease = whole;
   ahead = 0;
+  max_width = 1000;
   calls = call_of 0 ∷ [];
   source = unseen.source;
   published = fused ∷ [];
@@ -218,7 +256,7 @@ life = record {
 }
 
 works_in : WorksIn life worker
-works_in = record { watch = refl; lease = refl; ahead = refl; in_turn = (refl, tt); seen = ([], refl) }
+works_in = record { watch = refl; lease = refl; ahead = refl; width = refl; in_turn = (refl, tt); seen = ([], refl) }
 
 is_life : IsLife life
 is_life = record {
@@ -246,11 +284,11 @@ is_assumed = record {
   few_faulty = is_running-0.few_faulty;
 }
 
--- the first call comes before anything is published, and the others when the clock shows 120 and 150
+-- the first call comes before anything is published, the commit when the clock shows 120 and 150, and the last call when it has jumped
 abbrev times : List CallTimes
-times = record { came = 1000; read = 1001; answered = 1002 } ∷ call_at 120 ∷ call_at 150 ∷ []
+times = record { came = 1000; read = 1001; answered = 1002 } ∷ call_at 120 ∷ call_at 150 ∷ record { came = 1060; read = 1061; answered = 1062 } ∷ []
 
-is_taken : (last clock : ℕ) → last ≤ clock → 112 ≤ clock → clock ≤ 1000 → IsReadAt MachineGives 100 (moments_in start (timeline_of 0)) seen (clock_at last) (clock_at clock) (Ok (read_at clock)) (900 + clock)
+is_taken : (last clock : ℕ) → last ≤ clock → 112 ≤ clock → clock ≤ 1000 → IsTakenAt MachineGives 100 (moments_in start (timeline_of 0)) seen (clock_at last) (clock_at clock) (read_at clock) (900 + clock)
 is_taken last clock rises late early = record {
   last = fused;
   clock = clock;
@@ -264,10 +302,10 @@ is_taken last clock rises late early = record {
 }
 
 is_timed : IsTimedIn life start (timeline_of 0) session times
-unfolding serves allows_early allows_begin allows_pass
+unfolding serves allows_early allows_begin allows_pass allows_broken
 is_timed = record {
-  in_order = (omega arith, omega arith, omega arith, (omega arith, omega arith, omega arith, (omega arith, omega arith, omega arith, tt)));
-  read = (tt, (is_taken 0 120 (omega arith) (omega arith) (omega arith), (is_taken 120 150 (omega arith) (omega arith) (omega arith), refl)));
+  in_order = (omega arith, omega arith, omega arith, (omega arith, omega arith, omega arith, (omega arith, omega arith, omega arith, (omega arith, omega arith, omega arith, tt))));
+  read = (tt, (is_taken 0 120 (omega arith) (omega arith) (omega arith), (is_taken 120 150 (omega arith) (omega arith) (omega arith), (tt, refl))));
 }
 
 -- ---- so all premises of the law hold, and the commit was seen at a session of the life

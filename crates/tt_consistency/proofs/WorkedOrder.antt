@@ -1,5 +1,5 @@
 -- A worked history of two commits, for which every premise of the laws holds: one is committed at a session on machine 0, and then another at a session on machine 1.
-use Rattle.std.proofs.Common.{◌≡◌, ℕ, ◌+◌, ◌-◌, ◌<◌, ◌≤◌, nat_lt, List, [], ◌∷◌, Bool, true, false, Option, Some, Result, Ok, Err, inl, inr, refl, sym, ap, ◌∙◌, subst, arith, All}
+use Rattle.std.proofs.Common.{◌≡◌, ℕ, ◌+◌, ◌-◌, ◌<◌, ◌≤◌, nat_lt, if◌then◌else◌, List, [], ◌∷◌, Bool, true, false, Option, Some, Result, Ok, Err, inl, inr, refl, sym, ap, ◌∙◌, subst, arith, All}
 use Rattle.std.specs.Prelude.{MatchBool}
 use Rattle.std.specs.List.{AllByRecursion}
 use Rattle.std.proofs.lemmas.Bool.{le-ltb}
@@ -16,30 +16,31 @@ use Rattle.tt_stamp.specs.declared.commits.Receipt.{Receipt}
 use Rattle.tt_stamp.specs.declared.stampings.Stamping.{Stamping}
 use Rattle.tt_session.specs.Desk.{Queues}
 use Rattle.tt_session.specs.declared.calls.Call.TheVariants.{Begin, Pass}
-use Rattle.tt_connections.specs.Station.{PostState, StationState, Allows, CommitsAt, Keeps, new_station, id_at}
+use Rattle.tt_connections.specs.Station.{PostState, StationState, Allows, admission, CommitsAt, Keeps, new_station, id_at}
 use Rattle.tt_connections.specs.Fault.{number_of}
+use Rattle.tt_connections.specs.declared.presence.Question.{Question}
 use Rattle.tt_connections.proofs.Leasing.{stamps_whole}
-use Rattle.tt_connections.specs.declared.faults.StationFault.TheVariants.{FloorAboveCap}
+use Rattle.tt_connections.specs.declared.faults.StationFault.TheVariants.{FloorAboveCap, TooWide}
 use Rattle.tt_rounds.specs.Lists.{GivesInTurn}
 use Rattle.tt_judge.specs.declared.history.Commit.{Commit}
 use Rattle.tt_consistency.specs.Timed.{TimedSession, CallTimes}
 use Rattle.tt_consistency.specs.Order.{IsSeen}
-use Rattle.tt_consistency.specs.Reads.{IsReadAt}
+use Rattle.tt_consistency.specs.Reads.{IsTakenAt}
 use Rattle.tt_consistency.specs.Timeline.{IsAmong}
 use Rattle.tt_stamp.proofs.Ids.{Contains-here, Contains-there}
 use Rattle.tt_consistency.specs.Running.{Machine, IsRunning, clock_moments}
 use Rattle.tt_consistency.specs.Served.{IsServedOn, IsSeenOnOneOf}
 use Rattle.tt_consistency.proofs.WorkedRun.{machine, is_running-0, is_running-1, published-0, published-1}
 
--- a clock keeps what it is to give, and the client never leaves
+-- a clock keeps what it is to give, the client never leaves, and the machine is never broken
 abbrev pub Clocks : Type 0
 Clocks = List (Option ℕ)
 
 abbrev pub failed : Clocks → ℕ
 failed clock = 0
 
-abbrev says : Unit {0} → Bool → Type 0
-says client left = left ≡ false
+abbrev says : Unit {0} → Question → Bool → Type 0
+says client question answer = answer ≡ false
 
 -- what both machines published
 abbrev pub fused : Publication
@@ -52,7 +53,7 @@ abbrev pub seat : SeatState
 seat = new_seat (record { words = 0; slots = 0; views_name = 0; atom = 0; block = 0; offset = 0; slot_names = [] }) 1 0
 
 abbrev post : Clocks → PostState Clocks
-post clock = record { watch = watch; clock = clock; seat = seat; lease = whole; ahead = 0 }
+post clock = record { watch = watch; clock = clock; seat = seat; lease = whole; ahead = 0; max_width = 1000 }
 
 abbrev begin : Clocks → StationState Clocks (Unit {0})
 begin clock = new_station (post clock) tt
@@ -82,6 +83,12 @@ looks_at clock later late early = record {
   clock_back = λ is. absurd cc;
   sound = λ not_failed. refl;
 }
+
+-- which is given, where a reading may be 1000 wide
+pub admitted : (clock : ℕ) → Ok (read_at clock) ≡ admission false 1000 (read_at clock)
+admitted clock =
+    let given : Bool → Result Interval ℕ = λ wide. if wide then Err (number_of TooWide) else Ok (read_at clock) in
+    sym (ap given (le-ltb 1000 (910 + clock - (888 + clock)) (omega arith)))
 
 -- ---- a commit begins when the clock shows so much, and has the latest of the reading as its stamp
 abbrev given_at : ℕ → Stamping
@@ -119,10 +126,11 @@ begins_at : (clock : ℕ) (later : Clocks) → 112 ≤ clock → clock ≤ 1000 
 begins_at clock later late early = record {
   lease = refl;
   ahead = refl;
+  max_width = refl;
   client = refl;
   own = refl;
-  looked = Ok (read_at clock);
-  looks = looks_at clock later late early;
+  given = Ok (read_at clock);
+  look = record { looked = Ok (read_at clock); looks = looks_at clock later late early; admits = (false, refl, admitted clock) };
   rest = subst (λ (capped : Bool). MatchBool capped (◌≡◌ {A = Result ℕ ℕ} (Ok (910 + clock)) (Err (number_of FloorAboveCap)) × Keeps (begin (Some clock ∷ later)) (begun_with later (910 + clock))) (CommitsAt (begin (Some clock ∷ later)) 1 0 (read_at clock) (Ok (910 + clock)) (begun_with later (910 + clock)))) (sym (below_cap clock)) (
     Ok (910 + clock),
     stamps_whole 0 whole (read_at clock) seat (Ok (910 + clock)) (seat_after (910 + clock)) (record { ordered = omega arith; in_time = omega arith }) (λ far. omega (arith, far), gives_at (910 + clock) (omega arith), omega arith, (omega arith, omega arith)),
@@ -138,10 +146,10 @@ abbrev released_with : ℕ → ℕ → StationState Clocks (Unit {0})
 released_with stamp earliest = record (begun_with [] stamp) { book = Passed (receipt stamp earliest) ∷ Queued (id_at 1) stamp ∷ [] }
 
 passes-0 : Allows GivesInTurn failed says (begun_with (Some 150 ∷ []) 1030) (Pass 1 (Ok true)) (released_with 1030 1038)
-passes-0 = record { lease = refl; ahead = refl; client = refl; own = refl; looked = Ok (read_at 150); looks = looks_at 150 [] (omega arith) (omega arith); rest = (refl, refl, (refl, omega arith)) }
+passes-0 = record { lease = refl; ahead = refl; max_width = refl; client = refl; own = refl; given = Ok (read_at 150); look = record { looked = Ok (read_at 150); looks = looks_at 150 [] (omega arith) (omega arith); admits = (false, refl, admitted 150) }; rest = (refl, refl, (refl, omega arith)) }
 
 passes-1 : Allows GivesInTurn failed says (begun_with (Some 200 ∷ []) 1080) (Pass 1 (Ok true)) (released_with 1080 1088)
-passes-1 = record { lease = refl; ahead = refl; client = refl; own = refl; looked = Ok (read_at 200); looks = looks_at 200 [] (omega arith) (omega arith); rest = (refl, refl, (refl, omega arith)) }
+passes-1 = record { lease = refl; ahead = refl; max_width = refl; client = refl; own = refl; given = Ok (read_at 200); look = record { looked = Ok (read_at 200); looks = looks_at 200 [] (omega arith) (omega arith); admits = (false, refl, admitted 200) }; rest = (refl, refl, (refl, omega arith)) }
 
 -- the true time is 900 more than the clock shows
 abbrev pub call_at : ℕ → CallTimes
@@ -178,7 +186,7 @@ among-by time clock made (moment ∷ moments) all (inr later) = among-by time cl
 pub keeps : (m clock : ℕ) → 112 ≤ clock → KeepsDrift 100 (record { clock = clock; time = 900 + clock } ∷ clock_moments (machine m))
 keeps m clock late = ((omega arith, (omega arith, (omega arith, (omega arith, tt)))), ((omega arith, (omega arith, (omega arith, tt))), ((omega arith, (omega arith, tt)), ((omega arith, tt), (tt, tt)))))
 
-pub is_read : (m clock : ℕ) (later : Clocks) → 112 ≤ clock → clock ≤ 1000 → IsReadAt GivesInTurn 100 (clock_moments (machine m)) watch (Some clock ∷ later) later (Ok (read_at clock)) (900 + clock)
+pub is_read : (m clock : ℕ) (later : Clocks) → 112 ≤ clock → clock ≤ 1000 → IsTakenAt GivesInTurn 100 (clock_moments (machine m)) watch (Some clock ∷ later) later (read_at clock) (900 + clock)
 is_read m clock later late early = record {
   last = fused;
   clock = clock;

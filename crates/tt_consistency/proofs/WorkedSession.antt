@@ -1,5 +1,5 @@
 -- A worked history, in which every premise of the laws holds: machine 0 commits, and then a commit comes to machine 1.
-use Rattle.std.proofs.Common.{◌≡◌, ℕ, ◌+◌, ◌-◌, ◌<◌, ◌≤◌, nat_lt, [], ◌∷◌, Bool, true, false, Option, Result, Ok, Err, refl, sym, ap, ◌∙◌, subst, arith}
+use Rattle.std.proofs.Common.{◌≡◌, ℕ, ◌+◌, ◌-◌, ◌<◌, ◌≤◌, nat_lt, if◌then◌else◌, [], ◌∷◌, Bool, true, false, Option, Result, Ok, Err, refl, sym, ap, ◌∙◌, subst, arith}
 use Rattle.std.specs.Prelude.{MatchBool}
 use Rattle.std.proofs.lemmas.Bool.{le-ltb}
 use Rattle.std.proofs.lemmas.List.Elements.{All-nil}
@@ -15,23 +15,24 @@ use Rattle.tt_stamp.specs.declared.commits.Receipt.{Receipt}
 use Rattle.tt_stamp.specs.declared.stampings.Stamping.{Stamping}
 use Rattle.tt_session.specs.Desk.{Queues}
 use Rattle.tt_session.specs.declared.calls.Call.TheVariants.{Begin, Pass}
-use Rattle.tt_connections.specs.Station.{PostState, StationState, Allows, CommitsAt, Keeps, new_station, id_at}
+use Rattle.tt_connections.specs.Station.{PostState, StationState, Allows, admission, CommitsAt, Keeps, new_station, id_at}
 use Rattle.tt_connections.specs.Fault.{number_of}
+use Rattle.tt_connections.specs.declared.presence.Question.{Question}
 use Rattle.tt_connections.proofs.Leasing.{stamps_whole}
-use Rattle.tt_connections.specs.declared.faults.StationFault.TheVariants.{FloorAboveCap}
+use Rattle.tt_connections.specs.declared.faults.StationFault.TheVariants.{FloorAboveCap, TooWide}
 use Rattle.tt_consistency.specs.Timed.{TimedSession, IsTimed, times_at}
 use Rattle.tt_consistency.specs.Order.{BeginsAt, IsCommitted}
 use Rattle.tt_consistency.proofs.Judging.{stamps-ordered}
 
--- a clock of the world claims nothing, and the client never leaves
+-- a clock of the world claims nothing, the client never leaves, and the machine is never broken
 abbrev gives : Unit {0} → Option ℕ → Unit {0} → Type 0
 gives before given after = Unit {0}
 
 abbrev failed : Unit {0} → ℕ
 failed clock = 0
 
-abbrev says : Unit {0} → Bool → Type 0
-says client left = left ≡ false
+abbrev says : Unit {0} → Question → Bool → Type 0
+says client question answer = answer ≡ false
 
 -- fused when the clock showed 0; the clock does not drift
 abbrev fused : Publication
@@ -44,7 +45,7 @@ abbrev seat : SeatState
 seat = new_seat (record { words = 0; slots = 0; views_name = 0; atom = 0; block = 0; offset = 0; slot_names = [] }) 1 0
 
 abbrev post : PostState (Unit {0})
-post = record { watch = watch; clock = tt; seat = seat; lease = whole; ahead = 0 }
+post = record { watch = watch; clock = tt; seat = seat; lease = whole; ahead = 0; max_width = 1000 }
 
 abbrev begin : StationState (Unit {0}) (Unit {0})
 begin = new_station post tt
@@ -74,6 +75,12 @@ looks_at clock early = record {
   clock_back = λ is. absurd cc;
   sound = λ not_failed. refl;
 }
+
+-- which is given, where a reading may be 1000 wide
+admitted : (clock : ℕ) → Ok (read_at clock) ≡ admission false 1000 (read_at clock)
+admitted clock =
+    let given : Bool → Result Interval ℕ = λ wide. if wide then Err (number_of TooWide) else Ok (read_at clock) in
+    sym (ap given (le-ltb 1000 (1008 + clock - (1000 + clock)) (omega arith)))
 
 -- ---- a commit begins when the clock shows so much, and has the latest of the reading as its stamp
 abbrev given_at : ℕ → Stamping
@@ -111,10 +118,11 @@ begins_at : (clock : ℕ) → clock ≤ 1000 → Allows gives failed says begin 
 begins_at clock early = record {
   lease = refl;
   ahead = refl;
+  max_width = refl;
   client = refl;
   own = refl;
-  looked = Ok (read_at clock);
-  looks = looks_at clock early;
+  given = Ok (read_at clock);
+  look = record { looked = Ok (read_at clock); looks = looks_at clock early; admits = (false, refl, admitted clock) };
   rest = subst (λ (capped : Bool). MatchBool capped (◌≡◌ {A = Result ℕ ℕ} (Ok (1008 + clock)) (Err (number_of FloorAboveCap)) × Keeps begin (begun_with (1008 + clock))) (CommitsAt begin 1 0 (read_at clock) (Ok (1008 + clock)) (begun_with (1008 + clock)))) (sym (below_cap clock)) (
     Ok (1008 + clock),
     stamps_whole 0 whole (read_at clock) seat (Ok (1008 + clock)) (seat_after (1008 + clock)) (record { ordered = omega arith; in_time = omega arith }) (λ far. omega (arith, far), gives_at (1008 + clock) (omega arith), omega arith, (omega arith, omega arith)),
@@ -133,10 +141,11 @@ passes : Allows gives failed says (begun_with 1018) (Pass 1 (Ok true)) released
 passes = record {
   lease = refl;
   ahead = refl;
+  max_width = refl;
   client = refl;
   own = refl;
-  looked = Ok (read_at 30);
-  looks = looks_at 30 (omega arith);
+  given = Ok (read_at 30);
+  look = record { looked = Ok (read_at 30); looks = looks_at 30 (omega arith); admits = (false, refl, admitted 30) };
   rest = (refl, refl, (refl, omega arith));
 }
 

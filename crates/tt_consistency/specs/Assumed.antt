@@ -10,8 +10,9 @@ use Rattle.tt_session.specs.declared.calls.Call.{Call}
 use Rattle.tt_session.specs.declared.serving.Served.{Served}
 use Rattle.tt_connections.specs.Station.{PostState, StationState, Allows, ServesSession, BreaksSession, new_station}
 use Rattle.tt_connections.specs.Sessions.{WorkerSession}
+use Rattle.tt_connections.specs.declared.presence.Question.{Question}
 use Rattle.tt_consistency.specs.Order.{IsSeen}
-use Rattle.tt_consistency.specs.Timed.{CallTimes, AreInOrder, TimedSession, looked_of, served_at, broken_at}
+use Rattle.tt_consistency.specs.Timed.{CallTimes, AreInOrder, TimedSession, given_of, served_at, broken_at}
 use Rattle.tt_consistency.specs.Calls.{calls_steps}
 use Rattle.tt_consistency.specs.Faulty.{FewFaulty}
 use Rattle.tt_consistency.specs.Reads.{IsReadAt}
@@ -27,7 +28,7 @@ abbrev pub moments_in : Start → List Timed → List Moment
 moments_in start timeline = moments_told timeline ++ record { clock = start.clock; time = start.at } ∷ []
 
 -- what is assumed of a life that began so, and in which this happened in true time
-pub record IsAssumed {C V : Type 0} {gives : C → Option ℕ → C → Type 0} {failed : C → ℕ} {says : V → Bool → Type 0} {waits : ℕ} (life : Life gives failed says waits) (start : Start) (timeline : List Timed) : Type 0 where
+pub record IsAssumed {C V : Type 0} {gives : C → Option ℕ → C → Type 0} {failed : C → ℕ} {says : V → Question → Bool → Type 0} {waits : ℕ} (life : Life gives failed says waits) (start : Start) (timeline : List Timed) : Type 0 where
   -- the lives before it are those of the epochs before its own
   pub lives : start.lives + 1 ≡ life.epoch
   -- the true time and the clock reading at its beginning are in time
@@ -51,58 +52,58 @@ pub record IsAssumed {C V : Type 0} {gives : C → Option ℕ → C → Type 0} 
   pub few_faulty : FewFaulty life.config (record { machine = life.number; number = life.epoch }) timeline
 
 -- the machine that a life is, as the laws of running machines see it
-abbrev pub machine_of : {C V : Type 0} {gives : C → Option ℕ → C → Type 0} {failed : C → ℕ} {says : V → Bool → Type 0} {waits : ℕ} → Life gives failed says waits → Start → List Timed → Machine
+abbrev pub machine_of : {C V : Type 0} {gives : C → Option ℕ → C → Type 0} {failed : C → ℕ} {says : V → Question → Bool → Type 0} {waits : ℕ} → Life gives failed says waits → Start → List Timed → Machine
 machine_of life start timeline = record { config = life.config; number = life.number; start = start; calls = life.calls; timeline = timeline }
 
 -- ---- a session in true time
 
 -- what a post served, whole or broken off, as a session whose calls have these true times
-abbrev pub timed_by : {C V : Type 0} (gives : C → Option ℕ → C → Type 0) (failed : C → ℕ) (says : V → Bool → Type 0) (waits : ℕ) (left left' taken taken' : Option (List ℕ)) (client : V) (before after : PostState C) →
+abbrev pub timed_by : {C V : Type 0} (gives : C → Option ℕ → C → Type 0) (failed : C → ℕ) (says : V → Question → Bool → Type 0) (waits : ℕ) (left left' taken taken' : Option (List ℕ)) (client : V) (before after : PostState C) →
     ((served : Served) × ServesSession gives failed says waits left left' taken taken' client before after served) ⊎ BreaksSession gives failed says waits left left' taken taken' client before after → List CallTimes → TimedSession gives failed says
 timed_by gives failed says waits left left' taken taken' client before after (inl (served, that)) times = served_at gives failed says waits left left' taken taken' client before after served that times
 timed_by gives failed says waits left left' taken taken' client before after (inr that) times = broken_at gives failed says waits left left' taken taken' client before after that times
 
 -- a session of a worker, whose calls have these true times
-abbrev pub timed_of : {C V : Type 0} {gives : C → Option ℕ → C → Type 0} {failed : C → ℕ} {says : V → Bool → Type 0} {waits : ℕ} → WorkerSession gives failed says waits → List CallTimes → TimedSession gives failed says
+abbrev pub timed_of : {C V : Type 0} {gives : C → Option ℕ → C → Type 0} {failed : C → ℕ} {says : V → Question → Bool → Type 0} {waits : ℕ} → WorkerSession gives failed says waits → List CallTimes → TimedSession gives failed says
 timed_of {C} {V} {gives} {failed} {says} {waits} session times = timed_by gives failed says waits session.left session.left' session.taken session.taken' session.client session.before session.after session.served times
 
--- each reading that the calls of a conversation gave was taken at the time of its call, by the clock that has these moments and keeps this drift bound; each call has its times
-abbrev pub AllReadAt : {C V : Type 0} (gives : C → Option ℕ → C → Type 0) (failed : C → ℕ) (says : V → Bool → Type 0) (ppm : ℕ) (moments : List Moment) (before : StationState C V) (calls : List Call) (after : StationState C V) → Conversation (Allows gives failed says) before calls after → List CallTimes → Type 0
+-- each reading that the calls of a conversation were given was taken at the time of its call, by the clock that has these moments and keeps this drift bound; each call has its times
+abbrev pub AllReadAt : {C V : Type 0} (gives : C → Option ℕ → C → Type 0) (failed : C → ℕ) (says : V → Question → Bool → Type 0) (ppm : ℕ) (moments : List Moment) (before : StationState C V) (calls : List Call) (after : StationState C V) → Conversation (Allows gives failed says) before calls after → List CallTimes → Type 0
 AllReadAt gives failed says ppm moments before [] after talked times = times ≡ []
 AllReadAt gives failed says ppm moments before (call ∷ calls) after talked [] = ⊥
 AllReadAt gives failed says ppm moments before (call ∷ calls) after talked (times ∷ later) =
-    IsReadAt gives ppm moments talked.0.post.watch before.post.clock talked.0.post.clock (looked_of gives failed says before call talked.0 talked.1) times.read
+    IsReadAt gives ppm moments talked.0.post.watch before.post.clock talked.0.post.clock (given_of gives failed says before call talked.0 talked.1) times.read
     × AllReadAt gives failed says ppm moments talked.0 calls after talked.2 later
 
 -- what is assumed of a session of a life, whose calls have these true times
-pub record IsTimedIn {C V : Type 0} {gives : C → Option ℕ → C → Type 0} {failed : C → ℕ} {says : V → Bool → Type 0} {waits : ℕ} (life : Life gives failed says waits) (start : Start) (timeline : List Timed) (session : WorkerSession gives failed says waits) (times : List CallTimes) : Type 0 where
+pub record IsTimedIn {C V : Type 0} {gives : C → Option ℕ → C → Type 0} {failed : C → ℕ} {says : V → Question → Bool → Type 0} {waits : ℕ} (life : Life gives failed says waits) (start : Start) (timeline : List Timed) (session : WorkerSession gives failed says waits) (times : List CallTimes) : Type 0 where
   -- its true times do not fall
   pub in_order : AreInOrder 0 times
-  -- each reading that it gave was taken at the time of its call, by a clock that keeps the drift bound of the configuration at that moment too
+  -- each reading that it was given was taken at the time of its call, by a clock that keeps the drift bound of the configuration at that moment too
   pub read : let timed = timed_of session times in AllReadAt gives failed says life.config.drift (moments_in start timeline) (new_station timed.post timed.client) timed.calls timed.after timed.talked times
 
 -- ---- lives together
 
 -- a life, how it began, and what happened in it in true time
-pub record TimedLife {C V : Type 0} (gives : C → Option ℕ → C → Type 0) (failed : C → ℕ) (says : V → Bool → Type 0) (waits : ℕ) : Type 0 where
+pub record TimedLife {C V : Type 0} (gives : C → Option ℕ → C → Type 0) (failed : C → ℕ) (says : V → Question → Bool → Type 0) (waits : ℕ) : Type 0 where
   pub life : Life gives failed says waits
   pub start : Start
   pub timeline : List Timed
 
 -- all that is proved of a life holds of it, and all that is assumed of it
-pub record IsLived {C V : Type 0} {gives : C → Option ℕ → C → Type 0} {failed : C → ℕ} {says : V → Bool → Type 0} {waits : ℕ} (lived : TimedLife gives failed says waits) : Type 0 where
+pub record IsLived {C V : Type 0} {gives : C → Option ℕ → C → Type 0} {failed : C → ℕ} {says : V → Question → Bool → Type 0} {waits : ℕ} (lived : TimedLife gives failed says waits) : Type 0 where
   pub proved : IsLife lived.life
   pub assumed : IsAssumed lived.life lived.start lived.timeline
 
 -- a session was served in a life, and its calls have these true times
-pub record IsServedIn {C V : Type 0} {gives : C → Option ℕ → C → Type 0} {failed : C → ℕ} {says : V → Bool → Type 0} {waits : ℕ} (lived : TimedLife gives failed says waits) (session : WorkerSession gives failed says waits) (times : List CallTimes) : Type 0 where
+pub record IsServedIn {C V : Type 0} {gives : C → Option ℕ → C → Type 0} {failed : C → ℕ} {says : V → Question → Bool → Type 0} {waits : ℕ} (lived : TimedLife gives failed says waits) (session : WorkerSession gives failed says waits) (times : List CallTimes) : Type 0 where
   pub worker : WorkerLife gives failed says waits
   pub of_life : Contains lived.life.workers worker
   pub of_worker : Contains worker.sessions session
   pub timed : IsTimedIn lived.life lived.start lived.timeline session times
 
 -- the commit was seen at some session of one of these lives
-pub record IsSeenInOneOf {C V : Type 0} {gives : C → Option ℕ → C → Type 0} {failed : C → ℕ} {says : V → Bool → Type 0} {waits : ℕ} (lives : List (TimedLife gives failed says waits)) (commit : Commit) : Type 0 where
+pub record IsSeenInOneOf {C V : Type 0} {gives : C → Option ℕ → C → Type 0} {failed : C → ℕ} {says : V → Question → Bool → Type 0} {waits : ℕ} (lives : List (TimedLife gives failed says waits)) (commit : Commit) : Type 0 where
   pub lived : TimedLife gives failed says waits
   pub among : Contains lives lived
   pub session : WorkerSession gives failed says waits

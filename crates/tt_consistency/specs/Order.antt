@@ -5,6 +5,7 @@ use Rattle.tt_session.specs.declared.calls.Call.{Call}
 use Rattle.tt_session.specs.declared.calls.Call.TheVariants.{Begin, Lease, Pass}
 use Rattle.tt_stamp.specs.Stamping.{SeatState, IsLegalRun, Continues, is_in}
 use Rattle.tt_stamp.specs.declared.stampings.Stamping.{Stamping}
+use Rattle.tt_connections.specs.declared.presence.Question.{Question}
 use Rattle.tt_consistency.specs.Timed.{CallTimes, times_at, TimedSession, IsTimed}
 
 -- the call at this place began the commit with this number, and answered this stamp
@@ -44,7 +45,7 @@ pub record IsWithin (commit : Commit) : Type 0 where
   pub ended : commit.stamp < commit.ended
 
 -- the commit was seen at some timed session
-pub record IsSeenAtSome {C V : Type 0} (gives : C → Option ℕ → C → Type 0) (failed : C → ℕ) (says : V → Bool → Type 0) (commit : Commit) : Type 0 where
+pub record IsSeenAtSome {C V : Type 0} (gives : C → Option ℕ → C → Type 0) (failed : C → ℕ) (says : V → Question → Bool → Type 0) (commit : Commit) : Type 0 where
   pub session : TimedSession gives failed says
   pub timed : IsTimed gives failed says session
   pub seen : IsSeen session.calls session.times commit

@@ -6,7 +6,6 @@ use Rattle.tt_span.specs.Drift.{Moment, KeepsDrift}
 use Rattle.tt_daemon.specs.Publication.{Publication}
 use Rattle.tt_publish.specs.Known.{WatchState, last_of}
 use Rattle.tt_publish.specs.Reading.{fused_span_of, CanBeReadAt, reading_at}
-use Rattle.tt_publish.specs.declared.faults.ReadFault.{ReadFault}
 use Rattle.tt_publish.specs.declared.readings.FusedSpan.{FusedSpan}
 use Rattle.tt_consistency.specs.Timeline.{IsAmong}
 
@@ -27,5 +26,5 @@ pub record IsTakenAt {C : Type 0} (gives : C → Option ℕ → C → Type 0) (p
   pub no_earlier : IsNoEarlier moments (fused_span_of last) time
 
 -- a watch is read at a true time, by the clock that has these moments: the reading that was given was taken then; where none was given, nothing is asked
-abbrev pub IsReadAt : {C : Type 0} → (C → Option ℕ → C → Type 0) → ℕ → List Moment → WatchState → C → C → Result Interval ReadFault → ℕ → Type 0
+abbrev pub IsReadAt : {C Fault : Type 0} → (C → Option ℕ → C → Type 0) → ℕ → List Moment → WatchState → C → C → Result Interval Fault → ℕ → Type 0
 IsReadAt gives ppm moments watch before after answer time = IfOk answer (λ reading. IsTakenAt gives ppm moments watch before after reading time)

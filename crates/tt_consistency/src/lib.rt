@@ -17,7 +17,7 @@
 //!
 //! The clock readings of a daemon's steps do not fall if none that its clock gave is below one before it. A reading of
 //! what the daemon published holds the true time of the moment at which it was taken. Nothing is asked of a look that
-//! gave no reading.
+//! gave no reading, nor of one whose reading a station refused because the machine is broken or the reading too wide.
 //!
 //! # Commits of stations
 //!

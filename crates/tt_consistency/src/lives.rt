@@ -28,7 +28,7 @@ use tt_publish::Clock;
 /// published.
 ///
 /// `IsAssumed` and `IsTimedIn` are what no program can prove. They say when all this happened in true time, that the clock
-/// kept its drift bound, and that at each fusion at most f sources were faulty. A call that gave no reading is asked
+/// kept its drift bound, and that at each fusion at most f sources were faulty. A call that was given no reading is asked
 /// nothing. No other premise is needed.
 pub fn life_laws<C: Clock, V: Presence, D: Clock, W: Presence>()
     // The life is a machine that runs, in the sense of `machine_laws`.
@@ -41,7 +41,7 @@ pub fn life_laws<C: Clock, V: Presence, D: Clock, W: Presence>()
         IsLife life → IsAssumed life start timeline →
         AllByRecursion (HeldTrueTime (moments_in start timeline)) (map fused_span_of life.published) }
 
-    // Each reading of each session of each worker holds the true time at which it was taken.
+    // Each reading that a session of a worker was given holds the true time at which it was taken.
     ensures readings_hold { (waits : ℕ) (life : Life C.gives C.failed V.says waits) (start : Start) (timeline : List Timed)
         (worker : WorkerLife C.gives C.failed V.says waits) (session : WorkerSession C.gives C.failed V.says waits)
         (times : List CallTimes) →

@@ -7,7 +7,7 @@
 //! `CALL as without`. If an allocation fails during the preparation, it writes `CALL prepared again`, and begins this
 //! call again. For anything else it writes `CALL wrong`, and the program ends with status 1.
 //!
-//! `tools/sweep` runs it with each allocation failing in turn, until no allocation of a run fails.
+//! `tools/suites/sweep.py` runs it with each allocation failing in turn, until no allocation of a run fails.
 //!
 //! - `calls`: the calls, in their order. `outcomes`: the possible outcomes of a call.
 //! - `texts`, `worlds`, `publications`, `commits`, `nodes` and `services` make the calls. `replies`: the replies of a run, for

@@ -132,6 +132,7 @@ pub(crate) fn session<R: Wait>(rt: &R, alloc: Global) -> Outcome {
     let terms = Terms {
         lease: Span::whole(),
         ahead: 0,
+        max_width: u64::MAX,
     };
     let clock = MemoryClock::new(&CLOCK, None);
     let post = Post::new(rt, alloc, watch, clock, seat, &sequencer, terms);

@@ -1,11 +1,11 @@
-//! The status file.
+//! The files that are replaced as a whole: the status file and those of the evidence.
 
 use std::alloc::{AllocError, Global};
 use std::fs::{File, Files};
 use std::io;
 use tt_status::{Status, push_status};
 
-/// The permissions of a status file: all may read it.
+/// The permissions of a file: all may read it.
 const MODE: u32 = 0o644;
 
 /// A file system on which a file can be replaced. The runtime handle is one. A thread can be given it, since no type of
@@ -23,24 +23,40 @@ impl<R: Files<File = File>> Disk for R {
     }
 }
 
-/// The status file, and the draft beside it.
+/// A file that is replaced as a whole, and the draft beside it.
 #[derive(Drop)]
-pub(crate) struct StatusFile {
+pub(crate) struct WholeFile {
     path: String,
     draft: String,
 }
 
-impl StatusFile {
-    /// The status file at this path. Its draft has the same path with `.new` behind it.
-    pub(crate) fn at(alloc: Global, path: &str) -> Result<StatusFile, AllocError> {
-        Ok(StatusFile {
+impl WholeFile {
+    /// The file at this path. Its draft has the same path with `.new` behind it.
+    fn at(alloc: Global, path: &str) -> Result<WholeFile, AllocError> {
+        Ok(WholeFile {
             path: String::from_str(alloc, path)?,
             draft: format!(in alloc; "{path}.new")?,
         })
     }
 
+    /// The file at this path, if there is a path.
+    pub(crate) fn at_some(
+        alloc: Global,
+        path: Option<&str>,
+    ) -> Result<Option<WholeFile>, AllocError> {
+        match path {
+            Some(path) => Ok(Some(WholeFile::at(alloc, path)?)),
+            None => Ok(None),
+        }
+    }
+
+    /// Replaces the file by a text.
+    fn write<D: Disk>(&self, disk: &D, text: &str) -> io::Result<()> {
+        disk.replace(self.path.as_str(), self.draft.as_str(), text.as_bytes())
+    }
+
     /// Replaces the file by the text of a status.
-    pub(crate) fn write<D: Disk>(
+    pub(crate) fn write_status<D: Disk>(
         &self,
         disk: &D,
         alloc: Global,
@@ -48,10 +64,58 @@ impl StatusFile {
     ) -> io::Result<()> {
         let mut text = String::new(alloc);
         push_status(&mut text, status)?;
-        disk.replace(
-            self.path.as_str(),
-            self.draft.as_str(),
-            text.as_str().as_bytes(),
-        )
+        self.write(disk, text.as_str())
+    }
+}
+
+/// The evidence before a break of an assumption, and that of it.
+#[derive(Drop)]
+pub(crate) struct Break {
+    pub(crate) earlier: String,
+    pub(crate) later: String,
+}
+
+/// The files of the evidence.
+#[derive(Drop)]
+pub(crate) struct EvidenceFiles {
+    newest: WholeFile,
+    earlier: WholeFile,
+    later: WholeFile,
+}
+
+impl EvidenceFiles {
+    /// The newest evidence at this path, and that of a break at this path with `.break-1` and `.break-2` behind it, if
+    /// there is a path.
+    pub(crate) fn at_some(
+        alloc: Global,
+        path: Option<&str>,
+    ) -> Result<Option<EvidenceFiles>, AllocError> {
+        match path {
+            Some(path) => Ok(Some(EvidenceFiles::at(alloc, path)?)),
+            None => Ok(None),
+        }
+    }
+
+    /// The files of the evidence for this path.
+    fn at(alloc: Global, path: &str) -> Result<EvidenceFiles, AllocError> {
+        let first = format!(in alloc; "{path}.break-1")?;
+        let second = format!(in alloc; "{path}.break-2")?;
+        Ok(EvidenceFiles {
+            newest: WholeFile::at(alloc, path)?,
+            earlier: WholeFile::at(alloc, first.as_str())?,
+            later: WholeFile::at(alloc, second.as_str())?,
+        })
+    }
+
+    /// Replaces the file of the newest evidence by this text.
+    pub(crate) fn write_newest<D: Disk>(&self, disk: &D, text: &str) -> io::Result<()> {
+        self.newest.write(disk, text)
+    }
+
+    /// Replaces the two files of a break by these texts. Where one can't be written, the other one is still tried.
+    pub(crate) fn write_break<D: Disk>(&self, disk: &D, of: &Break) -> io::Result<()> {
+        let earlier = self.earlier.write(disk, of.earlier.as_str());
+        self.later.write(disk, of.later.as_str())?;
+        earlier
     }
 }

@@ -46,9 +46,19 @@ impl<T: Drop> Lane<T> {
         !lost
     }
 
+    /// Wakes the thread that takes records, if it sleeps in [`Lane::take`].
+    pub(crate) fn wake(&self) {
+        self.came.unpark();
+    }
+
+    /// Takes the oldest record that waits, if there is one. It does not sleep.
+    pub(crate) fn take_waiting<R: Wait>(&self, rt: &R) -> Option<T> {
+        self.waiting.pop(rt)
+    }
+
     /// Takes the oldest record that waits. If there is none, it sleeps until one comes, for at most a second.
     pub(crate) fn take<R: Wait>(&self, rt: &R) -> Option<T> {
-        let record = self.waiting.pop(rt);
+        let record = self.take_waiting(rt);
         if record.is_none() {
             self.came.park_timeout(rt, Duration::from_secs(PERIOD));
         }

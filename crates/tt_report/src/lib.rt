@@ -1,31 +1,33 @@
-//! The log and the status file of a running machine or master, written by threads of their own.
+//! The log, the status file and the evidence of a running machine or master, written by threads of their own.
 //!
 //! A machine's threads never wait for standard error or for a file system. They hand what is to be written to a
 //! [`Reporter`] and go on:
 //!
 //! ```text
-//! // two threads, which are never joined
-//! let reporter = Reporter::start(rt, alloc, LogFormat::Text, Some("/run/truetime/status"))?;
+//! // three threads, which are never joined
+//! let reporter = Reporter::start(rt, alloc, LogFormat::Text, Some("/run/truetime/status"), Some("/run/truetime/evidence"))?;
 //! reporter.watch_for(1_000_000_000);
 //! reporter.log(rt, event);             // a line of the log
 //! reporter.show(rt, status);           // the newest status
+//! reporter.prove(rt, text);            // the newest evidence
+//! reporter.keep_break(rt, text, text); // the evidence before a break, and that of it
 //! reporter.busy(clock);                // a round begins to publish at this clock reading ..
 //! reporter.idle();                     // .. and has published
 //! reporter.end(rt);                    // waits until all of it is written, for at most 200 ms
 //! ```
 //!
-//! Standard error and the status file have a thread each, so that a pipe that is full keeps no status away, and a file
-//! system that hangs keeps no line away. Lines wait in a queue of [`CAPACITY`] places, and one place holds the newest
-//! status. What finds no place is left out and counted: [`Reporter::left_out`] has the count of all, and the next line
-//! of a kind says how many lines of its kind were left out before it. A line of a kind follows the one before it after
-//! ten seconds at the earliest.
+//! Standard error, the status file and the evidence have a thread each, so that a pipe that is full keeps no status
+//! away, and a file system that hangs keeps no line away. Lines wait in a queue of [`CAPACITY`] places, and one place
+//! each holds the newest status, the newest evidence and that of the newest break. What finds no place is left out and
+//! counted: [`Reporter::left_out`] has the count of all, and the next line of a kind says how many lines of its kind were
+//! left out before it. A line of a kind follows the one before it after ten seconds at the earliest.
 //!
 //! Lines of one thread are written in the order in which that thread logged them. Lines of several threads come in the
 //! order in which they found their places.
 //!
 //! - `reporters`: [`Reporter`]. `records`: what its threads share with those that log. `writers`: its threads.
 //! - `limits`: which lines are logged, and how many were left out. `watches`: when a publication is slow.
-//! - `lanes`: the queues. `files`: the status file, and [`Disk`]. `clocks`: readings of the system's clocks. `faults`: why there is no reporter.
+//! - `lanes`: the queues. `files`: the files that are replaced, and [`Disk`]. `clocks`: readings of the system's clocks. `faults`: why there is no reporter.
 //!
 //! The functions over values are proved: the kinds of lines and their limits, the counts of lines that were left out,
 //! and when a publication is slow. Nothing is claimed of the threads, of what a queue holds, and of what the system

@@ -1,6 +1,7 @@
 //! What the reporter's threads share with the threads that log.
 
 use crate::clocks::{clock_of, time_of};
+use crate::files::Break;
 use crate::lanes::Lane;
 use crate::limits::LogLimits;
 use std::alloc::{AllocError, Global};
@@ -20,12 +21,32 @@ pub(crate) struct Line {
     pub(crate) left_out: u64,
 }
 
+/// The evidence that waits to be written.
+#[derive(Drop)]
+pub(crate) struct EvidenceLanes {
+    /// One place, for the newest evidence.
+    pub(crate) newest: Lane<String>,
+    /// One place, for that of the newest break. The thread that takes it sleeps at `newest`.
+    pub(crate) breaks: Lane<Break>,
+}
+
+impl EvidenceLanes {
+    /// No evidence was handed over so far.
+    fn new(alloc: Global) -> Result<EvidenceLanes, AllocError> {
+        Ok(EvidenceLanes {
+            newest: Lane::new(alloc, 1)?,
+            breaks: Lane::new(alloc, 1)?,
+        })
+    }
+}
+
 /// The records that wait to be written, and what is kept of those that were handed over.
 #[derive(Drop)]
 pub(crate) struct Records {
     pub(crate) lines: Lane<Line>,
     /// One place, for the newest status.
     pub(crate) statuses: Lane<Status>,
+    pub(crate) evidence: Box<EvidenceLanes, Global>,
     /// The clock reading at which the publication began that is made now, in nanoseconds; 0 for none.
     pub(crate) since: AtomicU64,
     /// How long a publication may last, in nanoseconds.
@@ -40,9 +61,13 @@ pub(crate) struct Records {
 impl Records {
     /// No record was handed over so far.
     pub(crate) fn new(alloc: Global) -> Result<Records, AllocError> {
+        let evidence = boxed_lanes(alloc)?;
+        let lines = Lane::new(alloc, CAPACITY)?;
+        let statuses = Lane::new(alloc, 1)?;
         Ok(Records {
-            lines: Lane::new(alloc, CAPACITY)?,
-            statuses: Lane::new(alloc, 1)?,
+            lines,
+            statuses,
+            evidence,
             since: AtomicU64::new(0),
             most: AtomicU64::new(u64::MAX),
             limits: Mutex::new(LogLimits::new()),
@@ -80,6 +105,25 @@ impl Records {
         }
     }
 
+    /// Hands over the newest evidence. A text that still waits gives its place to it, and is left out. It writes nothing
+    /// itself.
+    pub(crate) fn prove<R: Wait>(&self, rt: &R, text: String) {
+        self.unwritten.fetch_add(1, Ordering::SeqCst);
+        if !self.evidence.newest.push_newest(rt, text) {
+            self.leave_out();
+        }
+    }
+
+    /// Hands over the evidence of a break. That of a break before, which still waits, gives its place to it, and is left
+    /// out. It writes nothing itself.
+    pub(crate) fn keep_break<R: Wait>(&self, rt: &R, of: Break) {
+        self.unwritten.fetch_add(1, Ordering::SeqCst);
+        if !self.evidence.breaks.push_newest(rt, of) {
+            self.leave_out();
+        }
+        self.evidence.newest.wake();
+    }
+
     /// Counts a record that was handed over and found no place.
     fn leave_out(&self) {
         self.left_out.fetch_add(1, Ordering::SeqCst);
@@ -100,4 +144,10 @@ impl Records {
     pub(crate) fn left_out(&self) -> u64 {
         self.left_out.load(Ordering::SeqCst)
     }
+}
+
+/// Lanes of evidence, on the heap.
+fn boxed_lanes(alloc: Global) -> Result<Box<EvidenceLanes, Global>, AllocError> {
+    let lanes = Box::new(alloc, EvidenceLanes::new(alloc)?)?;
+    Ok(lanes)
 }

@@ -2,9 +2,9 @@
 
 use crate::clocks::clock_of;
 use crate::faults::ReporterFault;
-use crate::files::{Disk, StatusFile};
+use crate::files::{Break, Disk, EvidenceFiles, WholeFile};
 use crate::records::Records;
-use crate::writers::{write_lines, write_statuses};
+use crate::writers::{write_evidence, write_lines, write_statuses};
 use std::alloc::{AllocError, Global};
 use std::io::Eprint;
 use std::sync::atomic::Ordering;
@@ -23,17 +23,18 @@ const LOOKS: u32 = 200;
 /// The pause between two looks, in milliseconds.
 const PAUSE: u64 = 2;
 
-/// Writes the log and the status file by threads of its own. No call of it waits for what they write to, and only
-/// [`Reporter::end`] waits for them, for a bounded time. Threads use it by reference.
+/// Writes the log, the status file and the evidence by threads of its own. No call of it waits for what they write to,
+/// and only [`Reporter::end`] waits for them, for a bounded time. Threads use it by reference.
 #[derive(Drop)]
 pub struct Reporter {
     records: Arc<Records, Global>,
     has_file: bool,
+    has_evidence: bool,
 }
 
 impl Reporter {
-    /// A reporter that writes lines in this form to standard error and, if there is one, the status to the file at this
-    /// path. Its threads run until the process ends, and are never joined.
+    /// A reporter that writes lines in this form to standard error and, if there is a path for them, the status and the
+    /// evidence to the files at these paths. Its threads run until the process ends, and are never joined.
     ///
     /// Refuses with 1816 `NoThread` if a thread can't be started, and with 1 `Memory`.
     pub fn start<R>(
@@ -41,16 +42,15 @@ impl Reporter {
         alloc: Global,
         format: LogFormat,
         status: Option<&str>,
+        evidence: Option<&str>,
     ) -> Result<Reporter, ReporterFault>
     where
         R: Threads + Wait + SystemClock + Eprint + Disk + Copy + Send + 'static,
     {
         let rt = *rt;
-        let file = match status {
-            Some(path) => Some(StatusFile::at(alloc, path)?),
-            None => None,
-        };
-        let has_file = file.is_some();
+        let file = WholeFile::at_some(alloc, status)?;
+        let files = EvidenceFiles::at_some(alloc, evidence)?;
+        let (has_file, has_evidence) = (file.is_some(), files.is_some());
         let records = shared_records(alloc)?;
         let theirs = Arc::try_clone(&records)?;
         if thread::spawn(&rt, move || write_lines(&rt, alloc, &theirs, format)).is_err() {
@@ -62,7 +62,17 @@ impl Reporter {
                 return Err(ReporterFault::NoThread);
             }
         }
-        Ok(Reporter { records, has_file })
+        if let Some(files) = files {
+            let theirs = Arc::try_clone(&records)?;
+            if thread::spawn(&rt, move || write_evidence(&rt, &theirs, &files)).is_err() {
+                return Err(ReporterFault::NoThread);
+            }
+        }
+        Ok(Reporter {
+            records,
+            has_file,
+            has_evidence,
+        })
     }
 
     /// Another handle of this reporter, for a thread that owns what it uses.
@@ -70,6 +80,7 @@ impl Reporter {
         Ok(Reporter {
             records: Arc::try_clone(&self.records)?,
             has_file: self.has_file,
+            has_evidence: self.has_evidence,
         })
     }
 
@@ -84,6 +95,23 @@ impl Reporter {
     pub fn show<R: Wait>(&self, rt: &R, status: Status) {
         if self.has_file {
             self.records.show(rt, status)
+        }
+    }
+
+    /// Hands over the newest evidence, if there is a path for it. A text that still waits gives its place to it. It
+    /// writes nothing itself and never waits for the file.
+    pub fn prove<R: Wait>(&self, rt: &R, text: String) {
+        if self.has_evidence {
+            self.records.prove(rt, text)
+        }
+    }
+
+    /// Hands over the evidence before a break of an assumption and that of it, if there is a path for evidence. They are
+    /// written to files of their own, at that path with `.break-1` and `.break-2` behind it, whatever evidence is handed
+    /// over later; that of a break before gives its place to them. It writes nothing itself and never waits for a file.
+    pub fn keep_break<R: Wait>(&self, rt: &R, earlier: String, later: String) {
+        if self.has_evidence {
+            self.records.keep_break(rt, Break { earlier, later })
         }
     }
 
@@ -103,13 +131,13 @@ impl Reporter {
         self.records.since.store(0, Ordering::SeqCst)
     }
 
-    /// How many lines and statuses found no place so far. They are lost.
+    /// How many lines, statuses and texts of evidence found no place so far. They are lost.
     pub fn left_out(&self) -> u64 {
         self.records.left_out()
     }
 
-    /// Waits until all that was handed over is written, for at most 200 ms, and says whether it is. Lines and statuses
-    /// that standard error or the file refused count as written.
+    /// Waits until all that was handed over is written, for at most 200 ms, and says whether it is. What standard error
+    /// or a file refused counts as written.
     pub fn end<R: Wait + SystemClock>(&self, rt: &R) -> bool {
         let began = clock_of(rt);
         for _ in 0..LOOKS {

@@ -1,7 +1,7 @@
-//! The threads of a reporter: one for standard error, and one for the status file.
+//! The threads of a reporter: one for standard error, one for the status file, and one for the evidence.
 
 use crate::clocks::clock_of;
-use crate::files::{Disk, StatusFile};
+use crate::files::{Disk, EvidenceFiles, WholeFile};
 use crate::records::{Line, Records};
 use crate::watches::Watch;
 use std::alloc::Global;
@@ -51,15 +51,42 @@ pub(crate) fn write_statuses<R: Wait + SystemClock + Disk>(
     rt: &R,
     alloc: Global,
     records: &Records,
-    file: &StatusFile,
+    file: &WholeFile,
 ) {
     for _ in rt.forever() {
         if let Some(status) = records.statuses.take(rt) {
-            if file.write(rt, alloc, &status).is_err() {
+            if file.write_status(rt, alloc, &status).is_err() {
                 records.log(rt, LogEvent::StatusUnwritten);
             }
             records.written();
         }
     }
     unreachable!()
+}
+
+/// Writes the evidence of breaks and the newest evidence to their files as they come. It logs where one was not written.
+pub(crate) fn write_evidence<R: Wait + SystemClock + Disk>(
+    rt: &R,
+    records: &Records,
+    files: &EvidenceFiles,
+) {
+    for _ in rt.forever() {
+        if let Some(of) = records.evidence.breaks.take_waiting(rt) {
+            let did = files.write_break(rt, &of);
+            wrote_evidence(rt, records, did.is_ok());
+        }
+        if let Some(text) = records.evidence.newest.take(rt) {
+            let did = files.write_newest(rt, text.as_str());
+            wrote_evidence(rt, records, did.is_ok());
+        }
+    }
+    unreachable!()
+}
+
+/// Counts evidence as written, and logs where it was not.
+fn wrote_evidence<R: Wait + SystemClock>(rt: &R, records: &Records, is_written: bool) {
+    if !is_written {
+        records.log(rt, LogEvent::EvidenceUnwritten);
+    }
+    records.written();
 }

@@ -1,5 +1,5 @@
 -- The calls of the daemon's rounds, one after another.
-use Rattle.std.proofs.Common.{◌≡◌, ℕ, ◌≤◌, List, [], ◌∷◌, map, Option, Some, None, Result, Ok, Err, arith, refl, sym, ap, subst, ◌∙◌}
+use Rattle.std.proofs.Common.{◌≡◌, ℕ, ◌≤◌, List, [], ◌∷◌, map, Option, Some, None, Result, arith, refl, sym, ap, subst, ◌∙◌}
 use Rattle.tt_daemon.specs.Daemon.{DaemonState}
 use Rattle.tt_daemon.specs.Publication.{Publication}
 use Rattle.tt_publish.specs.Reading.{fused_span_of}
@@ -12,7 +12,7 @@ use Rattle.tt_rounds.specs.Making.{stand_of}
 use Rattle.tt_rounds.specs.Reports.{PartEvents, Report, Reports}
 use Rattle.tt_rounds.specs.declared.faults.NodeFault.{NodeFault}
 use Rattle.tt_rounds.specs.declared.tallies.Tally.{Tally}
-use Rattle.tt_consistency.specs.Calls.{AreInTurn, Rise, RiseIn, RoundsCall, kept_after}
+use Rattle.tt_consistency.specs.Calls.{Rise, RiseIn, RoundsCall}
 use Rattle.tt_consistency.specs.CourseSteps.{kept_in}
 use Rattle.tt_consistency.specs.Steps.{Kept, fused_span}
 use Rattle.tt_server.specs.Round.{CallsInTurn, MakesCall, kept_with}

@@ -15,14 +15,15 @@ use Rattle.tt_server.specs.Share.{CannotWrite, IsOpen, number_in, broken_after, 
 pub cannot : {P : Type 0} (does : P → Write → Bool → P → Type 0) (failed : P → ℕ) (span : SharedSpan) (old new : TellerState P) (result : Result (Unit {0}) WriteFault) →
     (IsErrOf result fault.Broken → old.broken ≡ true) → (IsErrOf result fault.UsedUp → old.count + 1 ≡ 2 ^ 64) → (IsErrOf result fault.ClockBack → max_time < span.fused.clock) →
     (IsErrOf result fault.Failed → StopsShort does old.count span old.place new.place × HasFailed (failed old.place) (failed new.place)) →
-    (IsErrOf result fault.CannotOpen → ⊥) → (IsErrOf result fault.Locked → ⊥) → OnErr result (CannotWrite does failed span old)
-cannot does failed span old new (Ok done) broken used_up back stopped opens locked = tt
-cannot does failed span old new (Err fault.Broken) broken used_up back stopped opens locked = inl (broken refl)
-cannot does failed span old new (Err fault.UsedUp) broken used_up back stopped opens locked = inr (inl (used_up refl))
-cannot does failed span old new (Err fault.ClockBack) broken used_up back stopped opens locked = inr (inr (inl (back refl)))
-cannot does failed span old new (Err fault.Failed) broken used_up back stopped opens locked = inr (inr (inr (new.place, (stopped refl).0, (stopped refl).1)))
-cannot does failed span old new (Err fault.CannotOpen) broken used_up back stopped opens locked = absurd (opens refl)
-cannot does failed span old new (Err fault.Locked) broken used_up back stopped opens locked = absurd (locked refl)
+    (IsErrOf result fault.CannotOpen → ⊥) → (IsErrOf result fault.Locked → ⊥) → (IsErrOf result fault.OtherClock → ⊥) → OnErr result (CannotWrite does failed span old)
+cannot does failed span old new (Ok done) broken used_up back stopped opens locked other = tt
+cannot does failed span old new (Err fault.Broken) broken used_up back stopped opens locked other = inl (broken refl)
+cannot does failed span old new (Err fault.UsedUp) broken used_up back stopped opens locked other = inr (inl (used_up refl))
+cannot does failed span old new (Err fault.ClockBack) broken used_up back stopped opens locked other = inr (inr (inl (back refl)))
+cannot does failed span old new (Err fault.Failed) broken used_up back stopped opens locked other = inr (inr (inr (new.place, (stopped refl).0, (stopped refl).1)))
+cannot does failed span old new (Err fault.CannotOpen) broken used_up back stopped opens locked other = absurd (opens refl)
+cannot does failed span old new (Err fault.Locked) broken used_up back stopped opens locked other = absurd (locked refl)
+cannot does failed span old new (Err fault.OtherClock) broken used_up back stopped opens locked other = absurd (other refl)
 
 -- the writer that was open is the one that was taken
 pub same_open : {P : Type 0} (opens : TellerState P → Type 0) (held : Option (TellerState P)) (teller before : TellerState P) → IsOpen opens held teller → held ≡ Some before → teller ≡ before

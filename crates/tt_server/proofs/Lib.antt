@@ -3,3 +3,4 @@ pub mod Closing
 pub mod Calls
 pub mod Numbers
 pub mod Living
+pub mod Breaking

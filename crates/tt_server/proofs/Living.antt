@@ -31,7 +31,7 @@ use Rattle.tt_server.specs.declared.states.Life.{Life as Current}
 use Rattle.tt_server.specs.declared.lives.LifeEnd.{LifeEnd}
 use Rattle.tt_server.specs.declared.lives.WorkerEnd.{WorkerEnd}
 use Rattle.tt_server.specs.Life.{ServerSession, ServerWorker, ServerLife, ServesOne, HandsBack, TellOfEach, TellsOf, clock_failures, max_waits}
-use Rattle.tt_server.specs.Thread.{HasSettings, terms_in}
+use Rattle.tt_server.specs.Thread.{HasSettings, terms_in, widest_in}
 
 -- ---- epochs
 -- the number of a stage, if it has one, is not 0
@@ -82,7 +82,7 @@ some-epoch does before after epoch takes = subst HasNumber takes.2 (steps-number
 
 -- a life that was made of these settings has them
 pub has-settings : (settings : Meaning) (epoch : ℕ) (made current : Current)
-    → made ≡ record { machine = settings.machine; epoch = epoch; config = settings.config; pauses = settings.pauses; lease = settings.lease } → current ≡ made → 0 < epoch → epoch < 2 ^ 64 → HasSettings settings current
+    → made ≡ record { machine = settings.machine; epoch = epoch; config = settings.config; pauses = settings.pauses; lease = settings.lease; on_break = settings.on_break; max_width = widest_in settings.max_width } → current ≡ made → 0 < epoch → epoch < 2 ^ 64 → HasSettings settings current
 has-settings settings epoch made current is same some below =
     let e = same ∙ is in
     record {
@@ -90,6 +90,8 @@ has-settings settings epoch made current is same some below =
       config = ap (λ (l : Current). l.config) e;
       pauses = ap (λ (l : Current). l.pauses) e;
       lease = ap (λ (l : Current). l.lease) e;
+      on_break = ap (λ (l : Current). l.on_break) e;
+      max_width = ap (λ (l : Current). l.max_width) e;
       first = subst (λ (n : ℕ). 0 < n) (sym (ap (λ (l : Current). l.epoch) e)) some;
       last = subst (λ (n : ℕ). n < 2 ^ 64) (sym (ap (λ (l : Current). l.epoch) e)) below;
     }
@@ -126,13 +128,14 @@ served-next first before after has (inl same) = (has.0, has.1, same ∙ has.2)
 served-next first before after has (inr (session, from, to)) = (session ∷ has.0, (from ∙ has.2, has.1), sym to)
 
 -- a worker that has served its sessions hands back what its watch has seen
-pub handed-back : (watch : WatchState) (terms : Terms) (first now : PostState ClockState) (end : WorkerEnd) → first.watch ≡ watch → first.lease ≡ terms.lease → first.ahead ≡ terms.ahead
+pub handed-back : (watch : WatchState) (terms : Terms) (first now : PostState ClockState) (end : WorkerEnd) → first.watch ≡ watch → first.lease ≡ terms.lease → first.ahead ≡ terms.ahead → first.max_width ≡ terms.max_width
     → HasServed first now → end.seen ≡ seen_of now.watch → HandsBack watch terms end
-handed-back watch terms first now end watch_is lease_is ahead_is has seen = record {
+handed-back watch terms first now end watch_is lease_is ahead_is width_is has seen = record {
   worker = record { post = first; sessions = has.0 };
   watch_is = watch_is;
   lease_is = lease_is;
   ahead_is = ahead_is;
+  width_is = width_is;
   in_turn = has.1;
   seen_is = seen ∙ ap (λ (p : PostState ClockState). seen_of p.watch) has.2;
 }
@@ -147,10 +150,10 @@ abbrev Station : Type 0
 Station = StationState ClockState (Unit {0})
 
 source-call : (before : Station) (one : Call') (after : Station) → Allows MachineGives clock_failures ClientSays before one after → after.post.watch.source ≡ before.post.watch.source
-source-call before (call.Now answer) after allowed = allowed.looks.same.0
-source-call before (call.Begin number floor answer) after allowed = allowed.looks.same.0
+source-call before (call.Now answer) after allowed = allowed.look.looks.same.0
+source-call before (call.Begin number floor answer) after allowed = allowed.look.looks.same.0
 source-call before (call.Lease lo hi answer) after allowed = ap (λ (s : Station). s.post.watch.source) allowed.set
-source-call before (call.Pass number answer) after allowed = allowed.looks.same.0
+source-call before (call.Pass number answer) after allowed = allowed.look.looks.same.0
 
 source-talked : (before : Station) (calls : List Call') (after : Station) → Conversation (Allows MachineGives clock_failures ClientSays) before calls after → after.post.watch.source ≡ before.post.watch.source
 source-talked before [] after talked = ap (λ (s : Station). s.post.watch.source) talked
@@ -184,6 +187,7 @@ record Fits (watch : WatchState) (terms : Terms) (published : List Publication) 
   pub watch_is : worker.post.watch ≡ watch
   pub lease_is : worker.post.lease ≡ terms.lease
   pub ahead_is : worker.post.ahead ≡ terms.ahead
+  pub width_is : worker.post.max_width ≡ terms.max_width
   pub in_turn : AreServedInTurn worker.post worker.sessions
   pub seen : IsPrefix (post_after worker.post worker.sessions).watch.items published
 
@@ -216,7 +220,7 @@ told-of watch terms published (end ∷ ends) all begin =
     let begins : IsPrefix (seen_of (post_after here.worker.post here.worker.sessions).watch).items published =
     subst (λ (k : Known). IsPrefix k.items published) here.seen_is (All-head (Begins published) end ends begin) in
     let fits : Fits watch terms published here.worker =
-    record { watch_is = here.watch_is; lease_is = here.lease_is; ahead_is = here.ahead_is; in_turn = here.in_turn; seen = begins } in
+    record { watch_is = here.watch_is; lease_is = here.lease_is; ahead_is = here.ahead_is; width_is = here.width_is; in_turn = here.in_turn; seen = begins } in
     let len : length rest.workers ≡ length ends = rest.len in
     record {
       workers = here.worker ∷ rest.workers;
@@ -270,6 +274,7 @@ life-ended settings current end from to shown has configured below new called ha
       epoch = current.epoch;
       lease = current.lease;
       ahead = current.pauses.floor_ahead;
+      max_width = current.max_width;
       calls = calls;
       source = end.published.source;
       published = published;
@@ -279,6 +284,7 @@ life-ended settings current end from to shown has configured below new called ha
       watch = fits.watch_is;
       lease = fits.lease_is;
       ahead = fits.ahead_is;
+      width = fits.width_is;
       in_turn = fits.in_turn;
       seen = fits.seen;
     } in
@@ -298,6 +304,7 @@ life-ended settings current end from to shown has configured below new called ha
         number = refl;
         lease = has.lease;
         ahead = ap (λ (p : Pauses). p.floor_ahead) has.pauses;
+        max_width = has.max_width;
         epoch = sym epoch;
         source = refl;
         published = refl;

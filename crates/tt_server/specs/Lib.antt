@@ -6,3 +6,6 @@ pub mod Round
 pub mod Outline
 pub mod Life
 pub mod Thread
+pub mod Notice
+pub mod Status
+pub mod Evidence

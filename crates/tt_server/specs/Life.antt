@@ -1,12 +1,13 @@
 -- What is proved of a life of the server, from what its threads hand back.
 use Rattle.std.specs.Prelude.{◌≡◌, ◌⊎◌, ℕ, List, [], ◌∷◌, length}
-use Rattle.tt_publish.specs.Known.{Source, WatchState, seen_of, new_watch}
+use Rattle.tt_publish.specs.Known.{WatchState, seen_of}
 use Rattle.tt_connections.specs.Station.{PostState}
 use Rattle.tt_connections.specs.Sessions.{WorkerSession, AreServedInTurn, post_after}
 use Rattle.tt_connections.specs.declared.posts.Terms.{Terms}
 use Rattle.tt_connections.specs.Clock.{ClockState, MachineGives, ClientSays}
 use Rattle.tt_settings.specs.Settings.{Meaning}
 use Rattle.tt_consistency.specs.Lives.{Life, WorkerLife, IsLife}
+use Rattle.tt_server.specs.Thread.{widest_in}
 use Rattle.tt_server.specs.declared.lives.LifeEnd.{LifeEnd}
 use Rattle.tt_server.specs.declared.lives.WorkerEnd.{WorkerEnd}
 
@@ -40,6 +41,7 @@ pub record HandsBack (watch : WatchState) (terms : Terms) (end : WorkerEnd) : Ty
   pub watch_is : worker.post.watch ≡ watch
   pub lease_is : worker.post.lease ≡ terms.lease
   pub ahead_is : worker.post.ahead ≡ terms.ahead
+  pub width_is : worker.post.max_width ≡ terms.max_width
   pub in_turn : AreServedInTurn worker.post worker.sessions
   pub seen_is : end.seen ≡ seen_of (post_after worker.post worker.sessions).watch
 
@@ -56,6 +58,7 @@ pub record TellsOf (settings : Meaning) (end : LifeEnd) (life : ServerLife) : Ty
   pub number : life.number ≡ settings.machine
   pub lease : life.lease ≡ settings.lease
   pub ahead : life.ahead ≡ settings.pauses.floor_ahead
+  pub max_width : life.max_width ≡ widest_in settings.max_width
   pub epoch : life.epoch ≡ end.epoch
   pub source : life.source ≡ end.published.source
   pub published : life.published ≡ end.published.items

@@ -7,6 +7,8 @@ use Rattle.tt_span.specs.Interval.{Interval}
 use Rattle.tt_daemon.specs.Config.{Configuration}
 use Rattle.tt_text.specs.Line.{line_of}
 use Rattle.tt_settings.specs.declared.plans.Pauses.{Pauses}
+use Rattle.tt_settings.specs.declared.forms.OnBreak.{OnBreak}
+use Rattle.tt_settings.specs.declared.forms.OnBreak.TheVariants.{End, Warn}
 use Rattle.tt_settings.specs.Settings.{Meaning}
 use Rattle.tt_server.specs.Share.{period_of}
 
@@ -31,11 +33,17 @@ path_line word None = []
 abbrev pub growth_of : Pauses → ℕ → ℕ
 growth_of pauses drift = 2 * widening drift (period_of pauses)
 
--- the threads of so many workers, and of the daemon, the acceptor, the log, the status where there is one, and the end of
--- standard input
-abbrev pub threads_of : ℕ → Bool → ℕ
-threads_of workers true = workers + 5
-threads_of workers false = workers + 4
+-- the threads that write the status and the evidence: one for each that has a file
+abbrev pub one_if : Bool → ℕ
+one_if true = 1
+one_if false = 0
+
+abbrev pub writers_of : Bool → Bool → ℕ
+writers_of has_status has_evidence = one_if has_status + one_if has_evidence
+
+-- the threads of so many workers and writers, and of the daemon, the acceptor, the log, and the end of standard input
+abbrev pub threads_of : ℕ → ℕ → ℕ
+threads_of workers writers = workers + writers + 4
 
 -- an estimate of the memory, in bytes
 abbrev pub memory_of : ℕ → ℕ
@@ -57,15 +65,25 @@ config_text c =
     ++ line_of (codes "drift") (c.drift ∷ [])
 
 -- how its readings grow, its threads, and its memory
-unfoldable pub sums_text : Pauses → Configuration → Bool → List ℕ
-sums_text p c has_status =
+unfoldable pub sums_text : Pauses → Configuration → ℕ → List ℕ
+sums_text p c writers =
     line_of (codes "growth") (growth_of p c.drift ∷ [])
-    ++ line_of (codes "threads") (threads_of c.workers has_status ∷ [])
+    ++ line_of (codes "threads") (threads_of c.workers writers ∷ [])
     ++ line_of (codes "memory") (memory_of c.workers ∷ [])
 
 -- the lease
 unfoldable pub lease_text : Interval → List ℕ
 lease_text lease = line_of (codes "lease") (lease.lo ∷ lease.hi ∷ [])
+
+-- what follows a sign that an assumption is broken
+abbrev pub break_word : OnBreak → List ℕ
+break_word End = codes "end"
+break_word Warn = codes "warn"
+
+-- the widest reading, where there is a limit
+abbrev pub width_text : Option ℕ → List ℕ
+width_text (Some width) = line_of (codes "max_width") (width ∷ [])
+width_text None = []
 
 -- its numbers
 unfoldable pub numbers_text : Meaning → List ℕ
@@ -73,11 +91,19 @@ numbers_text s =
     config_text s.config
     ++ pauses_text s.pauses
     ++ lease_text s.lease
-    ++ sums_text s.pauses s.config (is_some s.status)
+    ++ word_line (codes "on_break") (break_word s.on_break)
+    ++ width_text s.max_width
+    ++ sums_text s.pauses s.config (writers_of (is_some s.status) (is_some s.evidence))
 
 -- its files
 unfoldable pub files_text : Meaning → List ℕ
-files_text s = word_line (codes "state") s.state ++ path_line (codes "socket") s.socket ++ path_line (codes "shared") s.shared ++ path_line (codes "status") s.status
+files_text s =
+    word_line (codes "state") s.state
+    ++ path_line (codes "socket") s.socket
+    ++ path_line (codes "shared") s.shared
+    ++ path_line (codes "status") s.status
+    ++ path_line (codes "evidence") s.evidence
+    ++ path_line (codes "vmclock") s.vmclock
 
 -- all of it
 abbrev pub outline_text : Meaning → List ℕ

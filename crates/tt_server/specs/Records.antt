@@ -1,10 +1,13 @@
 -- The records of a round: what is counted, logged, shown and shared of it. And the status.
-use Rattle.std.specs.Prelude.{◌≡◌, ℕ, ◌-◌, ◌+◌, ◌^◌, ◌++◌, ◌∷◌, [], nat_eq, nat_lt, min, map, if◌then◌else◌, Bool, true, false, List, slice_index_or, Option, Some, None, Result, Ok, Err, option_map, take}
-use Rattle.std.specs.List.{filter, list_any, range_with_len}
+use Rattle.std.specs.Prelude.{◌≡◌, ℕ, ◌-◌, ◌+◌, ◌^◌, ◌++◌, ◌∷◌, [], nat_eq, nat_lt, min, map, if◌then◌else◌, Bool, true, false, List, slice_get, slice_index_or, slice_set, Option, Some, None, Result, Ok, Err, option_map, replicate, take}
+use Rattle.std.specs.List.{filter, range_with_len}
+use Rattle.tt_source.specs.declared.faults.SourceFault.{SourceFault}
+use Rattle.tt_span.specs.Interval.{Interval}
 use Rattle.tt_fuse.specs.Suspect.{AreSuspects}
 use Rattle.tt_daemon.specs.declared.faults.DaemonFault.{DaemonFault}
 use Rattle.tt_daemon.specs.declared.faults.DaemonFault.TheVariants as daemon
 use Rattle.tt_daemon.specs.Publication.{Publication}
+use Rattle.tt_publish.specs.Reading.{fused_span_of}
 use Rattle.tt_publish.specs.declared.faults.PublishFault.TheVariants as publishing
 use Rattle.tt_rounds.specs.Fault.{number_of as node_number_of}
 use Rattle.tt_rounds.specs.Tallies.{packets_in}
@@ -19,13 +22,13 @@ use Rattle.tt_shared.specs.declared.slots.SharedSpan.{SharedSpan}
 use Rattle.tt_status.specs.declared.lines.LogEvent.{LogEvent}
 use Rattle.tt_status.specs.declared.lines.LogEvent.TheVariants.{AnswersRefused, FirstPublication, ClockBack, FusionRefused, RoundFailed, SourceSilent, SourceSuspect, SourceUnsent}
 use Rattle.tt_status.specs.declared.lines.RefusedFusion.TheVariants as refusal
-use Rattle.tt_status.specs.declared.statuses.SourceStatus.{SourceStatus}
-use Rattle.tt_status.specs.declared.statuses.Status.{Status}
+use Rattle.tt_status.specs.Status.{refusal_place}
+use Rattle.tt_status.specs.declared.digits.Difference.{Difference}
 use Rattle.tt_server.specs.Share.{shared_of}
 use Rattle.tt_server.specs.declared.records.About.{About}
 use Rattle.tt_server.specs.declared.records.About.TheVariants.{Silent, Suspect, Unsent}
 use Rattle.tt_server.specs.declared.records.Events.{Events}
-use Rattle.tt_server.specs.declared.records.Machine.{Machine}
+use Rattle.tt_server.specs.declared.records.Ends.{Ends}
 use Rattle.tt_server.specs.declared.records.Outcome.{Outcome}
 use Rattle.tt_server.specs.declared.records.Outcome.TheVariants.{Published, Refused, Failed, Nothing}
 use Rattle.tt_server.specs.declared.records.RoundTerms.{RoundTerms}
@@ -33,7 +36,6 @@ use Rattle.tt_server.specs.declared.records.Shown.{Shown}
 use Rattle.tt_server.specs.declared.records.SourceTally.{SourceTally}
 use Rattle.tt_server.specs.declared.records.Totals.{Totals}
 use Rattle.tt_server.specs.declared.records.UnsentPackets.{UnsentPackets}
-use Rattle.tt_server.specs.declared.records.Work.{Work}
 
 -- one more, up to the greatest number of 64 bits
 abbrev pub one_more : ℕ → ℕ
@@ -71,13 +73,17 @@ has_link_failed outcome = false
 
 -- nothing is counted of a source
 abbrev pub no_source_tally : SourceTally
-no_source_tally = record { accepted = 0; refused = 0; silent = 0 }
+no_source_tally = record { accepted = 0; refused = 0; silent = 0; refusals = replicate 7 0 }
+
+-- one more refusal for a reason is counted
+abbrev pub refusals_after : List ℕ → SourceFault → List ℕ
+refusals_after refusals fault = slice_set refusals (refusal_place fault) (one_more (slice_index_or refusals (refusal_place fault) 0))
 
 -- what came of a source in one more round is counted
 abbrev pub counted_source : SourceOutcome → SourceTally → SourceTally
 counted_source source.Silent t = record t { silent = one_more t.silent }
 counted_source (source.Accepted received) t = record t { accepted = one_more t.accepted }
-counted_source (source.Refused received fault) t = record t { refused = one_more t.refused }
+counted_source (source.Refused received fault) t = record t { refused = one_more t.refused; refusals = refusals_after t.refusals fault }
 
 -- what is reported of a source
 abbrev pub report_at : List SourceReport → ℕ → SourceReport
@@ -110,20 +116,37 @@ totals_after t outcome refused sources = counted (with_round t refused sources) 
 
 -- ---- what is shown and shared
 
--- what is shown of a publication: its clock reading, its width and its suspects; and nothing where there is none
+-- how far a time lies from another one
+abbrev pub difference_of : ℕ → ℕ → Difference
+difference_of time from = if nat_lt time from then record { below = true; size = from - time } else record { below = false; size = time - from }
+
+-- how far the ends of a span lie from those of the fused span
+abbrev pub ends_from : Interval → Interval → Ends
+ends_from fused span = record { lower = difference_of span.lo fused.lo; upper = difference_of span.hi fused.hi }
+
+-- how far those of source k do, if there is such a source
+abbrev pub ends_at : List Interval → Interval → ℕ → Option Ends
+ends_at spans fused k = option_map (ends_from fused) (slice_get spans k)
+
+-- how far those of each source do
+unfoldable pub ends_of : List Interval → Interval → List (Option Ends)
+ends_of spans fused = map (ends_at spans fused) (range_with_len 0 16)
+
+-- what is shown of a publication: what its readers see, its suspects, and the ends of its sources' spans; and nothing where there is none
 abbrev pub Shows : Option Publication → Option Shown → Type 0
 Shows None shown = shown ≡ None
 Shows (Some p) None = ⊥
-Shows (Some p) (Some shown) = (shown.clock ≡ p.clock) × (shown.width ≡ width_of p) × AreSuspects p.spans p.span shown.suspects.items
+Shows (Some p) (Some shown) = (shown.fused ≡ fused_span_of p) × AreSuspects p.spans p.span shown.suspects.items × (shown.ends ≡ ends_of p.spans p.span)
 
 -- the suspects of what is shown
 abbrev pub suspects_in : Option Shown → List ℕ
 suspects_in (Some shown) = shown.suspects.items
 suspects_in None = []
 
--- what other processes read of the publication of a round: it has the number after those before it
-abbrev pub span_of : Option Publication → Totals → RoundTerms → Option SharedSpan
-span_of published t terms = option_map (λ p. shared_of p terms.epoch (one_more t.published) terms.pauses terms.config.drift) published
+-- what other processes read of the publication of a round, which rests on answers as new as this clock reading: it has the number after those before it
+abbrev pub span_of : Option Publication → Totals → RoundTerms → ℕ → Option SharedSpan
+span_of published t terms needed =
+    option_map (λ p. shared_of p terms.epoch (one_more t.published) needed terms.pauses terms.config.drift terms.max_width) published
 
 -- ---- what is logged
 
@@ -178,54 +201,3 @@ some_event None = []
 abbrev pub events_of : List ℕ → Option LogEvent → Option LogEvent → List ℕ → List ℕ → List LogEvent
 events_of suspects outcome refused silent unsent =
     map (event_about Suspect) suspects ++ some_event outcome ++ some_event refused ++ map (event_about Silent) silent ++ map (event_about Unsent) unsent
-
--- ---- the status
-
--- a number is among these
-abbrev pub is_among : ℕ → List ℕ → Bool
-is_among k numbers = list_any (λ n. nat_eq n k) numbers
-
--- how wide what is shown is
-abbrev pub width_in : Option Shown → Option ℕ
-width_in (Some shown) = Some shown.width
-width_in None = None
-
--- how long ago it was fused
-abbrev pub age_in : Option Shown → ℕ → Option ℕ
-age_in (Some shown) now = Some (now - shown.clock)
-age_in None now = None
-
--- what became of source k
-abbrev pub source_status : Option Shown → SourceTally → ℕ → ℕ → SourceStatus
-source_status shown t unsent k = record { suspect = is_among k (suspects_in shown); accepted = t.accepted; refused = t.refused; silent = t.silent; unsent = unsent }
-
--- nothing became of a source
-abbrev pub no_source_status : SourceStatus
-no_source_status = record { suspect = false; accepted = 0; refused = 0; silent = 0; unsent = 0 }
-
--- what became of each source
-unfoldable pub each_status : Option Shown → List SourceTally → List ℕ → List SourceStatus
-each_status shown each unsent = map (λ k. source_status shown (tally_at each k) (slice_index_or unsent k 0) k) (range_with_len 0 16)
-
--- the status of a machine when its clock shows this
-abbrev pub status_of : Machine → Totals → Option Shown → List ℕ → Work → ℕ → Status
-status_of machine t shown unsent work now = record {
-  machine = machine.number;
-  epoch = machine.epoch;
-  width = width_in shown;
-  age = age_in shown now;
-  known = machine.known;
-  sources = machine.sources;
-  each = each_status shown t.each unsent;
-  rounds = t.rounds;
-  published = t.published;
-  refused_answers = t.refused_answers;
-  no_point = t.no_point;
-  too_few = t.too_few;
-  sharing = machine.sharing;
-  sessions = work.sessions;
-  lines = work.lines;
-  refused_lines = work.refused_lines;
-  waiting = work.waiting;
-  left_out = work.left_out;
-}

@@ -1,6 +1,7 @@
 -- What is shared with the other processes of the machine.
-use Rattle.std.specs.Prelude.{ℕ, ◌≡◌, ◌⊎◌, ◌<◌, Result, Ok, Err, ◌+◌, ◌-◌, ◌*◌, ◌^◌, min, max, nat_le, Bool, true, false, Option, Some, None}
+use Rattle.std.specs.Prelude.{ℕ, ◌≡◌, ◌⊎◌, ◌<◌, Result, Ok, Err, ◌+◌, ◌-◌, ◌*◌, ◌/◌, ◌^◌, min, max, nat_eq, nat_le, nat_lt, if◌then◌else◌, Bool, true, false, Option, Some, None}
 use Rattle.tt_span.specs.Time.{max_time}
+use Rattle.tt_span.specs.Interval.{Interval, whole}
 use Rattle.tt_daemon.specs.Publication.{Publication}
 use Rattle.tt_publish.specs.Reading.{fused_span_of}
 use Rattle.tt_settings.specs.declared.plans.Pauses.{Pauses}
@@ -21,10 +22,31 @@ period_of p = min (p.poll + p.wait) max_time
 abbrev pub fresh_until : ℕ → ℕ → ℕ
 fresh_until clock period = min (clock + 3 * period) (2 ^ 64 - 1)
 
--- a publication as other processes read it
-abbrev pub shared_of : Publication → ℕ → ℕ → Pauses → ℕ → SharedSpan
-shared_of p epoch number pauses drift =
-    record { fused = fused_span_of p; valid_until = fresh_until p.clock (period_of pauses); epoch = epoch; number = number; drift = drift }
+-- for how long the ends of a span grow by at most this much, where a clock is wrong by so many parts per million
+abbrev pub growing_time : ℕ → ℕ → ℕ
+growing_time room ppm = if nat_eq ppm 0 then 2 ^ 64 - 1 else min (room * 1000000) (2 ^ 64 - 1) / ppm
+
+-- the last clock reading at which a reading of a span that was fused at a clock reading is at most so wide; before that clock reading where the span is wider itself
+abbrev pub usable_until : ℕ → Interval → ℕ → ℕ → ℕ
+usable_until clock span ppm most =
+    if nat_eq most (2 ^ 64 - 1) then 2 ^ 64 - 1
+    else (if nat_lt most (span.hi - span.lo) then clock - 1 else min (clock + growing_time ((most - (span.hi - span.lo)) / 2) ppm) (2 ^ 64 - 1))
+
+-- a publication as other processes read it: it is fresh for three periods after the oldest answer that it needed
+abbrev pub shared_of : Publication → ℕ → ℕ → ℕ → Pauses → ℕ → ℕ → SharedSpan
+shared_of p epoch number needed pauses drift most = record {
+  fused = fused_span_of p;
+  valid_until = fresh_until needed (period_of pauses);
+  epoch = epoch;
+  number = number;
+  drift = drift;
+  usable_until = usable_until p.clock p.span drift most;
+}
+
+-- what is shared once an assumption is broken: nothing is published
+abbrev pub withdrawn : ℕ → ℕ → ℕ → SharedSpan
+withdrawn epoch number drift =
+    record { fused = record { clock = 0; span = whole }; valid_until = 0; epoch = epoch; number = number; drift = drift; usable_until = 0 }
 
 -- the pause before the file is tried again: a round's at first, then twice the last one, and at most thirty seconds
 abbrev pub retry_after : ℕ → ℕ → ℕ

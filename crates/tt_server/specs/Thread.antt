@@ -1,5 +1,5 @@
 -- What the threads of the server promise.
-use Rattle.std.specs.Prelude.{◌≡◌, ℕ, ◌<◌, ◌^◌, List, length, All}
+use Rattle.std.specs.Prelude.{◌≡◌, ℕ, ◌-◌, ◌<◌, ◌^◌, List, length, All, Option, Some, None}
 use Rattle.tt_publish.specs.Known.{Source, WatchState, new_watch}
 use Rattle.tt_connections.specs.declared.posts.Terms.{Terms}
 use Rattle.tt_settings.specs.Settings.{Meaning}
@@ -8,7 +8,12 @@ use Rattle.tt_server.specs.declared.workers.ServesClients.{ServesClients}
 
 -- the terms of a life
 abbrev pub terms_in : Current → Terms
-terms_in life = record { lease = life.lease; ahead = life.pauses.floor_ahead }
+terms_in life = record { lease = life.lease; ahead = life.pauses.floor_ahead; max_width = life.max_width }
+
+-- the widest reading that is given where there is this limit, or none
+abbrev pub widest_in : Option ℕ → ℕ
+widest_in (Some width) = width
+widest_in None = 2 ^ 64 - 1
 
 -- the thread of a worker serves clients with this watch and these terms
 pub record IsServing (watch : WatchState) (terms : Terms) (promise : ServesClients) : Type 0 where
@@ -21,11 +26,13 @@ pub record AreReady (settings : Meaning) (source : Source) (watches : List Watch
   pub room : most ≡ settings.config.workers
   pub new : All (λ watch. watch ≡ new_watch source settings.config.drift) watches
 
--- this life has an epoch of 64 bits that is not 0, and the number, the configuration, the pauses and the lease of these settings
+-- this life has an epoch of 64 bits that is not 0, and the number, the configuration, the pauses, the lease and the limits of these settings
 pub record HasSettings (settings : Meaning) (life : Current) : Type 0 where
   pub machine : life.machine ≡ settings.machine
   pub config : life.config ≡ settings.config
   pub pauses : life.pauses ≡ settings.pauses
   pub lease : life.lease ≡ settings.lease
+  pub on_break : life.on_break ≡ settings.on_break
+  pub max_width : life.max_width ≡ widest_in settings.max_width
   pub first : 0 < life.epoch
   pub last : life.epoch < 2 ^ 64

@@ -24,7 +24,9 @@
 //! - `servers`: [`serve`], which starts the threads and ends them. `lives`: [`LifeEnd`], how a life of a machine ended.
 //!   `starts`: the parts of a machine. `states`: what the threads share.
 //! - `rounds`: the thread of the daemon. `paces`: the pauses between rounds.
-//! - `records`: what is counted, logged, shown and shared of a round, and the status. `shares`: what is shared. `sharing`: the
+//! - `records`: what is counted, logged, shown and shared of a round. `notices`: what is noticed of it. `statuses`: the status.
+//! - `signs`: whether the host slept. `breaks`: what is recorded of a break, and [`break_laws`]. `evidence`: the evidence of a
+//!   publication. `shares`: what is shared. `sharing`: the
 //!   shared file, and when it is tried again. `modes`: who may write the files.
 //! - `workers`: the threads of the workers. `outlines`: [`outline`]. `faults`: why a machine does not serve.
 //!
@@ -40,9 +42,12 @@
 //! each turn of a loop is one call with a contract of its own.
 #![tactic(auto)]
 
+mod breaks;
+mod evidence;
 mod faults;
 mod lives;
 mod modes;
+mod notices;
 mod outlines;
 mod paces;
 mod records;
@@ -50,13 +55,16 @@ mod rounds;
 mod servers;
 mod shares;
 mod sharing;
+mod signs;
 mod starts;
 mod states;
+mod statuses;
 mod workers;
 
+pub use breaks::break_laws;
 pub use faults::ServerFault;
 pub use lives::{LifeEnd, WorkerEnd};
 pub use outlines::outline;
-pub use servers::serve;
+pub use servers::{EndOfInput, serve};
 pub use shares::shared_laws;
 pub use tt_connections::MachineClock;

@@ -18,4 +18,6 @@ pub struct LifeEnd {
     pub published: Told,
     /// How its workers ended, as many as the configuration has.
     pub workers: Vec<WorkerEnd>,
+    /// Whether it ended because the daemon knew that an assumption is broken.
+    pub broken: bool,
 }

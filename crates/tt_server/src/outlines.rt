@@ -2,12 +2,12 @@
 
 ghost use Rattle.std.specs.Prelude.{◌≡◌, ◌++◌, OnOk, IfOk, string_bytes, option_copied, ◌≤◌};
 ghost use Rattle.std.specs.List.{flat_map};
-ghost use Rattle.tt_server.specs.Outline.{outline_text, word_line, path_line, master_line, address_text, numbers_text, files_text, growth_of, threads_of, memory_of, pauses_text, config_text, sums_text, lease_text};
+ghost use Rattle.tt_server.specs.Outline.{outline_text, word_line, path_line, master_line, address_text, numbers_text, files_text, growth_of, threads_of, memory_of, pauses_text, config_text, sums_text, lease_text, width_text, break_word, writers_of};
 
 use crate::shares::period_of;
 use std::alloc::{AllocError, Global};
 use tt_daemon::Config;
-use tt_settings::{FilePath, Pauses, Settings};
+use tt_settings::{FilePath, OnBreak, Pauses, Settings};
 use tt_span::{Drift, Span};
 use tt_text::push_line;
 
@@ -65,14 +65,23 @@ fn growth_of(pauses: &Pauses, drift: Drift) -> u64
     2 * drift.widen(period_of(pauses))
 }
 
-/// The most threads of a machine with `workers` workers: those of the workers, the thread of the daemon, the one that
-/// accepts connections, the one that writes the log, the one that writes the status if there is a status file, and one
-/// that waits for the end of standard input.
-fn threads_of(workers: u64, has_status: bool) -> u64
-    requires { workers ≤ 32 }
-    ensures { result ≡ threads_of workers has_status }
+/// How many threads write the status and the evidence: one for each that has a file.
+fn writers_of(has_status: bool, has_evidence: bool) -> u64
+    ensures value { result ≡ writers_of has_status has_evidence }
+    ensures few { result ≤ 2 }
 {
-    if has_status { workers + 5 } else { workers + 4 }
+    u64::from(has_status) + u64::from(has_evidence)
+}
+
+/// The most threads of a machine with `workers` workers: those of the workers, the thread of the daemon, the one that
+/// accepts connections, the one that writes the log, those that write the status and the evidence, and one that waits
+/// for the end of standard input.
+fn threads_of(workers: u64, writers: u64) -> u64
+    requires few { workers ≤ 32 }
+    requires few_writers { writers ≤ 2 }
+    ensures { result ≡ threads_of workers writers }
+{
+    workers + writers + 4
 }
 
 /// The most memory that a machine with `workers` workers takes, in bytes, as far as was observed.
@@ -110,14 +119,15 @@ fn push_sums(
     text: &mut String,
     pauses: &Pauses,
     config: &Config,
-    has_status: bool,
+    writers: u64,
 ) -> Result<(), AllocError>
-    ensures { OnOk result (string_bytes text.new ≡ string_bytes text.old ++ sums_text pauses.now config.now has_status) }
+    requires few { writers ≤ 2 }
+    ensures { OnOk result (string_bytes text.new ≡ string_bytes text.old ++ sums_text pauses.now config.now writers) }
 {
     let growth = growth_of(pauses, config.drift());
     let workers = config.workers() as u64;
     push_line(text, "growth", &[growth])?;
-    push_line(text, "threads", &[threads_of(workers, has_status)])?;
+    push_line(text, "threads", &[threads_of(workers, writers)])?;
     push_line(text, "memory", &[memory_of(workers)])
 }
 
@@ -127,6 +137,26 @@ fn push_lease(text: &mut String, lease: &Span) -> Result<(), AllocError>
     ensures { OnOk result (string_bytes text.new ≡ string_bytes text.old ++ lease_text lease.now) }
 {
     push_line(text, "lease", &[lease.lo(), lease.hi()])
+}
+
+/// Adds the line of the widest reading, if there is a limit.
+fn push_width(text: &mut String, limit: Option<u64>) -> Result<(), AllocError>
+    ensures { OnOk result (string_bytes text.new ≡ string_bytes text.old ++ width_text limit) }
+{
+    match limit {
+        Some(width) => push_line(text, "max_width", &[width]),
+        None => Ok(()),
+    }
+}
+
+/// What follows a sign that an assumption is broken, as the settings write it.
+fn break_word(on_break: OnBreak) -> &'static str
+    ensures { result.now ≡ break_word on_break }
+{
+    match on_break {
+        OnBreak::End => "end",
+        OnBreak::Warn => "warn",
+    }
 }
 
 /// Adds the lines of the numbers of a machine.
@@ -139,7 +169,10 @@ fn push_numbers(text: &mut String, settings: &Settings) -> Result<(), AllocError
     push_config(text, &config)?;
     push_pauses(text, &pauses)?;
     push_lease(text, &settings.lease())?;
-    push_sums(text, &pauses, &config, settings.status().is_some())
+    push_words(text, "on_break", break_word(settings.on_break()))?;
+    push_width(text, settings.max_width())?;
+    let writers = writers_of(settings.status().is_some(), settings.evidence().is_some());
+    push_sums(text, &pauses, &config, writers)
 }
 
 /// Adds the lines of the files of a machine.
@@ -150,13 +183,15 @@ fn push_files(text: &mut String, settings: &Settings) -> Result<(), AllocError>
     push_words(text, "state", settings.state())?;
     push_path(text, "socket", settings.socket())?;
     push_path(text, "shared", settings.shared())?;
-    push_path(text, "status", settings.status())
+    push_path(text, "status", settings.status())?;
+    push_path(text, "evidence", settings.evidence())?;
+    push_path(text, "vmclock", settings.vmclock())
 }
 
 /// What a machine with these settings would do, as text. There is one line for each of `machine`, `listen`, `master`
 /// (one for each master, in the order of the sources), `faulty`, `workers`, `drift`, `poll`, `wait`, `floor_ahead`,
-/// `idle`, `lease`, `growth`, `threads`, `memory`, `state`, and for each of `socket`, `shared` and `status` that the
-/// settings have. Times are in nanoseconds.
+/// `idle`, `lease`, `on_break`, `max_width` (if there is a limit), `growth`, `threads`, `memory`, `state`, and for each of
+/// `socket`, `shared`, `status`, `evidence` and `vmclock` that the settings have. Times are in nanoseconds.
 ///
 /// A reading is as wide as what the masters state, plus the time that the poll took. Until the next publication it
 /// grows wider by at most `growth`, if no master fails. `memory` is an estimate, in bytes. Refuses if it is out of

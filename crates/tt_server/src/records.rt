@@ -1,18 +1,20 @@
-//! The records of a round: what is counted, logged, shown and shared of it. And the status.
+//! The records of a round: what is counted, logged, shown and shared of it.
 
 ghost use Rattle.std.specs.Prelude.{◌≡◌, ◌+◌, ◌<◌, ◌≤◌, ◌++◌, ◌∷◌, [], Some, map, length};
 ghost use Rattle.tt_span.specs.Sources.{max_sources};
-ghost use Rattle.tt_server.specs.Records.{Shows, age_in, counted_source, each_after, each_status, event_about, event_of, events_in, events_of, has_link_failed, has_unsent, is_among, is_silent, numbers_where, outcome_of, published_in, refusal_event, refused_answers, refused_event, report_at, some_event, source_status, span_of, status_of, suspects_in, totals_after, width_in};
+ghost use Rattle.tt_server.specs.Records.{Shows, counted_source, difference_of, each_after, ends_at, ends_of, event_about, event_of, events_in, events_of, has_link_failed, has_unsent, is_silent, numbers_where, outcome_of, published_in, refusal_event, refusals_after, refused_answers, refused_event, report_at, some_event, span_of, suspects_in, totals_after};
 
 use crate::shares::shared_of;
 use arrayvec::ArrayVec;
 use tt_daemon::{Config, DaemonFault, Fused, MAX_SOURCES};
 use tt_fuse::suspects;
-use tt_publish::PublishFault;
+use tt_publish::{FusedSpan, PublishFault};
 use tt_rounds::{NodeFault, RoundReport, Rounds, SourceOutcome, SourceReport};
 use tt_settings::Pauses;
 use tt_shared::SharedSpan;
-use tt_status::{LogEvent, RefusedFusion, SourceStatus, Status};
+use tt_source::SourceFault;
+use tt_span::Span;
+use tt_status::{Difference, LogEvent, REASONS, RefusedFusion, refusal_place};
 
 /// The most events of one round: three of each source, one of what the round came to, and one of its refused answers.
 const MAX_EVENTS: usize = 50;
@@ -39,6 +41,8 @@ pub(crate) struct SourceTally {
     pub(crate) refused: u64,
     /// No answer came.
     pub(crate) silent: u64,
+    /// Of those in which all were refused, how many for each reason of the last refusal, by [`refusal_place`].
+    pub(crate) refusals: [u64; REASONS],
 }
 
 /// Counts of what the rounds of a life have done so far. Each count stays at 2^64 - 1 once it is reached.
@@ -53,15 +57,22 @@ pub(crate) struct Totals {
     pub(crate) each: [SourceTally; MAX_SOURCES],
 }
 
+/// How far the ends of a source's span lie from those of the fused span, in nanoseconds.
+#[derive(Clone, Copy, Debug, PartialEq, Eq)]
+pub(crate) struct Ends {
+    pub(crate) lower: Difference,
+    pub(crate) upper: Difference,
+}
+
 /// A publication, as the status shows it.
 #[derive(Drop)]
 pub(crate) struct Shown {
-    /// The clock reading of its fusion, in nanoseconds.
-    pub(crate) clock: u64,
-    /// Its width, in nanoseconds.
-    pub(crate) width: u64,
+    /// What its readers see.
+    pub(crate) fused: FusedSpan,
     /// The numbers of its suspects, ascending.
     pub(crate) suspects: ArrayVec<u8, MAX_SOURCES>,
+    /// The ends of the span of each source that it was fused of.
+    pub(crate) ends: [Option<Ends>; MAX_SOURCES],
 }
 
 /// For each source, how many packets to it could not be sent before a round and after it.
@@ -77,6 +88,8 @@ pub(crate) struct RoundTerms {
     pub(crate) config: Config,
     pub(crate) epoch: u64,
     pub(crate) pauses: Pauses,
+    /// The widest reading that is given, in nanoseconds; 2^64 - 1 if there is no limit.
+    pub(crate) max_width: u64,
 }
 
 /// What is logged about a source.
@@ -225,6 +238,16 @@ fn has_link_failed(outcome: &Outcome) -> bool
     matches!(outcome, Outcome::Failed(NodeFault::LinkFailed))
 }
 
+/// The counts of the reasons after one more refusal.
+fn refusals_after(refusals: &[u64; REASONS], fault: SourceFault) -> [u64; REASONS]
+    ensures { result ≡ refusals_after refusals.now fault }
+{
+    let mut next = *refusals;
+    let place = refusal_place(fault);
+    next[place] = refusals[place].saturating_add(1);
+    next
+}
+
 impl SourceTally {
     /// The counts after one more round, in which this came of the source.
     fn after(&self, outcome: SourceOutcome) -> SourceTally
@@ -234,7 +257,10 @@ impl SourceTally {
         match outcome {
             SourceOutcome::Silent => next.silent = next.silent.saturating_add(1),
             SourceOutcome::Accepted { .. } => next.accepted = next.accepted.saturating_add(1),
-            SourceOutcome::Refused { .. } => next.refused = next.refused.saturating_add(1),
+            SourceOutcome::Refused { fault, .. } => {
+                next.refused = next.refused.saturating_add(1);
+                next.refusals = refusals_after(&self.refusals, fault);
+            }
         }
         next
     }
@@ -259,6 +285,7 @@ const NO_ROUND: SourceTally = SourceTally {
     accepted: 0,
     refused: 0,
     silent: 0,
+    refusals: [0; REASONS],
 };
 
 impl Totals {
@@ -303,36 +330,80 @@ impl Totals {
     }
 }
 
+/// How far a time lies from another one.
+fn difference_of(time: u64, from: u64) -> Difference
+    ensures { result ≡ difference_of time from }
+{
+    if time < from {
+        Difference {
+            below: true,
+            size: from - time,
+        }
+    } else {
+        Difference {
+            below: false,
+            size: time - from,
+        }
+    }
+}
+
+/// How far the ends of the span of source `k` lie from those of the fused span; none if there is no such source.
+fn ends_at(spans: &[Span], fused: &Span, k: usize) -> Option<Ends>
+    ensures value { result ≡ ends_at spans.now fused.now k }
+{
+    match spans.get(k) {
+        Some(span) => Some(Ends {
+            lower: difference_of(span.lo(), fused.lo()),
+            upper: difference_of(span.hi(), fused.hi()),
+        }),
+        None => None,
+    }
+}
+
+/// How far the ends of the span of each source lie from those of the fused span.
+fn ends_of(spans: &[Span], fused: &Span) -> [Option<Ends>; MAX_SOURCES]
+    ensures value { result ≡ ends_of spans.now fused.now }
+{
+    let mut ends = [None; MAX_SOURCES];
+    for source in 0..MAX_SOURCES {
+        ends[source] = ends_at(spans, fused, source);
+    }
+    ends
+}
+
 /// What the status shows of a publication.
 fn shown_of(fused: &Fused) -> Shown
     ensures value { Shows (Some fused.now) (Some result) }
 {
     let span = fused.span();
     Shown {
-        clock: fused.clock(),
-        width: span.hi() - span.lo(),
+        fused: FusedSpan {
+            clock: fused.clock(),
+            span,
+        },
         suspects: suspects(fused.spans(), &span),
+        ends: ends_of(fused.spans(), &span),
     }
 }
 
 /// What is shown and shared of the publication of a round that comes after these rounds, if it made one. What it fused
-/// is published where no fault ended it.
+/// is published where no fault ended it. It rests on answers as new as the clock reading `needed`.
 fn publication_of(
     did: &Result<Rounds, NodeFault>,
     report: &RoundReport,
     totals: &Totals,
     terms: &RoundTerms,
+    needed: u64,
 ) -> (Option<Shown>, Option<SharedSpan>)
     ensures shown { Shows (published_in did.now report.now.fusion) result.0 }
-    ensures span { result.1 ≡ span_of (published_in did.now report.now.fusion) totals.now terms.now }
+    ensures span { result.1 ≡ span_of (published_in did.now report.now.fusion) totals.now terms.now needed }
 {
     match did {
         Err(_) => (None, None),
         Ok(_) => match &report.fusion {
             Some(Ok(fused)) => {
                 let number = totals.published.saturating_add(1);
-                let drift = terms.config.drift();
-                let span = shared_of(fused, terms.epoch, number, &terms.pauses, drift);
+                let span = shared_of(fused, number, needed, terms);
                 (Some(shown_of(fused)), Some(span))
             }
             Some(Err(_)) => (None, None),
@@ -342,7 +413,7 @@ fn publication_of(
 }
 
 /// The suspects of what is shown.
-fn suspects_in(shown: &Option<Shown>) -> &[u8]
+pub(crate) fn suspects_in(shown: &Option<Shown>) -> &[u8]
     ensures value { result.now ≡ suspects_in shown.now }
     ensures few { length result.now ≤ max_sources }
 {
@@ -460,7 +531,8 @@ fn events_of(
 }
 
 /// All records of a round that comes after the rounds of `totals`: of what the call of the round answered, what it
-/// reported, and the packets that could not be sent.
+/// reported, and the packets that could not be sent. What it published rests on answers as new as the clock reading
+/// `needed`.
 ///
 /// What the round fused counts as published only if the call answered no fault.
 pub(crate) fn records_of(
@@ -469,6 +541,7 @@ pub(crate) fn records_of(
     unsent: &UnsentPackets,
     totals: &Totals,
     terms: &RoundTerms,
+    needed: u64,
 ) -> RoundRecords
     ensures events { events_in result.events ≡ events_of (suspects_in result.shown)
         (event_of (outcome_of did.now report.now.fusion) totals.now.published)
@@ -478,12 +551,12 @@ pub(crate) fn records_of(
     ensures in_range { result.events.count ≤ 50 }
     ensures totals { result.totals ≡ totals_after totals.now (outcome_of did.now report.now.fusion) (refused_answers did.now) report.now.sources }
     ensures shown { Shows (published_in did.now report.now.fusion) result.shown }
-    ensures span { result.span ≡ span_of (published_in did.now report.now.fusion) totals.now terms.now }
+    ensures span { result.span ≡ span_of (published_in did.now report.now.fusion) totals.now terms.now needed }
     ensures link_failed { result.link_failed ≡ has_link_failed (outcome_of did.now report.now.fusion) }
 {
     let outcome = outcome_of(did, report);
     let refused = refused_answers(did);
-    let (shown, span) = publication_of(did, report, totals, terms);
+    let (shown, span) = publication_of(did, report, totals, terms, needed);
     let sources = terms.config.sources();
     let silent = silent_sources(&report.sources, sources);
     let lost = unsent_sources(unsent, sources);
@@ -500,130 +573,5 @@ pub(crate) fn records_of(
         shown,
         span,
         link_failed: has_link_failed(&outcome),
-    }
-}
-
-/// Counts of what the sessions and the log have done so far, and of what waits.
-#[derive(Clone, Copy, Debug, PartialEq, Eq)]
-pub(crate) struct Work {
-    pub(crate) sessions: u64,
-    pub(crate) lines: u64,
-    pub(crate) refused_lines: u64,
-    /// The connections that wait for a worker.
-    pub(crate) waiting: u64,
-    /// The records that did not fit into the reporter's queue.
-    pub(crate) left_out: u64,
-}
-
-/// What the status says of the machine itself.
-#[derive(Clone, Copy, Debug, PartialEq, Eq)]
-pub(crate) struct Machine {
-    pub(crate) number: u64,
-    pub(crate) epoch: u64,
-    /// How many sources are asked.
-    pub(crate) sources: u64,
-    /// How many of them have made a statement.
-    pub(crate) known: u64,
-    /// Whether a shared file is written.
-    pub(crate) sharing: bool,
-}
-
-/// Whether this number is among these.
-fn is_among(number: u8, numbers: &[u8]) -> bool
-    ensures { result ≡ is_among number numbers.now }
-{
-    for other in numbers {
-        if *other == number {
-            return true;
-        }
-    }
-    false
-}
-
-/// What became of one source. `unsent` packets to it could not be sent.
-fn source_status(
-    shown: &Option<Shown>,
-    counts: &SourceTally,
-    unsent: u64,
-    source: u8,
-) -> SourceStatus
-    ensures value { result ≡ source_status shown.now counts.now unsent source }
-{
-    SourceStatus {
-        suspect: is_among(source, suspects_in(shown)),
-        accepted: counts.accepted,
-        refused: counts.refused,
-        silent: counts.silent,
-        unsent,
-    }
-}
-
-/// The status of a source of which nothing is known.
-const NO_STATUS: SourceStatus = SourceStatus {
-    suspect: false,
-    accepted: 0,
-    refused: 0,
-    silent: 0,
-    unsent: 0,
-};
-
-/// What became of each source.
-fn each_status(
-    shown: &Option<Shown>,
-    each: &[SourceTally; MAX_SOURCES],
-    unsent: &[u64; MAX_SOURCES],
-) -> [SourceStatus; MAX_SOURCES]
-    ensures value { result ≡ each_status shown.now each.now unsent.now }
-{
-    let mut statuses = [NO_STATUS; MAX_SOURCES];
-    for source in 0..MAX_SOURCES {
-        statuses[source] = source_status(shown, &each[source], unsent[source], source as u8);
-    }
-    statuses
-}
-
-/// The width of what is shown, and how long ago it was fused when the clock shows `now`.
-fn width_and_age(shown: &Option<Shown>, now: u64) -> (Option<u64>, Option<u64>)
-    ensures width { result.0 ≡ width_in shown.now }
-    ensures age { result.1 ≡ age_in shown.now now }
-{
-    match shown {
-        Some(shown) => (Some(shown.width), Some(now.saturating_sub(shown.clock))),
-        None => (None, None),
-    }
-}
-
-/// The status of a machine when its clock shows `now`, in nanoseconds: of what its rounds have counted, of its last
-/// publication, of the packets to each source that could not be sent, and of its sessions.
-pub(crate) fn status_of(
-    machine: &Machine,
-    totals: &Totals,
-    shown: &Option<Shown>,
-    unsent: &[u64; MAX_SOURCES],
-    work: &Work,
-    now: u64,
-) -> Status
-    ensures value { result ≡ status_of machine.now totals.now shown.now unsent.now work.now now }
-{
-    let (width, age) = width_and_age(shown, now);
-    Status {
-        machine: machine.number,
-        epoch: machine.epoch,
-        width,
-        age,
-        known: machine.known,
-        sources: machine.sources,
-        each: each_status(shown, &totals.each, unsent),
-        rounds: totals.rounds,
-        published: totals.published,
-        refused_answers: totals.refused_answers,
-        no_point: totals.no_point,
-        too_few: totals.too_few,
-        sharing: machine.sharing,
-        sessions: work.sessions,
-        lines: work.lines,
-        refused_lines: work.refused_lines,
-        waiting: work.waiting,
-        left_out: work.left_out,
     }
 }

@@ -3,23 +3,27 @@
 ghost use Rattle.std.specs.Prelude.{◌≡◌, ◌≤◌, List, [], map};
 ghost use Rattle.tt_publish.specs.Reading.{fused_span_of};
 ghost use Rattle.tt_consistency.specs.Calls.{AreInTurn, RiseIn, RoundsCall, kept_after};
+ghost use Rattle.tt_server.specs.Notice.{event_of_unmet};
 ghost use Rattle.tt_server.specs.Round.{MakesCall, kept_with, renewal_after};
 
+use crate::evidence::{keep_break, published_in, show_evidence};
+use crate::notices::{Notices, Unmet, fresh_answers, is_stale, needed_by, unmet_of};
 use crate::paces::{pause_of, renewal_after, turns_of, waits_on};
-use crate::records::{
-    Machine, RoundRecords, RoundTerms, Shown, Totals, UnsentPackets, records_of, status_of,
-};
-use crate::shares::ended_at;
+use crate::records::{RoundRecords, RoundTerms, Shown, Totals, UnsentPackets, records_of};
+use crate::shares::{ended_at, period_of, withdrawn};
 use crate::sharing::Share;
+use crate::signs::{GuestWatch, Sleep, SleepWatch};
 use crate::states::{ThreadContext, say};
+use crate::statuses::{Account, Machine, status_of};
 use std::fs::{File, Files};
 use std::net::{Ipv4Addr, Net, UdpSocket};
 use std::sync::Wait;
 use std::time::Clock as SystemClock;
 use tt_connections::MachineClock;
-use tt_daemon::{Daemon, MAX_SOURCES};
+use tt_daemon::{Daemon, Fused, MAX_SOURCES};
 use tt_publish::{Clock, Teller};
 use tt_rounds::{NodeFault, RoundLink, RoundReport, Rounds, RoundsPlan, report_rounds};
+use tt_settings::OnBreak;
 use tt_status::LogEvent;
 
 /// The state of the daemon's thread.
@@ -37,11 +41,26 @@ pub(crate) struct Poller<'a, R> {
     renewal: u64,
     /// For each source, how many packets to it could not be sent so far.
     unsent: [u64; MAX_SOURCES],
+    /// What it has noticed so far.
+    notices: Notices,
+    sleep: SleepWatch,
+    guest: GuestWatch,
+    /// The counter of a guest's disruptions, if the settings name one.
+    vmclock: Option<&'a str>,
+    /// The last publication, with its certificate.
+    last: Option<Fused>,
+    /// Whether it knows that an assumption is broken, and has to end.
+    broken: bool,
 }
 
 impl<'a, R> Poller<'a, R> {
     /// The state of the daemon's thread at its start.
-    pub(crate) fn new(daemon: Daemon, link: RoundLink<'a, R>, share: Share<'a, R>) -> Poller<'a, R>
+    pub(crate) fn new(
+        daemon: Daemon,
+        link: RoundLink<'a, R>,
+        share: Share<'a, R>,
+        vmclock: Option<&'a str>,
+    ) -> Poller<'a, R>
         ensures daemon { result.daemon ≡ daemon }
     {
         Poller {
@@ -53,7 +72,18 @@ impl<'a, R> Poller<'a, R> {
             share,
             renewal: 0,
             unsent: [0; MAX_SOURCES],
+            notices: Notices::new(),
+            sleep: SleepWatch::new(),
+            guest: GuestWatch::new(),
+            vmclock,
+            last: None,
+            broken: false,
         }
+    }
+
+    /// Whether it knows that an assumption is broken, and has to end.
+    pub(crate) fn has_broken(&self) -> bool {
+        self.broken
     }
 }
 
@@ -120,8 +150,127 @@ fn records<R: SystemClock>(
         config: life.config,
         epoch: life.epoch,
         pauses: life.pauses,
+        max_width: life.max_width,
     };
-    records_of(did, &poller.report, &unsent, &poller.totals, &terms)
+    let needed = match needed_by(&poller.notices.answers, &life.config) {
+        Some(clock) => clock,
+        None => 0,
+    };
+    records_of(did, &poller.report, &unsent, &poller.totals, &terms, needed)
+}
+
+/// A sign that an assumption is broken: it is counted and logged. Unless the settings say that it is only logged, from now
+/// on no session is given a reading, a stamp or a release, the shared file says that nothing is published, and the machine
+/// ends.
+fn break_off<R: Wait + SystemClock + Files<File = File>>(
+    context: ThreadContext<'_, R>,
+    poller: &mut Poller<'_, R>,
+    event: LogEvent,
+    now: u64,
+)
+    ensures same { poller.new.daemon ≡ poller.old.daemon }
+    ensures totals { poller.new.totals ≡ poller.old.totals }
+    ensures renewal { poller.new.renewal ≡ poller.old.renewal }
+{
+    let server = context.server;
+    if server.life.on_break == OnBreak::End {
+        server.listeners.break_off();
+        poller.broken = true;
+        let nothing = withdrawn(
+            server.life.epoch,
+            poller.totals.published,
+            server.life.config.drift(),
+        );
+        poller.share.put(context, nothing, now);
+    }
+    poller.notices.breaks = poller.notices.breaks.saturating_add(1);
+    say(context, event);
+}
+
+/// The event of a publication that does not meet the last one.
+fn event_of_unmet(unmet: &Unmet) -> LogEvent
+    ensures { result ≡ event_of_unmet unmet.now }
+{
+    LogEvent::AssumptionBroken {
+        clock: unmet.clock,
+        lower: unmet.span.lo(),
+        upper: unmet.span.hi(),
+        last_lower: unmet.last.lo(),
+        last_upper: unmet.last.hi(),
+    }
+}
+
+/// Looks whether what a round shows meets the last publication.
+fn compare<R: Wait + SystemClock + Files<File = File>>(
+    context: ThreadContext<'_, R>,
+    poller: &mut Poller<'_, R>,
+    shown: &Option<Shown>,
+    published: &Option<Fused>,
+    now: u64,
+)
+    ensures same { poller.new.daemon ≡ poller.old.daemon }
+    ensures totals { poller.new.totals ≡ poller.old.totals }
+    ensures renewal { poller.new.renewal ≡ poller.old.renewal }
+{
+    let drift = context.server.life.config.drift();
+    if let Some(unmet) = unmet_of(&poller.shown, shown, drift) {
+        break_off(context, poller, event_of_unmet(&unmet), now);
+        keep_break(context, &poller.last, published);
+    }
+}
+
+/// Looks whether the host slept, and whether a guest was disrupted.
+fn look_at_host<R: Wait + SystemClock + Files<File = File>>(
+    context: ThreadContext<'_, R>,
+    poller: &mut Poller<'_, R>,
+    now: u64,
+)
+    ensures same { poller.new.daemon ≡ poller.old.daemon }
+    ensures totals { poller.new.totals ≡ poller.old.totals }
+    ensures renewal { poller.new.renewal ≡ poller.old.renewal }
+{
+    match poller.sleep.look(context.rt) {
+        Sleep::Awake => {}
+        Sleep::Slept(slept) => {
+            poller.notices.slept = poller.notices.slept.saturating_add(slept);
+            break_off(context, poller, LogEvent::HostSlept { slept }, now);
+        }
+        Sleep::Unseen => say(context, LogEvent::SleepUnseen),
+    }
+    if let Some(path) = poller.vmclock {
+        if poller.guest.look(context.rt, path) {
+            break_off(context, poller, LogEvent::GuestDisrupted, now);
+        }
+    }
+}
+
+/// Counts a round after which fewer than n - f sources have answered within three periods, and logs it once something is
+/// published.
+fn count_stale<R: Wait + SystemClock>(
+    context: ThreadContext<'_, R>,
+    poller: &mut Poller<'_, R>,
+    now: u64,
+)
+    ensures same { poller.new.daemon ≡ poller.old.daemon }
+    ensures totals { poller.new.totals ≡ poller.old.totals }
+    ensures renewal { poller.new.renewal ≡ poller.old.renewal }
+{
+    let life = &context.server.life;
+    let config = &life.config;
+    let period = period_of(&life.pauses);
+    if !is_stale(needed_by(&poller.notices.answers, config), period, now) {
+        return;
+    }
+    poller.notices.stale_rounds = poller.notices.stale_rounds.saturating_add(1);
+    if poller.totals.published > 0 {
+        say(
+            context,
+            LogEvent::SourcesStale {
+                answered: fresh_answers(&poller.notices.answers, config.sources(), period, now),
+                needed: (config.sources() - config.faulty()) as u64,
+            },
+        );
+    }
 }
 
 /// Hands on the records of a round: logs its events and shares its publication when the clock shows `now`, and keeps what
@@ -148,7 +297,9 @@ fn hand_on<R: Wait + SystemClock + Files<File = File>>(
         say(context, *event);
     }
     if let Some(span) = span {
-        poller.share.put(context, span, now);
+        if !poller.broken {
+            poller.share.put(context, span, now);
+        }
     }
     if poller.totals.published == 0 && totals.published > 0 {
         context.server.listeners.open();
@@ -160,7 +311,8 @@ fn hand_on<R: Wait + SystemClock + Files<File = File>>(
     }
 }
 
-/// Does all that follows a round, except the pause, when the clock shows `now`.
+/// Does all that follows a round, except the pause, when the clock shows `now`. What breaks an assumption is noticed
+/// first.
 fn settle<R: Wait + SystemClock + Files<File = File>>(
     context: ThreadContext<'_, R>,
     poller: &mut Poller<'_, R>,
@@ -169,10 +321,20 @@ fn settle<R: Wait + SystemClock + Files<File = File>>(
 )
     ensures same { poller.new.daemon ≡ poller.old.daemon }
 {
+    poller.notices.hear(&poller.report.sources);
     let unsent = unsent_by(&poller.link);
     let records = records(context, poller, did, unsent);
+    let published = published_in(did, &poller.report);
+    compare(context, poller, &records.shown, &published, now);
+    look_at_host(context, poller, now);
     poller.unsent = unsent;
     hand_on(context, poller, records, now);
+    count_stale(context, poller, now);
+    if let Some(fused) = published {
+        poller.notices.track(&poller.report.sources, &fused);
+        show_evidence(context, &fused);
+        poller.last = Some(fused);
+    }
 }
 
 /// Hands the status to the reporter.
@@ -188,19 +350,17 @@ fn show<R: Wait + SystemClock + Files<File = File>>(
     let machine = Machine {
         number: u64::from(server.life.machine),
         epoch: server.life.epoch,
-        sources: poller.daemon.config().sources() as u64,
+        config: server.life.config,
         known: poller.daemon.known() as u64,
         sharing: poller.share.is_written(),
     };
-    let work = server.work();
-    let status = status_of(
-        &machine,
-        &poller.totals,
-        &poller.shown,
-        &poller.unsent,
-        &work,
-        now,
-    );
+    let account = Account {
+        totals: &poller.totals,
+        shown: &poller.shown,
+        notices: &poller.notices,
+        unsent: &poller.unsent,
+    };
+    let status = status_of(&machine, &account, &server.work(), now);
     server.reporter.show(context.rt, status);
 }
 
@@ -244,7 +404,7 @@ fn renew<R: Wait + SystemClock + Net>(context: ThreadContext<'_, R>, poller: &mu
     }
 }
 
-/// When the machine ends, shares that the last publication is no longer fresh.
+/// When the machine ends, shares that the last publication is no longer fresh; after a break nothing is published.
 fn end<R: Wait + SystemClock + Files<File = File>>(
     context: ThreadContext<'_, R>,
     poller: &mut Poller<'_, R>,
@@ -253,6 +413,9 @@ fn end<R: Wait + SystemClock + Files<File = File>>(
     ensures same { poller.new.daemon ≡ poller.old.daemon }
     ensures rises { clock.old.last ≤ clock.new.last }
 {
+    if poller.broken {
+        return;
+    }
     let Some(last) = poller.share.last() else {
         return;
     };
@@ -260,7 +423,8 @@ fn end<R: Wait + SystemClock + Files<File = File>>(
     poller.share.put(context, ended_at(&last, now), now);
 }
 
-/// Makes the rounds of the daemon until the machine ends, each before a pause. After a round in which the socket failed,
+/// Makes the rounds of the daemon until the machine ends, each before a pause, or until it knows that an assumption is
+/// broken. After a round in which the socket failed,
 /// it is made anew after the pause. Requires: nothing is published yet.
 pub(crate) fn run_daemon<R: Wait + SystemClock + Files<File = File> + Net>(
     context: ThreadContext<'_, R>,
@@ -280,9 +444,11 @@ pub(crate) fn run_daemon<R: Wait + SystemClock + Files<File = File> + Net>(
     let began = now_of(clock);
     for _ in rt.forever() {
         go_round(context, poller, clock, teller);
-        let waits = waits_on(&poller.totals, began, clock.last());
-        server.rest(rt, pause_of(poller.renewal, waits, server.life.pauses.poll));
-        if server.has_ended() {
+        if !poller.broken {
+            let waits = waits_on(&poller.totals, began, clock.last());
+            server.rest(rt, pause_of(poller.renewal, waits, server.life.pauses.poll));
+        }
+        if poller.broken || server.has_ended() {
             end(context, poller, clock);
             return;
         }

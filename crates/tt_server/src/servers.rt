@@ -8,6 +8,7 @@ ghost use Rattle.tt_server.specs.Life.{ServerLife, HandsBack, TellsOf};
 ghost use Rattle.tt_server.specs.Round.{side_workers_of};
 ghost use Rattle.tt_server.specs.Thread.{AreReady, HasSettings, IsServing, terms_in};
 
+use crate::breaks::{pause_after_breaks, record_break};
 use crate::faults::ServerFault;
 use crate::lives::{LifeEnd, WorkerEnd};
 use crate::modes::Loose;
@@ -16,14 +17,14 @@ use crate::starts::{
     acceptor_of, front_of, link_to, poller_of, publications_of, reporter_of, side_of, sights_of,
     watch_all,
 };
-use crate::states::{Life, ServerState, ThreadContext, say};
+use crate::states::{Ending, Life, ServerState, ThreadContext, say};
 use crate::workers::{WorkerHandle, WorkerSeat, start_worker, worker_seats_of};
 use mio::Waker;
 use std::alloc::Global;
 use std::fs::{File, Files};
 use std::io::{Eprint, Input, Read};
 use std::net::{Net, TcpListener, TcpStream};
-use std::sync::Wait;
+use std::sync::{Arc, Wait};
 use std::thread;
 use std::thread::{JoinHandle, Scope, Threads};
 use std::time::Clock as SystemClock;
@@ -199,31 +200,50 @@ fn start_acceptor<'s, E, R: Wait + SystemClock + Sync>(
         .ok()
 }
 
-/// Waits for the end of standard input, and then ends the machine.
-fn end_with_input<R: Wait, I: Read + Drop>(context: ThreadContext<'_, R>, input: I) {
-    let mut input = input;
-    let mut buffer = [0; 512];
-    for _ in 0..u64::MAX {
-        match input.read(&mut buffer) {
-            Ok(count) if count > 0 => {}
-            _ => break,
-        }
-    }
-    context.server.end(context.rt);
+/// Standard input, as far as its end tells something. The runtime handle has one. A thread can be given it, since no type of
+/// readers belongs to it.
+pub trait EndOfInput {
+    /// Waits until standard input has ended or fails.
+    fn wait_for_end(&self);
 }
 
-/// Starts the thread that ends the machine at the end of standard input. None if the thread can't be started.
-fn start_end<'s, E, I: Read + Send + Drop + 's, R: Wait + Sync>(
-    scope: &Scope<'s, E>,
-    context: ThreadContext<'s, R>,
-    input: I,
-) -> Option<JoinHandle<()>> {
-    scope.spawn(move || end_with_input(context, input)).ok()
+impl<R: Input> EndOfInput for R
+where
+    R::Reader: Read + Drop,
+{
+    fn wait_for_end(&self) {
+        let mut input = self.reader();
+        let mut buffer = [0; 512];
+        for _ in 0..u64::MAX {
+            match input.read(&mut buffer) {
+                Ok(count) if count > 0 => {}
+                _ => break,
+            }
+        }
+    }
+}
+
+/// Waits for the end of standard input, and then asks for the end of the machine.
+fn end_with_input<R: EndOfInput>(rt: &R, ending: &Ending) {
+    rt.wait_for_end();
+    ending.ask();
+}
+
+/// Starts the thread that asks for the end of the machine at the end of standard input. It is never joined: a machine that
+/// ends before its input does not wait for it. Answers whether it was started.
+fn start_end<R: Threads + EndOfInput + Copy + Send + 'static>(
+    context: ThreadContext<'_, R>,
+) -> bool {
+    let rt = *context.rt;
+    let Ok(ending) = Arc::try_clone(&context.server.ending) else {
+        return false;
+    };
+    thread::spawn(&rt, move || end_with_input(&rt, &ending)).is_ok()
 }
 
 /// Starts all threads except the daemon's. Answers whether all were started. Each watch is a new one of the teller that
 /// told `opened`.
-fn start_all<'s, E, I: Read + Send + Drop + 's, R: Wait + SystemClock + Input<Reader = I> + Sync>(
+fn start_all<'s, E, R: Threads + Wait + SystemClock + EndOfInput + Sync + Copy + Send + 'static>(
     scope: &Scope<'s, E>,
     context: ThreadContext<'s, R>,
     acceptor: Acceptor,
@@ -248,7 +268,7 @@ fn start_all<'s, E, I: Read + Send + Drop + 's, R: Wait + SystemClock + Input<Re
     if !until_eof {
         return true;
     }
-    start_end(scope, context, context.rt.reader()).is_some()
+    start_end(context)
 }
 
 /// What the threads of a machine own.
@@ -264,14 +284,16 @@ struct Parts<'a, R> {
 fn run_threads<
     's,
     E,
-    I: Read + Send + Drop + 's,
     R: Threads
         + Wait
         + SystemClock
-        + Input<Reader = I>
+        + EndOfInput
         + Sync
         + Files<File = File>
-        + Net<Listener = TcpListener, Stream = TcpStream>,
+        + Net<Listener = TcpListener, Stream = TcpStream>
+        + Copy
+        + Send
+        + 'static,
 >(
     scope: &Scope<'s, E>,
     context: ThreadContext<'s, R>,
@@ -328,20 +350,23 @@ fn run_threads<
         epoch: server.life.epoch,
         published,
         workers,
+        broken: poller.has_broken(),
     })
 }
 
 /// Runs a machine whose epoch is taken. With `until_eof` it returns after the end of standard input.
 fn run<
     'n,
-    I: Read + Send + Drop,
     R: Threads
         + Wait
         + SystemClock
-        + Input<Reader = I>
+        + EndOfInput
         + Sync
         + Files<File = File>
-        + Net<Listener = TcpListener, Stream = TcpStream>,
+        + Net<Listener = TcpListener, Stream = TcpStream>
+        + Copy
+        + Send
+        + 'static,
 >(
     context: ThreadContext<'n, R>,
     settings: &'n Settings,
@@ -397,12 +422,11 @@ struct Start<'a> {
 /// Starts the reporter, takes the next epoch from this store, and runs the machine of this life.
 fn run_life<
     'n,
-    I: Read + Send + Drop,
     R: Threads
         + Wait
         + SystemClock
         + Eprint
-        + Input<Reader = I>
+        + EndOfInput
         + Sync
         + Files<File = File>
         + Net<Listener = TcpListener, Stream = TcpStream>
@@ -433,13 +457,18 @@ fn run_life<
     } = start;
     let reporter = reporter_of(rt, alloc, settings)?;
     let loose = Loose::found(rt, alloc, settings);
+    let Some(ending) = Ending::shared(alloc, waker) else {
+        return Err(ServerFault::Memory);
+    };
+    pause_after_breaks(rt, alloc, &reporter, settings.state());
     let epoch = match next_epoch(store) {
         Ok(epoch) => epoch,
         Err(fault) => return Err(ServerFault::Epoch(fault)),
     };
     let life = Life::of(settings, epoch);
     reporter.watch_for(life.pauses.wait.saturating_add(SLOW));
-    let server = ServerState::new(life, listeners, reporter, waker);
+    let has_evidence = settings.evidence().is_some();
+    let server = ServerState::new(life, listeners, reporter, has_evidence, ending);
     let context = ThreadContext {
         rt,
         alloc,
@@ -447,6 +476,11 @@ fn run_life<
     };
     loose.say_in(context);
     let ended = run(context, settings, parts, teller, until_eof);
+    if let Ok(end) = &ended {
+        if end.broken {
+            record_break(rt, alloc, settings.state());
+        }
+    }
     server.reporter.end(rt);
     ended
 }
@@ -455,12 +489,11 @@ fn run_life<
 fn run_behind<
     'n,
     'e,
-    I: Read + Send + Drop,
     R: Threads
         + Wait
         + SystemClock
         + Eprint
-        + Input<Reader = I>
+        + EndOfInput
         + Sync
         + Files<File = File>
         + Net<Listener = TcpListener, Stream = TcpStream>
@@ -513,7 +546,7 @@ fn run_behind<
 ///
 /// The start, in this order: it listens at the TCP address, opens the socket for polls, locks the folder of the epoch for
 /// as long as it runs, listens at the Unix socket if the settings name one, takes the memory, opens the publications,
-/// starts the reporter's threads, and takes the next epoch. Then it opens the shared file and starts the other threads:
+/// starts the reporter's threads, pauses where a break is recorded that is less than a minute old, and takes the next epoch. Then it opens the shared file and starts the other threads:
 /// those of the workers, of the acceptor, and of the end. Then the daemon makes its rounds. Clients are served after the
 /// first publication, or two seconds after the start. If there is a Unix socket, half of the workers serve its clients,
 /// and the other workers serve the clients of the TCP address.
@@ -527,17 +560,20 @@ fn run_behind<
 /// the folder of the state, the file of the epoch or the shared file, as found at the start, that is logged too. The log
 /// and the status file are written by the reporter alone.
 ///
+/// It also ends once it knows that an assumption is broken, unless the settings say that this is only logged: from then on
+/// no session is given a reading, a stamp or a release, and the shared file says that nothing is published. The break is
+/// recorded in the folder of the state, and [`LifeEnd::broken`] says so.
+///
 /// At the end it wakes all threads, whatever they wait for, joins the workers, and removes the Unix socket if it is still
 /// the one that it made. Then it answers the epoch of the life, what its daemon published, and what each worker had seen
 /// of that. In contracts this is the end of a life with these settings: its daemon began new, its calls came one after the
 /// other, and its workers read nothing but what it published.
 pub fn serve<
-    I: Read + Send + Drop,
     R: Threads
         + Wait
         + SystemClock
         + Eprint
-        + Input<Reader = I>
+        + EndOfInput
         + Sync
         + AllocGlobal
         + Files<File = File>

@@ -1,6 +1,6 @@
 //! What is shared with the other processes of the machine.
 
-ghost use Rattle.std.specs.Prelude.{◌≡◌, ◌≤◌, ◌<◌, ◌^◌, ℕ, List, ◌∷◌};
+ghost use Rattle.std.specs.Prelude.{◌≡◌, ◌≢◌, ◌≤◌, ◌<◌, ◌-◌, ◌^◌, ℕ, List, ◌∷◌};
 ghost use Rattle.tt_span.specs.Time.{max_time};
 ghost use Rattle.tt_span.specs.Drift.{Moment, KeepsDrift, max_drift};
 ghost use Rattle.tt_span.specs.Interval.{IsInterval, Holds};
@@ -13,13 +13,14 @@ ghost use Rattle.tt_shared.specs.Seeing.{IsSeen};
 ghost use Rattle.tt_shared.specs.Slot.{IsShared, IsSlotOf};
 ghost use Rattle.tt_consistency.specs.Reads.{IsNoEarlier};
 ghost use Rattle.tt_consistency.specs.Timeline.{HeldTrueTime};
-ghost use Rattle.tt_server.specs.Share.{period_of, shared_of, fresh_until};
+ghost use Rattle.tt_server.specs.Share.{fresh_until, growing_time, period_of, shared_of, usable_until, withdrawn};
 
+use crate::records::RoundTerms;
 use tt_daemon::Fused;
 use tt_publish::FusedSpan;
 use tt_settings::Pauses;
 use tt_shared::SharedSpan;
-use tt_span::{Drift, MAX_TIME};
+use tt_span::{Drift, MAX_TIME, Span};
 
 /// The longest time from one publication to the next, in nanoseconds, if the round between them waits as long as it
 /// may.
@@ -39,25 +40,46 @@ pub(crate) fn fresh_until(clock: u64, period: u64) -> u64
     clock.saturating_add(3 * period)
 }
 
-/// The publication with this number in the life `epoch`, as other processes read it.
-pub(crate) fn shared_of(
-    fused: &Fused,
-    epoch: u64,
-    number: u64,
-    pauses: &Pauses,
-    drift: Drift,
-) -> SharedSpan
-    ensures value { result ≡ shared_of fused.now epoch number pauses.now drift }
+/// For how long the ends of a span grow by at most `room` nanoseconds on a clock with this drift, in nanoseconds.
+fn growing_time(room: u64, drift: Drift) -> u64
+    ensures value { result ≡ growing_time room drift }
 {
+    let ppm = u64::from(drift.ppm());
+    if ppm == 0 {
+        return u64::MAX;
+    }
+    room.saturating_mul(1_000_000) / ppm
+}
+
+/// The last clock reading at which a reading of a span that was fused at `clock` is at most `most` wide; 2^64 - 1 if `most`
+/// is: there is no limit. A span that is wider itself may not be read at all.
+pub(crate) fn usable_until(clock: u64, span: &Span, drift: Drift, most: u64) -> u64
+    ensures value { result ≡ usable_until clock span.now drift most }
+{
+    if most == u64::MAX {
+        return u64::MAX;
+    }
+    let width = span.hi() - span.lo();
+    if most < width {
+        return clock.saturating_sub(1);
+    }
+    clock.saturating_add(growing_time((most - width) / 2, drift))
+}
+
+/// The publication with this number in the life of these terms, as other processes read it. It rests on answers as new
+/// as the clock reading `needed`, and is fresh for three periods after that.
+pub(crate) fn shared_of(fused: &Fused, number: u64, needed: u64, terms: &RoundTerms) -> SharedSpan
+    ensures value { result ≡ shared_of fused.now terms.now.epoch number needed terms.now.pauses terms.now.config.drift terms.now.max_width }
+{
+    let (clock, span) = (fused.clock(), fused.span());
+    let drift = terms.config.drift();
     SharedSpan {
-        fused: FusedSpan {
-            clock: fused.clock(),
-            span: fused.span(),
-        },
-        valid_until: fresh_until(fused.clock(), period_of(pauses)),
-        epoch,
+        fused: FusedSpan { clock, span },
+        valid_until: fresh_until(needed, period_of(&terms.pauses)),
+        epoch: terms.epoch,
         number,
         drift,
+        usable_until: usable_until(clock, &span, drift, terms.max_width),
     }
 }
 
@@ -66,12 +88,26 @@ pub(crate) fn shared_of(
 pub(crate) fn ended_at(shared: &SharedSpan, now: u64) -> SharedSpan
     ensures value { result ≡ record shared.now { valid_until = now } }
 {
+    let mut ended = *shared;
+    ended.valid_until = now;
+    ended
+}
+
+/// What is shared once the machine knows that an assumption is broken: that nothing is published. It has the epoch of the
+/// life and the number of its last publication.
+pub(crate) fn withdrawn(epoch: u64, number: u64, drift: Drift) -> SharedSpan
+    ensures value { result ≡ withdrawn epoch number drift }
+{
     SharedSpan {
-        fused: shared.fused,
-        valid_until: now,
-        epoch: shared.epoch,
-        number: shared.number,
-        drift: shared.drift,
+        fused: FusedSpan {
+            clock: 0,
+            span: Span::whole(),
+        },
+        valid_until: 0,
+        epoch,
+        number,
+        drift,
+        usable_until: 0,
     }
 }
 
@@ -99,25 +135,32 @@ pub(crate) fn folder_and_name(path: &str) -> (&str, &str) {
 /// is so from the first publication of the life on, as long as no other process writes the file.
 pub fn shared_laws()
     // What is shared of a publication in range can be written and read: its numbers are in range.
-    ensures in_range { (publication : Published) (epoch number : ℕ) (pauses : ThePauses) (drift : ℕ) →
+    ensures in_range { (publication : Published) (epoch number needed : ℕ) (pauses : ThePauses) (drift most : ℕ) →
         publication.clock ≤ max_time → IsInterval publication.span → epoch < 2 ^ 64 → number < 2 ^ 64 → drift ≤ max_drift →
-        IsShared (shared_of publication epoch number pauses drift) }
+        IsShared (shared_of publication epoch number needed pauses drift most) }
 
     // A reading by the file is the reading of the publication of the life that has the count of the index, aged by the
     // drift of its machine up to what the reader's own clock showed.
     ensures is_of_life { (published : ℕ → TheSpan) (n : ℕ) (index bytes : List ℕ) (found : TheSpan) (clock : ℕ)
-        (publication : Published) (epoch number : ℕ) (pauses : ThePauses) (drift : ℕ) →
-        IsSeen published n index bytes index → published n ≡ shared_of publication epoch number pauses drift →
+        (publication : Published) (epoch number needed : ℕ) (pauses : ThePauses) (drift most : ℕ) →
+        IsSeen published n index bytes index → published n ≡ shared_of publication epoch number needed pauses drift most →
         IsShared (published n) → IsSlotOf (word_of index) found bytes →
         reading_at found.drift found.fused clock ≡ reading_at drift (fused_span_of publication) clock }
 
     // So it holds the true time, if the publication held it at a moment of the machine's life, the clock that the machine
     // and the reader share keeps its drift bound over this moment and that of the reading, and the reading is no earlier.
     ensures holds { (published : ℕ → TheSpan) (n : ℕ) (index bytes : List ℕ) (found : TheSpan) (clock time : ℕ)
-        (publication : Published) (epoch number : ℕ) (pauses : ThePauses) (drift : ℕ) (moments : List Moment) →
-        IsSeen published n index bytes index → published n ≡ shared_of publication epoch number pauses drift →
+        (publication : Published) (epoch number needed : ℕ) (pauses : ThePauses) (drift most : ℕ) (moments : List Moment) →
+        IsSeen published n index bytes index → published n ≡ shared_of publication epoch number needed pauses drift most →
         IsShared (published n) → IsSlotOf (word_of index) found bytes → CanBeReadAt found.fused clock →
         HeldTrueTime moments (fused_span_of publication) → KeepsDrift drift (record { clock = clock; time = time } ∷ moments) →
         IsNoEarlier moments (fused_span_of publication) time → time ≤ max_time →
         Holds (reading_at found.drift found.fused clock) time }
+
+    // A reading that a reader of the file may use is no wider than the machine allows, if it allows less than 2^64 - 1.
+    ensures narrow { (publication : Published) (epoch number needed clock : ℕ) (pauses : ThePauses) (drift most : ℕ) →
+        IsInterval publication.span → publication.clock ≤ clock → most < 2 ^ 64 - 1 →
+        clock ≤ (shared_of publication epoch number needed pauses drift most).usable_until →
+        (shared_of publication epoch number needed pauses drift most).usable_until ≢ 0 →
+        (reading_at drift (fused_span_of publication) clock).hi - (reading_at drift (fused_span_of publication) clock).lo ≤ most }
 {}

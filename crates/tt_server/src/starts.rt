@@ -152,7 +152,11 @@ where
         Some(path) => Some(path.as_str()),
         None => None,
     };
-    match Reporter::start(rt, alloc, settings.log(), path) {
+    let evidence = match settings.evidence() {
+        Some(path) => Some(path.as_str()),
+        None => None,
+    };
+    match Reporter::start(rt, alloc, settings.log(), path, evidence) {
         Ok(reporter) => Ok(reporter),
         Err(ReporterFault::NoThread) => Err(ServerFault::NoThread),
         Err(ReporterFault::Memory) => Err(ServerFault::Memory),
@@ -200,5 +204,9 @@ pub(crate) fn poller_of<'a, R: Wait + SystemClock + Files<File = File>>(
     let mut clock = MachineClock::new(rt);
     share.begin(context, clock.read().unwrap_or(0));
     let daemon = Daemon::new(settings.machine(), &server.life.config, server.life.epoch);
-    Poller::new(daemon, link, share)
+    let vmclock = match settings.vmclock() {
+        Some(path) => Some(path.as_str()),
+        None => None,
+    };
+    Poller::new(daemon, link, share, vmclock)
 }

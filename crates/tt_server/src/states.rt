@@ -1,21 +1,21 @@
 //! What the threads of a machine share.
 
 ghost use Rattle.std.specs.Prelude.{◌≡◌};
-ghost use Rattle.tt_server.specs.Thread.{terms_in};
+ghost use Rattle.tt_server.specs.Thread.{terms_in, widest_in};
 
-use crate::records::Work;
+use crate::statuses::Work;
 use mio::Waker;
 use std::alloc::Global;
-use std::sync::Wait;
-use std::sync::atomic::Ordering;
+use std::sync::atomic::{AtomicBool, Ordering};
+use std::sync::{Arc, Wait};
 use std::thread::Parker;
 use std::time::{Clock as SystemClock, Duration};
-use tt_connections::{Counts, Listeners, Terms};
+use tt_connections::{Counts, Listeners, Terms, WAIT_BOUNDS};
 use tt_daemon::Config;
 use tt_report::Reporter;
-use tt_settings::{Pauses, Settings};
+use tt_settings::{OnBreak, Pauses, Settings};
 use tt_span::Span;
-use tt_status::LogEvent;
+use tt_status::{Histogram, LogEvent};
 
 /// The number, the epoch and the settings of the machine in this life.
 #[derive(Clone, Copy)]
@@ -25,12 +25,26 @@ pub(crate) struct Life {
     pub(crate) config: Config,
     pub(crate) pauses: Pauses,
     pub(crate) lease: Span,
+    /// What follows a sign that an assumption is broken.
+    pub(crate) on_break: OnBreak,
+    /// The widest reading that is given, in nanoseconds; 2^64 - 1 if there is no limit.
+    pub(crate) max_width: u64,
+}
+
+/// The widest reading that is given where the settings have this limit, or none.
+fn widest_in(limit: Option<u64>) -> u64
+    ensures { result ≡ widest_in limit }
+{
+    match limit {
+        Some(width) => width,
+        None => u64::MAX,
+    }
 }
 
 impl Life {
     /// The life of this epoch, with these settings.
     pub(crate) fn of(settings: &Settings, epoch: u64) -> Life
-        ensures value { result ≡ record { machine = settings.now.machine; epoch = epoch; config = settings.now.config; pauses = settings.now.pauses; lease = settings.now.lease } }
+        ensures value { result ≡ record { machine = settings.now.machine; epoch = epoch; config = settings.now.config; pauses = settings.now.pauses; lease = settings.now.lease; on_break = settings.now.on_break; max_width = widest_in settings.now.max_width } }
     {
         Life {
             machine: settings.machine(),
@@ -38,6 +52,8 @@ impl Life {
             config: settings.config(),
             pauses: settings.pauses(),
             lease: settings.lease(),
+            on_break: settings.on_break(),
+            max_width: widest_in(settings.max_width()),
         }
     }
 
@@ -48,7 +64,21 @@ impl Life {
         Terms {
             lease: self.lease,
             ahead: self.pauses.floor_ahead,
+            max_width: self.max_width,
         }
+    }
+}
+
+/// How long commits have waited so far, by these counts.
+fn waits_in(told: &Counts) -> Histogram {
+    let mut counts = [0; 13];
+    for place in 0..13 {
+        counts[place] = told.waits[place].load(Ordering::SeqCst);
+    }
+    Histogram {
+        bounds: WAIT_BOUNDS,
+        counts,
+        sum: told.waited.load(Ordering::SeqCst),
     }
 }
 
@@ -58,21 +88,52 @@ pub(crate) struct ServerState<'a> {
     pub(crate) life: Life,
     pub(crate) listeners: &'a Listeners,
     pub(crate) counts: Counts,
-    /// Writes the log and the status, in a thread of its own.
+    /// Writes the log, the status and the evidence, in threads of its own.
     pub(crate) reporter: Reporter,
-    /// Makes the pauses of the daemon. The end of the machine wakes it.
+    /// Whether the settings name a file for the evidence.
+    pub(crate) has_evidence: bool,
+    /// Makes the pauses of the daemon, and ends them at the end of the machine.
+    pub(crate) ending: Arc<Ending, Global>,
+}
+
+/// What the end of a machine is asked by: a thread that waits for the end of standard input holds it too, and is never
+/// joined, since nothing ends that wait.
+#[derive(Drop)]
+pub(crate) struct Ending {
+    asked: AtomicBool,
+    /// Makes the pauses of the daemon.
     pause: Parker,
     /// Ends the wait of the daemon's link.
     link: Waker,
 }
 
+impl Ending {
+    /// Nothing has asked for the end. `link` ends the waits of the daemon's link. None if it is out of memory.
+    pub(crate) fn shared(alloc: Global, link: Waker) -> Option<Arc<Ending, Global>> {
+        let ending = Ending {
+            asked: AtomicBool::new(false),
+            pause: Parker::new(),
+            link,
+        };
+        Arc::new(alloc, ending).ok()
+    }
+
+    /// Asks for the end, and ends the daemon's waits.
+    pub(crate) fn ask(&self) {
+        self.asked.store(true, Ordering::SeqCst);
+        let _ = self.link.wake();
+        self.pause.unpark();
+    }
+}
+
 impl<'a> ServerState<'a> {
-    /// The state of the server of a machine whose clients connect at these listeners. `link` ends the waits of its daemon's link.
+    /// The state of the server of a machine whose clients connect at these listeners.
     pub(crate) fn new(
         life: Life,
         listeners: &'a Listeners,
         reporter: Reporter,
-        link: Waker,
+        has_evidence: bool,
+        ending: Arc<Ending, Global>,
     ) -> ServerState<'a>
         ensures life { result.life ≡ life }
     {
@@ -81,26 +142,27 @@ impl<'a> ServerState<'a> {
             listeners,
             counts: Counts::new(),
             reporter,
-            pause: Parker::new(),
-            link,
+            has_evidence,
+            ending,
         }
     }
 
     /// Whether the machine has to end.
     pub(crate) fn has_ended(&self) -> bool {
-        self.listeners.ended.load(Ordering::SeqCst)
+        self.listeners.ended.load(Ordering::SeqCst) || self.ending.asked.load(Ordering::SeqCst)
     }
 
     /// Ends the machine: wakes the acceptor, the workers that wait for a client, and the daemon, also within a round.
     pub(crate) fn end<R: Wait>(&self, rt: &R) {
         self.listeners.end(rt);
-        let _ = self.link.wake();
-        self.pause.unpark();
+        self.ending.ask();
     }
 
     /// A pause of the daemon, of `pause` nanoseconds. The end of the machine ends it.
     pub(crate) fn rest<R: Wait + SystemClock>(&self, rt: &R, pause: u64) {
-        self.pause.park_timeout(rt, Duration::from_nanos(pause));
+        self.ending
+            .pause
+            .park_timeout(rt, Duration::from_nanos(pause));
     }
 
     /// What the sessions have done so far, what waits, and what was left out.
@@ -110,6 +172,9 @@ impl<'a> ServerState<'a> {
             lines: self.counts.lines.load(Ordering::SeqCst),
             refused_lines: self.counts.refused.load(Ordering::SeqCst),
             waiting: self.listeners.waiting(),
+            busy: self.counts.busy.load(Ordering::SeqCst),
+            commits_waiting: self.counts.commits_waiting.load(Ordering::SeqCst),
+            commit_waits: waits_in(&self.counts),
             left_out: self.reporter.left_out(),
         }
     }

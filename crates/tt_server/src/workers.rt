@@ -106,12 +106,22 @@ fn serve_one<'a, R: Wait + SystemClock>(
     let mut reader = DeadlineReader::new(device, MachineClock::new(rt), deadline);
     let device = ReplyWriter::new(stream, &listeners.ended, counts);
     let mut writer = DeadlineWriter::new(device, clock, deadline);
-    let client = Client::new(rt, stream, &listeners.ended, idle, sight);
+    let client = Client::new(
+        rt,
+        stream,
+        &listeners.ended,
+        &listeners.broken,
+        idle,
+        sight,
+        counts,
+    );
     let turns = Turns {
         reads: u32::MAX,
         waits: WAITS,
     };
+    counts.busy.fetch_add(1, Ordering::SeqCst);
     let (post, _served) = post.serve(&client, &mut reader, &mut writer, turns);
+    counts.busy.fetch_sub(1, Ordering::SeqCst);
     counts.sessions.fetch_add(1, Ordering::SeqCst);
     post
 }

@@ -1,29 +1,72 @@
--- The form of the log.
-use Rattle.std.specs.Prelude.{codes, ℕ, nat_eq, if◌then◌else◌, List, Option, Some, None, ok_or, Result}
+-- The settings that are one of two words.
+use Rattle.std.specs.Prelude.{ℕ, nat_eq, if◌then◌else◌, List, Option, Some, None, option_map, ok_or, Result, Ok}
 use Rattle.std.specs.Cmp.Lexicographic.{pointwise}
 use Rattle.toml.specs.Data.{Data, Members, get_member, as_str}
 use Rattle.tt_status.specs.declared.lines.LogFormat.{LogFormat}
 use Rattle.tt_status.specs.declared.lines.LogFormat.TheVariants.{Text, Json}
-use Rattle.tt_settings.specs.declared.keys.Key.TheVariants.{Log}
+use Rattle.tt_settings.specs.declared.forms.Choice.{Choice}
+use Rattle.tt_settings.specs.declared.forms.Choice.TheVariants.{First, Second}
+use Rattle.tt_settings.specs.declared.forms.OnBreak.{OnBreak as Act}
+use Rattle.tt_settings.specs.declared.forms.Conduct.{Conduct}
+use Rattle.tt_settings.specs.declared.forms.OnBreak.TheVariants.{End, Warn}
+use Rattle.tt_settings.specs.declared.keys.Key.{Key}
+use Rattle.tt_settings.specs.declared.keys.Key.TheVariants.{Log, OnBreak, MaxWidth}
+use Rattle.tt_settings.specs.declared.keys.ValueKind.{ValueKind}
+use Rattle.tt_settings.specs.declared.keys.ValueKind.TheVariants as kind
 use Rattle.tt_settings.specs.declared.faults.SettingsFault.{SettingsFault}
 use Rattle.tt_settings.specs.declared.faults.SettingsFault.TheVariants.{WrongValue}
 use Rattle.tt_settings.specs.Fault.{◌>>=◌}
-use Rattle.tt_settings.specs.Key.{text_of}
-use Rattle.tt_settings.specs.Lookup.{typed_value, value_or}
+use Rattle.tt_settings.specs.Key.{text_of, kind_of}
+use Rattle.tt_settings.specs.Lookup.{typed_value, value_or, optional_amount}
+
+-- which of the words of a value of this kind a text is
+abbrev pub choice_of : ValueKind → List ℕ → Option Choice
+choice_of (kind.Form words) text =
+    if pointwise nat_eq text words.0 then Some First
+    else if pointwise nat_eq text words.1 then Some Second
+    else None
+choice_of _ text = None
+
+-- which of the words of a key its value is
+abbrev pub choice_in : Key → Data → Result Choice SettingsFault
+choice_in key d = do
+  text ← typed_value key (as_str d)
+  ok_or (choice_of (kind_of key) text) (WrongValue key)
+
+-- which of its words stands at a key: the first, where the key is absent
+abbrev pub choice_at : Key → Members → Result Choice SettingsFault
+choice_at key t = value_or First (choice_in key) (get_member (text_of key) t)
+
+-- the form of a log that each word is
+abbrev pub log_format : Choice → LogFormat
+log_format First = Text
+log_format Second = Json
 
 -- the form that a text names
 abbrev pub log_format_of : List ℕ → Option LogFormat
-log_format_of text =
-    if pointwise nat_eq text (codes "text") then Some Text
-    else if pointwise nat_eq text (codes "json") then Some Json
-    else None
-
--- the form that a value names
-abbrev pub log_in : Data → Result LogFormat SettingsFault
-log_in d = do
-  text ← typed_value Log (as_str d)
-  ok_or (log_format_of text) (WrongValue Log)
+log_format_of text = option_map log_format (choice_of (kind_of Log) text)
 
 -- the form of the log, which is text where the key is absent
 abbrev pub log_at : Members → Result LogFormat SettingsFault
-log_at t = value_or Text log_in (get_member (text_of Log) t)
+log_at t = do
+  choice ← choice_at Log t
+  Ok (log_format choice)
+
+-- what each word says that a machine does
+abbrev pub act_of : Choice → Act
+act_of First = End
+act_of Second = Warn
+
+-- what a machine does when it knows that an assumption is broken, which is to end itself where the key is absent
+abbrev pub on_break_at : Members → Result Act SettingsFault
+on_break_at t = do
+  choice ← choice_at OnBreak t
+  Ok (act_of choice)
+
+-- how a machine writes its log, and what it does when it is not sure enough of the time
+unfoldable pub conduct_in : Members → Result Conduct SettingsFault
+conduct_in t = do
+  log ← log_at t
+  on_break ← on_break_at t
+  max_width ← optional_amount MaxWidth t
+  Ok (record { log = log; on_break = on_break; max_width = max_width })

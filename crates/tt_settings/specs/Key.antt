@@ -7,7 +7,7 @@ use Rattle.tt_span.specs.Time.{max_time}
 use Rattle.tt_poll.specs.Message.{max_machine}
 use Rattle.tt_daemon.specs.Config.{max_workers}
 use Rattle.tt_settings.specs.declared.keys.Key.{Key}
-use Rattle.tt_settings.specs.declared.keys.Key.TheVariants.{Machine, Masters, Faulty, Workers, Drift, Poll, Wait, FloorAhead, Idle, LeaseLo, LeaseHi, Listen, Log, Socket, State, Shared, Status}
+use Rattle.tt_settings.specs.declared.keys.Key.TheVariants.{Machine, Masters, Faulty, Workers, Drift, Poll, Wait, FloorAhead, Idle, LeaseLo, LeaseHi, Listen, Log, OnBreak, MaxWidth, Socket, State, Shared, Status, Evidence, Vmclock}
 use Rattle.tt_settings.specs.declared.keys.ValueKind.{ValueKind}
 use Rattle.tt_settings.specs.declared.keys.ValueKind.TheVariants as kind
 
@@ -32,11 +32,15 @@ entry_of Idle = (codes "idle", kind.Duration second (86400 * second))
 entry_of LeaseLo = (codes "lease_lo", kind.Number 0 max_time)
 entry_of LeaseHi = (codes "lease_hi", kind.Number 0 max_time)
 entry_of Listen = (codes "listen", kind.Address)
-entry_of Log = (codes "log", kind.Form)
+entry_of Log = (codes "log", kind.Form (codes "text", codes "json"))
+entry_of OnBreak = (codes "on_break", kind.Form (codes "end", codes "warn"))
+entry_of MaxWidth = (codes "max_width", kind.Duration 0 (3600 * second))
 entry_of Socket = (codes "socket", kind.Path)
 entry_of State = (codes "state", kind.Path)
 entry_of Shared = (codes "shared", kind.Path)
 entry_of Status = (codes "status", kind.Path)
+entry_of Evidence = (codes "evidence", kind.Path)
+entry_of Vmclock = (codes "vmclock", kind.Path)
 
 abbrev pub text_of : Key → List ℕ
 text_of key = (entry_of key).0
@@ -47,8 +51,8 @@ kind_of key = (entry_of key).1
 -- all keys
 abbrev pub all_keys : List Key
 all_keys =
-    Machine ∷ Masters ∷ Faulty ∷ Workers ∷ Drift ∷ Poll ∷ Wait ∷ FloorAhead ∷ Idle ∷ LeaseLo ∷ LeaseHi ∷ Listen ∷ Log ∷ Socket ∷ State
-    ∷ Shared ∷ Status ∷ []
+    Machine ∷ Masters ∷ Faulty ∷ Workers ∷ Drift ∷ Poll ∷ Wait ∷ FloorAhead ∷ Idle ∷ LeaseLo ∷ LeaseHi ∷ Listen ∷ Log ∷ OnBreak ∷ MaxWidth
+    ∷ Socket ∷ State ∷ Shared ∷ Status ∷ Evidence ∷ Vmclock ∷ []
 
 -- the first of these keys that a text is
 abbrev pub key_among : List ℕ → List Key → Option Key

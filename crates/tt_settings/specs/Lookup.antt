@@ -58,6 +58,17 @@ value_or default f (Some d) = f d
 abbrev pub amount_or : Key → ℕ → Members → Result ℕ SettingsFault
 amount_or key default t = value_or default (amount_in key) (get_member (text_of key) t)
 
+-- what a value gives that may be absent
+abbrev pub optional : {A : Type 0} → (Data → Result A SettingsFault) → Option Data → Result (Option A) SettingsFault
+optional f None = Ok None
+optional f (Some d) = do
+  x ← f d
+  Ok (Some x)
+
+-- the amount at a key that may be absent
+abbrev pub optional_amount : Key → Members → Result (Option ℕ) SettingsFault
+optional_amount key t = optional (amount_in key) (get_member (text_of key) t)
+
 -- how many items there are
 abbrev pub count_of : Items → ℕ
 count_of no_items = 0

@@ -37,24 +37,26 @@ abbrev pub plain : List ℕ → List ℕ
 plain path = front path ++ walked Start path
 
 -- two paths name the same file, by their texts
-abbrev pub is_same : List ℕ → List ℕ → Bool
+unfoldable pub is_same : List ℕ → List ℕ → Bool
 is_same one other = pointwise nat_eq (plain one) (plain other)
 
 -- a file is the one at a path, its draft or its lock
-abbrev pub is_of : List ℕ → List ℕ → Bool
+unfoldable pub is_of : List ℕ → List ℕ → Bool
 is_of path file = is_same path file || (is_same (path ++ codes ".new") file || is_same (path ++ codes ".lock") file)
 
 -- two paths, with their drafts and locks, have a file in common
-abbrev pub meets : List ℕ → List ℕ → Bool
+unfoldable pub meets : List ℕ → List ℕ → Bool
 meets path other = is_of path other || (is_of path (other ++ codes ".new") || is_of path (other ++ codes ".lock"))
 
--- a path, with its draft and its lock, and the epoch in a folder, with its draft, have a file in common
-abbrev pub meets_epoch : List ℕ → List ℕ → Bool
-meets_epoch path state = is_of path (state ++ codes "/epoch") || is_of path (state ++ codes "/epoch.new")
+-- a path, with its draft and its lock, and a file with its draft have one in common
+unfoldable pub meets_record : List ℕ → List ℕ → Bool
+meets_record path file = is_of path file || is_of path (file ++ codes ".new")
 
 -- a path, with its draft and its lock, and the folder of the epoch, with the files in it, have one in common
-abbrev pub meets_state : List ℕ → List ℕ → Bool
-meets_state path state = is_of path state || (meets_epoch path state || is_of path (state ++ codes "/lock"))
+unfoldable pub meets_state : List ℕ → List ℕ → Bool
+meets_state path state =
+    is_of path state
+    || (meets_record path (state ++ codes "/epoch") || (meets_record path (state ++ codes "/break") || is_of path (state ++ codes "/lock")))
 
 -- the same, with a path that may be absent
 abbrev pub meets_some : List ℕ → Option (List ℕ) → Bool

@@ -23,7 +23,7 @@ configuration_if masters faulty workers drift =
     else Ok (record { sources = masters; faulty = faulty; drift = drift; workers = workers })
 
 -- the set-up of a machine with so many masters
-abbrev pub configuration_in : ℕ → Members → Result Configuration SettingsFault
+unfoldable pub configuration_in : ℕ → Members → Result Configuration SettingsFault
 configuration_in masters t = do
   faulty ← amount_or Faulty (most_faulty masters) t
   workers ← amount_or Workers max_workers t
@@ -47,7 +47,7 @@ abbrev pub default_idle : ℕ
 default_idle = 60 * second
 
 -- how long the parts of a machine wait, in nanoseconds
-abbrev pub pauses_in : Members → Result Pauses SettingsFault
+unfoldable pub pauses_in : Members → Result Pauses SettingsFault
 pauses_in t = do
   poll ← amount_or Poll default_poll t
   wait ← amount_or Wait default_wait t
@@ -60,7 +60,7 @@ abbrev pub lease_if : ℕ → ℕ → Result Interval SettingsFault
 lease_if lo hi = if nat_le lo hi then Ok (record { lo = lo; hi = hi }) else Err (WrongValue LeaseHi)
 
 -- the lease, which is the whole of time where neither end is given
-abbrev pub lease_in : Members → Result Interval SettingsFault
+unfoldable pub lease_in : Members → Result Interval SettingsFault
 lease_in t = do
   lo ← amount_or LeaseLo 0 t
   hi ← amount_or LeaseHi max_time t

@@ -5,17 +5,20 @@ use Rattle.toml.specs.Parse.{parse_document}
 use Rattle.tt_span.specs.Interval.{Interval}
 use Rattle.tt_daemon.specs.Config.{Configuration}
 use Rattle.tt_status.specs.declared.lines.LogFormat.{LogFormat}
-use Rattle.tt_settings.specs.declared.keys.Key.TheVariants.{Machine, Listen, State, Socket, Shared, Status}
+use Rattle.tt_settings.specs.declared.forms.Conduct.{Conduct}
+use Rattle.tt_settings.specs.declared.forms.OnBreak.{OnBreak}
+use Rattle.tt_settings.specs.declared.keys.Key.TheVariants.{Machine, Listen}
 use Rattle.tt_settings.specs.declared.faults.SettingsFault.{SettingsFault}
 use Rattle.tt_settings.specs.declared.faults.SettingsFault.TheVariants.{NotToml, UnknownKey}
 use Rattle.tt_settings.specs.declared.plans.Pauses.{Pauses}
+use Rattle.tt_settings.specs.declared.texts.Paths.{Paths}
 use Rattle.tt_settings.specs.Fault.{◌>>=◌}
 use Rattle.tt_settings.specs.Key.{first_unknown}
 use Rattle.tt_settings.specs.Lookup.{amount_at, count_of, each}
 use Rattle.tt_settings.specs.Address.{address_at, master_items_in, master_in}
 use Rattle.tt_settings.specs.Plan.{configuration_in, pauses_in, lease_in}
-use Rattle.tt_settings.specs.Form.{log_at}
-use Rattle.tt_settings.specs.Text.{text_at, optional_text}
+use Rattle.tt_settings.specs.Form.{conduct_in}
+use Rattle.tt_settings.specs.Text.{paths_in}
 use Rattle.tt_settings.specs.Check.{all_fit}
 
 -- what a machine is set up with; addresses are the ports of this host
@@ -26,11 +29,35 @@ pub record Meaning : Type 0 where
   pub lease : Interval
   pub listen : ℕ
   pub log : LogFormat
+  pub on_break : OnBreak
+  pub max_width : Option ℕ
   pub masters : List ℕ
   pub state : List ℕ
   pub socket : Option (List ℕ)
   pub shared : Option (List ℕ)
   pub status : Option (List ℕ)
+  pub evidence : Option (List ℕ)
+  pub vmclock : Option (List ℕ)
+
+-- what the parts of a document mean
+abbrev pub meaning_of : ℕ → Configuration → Pauses → Interval → ℕ → Conduct → List ℕ → Paths → Meaning
+meaning_of machine config pauses lease listen conduct masters paths = record {
+  machine = machine;
+  config = config;
+  pauses = pauses;
+  lease = lease;
+  listen = listen;
+  log = conduct.log;
+  on_break = conduct.on_break;
+  max_width = conduct.max_width;
+  masters = masters;
+  state = paths.state;
+  socket = paths.socket;
+  shared = paths.shared;
+  status = paths.status;
+  evidence = paths.evidence;
+  vmclock = paths.vmclock;
+}
 
 -- a table without a name that is no key
 abbrev pub keys_if : Option (List ℕ) → Result (Unit {0}) SettingsFault
@@ -38,7 +65,7 @@ keys_if None = Ok tt
 keys_if (Some name) = Err UnknownKey
 
 -- what the keys of a document mean, each by itself
-abbrev pub keys_of : Members → Result Meaning SettingsFault
+unfoldable pub keys_of : Members → Result Meaning SettingsFault
 keys_of t = do
   all_known ← keys_if (first_unknown t)
   machine ← amount_at Machine t
@@ -47,19 +74,16 @@ keys_of t = do
   pauses ← pauses_in t
   lease ← lease_in t
   listen ← address_at Listen t
-  log ← log_at t
+  conduct ← conduct_in t
   masters ← each master_in items
-  state ← text_at State t
-  socket ← optional_text Socket t
-  shared ← optional_text Shared t
-  status ← optional_text Status t
-  Ok (record { machine = machine; config = config; pauses = pauses; lease = lease; listen = listen; log = log; masters = masters; state = state; socket = socket; shared = shared; status = status })
+  paths ← paths_in t
+  Ok (meaning_of machine config pauses lease listen conduct masters paths)
 
 -- what a document means
 abbrev pub settings_of : Members → Result Meaning SettingsFault
 settings_of t = do
   s ← keys_of t
-  fits ← all_fit s.masters s.config.workers s.state s.socket s.shared s.status
+  fits ← all_fit s.masters s.config.workers s.state s.socket s.shared s.status s.evidence s.vmclock
   Ok s
 
 -- a text that is no document is refused first

@@ -1,42 +1,132 @@
-//! The form of the log.
+//! The settings that are one of two words.
 
 ghost use Rattle.std.specs.Prelude.{◌≡◌};
 ghost use Rattle.toml.specs.View.{view, table_view};
-ghost use Rattle.tt_settings.specs.Form.{log_format_of, log_in, log_at};
+ghost use Rattle.tt_settings.specs.Key.{kind_of};
+ghost use Rattle.tt_settings.specs.Form.{choice_at, choice_in, choice_of, conduct_in, log_at, log_format, log_format_of, on_break_at};
 
 use crate::faults::SettingsFault;
-use crate::keys::Key;
-use crate::lookups::{found_at, text_in};
+use crate::keys::{Key, ValueKind};
+use crate::lookups::{found_at, optional_amount, text_in};
 use toml::{Table, Value};
 use tt_status::LogFormat;
+
+/// What a machine does when it knows that one of its assumptions is broken.
+#[derive(Clone, Copy, Debug, PartialEq, Eq)]
+pub enum OnBreak {
+    /// `end`: it says so, and ends itself.
+    End,
+    /// `warn`: it says so, and goes on.
+    Warn,
+}
+
+/// How a machine writes its log, and what it does when it is not sure enough of the time.
+#[derive(Clone, Copy, Debug)]
+pub(crate) struct Conduct {
+    /// The form of its log.
+    pub(crate) log: LogFormat,
+    /// What it does when an assumption is broken.
+    pub(crate) on_break: OnBreak,
+    /// The greatest width of a reading that it answers, in nanoseconds, if there is a limit.
+    pub(crate) max_width: Option<u64>,
+}
+
+/// One of two words.
+#[derive(Clone, Copy)]
+enum Choice {
+    /// The first, which stands for the key where it is absent.
+    First,
+    /// The second.
+    Second,
+}
+
+/// Which of the words of this key a text is.
+fn choice_of(key: Key, text: &str) -> Option<Choice>
+    ensures { result ≡ choice_of (kind_of key) text.now }
+{
+    match key.kind() {
+        ValueKind::Form(words) => {
+            if text == words.first() {
+                Some(Choice::First)
+            } else if text == words.second() {
+                Some(Choice::Second)
+            } else {
+                None
+            }
+        }
+        _ => None,
+    }
+}
+
+/// Which of the words of this key a value is.
+fn choice_in(key: Key, value: &Value) -> Result<Choice, SettingsFault>
+    ensures { result ≡ choice_in key (view value.now) }
+{
+    match choice_of(key, text_in(key, value)?) {
+        Some(choice) => Ok(choice),
+        None => Err(SettingsFault::WrongValue(key)),
+    }
+}
+
+/// Which of the words of this key the table has. It is the first if the key is absent.
+fn choice_at(table: &Table, key: Key) -> Result<Choice, SettingsFault>
+    ensures { result ≡ choice_at key (table_view table.now) }
+{
+    match found_at(table, key) {
+        Some(value) => choice_in(key, value),
+        None => Ok(Choice::First),
+    }
+}
+
+/// The form of a log that each word is.
+fn log_format(choice: Choice) -> LogFormat
+    ensures { result ≡ log_format choice }
+{
+    match choice {
+        Choice::First => LogFormat::Text,
+        Choice::Second => LogFormat::Json,
+    }
+}
 
 /// The form of a log that a text names: `text` or `json`. `None` for any other text.
 pub fn log_format_of(text: &str) -> Option<LogFormat>
     ensures { result ≡ log_format_of text.now }
 {
-    match text {
-        "text" => Some(LogFormat::Text),
-        "json" => Some(LogFormat::Json),
-        _ => None,
-    }
-}
-
-/// The form in this value.
-fn log_in(value: &Value) -> Result<LogFormat, SettingsFault>
-    ensures { result ≡ log_in (view value.now) }
-{
-    match log_format_of(text_in(Key::Log, value)?) {
-        Some(format) => Ok(format),
-        None => Err(SettingsFault::WrongValue(Key::Log)),
+    match choice_of(Key::Log, text) {
+        Some(choice) => Some(log_format(choice)),
+        None => None,
     }
 }
 
 /// The form of the log, which is text if the key is absent.
-pub(crate) fn log_at(table: &Table) -> Result<LogFormat, SettingsFault>
+fn log_at(table: &Table) -> Result<LogFormat, SettingsFault>
     ensures { result ≡ log_at (table_view table.now) }
 {
-    match found_at(table, Key::Log) {
-        Some(value) => log_in(value),
-        None => Ok(LogFormat::Text),
+    let choice = choice_at(table, Key::Log)?;
+    Ok(log_format(choice))
+}
+
+/// What a machine does when an assumption is broken: it ends itself if the key is absent.
+fn on_break_at(table: &Table) -> Result<OnBreak, SettingsFault>
+    ensures { result ≡ on_break_at (table_view table.now) }
+{
+    match choice_at(table, Key::OnBreak)? {
+        Choice::First => Ok(OnBreak::End),
+        Choice::Second => Ok(OnBreak::Warn),
     }
+}
+
+/// How a machine writes its log, and what it does when it is not sure enough of the time.
+#[tactic(auto, unfolding(crate::specs::Form::conduct_in))]
+pub(crate) fn conduct_in(table: &Table) -> Result<Conduct, SettingsFault>
+    ensures { result ≡ conduct_in (table_view table.now) }
+{
+    let log = log_at(table)?;
+    let on_break = on_break_at(table)?;
+    let max_width = optional_amount(table, Key::MaxWidth)?;
+    Ok(Conduct {
+        log,
+        on_break,
+        max_width,
+    })
 }

@@ -3,6 +3,7 @@
 ghost use Rattle.std.specs.Prelude.{◌≡◌};
 ghost use Rattle.tt_settings.specs.Key.{text_of, kind_of, key_among, key_of};
 
+use std::marker::Model;
 use tt_daemon::MAX_WORKERS;
 use tt_poll::MAX_MACHINE;
 use tt_span::{MAX_DRIFT, MAX_TIME};
@@ -35,14 +36,18 @@ pub enum Key {
     LeaseHi,
     Listen,
     Log,
+    OnBreak,
+    MaxWidth,
     Socket,
     State,
     Shared,
     Status,
+    Evidence,
+    Vmclock,
 }
 
 /// All keys.
-pub(crate) const KEYS: [Key; 17] = [
+pub(crate) const KEYS: [Key; 21] = [
     Key::Machine,
     Key::Masters,
     Key::Faulty,
@@ -56,14 +61,49 @@ pub(crate) const KEYS: [Key; 17] = [
     Key::LeaseHi,
     Key::Listen,
     Key::Log,
+    Key::OnBreak,
+    Key::MaxWidth,
     Key::Socket,
     Key::State,
     Key::Shared,
     Key::Status,
+    Key::Evidence,
+    Key::Vmclock,
 ];
 
+/// The two words of which the value of a key is one. In contracts they are their bytes.
+#[derive(Drop)]
+pub(crate) struct Words {
+    first: &'static str,
+    second: &'static str,
+}
+
+impl Model for Words {
+    ghost use Rattle.std.specs.Prelude.{List, ℕ};
+
+    ghost Value = { List ℕ × List ℕ };
+
+    ghost view = { λ w. (w.first.now, w.second.now) };
+}
+
+impl Words {
+    /// The word that stands for the key where it is absent.
+    pub(crate) fn first(&self) -> &'static str
+        ensures { result.now ≡ self.now.0 }
+    {
+        self.first
+    }
+
+    /// The other word.
+    pub(crate) fn second(&self) -> &'static str
+        ensures { result.now ≡ self.now.1 }
+    {
+        self.second
+    }
+}
+
 /// What the value of a key has to be.
-#[derive(Clone, Copy, Debug, PartialEq, Eq)]
+#[derive(Drop)]
 pub(crate) enum ValueKind {
     /// A whole number, from the least to the greatest.
     Number { least: u64, most: u64 },
@@ -73,14 +113,14 @@ pub(crate) enum ValueKind {
     Address,
     /// Addresses of this host.
     Addresses,
-    /// The form of the log.
-    Form,
+    /// One of two words.
+    Form(Words),
     /// A path.
     Path,
 }
 
 /// What is to be known of a key.
-#[derive(Clone, Copy)]
+#[derive(Drop)]
 struct Description {
     /// The key as the file writes it.
     text: &'static str,
@@ -101,6 +141,14 @@ fn duration(text: &'static str, least: u64, most: u64) -> Description
     ensures { (result.text.now ≡ text.now) × (result.kind ≡ ValueKind.Duration least most) }
 {
     let kind = ValueKind::Duration { least, most };
+    Description { text, kind }
+}
+
+/// The description of a key whose value is one of two words. The first stands for it where it is absent.
+fn form(text: &'static str, first: &'static str, second: &'static str) -> Description
+    ensures { (result.text.now ≡ text.now) × (result.kind ≡ ValueKind.Form (first.now, second.now)) }
+{
+    let kind = ValueKind::Form(Words { first, second });
     Description { text, kind }
 }
 
@@ -130,11 +178,15 @@ impl Key {
             Key::LeaseLo => number("lease_lo", 0, MAX_TIME),
             Key::LeaseHi => number("lease_hi", 0, MAX_TIME),
             Key::Listen => plain("listen", ValueKind::Address),
-            Key::Log => plain("log", ValueKind::Form),
+            Key::Log => form("log", "text", "json"),
+            Key::OnBreak => form("on_break", "end", "warn"),
+            Key::MaxWidth => duration("max_width", 0, HOUR),
             Key::Socket => plain("socket", ValueKind::Path),
             Key::State => plain("state", ValueKind::Path),
             Key::Shared => plain("shared", ValueKind::Path),
             Key::Status => plain("status", ValueKind::Path),
+            Key::Evidence => plain("evidence", ValueKind::Path),
+            Key::Vmclock => plain("vmclock", ValueKind::Path),
         }
     }
 

@@ -12,7 +12,7 @@
 //!
 //! - `settings`: [`Settings`], and [`read`].
 //! - `plans`: the settings that are numbers. `texts`: the settings that are paths.
-//! - `forms`: the form of the log. `addresses`: addresses of this host. `durations`: lengths of time with a unit. `numerals`: decimal numbers.
+//! - `forms`: the settings that are one of two words. `addresses`: addresses of this host. `durations`: lengths of time with a unit. `numerals`: decimal numbers.
 //! - `checks`: what is refused of settings that can be read. `paths`: which files paths name.
 //! - `keys`: the keys of the file. `lookups`: values of a table by their keys.
 //! - `faults`: why a text is refused. `refusals`: the same for a person, in the words of `wordings`. `places`: where a text has a key.
@@ -37,7 +37,7 @@ mod wordings;
 pub use addresses::port_of;
 pub use durations::duration_of;
 pub use faults::SettingsFault;
-pub use forms::log_format_of;
+pub use forms::{OnBreak, log_format_of};
 pub use keys::Key;
 pub use numerals::number_of;
 pub use plans::Pauses;

@@ -4,7 +4,7 @@ ghost use Rattle.std.specs.Prelude.{◌≡◌, Ok, Err, MatchResult, nat_le, opt
 ghost use Rattle.toml.specs.Data.{get_member, as_array, as_str};
 ghost use Rattle.toml.specs.View.{view, table_view, array_view};
 ghost use Rattle.tt_settings.specs.Key.{text_of, first_unknown};
-ghost use Rattle.tt_settings.specs.Lookup.{value_at, whole_in, within, amount_in, amount_at, amount_or, count_of, typed_value};
+ghost use Rattle.tt_settings.specs.Lookup.{value_at, whole_in, within, amount_in, amount_at, amount_or, optional_amount, count_of, typed_value};
 
 use crate::durations::duration_of;
 use crate::faults::SettingsFault;
@@ -87,6 +87,19 @@ pub(crate) fn amount_or(table: &Table, key: Key, default: u64) -> Result<u64, Se
     match found_at(table, key) {
         Some(value) => amount_in(key, value),
         None => Ok(default),
+    }
+}
+
+/// The amount at a key, if the key is there.
+pub(crate) fn optional_amount(table: &Table, key: Key) -> Result<Option<u64>, SettingsFault>
+    ensures { result ≡ optional_amount key (table_view table.now) }
+{
+    match found_at(table, key) {
+        Some(value) => {
+            let amount = amount_in(key, value)?;
+            Ok(Some(amount))
+        }
+        None => Ok(None),
     }
 }
 

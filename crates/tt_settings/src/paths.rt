@@ -1,7 +1,7 @@
 //! Which files paths name, as far as their texts tell.
 
 ghost use Rattle.std.specs.Prelude.{◌≡◌, ◌++◌, IfOk, OnOk, string_bytes, option_copied};
-ghost use Rattle.tt_settings.specs.Path.{is_of, is_same, meets, meets_epoch, meets_some, meets_state, next_of, plain, written};
+ghost use Rattle.tt_settings.specs.Path.{is_of, is_same, meets, meets_record, meets_some, meets_state, next_of, plain, written};
 
 use crate::texts::FilePath;
 use std::alloc::{AllocError, Global};
@@ -69,6 +69,7 @@ fn plain(alloc: Global, path: &[u8]) -> Result<Vec<u8>, AllocError>
 }
 
 /// Whether two paths name the same file.
+#[tactic(auto, unfolding(crate::specs::Path::is_same))]
 fn is_same(alloc: Global, one: &str, other: &str) -> Result<bool, AllocError>
     ensures { IfOk result (λ same. same ≡ is_same one.now other.now) }
 {
@@ -78,7 +79,7 @@ fn is_same(alloc: Global, one: &str, other: &str) -> Result<bool, AllocError>
 }
 
 /// A path with an end.
-fn ended(alloc: Global, path: &str, end: &str) -> Result<String, AllocError>
+pub(crate) fn ended(alloc: Global, path: &str, end: &str) -> Result<String, AllocError>
     ensures { IfOk result (λ whole. string_bytes whole ≡ path.now ++ end.now) }
 {
     let mut whole = String::from_str(alloc, path)?;
@@ -87,6 +88,7 @@ fn ended(alloc: Global, path: &str, end: &str) -> Result<String, AllocError>
 }
 
 /// Whether a file is the one at a path, its draft or its lock.
+#[tactic(auto, unfolding(crate::specs::Path::is_of))]
 fn is_of(alloc: Global, path: &str, file: &str) -> Result<bool, AllocError>
     ensures { IfOk result (λ of. of ≡ is_of path.now file.now) }
 {
@@ -99,6 +101,7 @@ fn is_of(alloc: Global, path: &str, file: &str) -> Result<bool, AllocError>
 }
 
 /// Whether two paths, with their drafts and locks, have a file in common.
+#[tactic(auto, unfolding(crate::specs::Path::meets))]
 pub(crate) fn meets(alloc: Global, path: &str, other: &str) -> Result<bool, AllocError>
     ensures { IfOk result (λ met. met ≡ meets path.now other.now) }
 {
@@ -110,26 +113,30 @@ pub(crate) fn meets(alloc: Global, path: &str, other: &str) -> Result<bool, Allo
     Ok(at_other || at_draft || at_lock)
 }
 
-/// Whether a path, with its draft and its lock, and the epoch in a folder, with its draft, have a file in common.
-fn meets_epoch(alloc: Global, path: &str, state: &str) -> Result<bool, AllocError>
-    ensures { IfOk result (λ met. met ≡ meets_epoch path.now state.now) }
+/// Whether a path, with its draft and its lock, and a file with its draft have one in common.
+#[tactic(auto, unfolding(crate::specs::Path::meets_record))]
+fn meets_record(alloc: Global, path: &str, file: &str) -> Result<bool, AllocError>
+    ensures { IfOk result (λ met. met ≡ meets_record path.now file.now) }
 {
-    let epoch = ended(alloc, state, "/epoch")?;
-    let draft = ended(alloc, state, "/epoch.new")?;
-    let at_epoch = is_of(alloc, path, epoch.as_str())?;
+    let draft = ended(alloc, file, ".new")?;
+    let at_file = is_of(alloc, path, file)?;
     let at_draft = is_of(alloc, path, draft.as_str())?;
-    Ok(at_epoch || at_draft)
+    Ok(at_file || at_draft)
 }
 
 /// Whether a path, with its draft and its lock, and the folder of the epoch, with the files in it, have one in common.
+#[tactic(auto, unfolding(crate::specs::Path::meets_state))]
 pub(crate) fn meets_state(alloc: Global, path: &str, state: &str) -> Result<bool, AllocError>
     ensures { IfOk result (λ met. met ≡ meets_state path.now state.now) }
 {
+    let epoch = ended(alloc, state, "/epoch")?;
+    let record = ended(alloc, state, "/break")?;
     let lock = ended(alloc, state, "/lock")?;
     let at_folder = is_of(alloc, path, state)?;
-    let in_epoch = meets_epoch(alloc, path, state)?;
+    let at_epoch = meets_record(alloc, path, epoch.as_str())?;
+    let at_record = meets_record(alloc, path, record.as_str())?;
     let at_lock = is_of(alloc, path, lock.as_str())?;
-    Ok(at_folder || in_epoch || at_lock)
+    Ok(at_folder || at_epoch || at_record || at_lock)
 }
 
 /// Whether a path meets one that may be absent.

@@ -40,6 +40,7 @@ pub struct Pauses {
 }
 
 /// The configuration of a machine with this many masters.
+#[tactic(auto, unfolding(crate::specs::Plan::configuration_in))]
 pub(crate) fn configuration_in(table: &Table, masters: u64) -> Result<Config, SettingsFault>
     requires some { 0 < masters }
     requires few { masters ≤ max_sources }
@@ -85,6 +86,7 @@ fn configuration_if(
 }
 
 /// How long the parts of a machine wait.
+#[tactic(auto, unfolding(crate::specs::Plan::pauses_in))]
 pub(crate) fn pauses_in(table: &Table) -> Result<Pauses, SettingsFault>
     ensures { result ≡ pauses_in (table_view table.now) }
 {
@@ -101,6 +103,7 @@ pub(crate) fn pauses_in(table: &Table) -> Result<Pauses, SettingsFault>
 }
 
 /// The lease. If an end is not given, it is 0 or the greatest time.
+#[tactic(auto, unfolding(crate::specs::Plan::lease_in))]
 pub(crate) fn lease_in(table: &Table) -> Result<Span, SettingsFault>
     ensures { result ≡ lease_in (table_view table.now) }
 {

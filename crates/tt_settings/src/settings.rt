@@ -10,12 +10,12 @@ ghost use Rattle.tt_settings.specs.Settings.{keys_of, settings_of, settings_in};
 use crate::addresses::{address_at, master_items_in, masters_of};
 use crate::checks::{check_masters, check_paths, check_workers};
 use crate::faults::SettingsFault;
-use crate::forms::log_at;
+use crate::forms::{Conduct, OnBreak, conduct_in};
 use crate::keys::Key;
 use crate::lookups::{amount_at, count_of, first_unknown};
 use crate::plans::{Pauses, configuration_in, lease_in, pauses_in};
 use crate::refusals::Refusal;
-use crate::texts::{FilePath, optional_path, path_at};
+use crate::texts::{FilePath, Paths, paths_in};
 use std::alloc::Global;
 use std::marker::Model;
 use toml::Table;
@@ -31,22 +31,19 @@ pub struct Settings {
     pauses: Pauses,
     lease: Span,
     listen: u16,
-    log: LogFormat,
+    conduct: Conduct,
     masters: Vec<u16>,
-    state: FilePath,
-    socket: Option<FilePath>,
-    shared: Option<FilePath>,
-    status: Option<FilePath>,
+    paths: Paths,
 }
 
 impl Model for Settings {
     ghost use Rattle.std.specs.Prelude.{◌≤◌};
     ghost use Rattle.tt_poll.specs.Message.{max_machine};
-    ghost use Rattle.tt_settings.specs.Settings.{Meaning};
+    ghost use Rattle.tt_settings.specs.Settings.{Meaning, meaning_of};
 
     ghost Value = { Meaning };
 
-    ghost view = { λ s. record { machine = s.machine; config = s.config; pauses = s.pauses; lease = s.lease; listen = s.listen; log = s.log; masters = s.masters.items; state = s.state; socket = s.socket; shared = s.shared; status = s.status } };
+    ghost view = { λ s. meaning_of s.machine s.config s.pauses s.lease s.listen s.conduct s.masters.items s.paths };
 
     ghost invariant = { λ s. s.machine ≤ max_machine };
 }
@@ -92,7 +89,21 @@ impl Settings {
     pub fn log(&self) -> LogFormat
         ensures value { result ≡ self.now.log }
     {
-        self.log
+        self.conduct.log
+    }
+
+    /// What it does when it knows that one of its assumptions is broken.
+    pub fn on_break(&self) -> OnBreak
+        ensures value { result ≡ self.now.on_break }
+    {
+        self.conduct.on_break
+    }
+
+    /// The greatest width of a reading that it answers, in nanoseconds, up to an hour. None if there is no limit.
+    pub fn max_width(&self) -> Option<u64>
+        ensures value { result ≡ self.now.max_width }
+    {
+        self.conduct.max_width
     }
 
     /// The ports of 127.0.0.1 at which its masters answer, in the order of the sources.
@@ -106,28 +117,44 @@ impl Settings {
     pub fn state(&self) -> &str
         ensures value { result.now ≡ self.now.state }
     {
-        self.state.as_str()
+        self.paths.state.as_str()
     }
 
     /// The path of the Unix socket at which it serves clients, if there is one.
     pub fn socket(&self) -> Option<&FilePath>
         ensures value { option_copied result ≡ self.now.socket }
     {
-        self.socket.as_ref()
+        self.paths.socket.as_ref()
     }
 
     /// The shared file, into which it writes each publication for other processes, if there is one.
     pub fn shared(&self) -> Option<&FilePath>
         ensures value { option_copied result ≡ self.now.shared }
     {
-        self.shared.as_ref()
+        self.paths.shared.as_ref()
     }
 
     /// The file into which it writes its status, if there is one.
     pub fn status(&self) -> Option<&FilePath>
         ensures value { option_copied result ≡ self.now.status }
     {
-        self.status.as_ref()
+        self.paths.status.as_ref()
+    }
+
+    /// The file into which it writes the evidence for what it publishes, if there is one. Beside it stand the files in
+    /// which it keeps that of its last breaks: the path with `.break-1` and `.break-2` behind it.
+    pub fn evidence(&self) -> Option<&FilePath>
+        ensures value { option_copied result ≡ self.now.evidence }
+    {
+        self.paths.evidence.as_ref()
+    }
+
+    /// The file or device in which its host counts the disruptions of the guest's clock, if there is one. It is only
+    /// read.
+    pub fn vmclock(&self) -> Option<&FilePath>
+        ensures value { option_copied result ≡ self.now.vmclock }
+    {
+        self.paths.vmclock.as_ref()
     }
 }
 
@@ -137,25 +164,29 @@ impl Settings {
 /// be there. The others may be absent: `faulty` (default: as many as the number of masters allows), `workers` (1 to 32;
 /// default 32), `drift` (parts per million; default 200), `poll` (default `"1s"`), `wait` (default `"250ms"`), `floor_ahead`
 /// (default `"1s"`), `idle` (default `"60s"`), `lease_lo` and `lease_hi` (nanoseconds; default: the whole of time),
-/// `log` (`"text"` or `"json"`; default `"text"`), `socket`, `shared` and `status` (paths). An address is `127.0.0.1:` and a port; a length of time is as
-/// [`duration_of`](crate::duration_of) reads it.
+/// `log` (`"text"` or `"json"`; default `"text"`), `on_break` (`"end"` or `"warn"`; default `"end"`), `max_width` (from 0
+/// to an hour, as `"10ms"`; default: no limit), `socket`, `shared`, `status`, `evidence` and `vmclock` (paths; default:
+/// none). An address is `127.0.0.1:` and a port; a length of time is as [`duration_of`](crate::duration_of) reads it.
 ///
 /// Refuses with the first that applies, in this order:
 ///
 /// - 1801 `NotToml`: the text is not TOML.
 /// - 1802 `UnknownKey`: a key has another name.
 /// - Of the keys, in the order `machine`, `masters` (their number), `faulty`, `workers`, `drift`, `poll`, `wait`,
-///   `floor_ahead`, `idle`, `lease_lo`, `lease_hi`, `listen`, `log`, `masters` (each of them), `state`, `socket`, `shared`,
-///   `status`: 1803 `MissingKey` where the key is absent, 1804 `WrongValue` where its value has another type or is out of
-///   range, 1805 `NotLocal` where a text is not an address of this host; and behind `drift`, 1806 `TooManyFaulty` where
-///   fewer than `2 * faulty + 1` masters are listed. A lease that ends before it begins is refused with 1804 at `lease_hi`.
+///   `floor_ahead`, `idle`, `lease_lo`, `lease_hi`, `listen`, `log`, `on_break`, `max_width`, `masters` (each of them),
+///   `state`, `socket`, `shared`, `status`, `evidence`, `vmclock`: 1803 `MissingKey` where the key is absent, 1804
+///   `WrongValue` where its value has another type or is out of range, 1805 `NotLocal` where a text is not an address of
+///   this host; and behind `drift`, 1806 `TooManyFaulty` where fewer than `2 * faulty + 1` masters are listed. A lease
+///   that ends before it begins is refused with 1804 at `lease_hi`.
 /// - 1804 `WrongValue` of `masters`, where the port of one is 0; 1818 `SameMaster`, where one is named twice.
 /// - 1810 `TooFewWorkers`: there is a Unix socket, and one worker.
-/// - Of `state`, `socket`, `shared` and `status`, in this order: 1804 `WrongValue` where the path is empty, and 1817
-///   `SamePath` where it has a file in common with one before it. The files of a path are itself, its draft `.new` and
-///   its lock `.lock`; those of `state` are the folder, and `epoch`, `epoch.new` and `lock` in it. Paths are compared by
-///   their texts, without doubled slashes, slashes at the end, and names that are a dot alone; a `..` or a link is not
-///   followed.
+/// - Of `state`, `socket`, `shared`, `status` and `evidence`, in this order: 1804 `WrongValue` where the path is empty,
+///   and 1817 `SamePath` where it has a file in common with one before it. The files of a path are itself, its draft
+///   `.new` and its lock `.lock`; those of `state` are the folder, and `epoch`, `epoch.new`, `break`, `break.new` and
+///   `lock` in it; those of `evidence` are also the files of the paths with `.break-1` and `.break-2` behind it. Paths
+///   are compared by their texts, without doubled slashes, slashes at the end, and names that are a dot alone; a `..` or
+///   a link is not followed.
+/// - 1804 `WrongValue` of `vmclock`, where the path is empty.
 ///
 /// In place of each of these it may refuse with 1 `Memory`, if it is out of memory.
 pub fn read(alloc: Global, text: &str) -> Result<Settings, Refusal>
@@ -184,8 +215,10 @@ fn settings_of(alloc: Global, table: &Table) -> Result<Settings, SettingsFault>
 }
 
 /// Refuses settings of which the masters, the workers or the paths do not fit.
+#[tactic(auto, unfolding(crate::specs::Check::all_fit))]
 fn check(alloc: Global, settings: &Settings) -> Result<(), SettingsFault>
-    ensures { let defined = all_fit settings.now.masters settings.now.config.workers settings.now.state settings.now.socket settings.now.shared settings.now.status in
+    ensures { let defined = all_fit settings.now.masters settings.now.config.workers settings.now.state settings.now.socket settings.now.shared
+        settings.now.status settings.now.evidence settings.now.vmclock in
         MatchResult result (λ done. defined ≡ Ok done) (IsRefusal defined) }
 {
     check_masters(settings.masters())?;
@@ -196,10 +229,13 @@ fn check(alloc: Global, settings: &Settings) -> Result<(), SettingsFault>
         settings.socket(),
         settings.shared(),
         settings.status(),
+        settings.evidence(),
+        settings.vmclock(),
     )
 }
 
 /// The settings that the keys of a document give, each by itself.
+#[tactic(auto, unfolding(crate::specs::Settings::keys_of))]
 fn keys_of(alloc: Global, table: &Table) -> Result<Settings, SettingsFault>
     ensures { let defined = keys_of (table_view table.now) in
         MatchResult result (λ settings. defined ≡ Ok settings) (IsRefusal defined) }
@@ -213,18 +249,17 @@ fn keys_of(alloc: Global, table: &Table) -> Result<Settings, SettingsFault>
     let pauses = pauses_in(table)?;
     let lease = lease_in(table)?;
     let listen = address_at(table, Key::Listen)?;
-    let log = log_at(table)?;
+    let conduct = conduct_in(table)?;
+    let masters = masters_of(alloc, items)?;
+    let paths = paths_in(alloc, table)?;
     Ok(Settings {
         machine,
         config,
         pauses,
         lease,
         listen,
-        log,
-        masters: masters_of(alloc, items)?,
-        state: path_at(alloc, table, Key::State)?,
-        socket: optional_path(alloc, table, Key::Socket)?,
-        shared: optional_path(alloc, table, Key::Shared)?,
-        status: optional_path(alloc, table, Key::Status)?,
+        conduct,
+        masters,
+        paths,
     })
 }

@@ -47,7 +47,7 @@ pub(crate) fn words_of(
         (Some(value), _) => push_wrong(&mut words, alloc, key, value)?,
         (None, _) => {
             words.push_str("missing: ")?;
-            push_wanted(&mut words, key.kind())?;
+            push_wanted(&mut words, &key.kind())?;
         }
     }
     Ok(words)
@@ -68,7 +68,7 @@ fn push_wrong(
             push_time(words, alloc, text.as_str(), least, most)
         }
         (ValueKind::Addresses, Value::Array(items)) => push_masters(words, alloc, items),
-        (kind, value) => push_value(words, alloc, kind, value),
+        (kind, value) => push_value(words, alloc, &kind, value),
     }
 }
 
@@ -76,7 +76,7 @@ fn push_wrong(
 fn push_value(
     words: &mut String,
     alloc: Global,
-    kind: ValueKind,
+    kind: &ValueKind,
     value: &Value,
 ) -> Result<(), AllocError> {
     push_shown(words, alloc, value)?;
@@ -90,13 +90,13 @@ fn push_value(
 }
 
 /// Adds what the value of a key has to be.
-fn push_wanted(words: &mut String, kind: ValueKind) -> Result<(), AllocError> {
+fn push_wanted(words: &mut String, kind: &ValueKind) -> Result<(), AllocError> {
     match kind {
         ValueKind::Number { least, most } => write!(words, "a whole number from {least} to {most}"),
         ValueKind::Duration { .. } => words.push_str("a whole number and ns, us, ms or s"),
         ValueKind::Address => words.push_str("an address of this host, as 127.0.0.1:7001"),
         ValueKind::Addresses => write!(words, "from 1 to {MAX_SOURCES} addresses of this host"),
-        ValueKind::Form => words.push_str("\"text\" or \"json\""),
+        ValueKind::Form(form) => write!(words, "\"{}\" or \"{}\"", form.first(), form.second()),
         ValueKind::Path => words.push_str("a path"),
     }
 }
@@ -130,7 +130,7 @@ fn push_time(
         }
         None => {
             words.push_str(": ")?;
-            return push_wanted(words, ValueKind::Duration { least, most });
+            return push_wanted(words, &ValueKind::Duration { least, most });
         }
     };
     if end % SECOND == 0 {
@@ -144,11 +144,11 @@ fn push_time(
 fn push_masters(words: &mut String, alloc: Global, items: &Array) -> Result<(), AllocError> {
     if items.is_empty() || items.len() > MAX_SOURCES {
         write!(words, "{} addresses: ", items.len())?;
-        return push_wanted(words, ValueKind::Addresses);
+        return push_wanted(words, &ValueKind::Addresses);
     }
     for item in items {
         if port_in(item).is_none() {
-            return push_value(words, alloc, ValueKind::Address, item);
+            return push_value(words, alloc, &ValueKind::Address, item);
         }
     }
     for item in items {

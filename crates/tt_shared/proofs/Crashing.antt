@@ -4,6 +4,7 @@ use Rattle.std.specs.Prelude.{slice_index, slice_range}
 use Rattle.std.proofs.lemmas.Bool.{cases_lt, cases_eq}
 use Rattle.std.proofs.lemmas.List.{length-take, length-drop, get_or-drop, get_or-take}
 use Rattle.std.proofs.lemmas.Grind.{same_number_lists}
+use Rattle.tt_shared.specs.Layout.{head_len, slot_len, file_len}
 use Rattle.tt_shared.specs.declared.slots.SharedSpan.{SharedSpan}
 use Rattle.tt_shared.specs.Slot.{slot_of}
 use Rattle.tt_shared.specs.Index.{digits, index_at, turn, turn_at, next_counters}
@@ -62,30 +63,30 @@ out_of j at n i len offset e f (inr high) lt is = omega arith
 kept_apart : (write : Write) (at n : ℕ) (before after : List ℕ) (j : ℕ) → length write.bytes ≡ n → write.offset ≡ at → PartWritten write before after → (j < at) ⊎ (at + n ≤ j) → slice_index after j ≡ slice_index before j
 kept_apart write at n before after j e f part apart = kept write before after j part (λ i lt is. out_of j at n i (length write.bytes) write.offset e f apart lt is)
 
-pub slot_length : (index : ℕ) (p : SharedSpan) → length (slot_of index p) ≡ 64
+pub slot_length : (index : ℕ) (p : SharedSpan) → length (slot_of index p) ≡ slot_len
 unfolding slot_of
 slot_length index p = refl
 
 -- ---- where slots and counters stand
 
-slot_starts : (n : ℕ) → 64 ≤ slot_place n
+slot_starts : (n : ℕ) → head_len ≤ slot_place n
 slot_starts n = omega arith
 
-slot_ends : (n : ℕ) → slot_place n + 64 ≤ 192
+slot_ends : (n : ℕ) → slot_place n + slot_len ≤ file_len
 slot_ends n = omega arith
 
-other_slot : (n : ℕ) → (slot_place n + 64 ≤ slot_place (n + 1)) ⊎ (slot_place (n + 1) + 64 ≤ slot_place n)
+other_slot : (n : ℕ) → (slot_place n + slot_len ≤ slot_place (n + 1)) ⊎ (slot_place (n + 1) + slot_len ≤ slot_place n)
 other_slot n =
     elim (cases_lt (n % 2) 1) [
       | inl even ↦ inl (omega arith)
       | inr odd ↦ inr (omega arith)
     ]
 
-slots_apart : (a b k : ℕ) → k < 64 → (a + 64 ≤ b) ⊎ (b + 64 ≤ a) → (a + k < b) ⊎ (b + 64 ≤ a + k)
+slots_apart : (a b k : ℕ) → k < slot_len → (a + slot_len ≤ b) ⊎ (b + slot_len ≤ a) → (a + k < b) ⊎ (b + slot_len ≤ a + k)
 slots_apart a b k lt (inl low) = inl (omega arith)
 slots_apart a b k lt (inr high) = inr (omega arith)
 
-index_first : (b k : ℕ) → 64 ≤ b → k < 8 → 16 + k < b
+index_first : (b k : ℕ) → head_len ≤ b → k < 8 → 16 + k < b
 index_first b k le lt = omega arith
 
 turn_below_by : (d e : ℕ) (ds : List ℕ) (b : Bool) → eqb d 255 ≡ b → turn (e ∷ ds) ≤ length ds → turn (d ∷ e ∷ ds) ≤ length (e ∷ ds)
@@ -99,7 +100,7 @@ turn_below d (e ∷ ds) = turn_below_by d e ds (eqb d 255) refl (turn_below e ds
 turn_at_most : (n : ℕ) → turn_at n ≤ 7
 turn_at_most n = turn_below (n % 256) (digits 7 (n / 256))
 
-past_index : (t a k : ℕ) → t ≤ 7 → 64 ≤ a → 16 + t + 1 ≤ a + k
+past_index : (t a k : ℕ) → t ≤ 7 → head_len ≤ a → 16 + t + 1 ≤ a + k
 past_index t a k lt le = omega arith
 
 -- the counters that do not move
@@ -126,24 +127,24 @@ kept_by_index n mid after j part apart = kept_apart (index_write n) (16 + turn_a
 
 -- ---- what readers see
 
-in_file : (a n long : ℕ) → long ≡ 192 → a + n ≤ 192 → a + n ≤ long
+in_file : (a n long : ℕ) → long ≡ file_len → a + n ≤ file_len → a + n ≤ long
 in_file a n long e le = omega arith
 
-same_shown : (n : ℕ) (before after bytes : List ℕ) → length before ≡ 192 → length after ≡ length before → Shows before n bytes →
-    ((k : ℕ) → k < 8 → slice_index after (16 + k) ≡ slice_index before (16 + k)) → ((k : ℕ) → k < 64 → slice_index after (slot_place n + k) ≡ slice_index before (slot_place n + k)) → Shows after n bytes
+same_shown : (n : ℕ) (before after bytes : List ℕ) → length before ≡ file_len → length after ≡ length before → Shows before n bytes →
+    ((k : ℕ) → k < 8 → slice_index after (16 + k) ≡ slice_index before (16 + k)) → ((k : ℕ) → k < slot_len → slice_index after (slot_place n + k) ≡ slice_index before (slot_place n + k)) → Shows after n bytes
 same_shown n before after bytes len same shown index slot =
     record {
       index = range_same before after 16 8 (in_file 16 8 (length before) len (omega arith)) same index ∙ shown.index;
-      slot = range_same before after (slot_place n) 64 (in_file (slot_place n) 64 (length before) len (slot_ends n)) same slot ∙ shown.slot;
+      slot = range_same before after (slot_place n) slot_len (in_file (slot_place n) slot_len (length before) len (slot_ends n)) same slot ∙ shown.slot;
     }
 
 -- within the first write: readers see what they saw
-first_keeps : (n : ℕ) (p : SharedSpan) (before after bytes : List ℕ) → length before ≡ 192 → Shows before n bytes → PartWritten (slot_write (n + 1) p) before after → Shows after n bytes
+first_keeps : (n : ℕ) (p : SharedSpan) (before after bytes : List ℕ) → length before ≡ file_len → Shows before n bytes → PartWritten (slot_write (n + 1) p) before after → Shows after n bytes
 first_keeps n p before after bytes len shown part =
-    let long : length (slot_of (index_word (n + 1)) p) ≡ 64 = slot_length (index_word (n + 1)) p in
+    let long : length (slot_of (index_word (n + 1)) p) ≡ slot_len = slot_length (index_word (n + 1)) p in
     same_shown n before after bytes len part.length_same shown
-    (λ k lt. kept_apart (slot_write (n + 1) p) (slot_place (n + 1)) 64 before after (16 + k) long refl part (inl (index_first (slot_place (n + 1)) k (slot_starts (n + 1)) lt)))
-    (λ k lt. kept_apart (slot_write (n + 1) p) (slot_place (n + 1)) 64 before after (slot_place n + k) long refl part (slots_apart (slot_place n) (slot_place (n + 1)) k lt (other_slot n)))
+    (λ k lt. kept_apart (slot_write (n + 1) p) (slot_place (n + 1)) slot_len before after (16 + k) long refl part (inl (index_first (slot_place (n + 1)) k (slot_starts (n + 1)) lt)))
+    (λ k lt. kept_apart (slot_write (n + 1) p) (slot_place (n + 1)) slot_len before after (slot_place n + k) long refl part (slots_apart (slot_place n) (slot_place (n + 1)) k lt (other_slot n)))
 
 -- the second write did not come: the file is as it was
 nothing_came : (n : ℕ) (mid after : List ℕ) (j : ℕ) → PartWritten (index_write n) mid after → slice_index after (16 + turn_at n) ≡ slice_index mid (16 + turn_at n) → slice_index after j ≡ slice_index mid j
@@ -169,18 +170,18 @@ moved n k mid after bytes shown part came lt =
 index_length : (n : ℕ) → length (index_at n) ≡ 8
 index_length n = refl
 
-written_below : (k len : ℕ) → len ≡ 64 → k < 64 → k < len
+written_below : (k len : ℕ) → len ≡ slot_len → k < slot_len → k < len
 written_below k len e lt = omega arith
 
 -- the second write came: readers see the new publication
-new_shown : (n : ℕ) (p : SharedSpan) (before mid after bytes : List ℕ) → length mid ≡ 192 → Shows mid n bytes → Written (slot_write (n + 1) p) before mid → PartWritten (index_write n) mid after →
+new_shown : (n : ℕ) (p : SharedSpan) (before mid after bytes : List ℕ) → length mid ≡ file_len → Shows mid n bytes → Written (slot_write (n + 1) p) before mid → PartWritten (index_write n) mid after →
     slice_index after (16 + turn_at n) ≡ slice_index (index_at (n + 1)) (turn_at n) → Shows after (n + 1) (slot_of (index_word (n + 1)) p)
 new_shown n p before mid after bytes len shown wrote part came =
-    let long : length (slot_of (index_word (n + 1)) p) ≡ 64 = slot_length (index_word (n + 1)) p in
-    let all : length after ≡ 192 = part.length_same ∙ len in
+    let long : length (slot_of (index_word (n + 1)) p) ≡ slot_len = slot_length (index_word (n + 1)) p in
+    let all : length after ≡ file_len = part.length_same ∙ len in
     record {
       index = range_is after (index_at (n + 1)) 16 8 (in_file 16 8 (length after) all (omega arith)) (index_length (n + 1)) (λ k lt. moved n k mid after bytes shown part came lt);
-      slot = range_is after (slot_of (index_word (n + 1)) p) (slot_place (n + 1)) 64 (in_file (slot_place (n + 1)) 64 (length after) all (slot_ends (n + 1))) long
+      slot = range_is after (slot_of (index_word (n + 1)) p) (slot_place (n + 1)) slot_len (in_file (slot_place (n + 1)) slot_len (length after) all (slot_ends (n + 1))) long
           (λ k lt.
           kept_by_index n mid after (slot_place (n + 1) + k) part (inr (past_index (turn_at n) (slot_place (n + 1)) k (turn_at_most n) (slot_starts (n + 1))))
           ∙ wrote.whole k (written_below k (length (slot_of (index_word (n + 1)) p)) long lt));
@@ -189,7 +190,7 @@ new_shown n p before mid after bytes len shown wrote part came =
 only_byte : (i len : ℕ) → len ≡ 1 → i < len → i ≡ 0
 only_byte i len e lt = omega arith
 
-second_either : (n : ℕ) (p : SharedSpan) (before mid after bytes : List ℕ) → length mid ≡ 192 → Shows mid n bytes → Written (slot_write (n + 1) p) before mid → PartWritten (index_write n) mid after →
+second_either : (n : ℕ) (p : SharedSpan) (before mid after bytes : List ℕ) → length mid ≡ file_len → Shows mid n bytes → Written (slot_write (n + 1) p) before mid → PartWritten (index_write n) mid after →
     Shows after n bytes ⊎ Shows after (n + 1) (slot_of (index_word (n + 1)) p)
 second_either n p before mid after bytes len shown wrote part =
     elim (part.each (16 + turn_at n)) [
@@ -199,7 +200,7 @@ second_either n p before mid after bytes len shown wrote part =
           inr (new_shown n p before mid after bytes len shown wrote part (came.3 ∙ ap (λ (i : ℕ). slice_index (slice_index (index_at (n + 1)) (turn_at n) ∷ []) i) first))
     ]
 
-pub old_or_new : (n : ℕ) (p : SharedSpan) (before after bytes : List ℕ) → length before ≡ 192 → Shows before n bytes → DiesWriting n p before after →
+pub old_or_new : (n : ℕ) (p : SharedSpan) (before after bytes : List ℕ) → length before ≡ file_len → Shows before n bytes → DiesWriting n p before after →
     Shows after n bytes ⊎ Shows after (n + 1) (slot_of (index_word (n + 1)) p)
 old_or_new n p before after bytes len shown died =
     elim died [

@@ -2,6 +2,7 @@
 use Rattle.std.proofs.Common.{◌≡◌, ℕ, ◌%◌, ◌^◌, ◌<◌, ◌≤◌, List, length, refl, sym, ap, ◌∙◌, subst, arith}
 use Rattle.std.specs.Prelude.{slice_index}
 use Rattle.std.proofs.lemmas.Grind.{same_number_lists}
+use Rattle.tt_shared.specs.Layout.{slot_len}
 use Rattle.tt_shared.specs.declared.slots.SharedSpan.{SharedSpan}
 use Rattle.tt_shared.specs.Slot.{IsShared, IsSlotOf, slot_of}
 use Rattle.tt_shared.specs.Index.{index_at}
@@ -20,7 +21,7 @@ below_same : (k m n : ℕ) → m ≡ n → k < m → k < n
 below_same k m n e lt = omega arith
 
 -- each byte of the copy is that of the count whose index was seen
-byte_of : (published : ℕ → SharedSpan) (n : ℕ) (index bytes : List ℕ) (i : ℕ) → IsSeen published n index bytes index → i < 64 → slice_index bytes i ≡ slice_index (slot_of (index_word n) (published n)) i
+byte_of : (published : ℕ → SharedSpan) (n : ℕ) (index bytes : List ℕ) (i : ℕ) → IsSeen published n index bytes index → i < slot_len → slice_index bytes i ≡ slice_index (slot_of (index_word n) (published n)) i
 byte_of published n index bytes i seen lt =
     let one : n ≡ seen.last = same_index n seen.last (below n seen.last (2 ^ 64) seen.forward seen.fits) seen.fits (sym seen.first_index ∙ seen.last_index) in
     let looked = seen.each i lt in
@@ -29,7 +30,7 @@ byte_of published n index bytes i seen lt =
 
 pub found : (published : ℕ → SharedSpan) (n : ℕ) (index bytes : List ℕ) (p : SharedSpan) → IsSeen published n index bytes index → IsShared (published n) → IsSlotOf (word_of index) p bytes → p ≡ published n
 found published n index bytes p seen shared slot =
-    let long : length bytes ≡ 64 = ap length slot.1 ∙ slot_length (word_of index) p in
+    let long : length bytes ≡ slot_len = ap length slot.1 ∙ slot_length (word_of index) p in
     let same : bytes ≡ slot_of (index_word n) (published n) = same_number_lists bytes (slot_of (index_word n) (published n)) (long ∙ sym (slot_length (index_word n) (published n)))
-    (λ k lt. byte_of published n index bytes k seen (below_same k (length bytes) 64 long lt)) in
+    (λ k lt. byte_of published n index bytes k seen (below_same k (length bytes) slot_len long lt)) in
     same_from_slot (word_of index) (index_word n) p (published n) slot.0 shared (sym slot.1 ∙ same)

@@ -5,6 +5,8 @@ pub mod Counting
 pub mod Copying
 pub mod Copies
 pub mod Crashing
+pub mod Ageing
 pub mod Finding
 pub mod Putting
 pub mod Resuming
+pub mod Spaces

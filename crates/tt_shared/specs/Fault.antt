@@ -16,6 +16,7 @@ shared_number_of shared.CannotOpen = 1701
 shared_number_of shared.BadFile = 1702
 shared_number_of shared.BadSlot = 1703
 shared_number_of shared.Contended = 1704
+shared_number_of shared.TooWide = 1708
 
 -- the number of each reason why nothing was written
 abbrev pub write_number_of : WriteFault → ℕ
@@ -25,6 +26,7 @@ write_number_of writes.CannotOpen = 1701
 write_number_of writes.Failed = 1705
 write_number_of writes.Broken = 1706
 write_number_of writes.Locked = 1707
+write_number_of writes.OtherClock = shared_number_of shared.BadFile
 
 -- the number of each reason why a place was not written
 abbrev pub place_number_of : PlaceFault → ℕ

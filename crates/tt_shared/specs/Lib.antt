@@ -1,4 +1,5 @@
 pub mod Fault
+pub mod Layout
 pub mod Head
 pub mod Slot
 pub mod Reading
@@ -8,3 +9,4 @@ pub mod Seeing
 pub mod Memory
 pub mod Looking
 pub mod Holding
+pub mod Host

@@ -1,6 +1,7 @@
 -- A shared file in memory.
 use Rattle.std.specs.Prelude.{◌≡◌, ◌⊎◌, ◌<◌, ◌+◌, ℕ, Bool, true, false, List, ◌++◌, length, take, drop, Option, Some, None, slice_range}
 use Rattle.tt_stream.specs.Counts.{count_after}
+use Rattle.tt_shared.specs.Layout.{slot_len, file_len}
 use Rattle.tt_shared.specs.Writing.{Write}
 use Rattle.tt_shared.specs.Looking.{Look, AtIndex, AtSlot}
 use Rattle.tt_shared.specs.Seeing.{PartWritten, Written}
@@ -24,8 +25,8 @@ MemoryDoes m write false n = PartWritten write m.bytes n.bytes × CannotWrite m 
 -- a look at the memory shows the bytes that stand there, and fails past its end; it changes nothing
 abbrev pub MemoryShows : MemoryState → Look → MemoryState → Type 0
 MemoryShows m (AtIndex seen) n = (n ≡ m) × (seen ≡ Some (slice_range m.bytes 16 24))
-MemoryShows m (AtSlot offset (Some bytes)) n = (n ≡ m) × (bytes ≡ slice_range m.bytes offset (offset + 64))
-MemoryShows m (AtSlot offset None) n = (n ≡ m) × (192 < offset + 64)
+MemoryShows m (AtSlot offset (Some bytes)) n = (n ≡ m) × (bytes ≡ slice_range m.bytes offset (offset + slot_len))
+MemoryShows m (AtSlot offset None) n = (n ≡ m) × (file_len < offset + slot_len)
 
 -- a file after these bytes were put into it from place `at` on
 abbrev pub put : ℕ → List ℕ → List ℕ → List ℕ

@@ -1,5 +1,6 @@
 -- What readers see of a file while it is written, and after its writer died.
 use Rattle.std.specs.Prelude.{ℕ, ◌≡◌, ◌+◌, ◌<◌, ◌≤◌, ◌%◌, ◌^◌, ◌⊎◌, List, length, slice_index, slice_range}
+use Rattle.tt_shared.specs.Layout.{slot_len}
 use Rattle.tt_shared.specs.declared.slots.SharedSpan.{SharedSpan}
 use Rattle.tt_shared.specs.Slot.{slot_of}
 use Rattle.tt_shared.specs.Index.{index_at}
@@ -18,12 +19,12 @@ pub record IsSeen (published : ℕ → SharedSpan) (n : ℕ) (index bytes again 
   pub forward : n ≤ last
   pub first_index : index ≡ index_at n
   pub last_index : again ≡ index_at last
-  pub each : (i : ℕ) → i < 64 → (at : ℕ) × (n ≤ at) × (at ≤ last) × MaySee published at (n % 2) i (slice_index bytes i)
+  pub each : (i : ℕ) → i < slot_len → (at : ℕ) × (n ≤ at) × (at ≤ last) × MaySee published at (n % 2) i (slice_index bytes i)
 
 -- the index in the file is that of count n, and the slot that it names has these bytes: all that a reader looks at
 pub record Shows (file : List ℕ) (n : ℕ) (bytes : List ℕ) : Type 0 where
   pub index : slice_range file 16 24 ≡ index_at n
-  pub slot : slice_range file (slot_place n) (slot_place n + 64) ≡ bytes
+  pub slot : slice_range file (slot_place n) (slot_place n + slot_len) ≡ bytes
 
 -- byte j of a file is as the write would make it
 abbrev pub IsOf : Write → List ℕ → ℕ → Type 0

@@ -1,6 +1,7 @@
 -- The two writes of a publication.
 use Rattle.std.specs.Prelude.{ℕ, ◌+◌, ◌*◌, ◌%◌, ◌⊎◌, Bool, true, false, List, [], ◌∷◌, slice_index}
 use Rattle.std.specs.Int.{w64, from_le_bytes}
+use Rattle.tt_shared.specs.Layout.{head_len, slot_len}
 use Rattle.tt_shared.specs.declared.slots.SharedSpan.{SharedSpan}
 use Rattle.tt_shared.specs.Slot.{slot_of}
 use Rattle.tt_shared.specs.Index.{index_at, turn_at}
@@ -16,7 +17,7 @@ index_word n = from_le_bytes w64 (index_at n)
 
 -- where the slot of the publication begins that is the n-th of the file
 abbrev pub slot_place : ℕ → ℕ
-slot_place n = 64 + 64 * (n % 2)
+slot_place n = head_len + slot_len * (n % 2)
 
 -- the slot of the publication that is the n-th of the file
 abbrev pub slot_write : ℕ → SharedSpan → Write

@@ -8,7 +8,7 @@ use thiserror::Error;
 /// Why there is no reading of a shared file.
 #[derive(Clone, Copy, Debug, PartialEq, Eq, Error)]
 pub enum SharedFault {
-    #[error("nothing was published so far")]
+    #[error("nothing was published so far, or nothing is published any more")]
     Nothing,
     #[error("the clock is below that of the publication, or above the greatest time")]
     ClockBack,
@@ -16,17 +16,19 @@ pub enum SharedFault {
     ClockFailed,
     #[error("the file cannot be opened or read")]
     CannotOpen,
-    #[error("the file is not a shared file of this boot")]
+    #[error("the file is not a shared file of this boot, or not of the clock of this process")]
     BadFile,
     #[error("no daemon wrote this slot")]
     BadSlot,
     #[error("each try met another publication")]
     Contended,
+    #[error("the clock is past the last reading at which the publication may be used")]
+    TooWide,
 }
 
 impl SharedFault {
     /// The fault's number: 801 for `Nothing`, 802 for `ClockBack`, 803 for `ClockFailed`, 1701 for `CannotOpen`,
-    /// 1702 for `BadFile`, 1703 for `BadSlot`, 1704 for `Contended`.
+    /// 1702 for `BadFile`, 1703 for `BadSlot`, 1704 for `Contended`, 1708 for `TooWide`.
     pub fn number(&self) -> u16
         ensures { result ≡ shared_number_of self.now }
     {
@@ -38,6 +40,7 @@ impl SharedFault {
             SharedFault::BadFile => 1702,
             SharedFault::BadSlot => 1703,
             SharedFault::Contended => 1704,
+            SharedFault::TooWide => 1708,
         }
     }
 }
@@ -57,11 +60,13 @@ pub enum WriteFault {
     Broken,
     #[error("another process writes the file")]
     Locked,
+    #[error("the clock of this process is not that of the host")]
+    OtherClock,
 }
 
 impl WriteFault {
-    /// The fault's number: 802 for `ClockBack`, 805 for `UsedUp`, 1701 for `CannotOpen`, 1705 for `Failed`, 1706 for
-    /// `Broken`, 1707 for `Locked`.
+    /// The fault's number: 802 for `ClockBack`, 805 for `UsedUp`, 1701 for `CannotOpen`, 1702 for `OtherClock`, 1705 for
+    /// `Failed`, 1706 for `Broken`, 1707 for `Locked`.
     pub fn number(&self) -> u16
         ensures { result ≡ write_number_of self.now }
     {
@@ -72,6 +77,7 @@ impl WriteFault {
             WriteFault::Failed => 1705,
             WriteFault::Broken => 1706,
             WriteFault::Locked => 1707,
+            WriteFault::OtherClock => SharedFault::BadFile.number(),
         }
     }
 }

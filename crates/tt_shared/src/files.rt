@@ -1,10 +1,12 @@
 //! Files of the operating system: how a writer opens or makes one, and how a reader opens it.
 
-ghost use Rattle.std.specs.Prelude.{◌≡◌, ◌⊎◌, false, IfOk, IfErr};
+ghost use Rattle.std.specs.Prelude.{◌≡◌, ◌⊎◌, ◌≤◌, false, length, IfOk, IfErr};
 
 use crate::faults::{PlaceFault, SharedFault, WriteFault};
-use crate::heads::{BOOT_LEN, FILE_LEN, HEAD_LEN, decode_head, encode_head};
+use crate::heads::{BOOT_LEN, decode_head, encode_head};
 use crate::holding::{Adoption, Held, Seen, adoption_of, still_there};
+use crate::host::is_host_clock;
+use crate::layout::{FILE_LEN, HEAD_LEN, SLOT_LEN};
 use crate::places::{Place, ReadPlace};
 use crate::readers::SharedReader;
 use crate::teller::SharedTeller;
@@ -16,6 +18,12 @@ use tt_files::{Facts, create_new, facts_of, is_same_file, link_facts_at, lock_at
 
 /// Where Linux names the boot of the machine.
 const BOOT_PATH: &str = "/proc/sys/kernel/random/boot_id";
+
+/// Where Linux says how far the clocks of the process are from those of the host.
+const OFFSETS_PATH: &str = "/proc/self/timens_offsets";
+
+/// How much of that file is read. It has two lines of about 30 bytes, and the first one counts.
+const OFFSETS_LEN: usize = 128;
 
 /// A file of the operating system, open for writing, and its lock, which is held as long as this lives. Before each
 /// write it looks at both paths and at the length of the file: where a path does not show the file that is open, since it
@@ -77,6 +85,40 @@ fn boot_name<R: Files<File = File>>(rt: &R) -> io::Result<[u8; BOOT_LEN]> {
     let mut name = [0; BOOT_LEN];
     file.read_exact(&mut name)?;
     Ok(name)
+}
+
+/// Reads the first bytes of a file, as many as there is room for, or all that it has: one read may give fewer. Answers how
+/// many.
+pub fn read_start(file: &mut File, bytes: &mut [u8]) -> io::Result<usize>
+    ensures within { IfOk result (λ count. count ≤ length bytes.new) }
+    ensures len { length bytes.new ≡ length bytes.old }
+{
+    let mut count = 0;
+    for _ in 0..bytes.len() {
+        let more = file.read(&mut bytes[count..])?;
+        if more == 0 {
+            break;
+        }
+        count += more;
+    }
+    Ok(count)
+}
+
+/// Whether the monotonic clock of this process is that of the host. It is where the kernel has no time namespaces, and so
+/// no such file.
+fn has_host_clock<R: Files<File = File>>(rt: &R) -> io::Result<bool> {
+    let mut file = match File::open(rt, OFFSETS_PATH) {
+        Ok(file) => file,
+        Err(error) => {
+            if error.kind() == ErrorKind::NotFound {
+                return Ok(true);
+            }
+            return Err(error);
+        }
+    };
+    let mut text = [0; OFFSETS_LEN];
+    let count = read_start(&mut file, &mut text)?;
+    Ok(is_host_clock(&text[..count]))
 }
 
 /// The index of an open file. None if it is not a shared file of this boot. This fails where its length or its head can't
@@ -236,12 +278,15 @@ fn place_of<'a, R: Files<File = File>>(
 /// (mode 0600) as long as it lives. A shared file of this boot stays as it is, and publications go on behind its last
 /// one, so readers that have mapped it go on: if it is a regular file without another name, is owned by whom a new file is
 /// owned by, and may be written by nobody else. Otherwise a new file (mode 0644) is made as `name.new`, synced, and renamed
-/// in the place of a file or symlink.
+/// in the place of a file or symlink. A file of version 1 is no shared file here, so it is replaced too: who has it mapped
+/// sees no further publication in it.
 ///
-/// Refuses with 1707 `Locked` where another process writes the file, and with 1701 `CannotOpen` where the folder, the
-/// lock, the name of the boot or the file can't be opened, read or made, where it is out of memory, or where a FIFO, a
-/// device, a socket or a folder is at the path of the file or of the lock: that is left alone, and never waited for.
-/// Nothing stays open or locked then. It may be called again at any time.
+/// Refuses with 1702 `OtherClock` where the monotonic clock of this process is not that of the host, since it runs in a
+/// time namespace that shifts it: nothing is made or locked then. Refuses with 1707 `Locked` where another process writes
+/// the file, and with 1701 `CannotOpen` where the folder, the lock, the name of the boot, the offsets of the clocks or the
+/// file can't be opened, read or made, where it is out of memory, or where a FIFO, a device, a socket or a folder is at the
+/// path of the file or of the lock: that is left alone, and never waited for. Nothing stays open or locked then. It may be
+/// called again at any time.
 pub fn open_file<'a, R: Files<File = File>>(
     rt: &'a R,
     alloc: Global,
@@ -249,8 +294,13 @@ pub fn open_file<'a, R: Files<File = File>>(
     name: &str,
 ) -> Result<SharedTeller<FilePlace<'a, R>>, WriteFault>
     ensures whole { IfOk result (λ teller. teller.broken ≡ false) }
-    ensures refused { IfErr result (λ fault. (fault ≡ WriteFault.Locked) ⊎ (fault ≡ WriteFault.CannotOpen)) }
+    ensures refused { IfErr result (λ fault. (fault ≡ WriteFault.OtherClock) ⊎ ((fault ≡ WriteFault.Locked) ⊎ (fault ≡ WriteFault.CannotOpen))) }
 {
+    match has_host_clock(rt) {
+        Ok(true) => {}
+        Ok(false) => return Err(WriteFault::OtherClock),
+        Err(_) => return Err(WriteFault::CannotOpen),
+    }
     let Ok(paths) = paths_in(alloc, folder, name) else {
         return Err(WriteFault::CannotOpen);
     };
@@ -289,8 +339,8 @@ impl ReadPlace for FileView {
         Some(index)
     }
 
-    fn slot(&mut self, offset: u64) -> Option<[u8; 64]> {
-        let mut bytes = [0; 64];
+    fn slot(&mut self, offset: u64) -> Option<[u8; SLOT_LEN]> {
+        let mut bytes = [0; SLOT_LEN];
         FileExt::read_exact_at(&self.file, &mut bytes, offset).ok()?;
         Some(bytes)
     }
@@ -311,15 +361,21 @@ fn fault_of(kind: ErrorKind) -> SharedFault
 /// was made anew, it has to be opened again. If it was truncated, a reading is refused with 1701 `CannotOpen`, or with 801
 /// or 1703 where it was made longer again.
 ///
-/// Refuses with 1701 `CannotOpen` where the file or the name of the boot can't be opened or read; and with 1702 `BadFile`
-/// where it is not a shared file of this boot, or not of its 192 bytes. A FIFO, a device, a socket or a folder is refused
-/// so without being opened.
+/// Refuses with 1701 `CannotOpen` where the file, the name of the boot or the offsets of the clocks of this process can't
+/// be opened or read; and with 1702 `BadFile` where the monotonic clock of this process is not that of the host, since it
+/// runs in a time namespace that shifts it, or where the file is not a shared file of this boot, or not of its 320 bytes. A
+/// FIFO, a device, a socket or a folder is refused so without being opened.
 pub fn open_view<R: Files<File = File>>(
     rt: &R,
     path: &str,
 ) -> Result<SharedReader<FileView>, SharedFault>
     ensures refused { IfErr result (λ fault. (fault ≡ SharedFault.CannotOpen) ⊎ (fault ≡ SharedFault.BadFile)) }
 {
+    match has_host_clock(rt) {
+        Ok(true) => {}
+        Ok(false) => return Err(SharedFault::BadFile),
+        Err(_) => return Err(SharedFault::CannotOpen),
+    }
     let Ok(boot) = boot_name(rt) else {
         return Err(SharedFault::CannotOpen);
     };

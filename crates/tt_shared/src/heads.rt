@@ -2,15 +2,14 @@
 
 ghost use Rattle.std.specs.Prelude.{◌≡◌, List, ℕ, length, slice_range, Ok, IfOk, IfErr};
 ghost use Rattle.tt_shared.specs.Head.{head_of};
+ghost use Rattle.tt_shared.specs.Layout.{head_len};
 ghost use Rattle.tt_shared.specs.declared.faults.SharedFault.TheVariants.{BadFile};
 
 use crate::faults::SharedFault;
+use crate::layout::{FILE_LEN, HEAD_LEN};
 
-/// The length of a shared file, in bytes.
-pub const FILE_LEN: usize = 192;
-
-/// The length of the head, the bytes before the slots.
-pub const HEAD_LEN: usize = 64;
+/// The kind of the clock: `CLOCK_MONOTONIC` of Linux.
+const CLOCK_KIND: u64 = 1;
 
 /// The length of the name of a boot, in bytes.
 pub const BOOT_LEN: usize = 36;
@@ -20,18 +19,18 @@ pub const BOOT_LEN: usize = 36;
 pub fn encode_head(index: &[u8; 8], boot: &[u8; BOOT_LEN]) -> [u8; HEAD_LEN]
     ensures { result ≡ head_of index.now boot.now }
 {
-    // `TTS1`, the length of the file, and the kind of its clock.
-    let front = [b'T', b'T', b'S', b'1', 192, 0, 0, 0, 1, 0, 0, 0, 0, 0, 0, 0];
     let mut bytes = [0; HEAD_LEN];
     bytes[24..60].copy_from_slice(boot);
     bytes[16..24].copy_from_slice(index);
-    bytes[..16].copy_from_slice(&front);
+    bytes[8..16].copy_from_slice(&CLOCK_KIND.to_le_bytes());
+    bytes[4..8].copy_from_slice(&(FILE_LEN as u32).to_le_bytes());
+    bytes[..4].copy_from_slice(b"TTS2");
     bytes
 }
 
 /// The eight bytes where the index stands.
 fn index_in(bytes: &[u8]) -> [u8; 8]
-    requires { length bytes.now ≡ 64 }
+    requires { length bytes.now ≡ head_len }
     ensures { result ≡ slice_range bytes.now 16 24 }
 {
     let mut index = [0; 8];

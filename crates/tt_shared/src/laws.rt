@@ -2,6 +2,7 @@
 
 ghost use Rattle.std.specs.Prelude.{◌≡◌, ◌+◌, ◌≤◌, ◌<◌, ◌%◌, ◌^◌, ◌⊎◌, ℕ, List, length, slice_index};
 ghost use Rattle.tt_shared.specs.Index.{index_at};
+ghost use Rattle.tt_shared.specs.Layout.{file_len};
 ghost use Rattle.tt_shared.specs.Slot.{IsShared, IsSlotOf, slot_of};
 ghost use Rattle.tt_shared.specs.declared.slots.SharedSpan.{SharedSpan};
 ghost use Rattle.tt_shared.specs.Writing.{index_word};
@@ -28,7 +29,7 @@ pub fn copy_laws()
 /// If a writer dies at any moment of a publication, the file still shows its readers the slot that it showed before,
 /// byte for byte, or it shows them the new publication whole.
 pub fn crash_laws()
-    ensures old_or_new { (n : ℕ) (p : SharedSpan) (before after bytes : List ℕ) → length before ≡ 192 →
+    ensures old_or_new { (n : ℕ) (p : SharedSpan) (before after bytes : List ℕ) → length before ≡ file_len →
         Shows before n bytes → DiesWriting n p before after →
         Shows after n bytes ⊎ Shows after (n + 1) (slot_of (index_word (n + 1)) p) }
 {}

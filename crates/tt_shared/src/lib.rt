@@ -1,4 +1,4 @@
-//! The last publication of a machine in a file of 192 bytes. Any process of the host can map and read it, without a
+//! The last publication of a machine in a file of 320 bytes. Any process of the host can map and read it, without a
 //! lock, a system call or a wait.
 //!
 //! A daemon writes by a [`SharedTeller`], which [`open_file`] gives, and calls [`SharedTeller::publish`]. Readers in
@@ -9,14 +9,14 @@
 //!
 //! | bytes | content | changes |
 //! |---|---|---|
-//! | 0..4 | `TTS1` | never |
-//! | 4..8 | the length of the file, 192, in 4 bytes | never |
+//! | 0..4 | `TTS2` | never |
+//! | 4..8 | the length of the file, 320, in 4 bytes | never |
 //! | 8..16 | the clock: 1 is `CLOCK_MONOTONIC` of Linux, raw nanoseconds | never |
 //! | 16..24 | the index: eight counters of one byte | one byte a publication |
 //! | 24..60 | the boot: the text of `/proc/sys/kernel/random/boot_id` | never |
 //! | 60..64 | 0 | never |
-//! | 64..128 | slot 0, of the publications whose count is even | while it is not current |
-//! | 128..192 | slot 1, of those whose count is odd | while it is not current |
+//! | 64..192 | slot 0, of the publications whose count is even | while it is not current |
+//! | 192..320 | slot 1, of those whose count is odd | while it is not current |
 //!
 //! | in a slot | content | range |
 //! |---|---|---|
@@ -27,6 +27,12 @@
 //! | 40..48 | the epoch, the life of the daemon | any |
 //! | 48..56 | the number of the publication in that life | any |
 //! | 56..64 | the drift in parts per million | at most `MAX_DRIFT` |
+//! | 64..72 | the last clock reading at which it may be used; 2^64 - 1: no limit; 0: nothing is published any more | any |
+//! | 72..128 | 0 | 0 |
+//!
+//! This is version 2. Version 1 begins with `TTS1`, has 192 bytes, and slots of 64 bytes without the last number. A reader
+//! of one version refuses a file of the other as one that is no shared file, and a writer of version 2 replaces a file of
+//! version 1.
 //!
 //! The count of publications goes on through all lives of the daemon. Counter i of the index is byte i of the count
 //! minus byte i + 1, modulo 256. So a publication adds one to exactly one counter, and no two counts below 2^64 have
@@ -38,6 +44,7 @@
 //! ([`crash_laws`]).
 //!
 //! - `heads`: the head as bytes, and back.
+//! - `layout`: where the head and the slots stand.
 //! - `slots`: a publication as the bytes of a slot, and back; a reading of it.
 //! - `indexes`: the index of each count, and the count of each index.
 //! - `places`: where a writer puts the bytes, and where readers find them.
@@ -45,6 +52,7 @@
 //! - `memory`: a file in memory, for tests, which fails at the write that it is told to.
 //! - `files`: files of the operating system: how a writer opens or makes one, and how a reader opens it.
 //! - `holding`: what a writer does with what it finds at its paths.
+//! - `host`: whether the clock of a process is that of the host.
 //! - `teller`: the writer, and the two writes of a publication in their order.
 //! - `laws`: why readers need no lock.
 //! - `faults`: why calls are refused.
@@ -54,8 +62,10 @@ mod faults;
 mod files;
 mod heads;
 mod holding;
+mod host;
 mod indexes;
 mod laws;
+mod layout;
 mod memory;
 mod places;
 mod readers;
@@ -63,13 +73,15 @@ mod slots;
 mod teller;
 
 pub use faults::{PlaceFault, SharedFault, WriteFault};
-pub use files::{FilePlace, FileView, open_file, open_view};
-pub use heads::{BOOT_LEN, FILE_LEN, HEAD_LEN, decode_head, encode_head};
+pub use files::{FilePlace, FileView, open_file, open_view, read_start};
+pub use heads::{BOOT_LEN, decode_head, encode_head};
 pub use holding::{Adoption, Held, Seen, adoption_of, may_be_adopted, still_there};
+pub use host::is_host_clock;
 pub use indexes::{count_of, index_laws, index_of, turn_of};
 pub use laws::{copy_laws, crash_laws};
+pub use layout::{FILE_LEN, HEAD_LEN, SLOT_LEN, USED_LEN};
 pub use memory::{MemoryPlace, memory_laws};
 pub use places::{Place, ReadPlace};
 pub use readers::{SharedReader, SharedReading};
-pub use slots::{SLOT_LEN, SharedSpan, decode, encode, one_spelling, read};
+pub use slots::{SharedSpan, decode, encode, one_spelling, read};
 pub use teller::SharedTeller;

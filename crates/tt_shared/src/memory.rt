@@ -2,13 +2,14 @@
 
 ghost use Rattle.std.specs.Prelude.{◌≡◌, ◌+◌, ◌<◌, ◌≤◌, ℕ, true, false, length, nat_lt, OnOk, OnErr, is_ok};
 ghost use Rattle.tt_stream.specs.Counts.{HasFailed, count_after};
+ghost use Rattle.tt_shared.specs.Layout.{file_len};
 ghost use Rattle.tt_shared.specs.Writing.{Write, StopsShort};
 ghost use Rattle.tt_shared.specs.Seeing.{DiesWriting};
 ghost use Rattle.tt_shared.specs.declared.slots.SharedSpan.{SharedSpan};
 ghost use Rattle.tt_shared.specs.Memory.{MemoryState, MemoryDoes, MemoryShows, put};
 
 use crate::faults::PlaceFault;
-use crate::heads::FILE_LEN;
+use crate::layout::{FILE_LEN, SLOT_LEN};
 use crate::places::{Place, ReadPlace};
 use std::marker::Model;
 
@@ -33,7 +34,7 @@ impl Model for MemoryPlace {
 
 /// Whether `len` bytes from `offset` on reach past the end of the file.
 fn reaches_past(offset: u64, len: usize) -> bool
-    ensures { result ≡ nat_lt 192 (offset + len) }
+    ensures { result ≡ nat_lt file_len (offset + len) }
 {
     offset > FILE_LEN as u64 || len > FILE_LEN - offset as usize
 }
@@ -60,7 +61,7 @@ impl MemoryPlace {
 
     /// Puts the bytes from place `at` on.
     fn put(&mut self, at: usize, bytes: &[u8])
-        requires { at + length bytes.now ≤ 192 }
+        requires { at + length bytes.now ≤ file_len }
         ensures { self.new ≡ record self.old { bytes = put at bytes.now self.old.bytes } }
     {
         self.bytes[at..at + bytes.len()].copy_from_slice(bytes);
@@ -110,13 +111,13 @@ impl ReadPlace for MemoryPlace {
     }
 
     /// Fails where the slot reaches past the end of the file.
-    fn slot(&mut self, offset: u64) -> Option<[u8; 64]> {
-        if reaches_past(offset, 64) {
+    fn slot(&mut self, offset: u64) -> Option<[u8; SLOT_LEN]> {
+        if reaches_past(offset, SLOT_LEN) {
             return None;
         }
         let at = offset as usize;
-        let mut bytes = [0; 64];
-        bytes.copy_from_slice(&self.bytes[at..at + 64]);
+        let mut bytes = [0; SLOT_LEN];
+        bytes.copy_from_slice(&self.bytes[at..at + SLOT_LEN]);
         Some(bytes)
     }
 }

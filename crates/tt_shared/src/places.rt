@@ -6,6 +6,7 @@ ghost use Rattle.tt_shared.specs.Writing.{Write};
 ghost use Rattle.tt_shared.specs.Looking.{Look, AtIndex, AtSlot};
 
 use crate::faults::PlaceFault;
+use crate::layout::SLOT_LEN;
 
 /// The place that a writer writes to: a file, or memory in tests. It counts its failures.
 pub trait Place {
@@ -37,6 +38,6 @@ pub trait ReadPlace {
         ensures { looks self.old (AtIndex result) self.new };
 
     /// The bytes of the slot that begins at `offset`. None if the look failed.
-    fn slot(&mut self, offset: u64) -> Option<[u8; 64]>
+    fn slot(&mut self, offset: u64) -> Option<[u8; SLOT_LEN]>
         ensures { looks self.old (AtSlot offset result) self.new };
 }

@@ -1,17 +1,18 @@
 //! Readings of a shared file.
 
-ghost use Rattle.std.specs.Prelude.{◌≡◌, ◌≢◌, ◌⊎◌, ℕ, List, Some, None, IfOk, IfErr, IsErrOf, nat_le};
+ghost use Rattle.std.specs.Prelude.{◌≡◌, ◌≢◌, ◌⊎◌, ◌<◌, ◌≤◌, ℕ, List, Some, None, IfOk, IfErr, IsErrOf, nat_le};
 ghost use Rattle.tt_publish.specs.Reading.{CanBeReadAt, reading_at};
 ghost use Rattle.tt_shared.specs.declared.faults.SharedFault.{SharedFault as TheFault};
-ghost use Rattle.tt_shared.specs.declared.faults.SharedFault.TheVariants.{Nothing, ClockBack, ClockFailed, CannotOpen, BadSlot, Contended};
+ghost use Rattle.tt_shared.specs.declared.faults.SharedFault.TheVariants.{Nothing, ClockBack, ClockFailed, CannotOpen, BadSlot, Contended, TooWide};
 ghost use Rattle.tt_shared.specs.declared.slots.SharedSpan.{SharedSpan as Published};
 ghost use Rattle.tt_shared.specs.Slot.{IsSlotOf};
 ghost use Rattle.tt_shared.specs.Looking.{word_of, IsNamedBy, Tries, GivesUp, SeesNothing, Fails, EndsBy, Finds};
 
 use crate::faults::SharedFault;
 use crate::indexes::count_of;
+use crate::layout::{SLOT_LEN, slot_place};
 use crate::places::ReadPlace;
-use crate::slots::{SLOT_LEN, decode};
+use crate::slots::decode;
 use tt_publish::{Clock, Reading};
 
 /// How often a reader tries to copy a slot.
@@ -29,7 +30,7 @@ struct Copied {
 fn offset_of(index: &[u8; 8]) -> u64
     ensures { IsNamedBy index.now result }
 {
-    64 + 64 * (count_of(index) % 2)
+    slot_place(count_of(index))
 }
 
 /// One try: the index, the slot that it names, and the index again.
@@ -103,38 +104,48 @@ impl<P: ReadPlace> SharedReader<P> {
     ///
     /// Refuses, in this order: 801 `Nothing` where nothing was published, 1701 `CannotOpen` where the file could not be
     /// read, 1704 `Contended` where each of 1,000 tries met another publication, 1703 `BadSlot` where no daemon wrote
-    /// the slot: all these without reading the clock. Then 803 `ClockFailed` where the clock failed, 802 `ClockBack`
-    /// where it shows less than the clock of the publication, or more than the greatest time.
+    /// the slot, 801 `Nothing` where its `usable_until` is 0, since nothing is published any more: all these without
+    /// reading the clock. Then 803 `ClockFailed` where the clock failed, 802 `ClockBack` where it shows less than the clock
+    /// of the publication, or more than the greatest time, 1708 `TooWide` where it shows more than `usable_until`.
     pub fn now<C: Clock>(&mut self, clock: &mut C) -> Result<SharedReading, SharedFault>
         ensures read { IfOk result (λ seen. (index bytes : List ℕ) × (p : Published) × (c : ℕ)
             × Finds P.looks index bytes self.old.place self.new.place × IsSlotOf (word_of index) p bytes
-            × C.gives clock.old (Some c) clock.new × CanBeReadAt p.fused c × (seen.reading ≡ reading_at p.drift p.fused c)
-            × (seen.fresh ≡ nat_le c p.valid_until)) }
-        ensures nothing { IsErrOf result Nothing → EndsBy P.looks (SeesNothing P.looks) self.old.place self.new.place × (clock.new ≡ clock.old) }
+            × (p.usable_until ≢ 0) × C.gives clock.old (Some c) clock.new × CanBeReadAt p.fused c × (c ≤ p.usable_until)
+            × (seen.reading ≡ reading_at p.drift p.fused c) × (seen.fresh ≡ nat_le c p.valid_until)) }
+        ensures nothing { IsErrOf result Nothing → (EndsBy P.looks (SeesNothing P.looks) self.old.place self.new.place
+            ⊎ ((index bytes : List ℕ) × (p : Published) × Finds P.looks index bytes self.old.place self.new.place
+            × IsSlotOf (word_of index) p bytes × (p.usable_until ≡ 0))) × (clock.new ≡ clock.old) }
         ensures cannot_open { IsErrOf result CannotOpen → EndsBy P.looks (Fails P.looks) self.old.place self.new.place × (clock.new ≡ clock.old) }
         ensures contended { IsErrOf result Contended → GivesUp P.looks self.old.place self.new.place × (clock.new ≡ clock.old) }
         ensures bad { IsErrOf result BadSlot → (index bytes : List ℕ) × Finds P.looks index bytes self.old.place self.new.place
             × ((p : Published) → IsSlotOf (word_of index) p bytes → ⊥) × (clock.new ≡ clock.old) }
         ensures clock_failed { IsErrOf result ClockFailed → (index bytes : List ℕ) × (p : Published)
-            × Finds P.looks index bytes self.old.place self.new.place × IsSlotOf (word_of index) p bytes × C.gives clock.old None clock.new }
+            × Finds P.looks index bytes self.old.place self.new.place × IsSlotOf (word_of index) p bytes
+            × (p.usable_until ≢ 0) × C.gives clock.old None clock.new }
         ensures clock_back { IsErrOf result ClockBack → (index bytes : List ℕ) × (p : Published) × (c : ℕ)
             × Finds P.looks index bytes self.old.place self.new.place × IsSlotOf (word_of index) p bytes
-            × C.gives clock.old (Some c) clock.new × (CanBeReadAt p.fused c → ⊥) }
+            × (p.usable_until ≢ 0) × C.gives clock.old (Some c) clock.new × (CanBeReadAt p.fused c → ⊥) }
+        ensures too_wide { IsErrOf result TooWide → (index bytes : List ℕ) × (p : Published) × (c : ℕ)
+            × Finds P.looks index bytes self.old.place self.new.place × IsSlotOf (word_of index) p bytes
+            × (p.usable_until ≢ 0) × C.gives clock.old (Some c) clock.new × CanBeReadAt p.fused c × (p.usable_until < c) }
         ensures never { IsErrOf result SharedFault.BadFile → ⊥ }
     {
         let copied = copy(&mut self.place)?;
         let index = copied.index;
         let bytes = copied.bytes;
         let shared = decode(u64::from_le_bytes(index), &bytes)?;
+        if shared.usable_until == 0 {
+            return Err(SharedFault::Nothing);
+        }
         let Ok(at) = clock.read() else {
             return Err(SharedFault::ClockFailed);
         };
-        match shared.fused.read_at(shared.drift, at) {
+        match shared.read_at(at) {
             Ok(reading) => Ok(SharedReading {
                 reading,
                 fresh: at <= shared.valid_until,
             }),
-            Err(_) => Err(SharedFault::ClockBack),
+            Err(fault) => Err(fault),
         }
     }
 }

@@ -1,20 +1,19 @@
 //! Publications as the bytes of a slot.
 
-ghost use Rattle.std.specs.Prelude.{◌≡◌, ◌≢◌, ◌+◌, ◌≤◌, List, ℕ, length, if◌then◌else◌, Ok, Err, IfOk, IfErr, nat_lt, false};
+ghost use Rattle.std.specs.Prelude.{◌≡◌, ◌≢◌, ◌+◌, ◌<◌, ◌≤◌, ◌⊎◌, List, ℕ, length, if◌then◌else◌, Ok, Err, IfOk, IfErr, nat_lt, false};
 ghost use Rattle.tt_publish.specs.Reading.{CanBeReadAt, reading_at};
 ghost use Rattle.tt_shared.specs.declared.faults.SharedFault.{SharedFault};
-ghost use Rattle.tt_shared.specs.declared.faults.SharedFault.TheVariants.{Nothing, ClockBack, BadSlot};
+ghost use Rattle.tt_shared.specs.declared.faults.SharedFault.TheVariants.{Nothing, ClockBack, BadSlot, TooWide};
 ghost use Rattle.tt_shared.specs.declared.slots.SharedSpan.{SharedSpan};
+ghost use Rattle.tt_shared.specs.Layout.{slot_len};
 ghost use Rattle.tt_shared.specs.Slot.{IsShared, IsSlotOf, slot_of};
 ghost use Rattle.tt_span.specs.Drift.{max_drift};
-ghost use Rattle.tt_shared.specs.Reading.{number_at as number_at_place, ends_at, are_no_span, is_other as is_other_slot, read_of};
+ghost use Rattle.tt_shared.specs.Reading.{number_at as number_at_place, ends_at, are_no_span, is_padded as is_padded_slot, is_other as is_other_slot, read_of};
 
 use crate::faults::SharedFault;
+use crate::layout::{SLOT_LEN, USED_LEN};
 use tt_publish::{FusedSpan, Reading};
 use tt_span::{Drift, MAX_DRIFT, MAX_TIME, Span};
-
-/// The length of a slot, in bytes.
-pub const SLOT_LEN: usize = 64;
 
 /// A publication as other processes read it: a fused span, and what a reader needs to age it.
 #[derive(Clone, Copy, Debug, PartialEq, Eq)]
@@ -24,6 +23,9 @@ pub struct SharedSpan {
     /// The last clock reading at which it is fresh, in nanoseconds. Later the daemon is late or gone: a reading still
     /// holds the true time, and grows wider.
     pub valid_until: u64,
+    /// The last clock reading at which a reader may use it, in nanoseconds. 2^64 - 1: there is no limit. 0: nothing is
+    /// published any more.
+    pub usable_until: u64,
     /// The epoch of the daemon's life. It is greater than the epoch of each earlier life.
     pub epoch: u64,
     /// The number of the publication in that life.
@@ -45,7 +47,8 @@ pub fn encode(index: u64, shared: &SharedSpan) -> [u8; SLOT_LEN]
     bytes[32..40].copy_from_slice(&shared.valid_until.to_le_bytes());
     bytes[40..48].copy_from_slice(&shared.epoch.to_le_bytes());
     bytes[48..56].copy_from_slice(&shared.number.to_le_bytes());
-    bytes[56..].copy_from_slice(&u64::from(shared.drift.ppm()).to_le_bytes());
+    bytes[56..64].copy_from_slice(&u64::from(shared.drift.ppm()).to_le_bytes());
+    bytes[64..USED_LEN].copy_from_slice(&shared.usable_until.to_le_bytes());
     bytes
 }
 
@@ -60,17 +63,28 @@ fn number_at(bytes: &[u8], at: usize) -> u64
     ])
 }
 
+/// Whether zeros alone stand behind the numbers of a slot.
+fn is_padded(bytes: &[u8]) -> bool
+    requires { length bytes.now ≡ slot_len }
+    ensures { result ≡ is_padded_slot bytes.now }
+{
+    bytes[USED_LEN..] == [0; SLOT_LEN - USED_LEN]
+}
+
 /// Whether the bytes are not a slot of the index, or their clock is out of range.
 fn is_other(index: u64, bytes: &[u8]) -> bool
     ensures value { result ≡ is_other_slot index bytes.now }
-    ensures len { result ≡ false → length bytes.now ≡ 64 }
+    ensures len { result ≡ false → length bytes.now ≡ slot_len }
 {
-    bytes.len() != SLOT_LEN || number_at(bytes, 0) != index || number_at(bytes, 8) > MAX_TIME
+    bytes.len() != SLOT_LEN
+        || !is_padded(bytes)
+        || number_at(bytes, 0) != index
+        || number_at(bytes, 8) > MAX_TIME
 }
 
 /// The span at its place, if the two ends are a span.
 fn span_at(bytes: &[u8]) -> Result<Span, SharedFault>
-    requires { length bytes.now ≡ 64 }
+    requires { length bytes.now ≡ slot_len }
     ensures { result ≡ (if are_no_span (ends_at bytes.now) then Err BadSlot else Ok (ends_at bytes.now)) }
 {
     Span::new(number_at(bytes, 16), number_at(bytes, 24)).map_err(|_| SharedFault::BadSlot)
@@ -78,7 +92,7 @@ fn span_at(bytes: &[u8]) -> Result<Span, SharedFault>
 
 /// The drift at its place, if the number is one.
 fn drift_at(bytes: &[u8]) -> Result<Drift, SharedFault>
-    requires { length bytes.now ≡ 64 }
+    requires { length bytes.now ≡ slot_len }
     ensures { result ≡ (if nat_lt max_drift (number_at_place bytes.now 56) then Err BadSlot else Ok (number_at_place bytes.now 56)) }
 {
     let number = number_at(bytes, 56);
@@ -104,6 +118,7 @@ fn slot_at(index: u64, bytes: &[u8]) -> Result<SharedSpan, SharedFault>
             span,
         },
         valid_until: number_at(bytes, 32),
+        usable_until: number_at(bytes, 64),
         epoch: number_at(bytes, 40),
         number: number_at(bytes, 48),
         drift,
@@ -122,28 +137,52 @@ pub fn decode(index: u64, bytes: &[u8]) -> Result<SharedSpan, SharedFault>
     slot_at(index, bytes)
 }
 
+impl SharedSpan {
+    /// The reading when the clock shows `clock`, in nanoseconds: its span, aged by what the clock has gone on since.
+    /// Refuses, in this order: 802 `ClockBack` where `clock` is below the clock of the publication, or above the greatest
+    /// time; 1708 `TooWide` where it is above `usable_until`.
+    pub(crate) fn read_at(&self, clock: u64) -> Result<Reading, SharedFault>
+        ensures read { IfOk result (λ reading. CanBeReadAt self.now.fused clock × (clock ≤ self.now.usable_until)
+            × (reading ≡ reading_at self.now.drift self.now.fused clock)) }
+        ensures refused { IfErr result (λ fault. ((fault ≡ ClockBack) × (CanBeReadAt self.now.fused clock → ⊥))
+            ⊎ ((fault ≡ TooWide) × CanBeReadAt self.now.fused clock × (self.now.usable_until < clock))) }
+    {
+        let Ok(reading) = self.fused.read_at(self.drift, clock) else {
+            return Err(SharedFault::ClockBack);
+        };
+        if clock > self.usable_until {
+            return Err(SharedFault::TooWide);
+        }
+        Ok(reading)
+    }
+}
+
 /// The reading of the publication in these bytes of a slot, when the clock shows `clock`, in nanoseconds: its span,
 /// aged by what the clock has gone on since. Refuses, in this order: 801 `Nothing` where the index is 0, since nothing
-/// was published; 1703 `BadSlot` where the bytes are not the slot of a publication under `index`; 802 `ClockBack` where
-/// `clock` is below the clock of the publication, or above the greatest time.
+/// was published; 1703 `BadSlot` where the bytes are not the slot of a publication under `index`; 801 `Nothing` where
+/// `usable_until` is 0, since nothing is published any more; 802 `ClockBack` where `clock` is below the clock of the
+/// publication, or above the greatest time; 1708 `TooWide` where it is above `usable_until`.
 pub fn read(index: u64, bytes: &[u8], clock: u64) -> Result<Reading, SharedFault>
     ensures nothing { index ≡ 0 → result ≡ Err Nothing }
     // The slot of a publication gives exactly what the publication gives.
-    ensures exact { (p : SharedSpan) → IsSlotOf index p bytes.now → index ≢ 0 →
-        (CanBeReadAt p.fused clock → result ≡ Ok (reading_at p.drift p.fused clock))
+    ensures exact { (p : SharedSpan) → IsSlotOf index p bytes.now → index ≢ 0 → p.usable_until ≢ 0 →
+        (CanBeReadAt p.fused clock → clock ≤ p.usable_until → result ≡ Ok (reading_at p.drift p.fused clock))
+        × (CanBeReadAt p.fused clock → p.usable_until < clock → result ≡ Err TooWide)
         × ((CanBeReadAt p.fused clock → ⊥) → result ≡ Err ClockBack) }
+    ensures ended { (p : SharedSpan) → IsSlotOf index p bytes.now → p.usable_until ≡ 0 → result ≡ Err Nothing }
     // Nothing else gives a reading.
-    ensures sound { IfOk result (λ reading. (p : SharedSpan) × IsSlotOf index p bytes.now × CanBeReadAt p.fused clock × (reading ≡ reading_at p.drift p.fused clock)) }
+    ensures sound { IfOk result (λ reading. (p : SharedSpan) × IsSlotOf index p bytes.now × (p.usable_until ≢ 0) × CanBeReadAt p.fused clock
+        × (clock ≤ p.usable_until) × (reading ≡ reading_at p.drift p.fused clock)) }
     ensures bad { ((p : SharedSpan) → IsSlotOf index p bytes.now → ⊥) → index ≢ 0 → result ≡ Err BadSlot }
 {
     if index == 0 {
         return Err(SharedFault::Nothing);
     }
     let shared = decode(index, bytes)?;
-    match shared.fused.read_at(shared.drift, clock) {
-        Ok(reading) => Ok(reading),
-        Err(_) => Err(SharedFault::ClockBack),
+    if shared.usable_until == 0 {
+        return Err(SharedFault::Nothing);
     }
+    shared.read_at(clock)
 }
 
 /// Two publications in range with the same slot are the same.

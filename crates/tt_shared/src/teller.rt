@@ -8,6 +8,7 @@ ghost use Rattle.tt_shared.specs.Writing.{TellerState, slot_write, index_write, 
 
 use crate::faults::{PlaceFault, WriteFault};
 use crate::indexes::{count_of, index_of, turn_of};
+use crate::layout::{SLOT_LEN, slot_place};
 use crate::places::Place;
 use crate::slots::{SharedSpan, encode};
 use std::marker::Model;
@@ -31,13 +32,13 @@ impl<P> Model for SharedTeller<P> {
 }
 
 /// The first write of the publication after `count` others: its slot.
-fn next_slot(count: u64, shared: &SharedSpan) -> (u64, [u8; 64])
+fn next_slot(count: u64, shared: &SharedSpan) -> (u64, [u8; SLOT_LEN])
     requires { count + 1 < 2 ^ 64 }
     ensures { record { offset = result.0; bytes = result.1 } ≡ slot_write (count + 1) shared.now }
 {
     let next = count + 1;
     (
-        64 + 64 * (next % 2),
+        slot_place(next),
         encode(u64::from_le_bytes(index_of(next)), shared),
     )
 }
@@ -95,7 +96,7 @@ impl<P: Place> SharedTeller<P> {
         // A call that refuses made no write, or its last write failed, and then no later call writes.
         ensures stopped { OnErr result ((self.new ≡ self.old) ⊎ (StopsShort P.does self.old.count shared.now self.old.place self.new.place × (self.new.broken ≡ true))) }
         ensures cause { IsErrOf result WriteFault.Failed → StopsShort P.does self.old.count shared.now self.old.place self.new.place × HasFailed (P.failed self.old.place) (P.failed self.new.place) }
-        ensures never { (IsErrOf result WriteFault.CannotOpen → ⊥) × (IsErrOf result WriteFault.Locked → ⊥) }
+        ensures never { (IsErrOf result WriteFault.CannotOpen → ⊥) × (IsErrOf result WriteFault.Locked → ⊥) × (IsErrOf result WriteFault.OtherClock → ⊥) }
         ensures sound { OnOk result (P.failed self.new.place ≡ P.failed self.old.place) }
         ensures nothing { self.old.broken ≡ true → self.new ≡ self.old }
     {

@@ -1,6 +1,7 @@
 -- Numbers with a fixed count of digits, and nanoseconds as seconds.
-use Rattle.std.specs.Prelude.{codes, ℕ, ◌/◌, ◌%◌, List, ◌++◌}
+use Rattle.std.specs.Prelude.{codes, ℕ, ◌/◌, ◌%◌, ◌&&◌, nat_lt, if◌then◌else◌, List, ◌++◌}
 use Rattle.std.specs.Fmt.{decimal}
+use Rattle.tt_status.specs.declared.digits.Difference.{Difference}
 
 -- the last two digits of a number
 abbrev pub two_digits : ℕ → List ℕ
@@ -21,3 +22,7 @@ nine_digits n = three_digits (n / 1000000) ++ three_digits (n / 1000) ++ three_d
 -- nanoseconds as seconds, exactly: with nine digits behind the point
 unfoldable pub seconds_text : ℕ → List ℕ
 seconds_text n = decimal (n / 1000000000) ++ codes "." ++ nine_digits n
+
+-- a difference in nanoseconds as seconds, with its sign where it is below 0
+abbrev pub difference_text : Difference → List ℕ
+difference_text d = if d.below && nat_lt 0 d.size then codes "-" ++ seconds_text d.size else seconds_text d.size

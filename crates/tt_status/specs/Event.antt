@@ -8,7 +8,7 @@ use Rattle.tt_status.specs.Moment.{moment_text}
 use Rattle.tt_status.specs.declared.lines.LogFormat.{LogFormat}
 use Rattle.tt_status.specs.declared.lines.LogFormat.TheVariants.{Text, Json}
 use Rattle.tt_status.specs.declared.lines.LogEvent.{LogEvent}
-use Rattle.tt_status.specs.declared.lines.LogEvent.TheVariants.{Started, FirstPublication, SourceSilent, SourceSuspect, FusionRefused, ClockBack, AnswersRefused, RoundFailed, SharingEnded, SharingResumed, StatusUnwritten, NotAccepted, StateLoose, EpochLoose, SharedLoose, Ended, MasterStarted, MasterFailed, SocketRenewed, PublicationSlow, SourceUnsent}
+use Rattle.tt_status.specs.declared.lines.LogEvent.TheVariants.{Started, FirstPublication, SourceSilent, SourceSuspect, FusionRefused, ClockBack, AnswersRefused, RoundFailed, SharingEnded, SharingResumed, StatusUnwritten, NotAccepted, StateLoose, EpochLoose, SharedLoose, Ended, MasterStarted, MasterFailed, SocketRenewed, PublicationSlow, SourceUnsent, AssumptionBroken, HostSlept, GuestDisrupted, SleepUnseen, SourcesStale, StartPaused, EvidenceUnwritten}
 use Rattle.tt_status.specs.declared.lines.RefusedFusion.{RefusedFusion}
 use Rattle.tt_status.specs.declared.lines.RefusedFusion.TheVariants.{NoPoint, TooFewKnown}
 
@@ -54,6 +54,13 @@ name_of (MasterFailed number) = codes "master_failed"
 name_of (SocketRenewed number pause) = codes "socket_renewed"
 name_of (PublicationSlow lasted) = codes "publication_slow"
 name_of (SourceUnsent source) = codes "source_unsent"
+name_of (AssumptionBroken clock lower upper last_lower last_upper) = codes "assumption_broken"
+name_of (HostSlept slept) = codes "host_slept"
+name_of GuestDisrupted = codes "guest_disrupted"
+name_of SleepUnseen = codes "sleep_unseen"
+name_of (SourcesStale answered needed) = codes "sources_stale"
+name_of (StartPaused pause breaks) = codes "start_paused"
+name_of EvidenceUnwritten = codes "evidence_unwritten"
 
 -- its numbers, each behind its name; the name of a time in nanoseconds ends in `_ns`
 abbrev pub numbers_of : LogFormat → LogEvent → List ℕ
@@ -70,6 +77,12 @@ numbers_of f (MasterFailed number) = field f (codes "number") number
 numbers_of f (SocketRenewed number pause) = field f (codes "number") number ++ field f (codes "pause_ns") pause
 numbers_of f (PublicationSlow lasted) = field f (codes "lasted_ns") lasted
 numbers_of f (SourceUnsent source) = field f (codes "source") source
+numbers_of f (AssumptionBroken clock lower upper last_lower last_upper) =
+    field f (codes "clock_ns") clock ++ field f (codes "lower_ns") lower ++ field f (codes "upper_ns") upper
+    ++ field f (codes "last_lower_ns") last_lower ++ field f (codes "last_upper_ns") last_upper
+numbers_of f (HostSlept slept) = field f (codes "slept_ns") slept
+numbers_of f (SourcesStale answered needed) = field f (codes "answered") answered ++ field f (codes "needed") needed
+numbers_of f (StartPaused pause breaks) = field f (codes "pause_ns") pause ++ field f (codes "breaks") breaks
 numbers_of f _ = []
 
 -- the time, the level and the name of an event

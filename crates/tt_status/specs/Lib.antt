@@ -3,4 +3,5 @@ pub mod Digits
 pub mod Moment
 pub mod Event
 pub mod Metric
+pub mod Histogram
 pub mod Status

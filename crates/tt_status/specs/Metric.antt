@@ -2,23 +2,24 @@
 use Rattle.std.specs.Prelude.{codes, ℕ, true, false, Some, None, List, [], ◌∷◌, ◌++◌}
 use Rattle.std.specs.Fmt.{decimal}
 use Rattle.std.specs.List.{flat_map}
-use Rattle.tt_status.specs.Digits.{seconds_text}
+use Rattle.tt_source.specs.Fault.{number_of as source_number_of}
+use Rattle.tt_status.specs.Digits.{seconds_text, difference_text}
 use Rattle.tt_status.specs.Event.{refusal_number_of}
 use Rattle.tt_status.specs.declared.metrics.Kind.{Kind}
-use Rattle.tt_status.specs.declared.metrics.Kind.TheVariants.{Gauge, Counter}
+use Rattle.tt_status.specs.declared.metrics.Kind.TheVariants.{Gauge, Counter, Histogram}
 use Rattle.tt_status.specs.declared.metrics.Value.{Value}
-use Rattle.tt_status.specs.declared.metrics.Value.TheVariants.{Whole, Flag, Seconds}
+use Rattle.tt_status.specs.declared.metrics.Value.TheVariants.{Whole, Flag, Nanos, Signed}
 use Rattle.tt_status.specs.declared.metrics.Outcome.{Outcome}
 use Rattle.tt_status.specs.declared.metrics.Outcome.TheVariants.{Accepted, Refused, Silent}
 use Rattle.tt_status.specs.declared.metrics.Subject.{Subject}
-use Rattle.tt_status.specs.declared.metrics.Subject.TheVariants.{Machine, Version, Refusal, Source, OutcomeOf}
+use Rattle.tt_status.specs.declared.metrics.Subject.TheVariants.{Machine, Version, Refusal, Source, OutcomeOf, RefusedOf, AtMost, Sum, Count}
 
 -- a number, and what it is of
 pub record Sample : Type 0 where
   pub subject : Subject
   pub value : Value
 
--- the numbers of one name, what they say, and whether they may fall
+-- the numbers of one name, what they say, and their kind
 pub record Metric : Type 0 where
   pub name : List ℕ
   pub help : List ℕ
@@ -33,6 +34,7 @@ single name help kind value = record { name = name; help = help; kind = kind; sa
 abbrev pub kind_word : Kind → List ℕ
 kind_word Gauge = codes "gauge"
 kind_word Counter = codes "counter"
+kind_word Histogram = codes "histogram"
 
 -- the word for each outcome
 abbrev pub outcome_word : Outcome → List ℕ
@@ -43,6 +45,13 @@ outcome_word Silent = codes "silent"
 -- the version of the program
 abbrev pub version : List ℕ
 version = codes "0.2 (rattle-kit-13)"
+
+-- what stands behind the name of a metric in a sample of it
+abbrev pub suffix_of : Subject → List ℕ
+suffix_of (AtMost bound) = codes "_bucket"
+suffix_of Sum = codes "_sum"
+suffix_of Count = codes "_count"
+suffix_of _ = []
 
 -- a label, behind another one
 abbrev pub label_text : List ℕ → List ℕ → List ℕ
@@ -55,14 +64,21 @@ labels_text Version = label_text (codes "version") version
 labels_text (Refusal reason) = label_text (codes "number") (decimal (refusal_number_of reason))
 labels_text (Source source) = label_text (codes "source") (decimal source)
 labels_text (OutcomeOf source outcome) = label_text (codes "source") (decimal source) ++ label_text (codes "outcome") (outcome_word outcome)
+labels_text (RefusedOf source fault) = label_text (codes "source") (decimal source) ++ label_text (codes "number") (decimal (source_number_of fault))
+labels_text (AtMost None) = label_text (codes "le") (codes "+Inf")
+labels_text (AtMost (Some bound)) = label_text (codes "le") (seconds_text bound)
+labels_text Sum = []
+labels_text Count = []
 
--- a whole number in decimal digits, 1 or 0 for what is so or not, or nanoseconds as seconds; `NaN` where there are none
+-- a whole number in decimal digits, 1 or 0 for what is so or not, or nanoseconds as seconds, with a sign below 0; `NaN` where there are none
 abbrev pub value_text : Value → List ℕ
 value_text (Whole n) = decimal n
 value_text (Flag true) = codes "1"
 value_text (Flag false) = codes "0"
-value_text (Seconds None) = codes "NaN"
-value_text (Seconds (Some n)) = seconds_text n
+value_text (Nanos None) = codes "NaN"
+value_text (Nanos (Some n)) = seconds_text n
+value_text (Signed None) = codes "NaN"
+value_text (Signed (Some d)) = difference_text d
 
 -- the two lines before the samples of a metric
 unfoldable pub head_text : List ℕ → List ℕ → Kind → List ℕ
@@ -72,7 +88,7 @@ head_text name help kind =
 -- the line of a sample
 unfoldable pub sample_text : List ℕ → ℕ → Sample → List ℕ
 sample_text name machine sample =
-    name ++ codes "{machine=\"" ++ decimal machine ++ codes "\"" ++ labels_text sample.subject ++ codes "} " ++ value_text sample.value ++ codes "\n"
+    name ++ suffix_of sample.subject ++ codes "{machine=\"" ++ decimal machine ++ codes "\"" ++ labels_text sample.subject ++ codes "} " ++ value_text sample.value ++ codes "\n"
 
 -- a metric of a machine: all of its samples stand behind its head
 abbrev pub metric_text : ℕ → Metric → List ℕ

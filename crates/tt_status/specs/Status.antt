@@ -1,16 +1,20 @@
 -- The text of a status: its metrics in order.
-use Rattle.std.specs.Prelude.{codes, ℕ, false, min, slice_index_or, List, [], ◌∷◌, ◌++◌}
+use Rattle.std.specs.Prelude.{codes, ℕ, false, min, map, slice_index_or, Some, None, List, [], ◌∷◌, ◌++◌}
 use Rattle.std.specs.List.{flat_map, range_with_len}
+use Rattle.tt_source.specs.declared.faults.SourceFault.{SourceFault}
+use Rattle.tt_source.specs.declared.faults.SourceFault.TheVariants.{NoSource, ClockBack, NoncesUsedUp, BadMessage, NotMine, OtherEpoch, NotOutstanding}
 use Rattle.tt_status.specs.Metric.{Sample, Metric, single, metric_text}
+use Rattle.tt_status.specs.Histogram.{histogram_metric}
 use Rattle.tt_status.specs.declared.lines.RefusedFusion.TheVariants.{NoPoint, TooFewKnown}
 use Rattle.tt_status.specs.declared.metrics.Kind.{Kind}
 use Rattle.tt_status.specs.declared.metrics.Kind.TheVariants.{Gauge, Counter}
-use Rattle.tt_status.specs.declared.metrics.Value.TheVariants.{Whole, Flag, Seconds}
+use Rattle.tt_status.specs.declared.metrics.Value.{Value}
+use Rattle.tt_status.specs.declared.metrics.Value.TheVariants.{Whole, Flag, Nanos, Signed}
 use Rattle.tt_status.specs.declared.metrics.Outcome.TheVariants.{Accepted, Refused, Silent}
 use Rattle.tt_status.specs.declared.metrics.Subject.{Subject}
-use Rattle.tt_status.specs.declared.metrics.Subject.TheVariants.{Version, Refusal, Source, OutcomeOf}
+use Rattle.tt_status.specs.declared.metrics.Subject.TheVariants.{Version, Refusal, Source, OutcomeOf, RefusedOf}
 use Rattle.tt_status.specs.declared.statuses.Aspect.{Aspect}
-use Rattle.tt_status.specs.declared.statuses.Aspect.TheVariants.{Suspicion, Outcomes, Unsent}
+use Rattle.tt_status.specs.declared.statuses.Aspect.TheVariants.{Suspicion, Rounds, Refusals, Unsent, Answered, RoundTrip, Lower, Upper, Rate, RateError}
 use Rattle.tt_status.specs.declared.statuses.SourceStatus.{SourceStatus}
 use Rattle.tt_status.specs.declared.statuses.Status.{Status}
 
@@ -31,44 +35,109 @@ build_metric = record {
 abbrev pub publication_metrics : Status → List Metric
 publication_metrics s =
     single (codes "truetime_epoch") (codes "The epoch of this life of the machine.") Gauge (Whole s.epoch) ∷
-    single (codes "truetime_width_seconds") (codes "The width of a reading at the last fusion; NaN before the first.") Gauge (Seconds s.width) ∷
-    single (codes "truetime_fusion_age_seconds") (codes "How long ago the last fusion was made that was published; NaN before the first.") Gauge (Seconds s.age) ∷
+    single (codes "truetime_width_seconds") (codes "The width of a reading now; NaN before the first publication.") Gauge (Nanos s.width) ∷
+    single (codes "truetime_fusion_age_seconds") (codes "How long ago the last fusion was made that was published; NaN before the first.") Gauge (Nanos s.age) ∷
     []
 
--- how many sources there are
+-- how many sources there are, and how old what they have answered is
 abbrev pub known_metrics : Status → List Metric
 known_metrics s =
     single (codes "truetime_sources") (codes "The sources that are asked.") Gauge (Whole s.sources) ∷
     single (codes "truetime_sources_known") (codes "The sources that have made a statement in this life.") Gauge (Whole s.known) ∷
+    single (codes "truetime_newest_answer_age_seconds") (codes "How long ago the newest accepted answer came; NaN before the first.") Gauge (Nanos s.newest) ∷
+    single (codes "truetime_needed_answer_age_seconds") (codes "Within what time n - f sources have answered last; NaN before they have.") Gauge (Nanos s.needed) ∷
     []
 
 -- a source of which nothing is known
 abbrev pub no_source : SourceStatus
-no_source = record { suspect = false; accepted = 0; refused = 0; silent = 0; unsent = 0 }
+no_source = record {
+  suspect = false;
+  accepted = 0;
+  refused = 0;
+  silent = 0;
+  unsent = 0;
+  answered = None;
+  round_trip = None;
+  lower = None;
+  upper = None;
+  refusals = [];
+  rate = None;
+  rate_error = None;
+}
 
--- the numbers of a source under an aspect
-abbrev pub samples_of : Aspect → ℕ → SourceStatus → List Sample
-samples_of Suspicion i s = (record { subject = Source i; value = Flag s.suspect }) ∷ []
-samples_of Outcomes i s =
-    count (OutcomeOf i Accepted) s.accepted ∷ count (OutcomeOf i Refused) s.refused ∷ count (OutcomeOf i Silent) s.silent ∷ []
-samples_of Unsent i s = count (Source i) s.unsent ∷ []
+-- where the refusals of a source for each reason are counted
+abbrev pub refusal_place : SourceFault → ℕ
+refusal_place NoSource = 0
+refusal_place ClockBack = 1
+refusal_place NoncesUsedUp = 2
+refusal_place BadMessage = 3
+refusal_place NotMine = 4
+refusal_place OtherEpoch = 5
+refusal_place NotOutstanding = 6
 
--- the metric of an aspect: the numbers of each source that is asked, in order
-unfoldable pub source_metric : Aspect → List ℕ → List ℕ → Kind → Status → Metric
-source_metric aspect name help kind s = record {
+-- what a number of a source is of
+abbrev pub subject_of : Aspect → ℕ → Subject
+subject_of (Rounds outcome) i = OutcomeOf i outcome
+subject_of (Refusals reason) i = RefusedOf i reason
+subject_of _ i = Source i
+
+-- a number of a source
+abbrev pub value_of : Aspect → SourceStatus → Value
+value_of Suspicion s = Flag s.suspect
+value_of (Rounds Accepted) s = Whole s.accepted
+value_of (Rounds Refused) s = Whole s.refused
+value_of (Rounds Silent) s = Whole s.silent
+value_of (Refusals reason) s = Whole (slice_index_or s.refusals (refusal_place reason) 0)
+value_of Unsent s = Whole s.unsent
+value_of Answered s = Nanos s.answered
+value_of RoundTrip s = Nanos s.round_trip
+value_of Lower s = Signed s.lower
+value_of Upper s = Signed s.upper
+value_of Rate s = Signed s.rate
+value_of RateError s = Nanos s.rate_error
+
+-- a number of a source, and what it is of
+abbrev pub sample_of : ℕ → SourceStatus → Aspect → Sample
+sample_of i s aspect = record { subject = subject_of aspect i; value = value_of aspect s }
+
+-- a metric of these numbers of each source that is asked, in order
+unfoldable pub source_metric : List Aspect → List ℕ → List ℕ → Kind → Status → Metric
+source_metric aspects name help kind s = record {
   name = name;
   help = help;
   kind = kind;
-  samples = flat_map (λ i. samples_of aspect i (slice_index_or s.each i no_source)) (range_with_len 0 (min s.sources 16));
+  samples = flat_map (λ i. map (sample_of i (slice_index_or s.each i no_source)) aspects) (range_with_len 0 (min s.sources 16));
 }
 
--- what became of the sources
-abbrev pub source_metrics : Status → List Metric
-source_metrics s =
-    source_metric Suspicion (codes "truetime_source_suspect") (codes "1 if the source is a suspect of the last fusion, else 0.") Gauge s ∷
-    source_metric Outcomes (codes "truetime_source_rounds_total") (codes "Rounds by what became of the source.") Counter s ∷
-    source_metric Unsent (codes "truetime_source_packets_unsent_total") (codes "Packets to the source that could not be sent.") Counter s ∷
+-- what became of the sources in the rounds
+abbrev pub source_round_metrics : Status → List Metric
+source_round_metrics s =
+    source_metric (Suspicion ∷ []) (codes "truetime_source_suspect") (codes "1 if the source is a suspect of the last fusion, else 0.") Gauge s ∷
+    source_metric (Rounds Accepted ∷ Rounds Refused ∷ Rounds Silent ∷ []) (codes "truetime_source_rounds_total") (codes "Rounds by what became of the source.") Counter s ∷
+    source_metric (Refusals ClockBack ∷ Refusals NoncesUsedUp ∷ Refusals BadMessage ∷ Refusals NotMine ∷ Refusals OtherEpoch ∷ Refusals NotOutstanding ∷ [])
+    (codes "truetime_source_rounds_refused_total") (codes "Rounds in which all answers of the source were refused, by the number of the last refusal.") Counter s ∷
+    source_metric (Unsent ∷ []) (codes "truetime_source_packets_unsent_total") (codes "Packets to the source that could not be sent.") Counter s ∷
     []
+
+-- what the last accepted answers of the sources say
+abbrev pub source_answer_metrics : Status → List Metric
+source_answer_metrics s =
+    source_metric (Answered ∷ []) (codes "truetime_source_answer_age_seconds") (codes "How long ago the last accepted answer of the source came; NaN before the first.") Gauge s ∷
+    source_metric (RoundTrip ∷ []) (codes "truetime_source_round_trip_seconds") (codes "The round trip of that answer; NaN before the first.") Gauge s ∷
+    source_metric (Lower ∷ []) (codes "truetime_source_lower_seconds") (codes "The lower end of the source's span minus that of the fused one, at the last publication; NaN where there is none.") Gauge s ∷
+    source_metric (Upper ∷ []) (codes "truetime_source_upper_seconds") (codes "The upper end of the source's span minus that of the fused one, at the last publication; NaN where there is none.") Gauge s ∷
+    []
+
+-- how the machine's clock goes against the sources
+abbrev pub source_rate_metrics : Status → List Metric
+source_rate_metrics s =
+    source_metric (Rate ∷ []) (codes "truetime_source_clock_rate_ratio") (codes "What the machine's clock gains against the source, as a part of its own time; NaN where it is not known.") Gauge s ∷
+    source_metric (RateError ∷ []) (codes "truetime_source_clock_rate_error_ratio") (codes "By how much that part may be wrong; NaN where it is not known.") Gauge s ∷
+    []
+
+-- the numbers of the sources
+abbrev pub source_metrics : Status → List Metric
+source_metrics s = source_round_metrics s ++ source_answer_metrics s ++ source_rate_metrics s
 
 -- what became of the rounds
 abbrev pub round_metrics : Status → List Metric
@@ -76,6 +145,7 @@ round_metrics s =
     single (codes "truetime_rounds_total") (codes "Rounds that were made.") Counter (Whole s.rounds) ∷
     single (codes "truetime_publications_total") (codes "Rounds that published.") Counter (Whole s.published) ∷
     single (codes "truetime_answers_refused_total") (codes "Answers of sources that were refused.") Counter (Whole s.refused_answers) ∷
+    single (codes "truetime_rounds_stale_total") (codes "Rounds after which fewer than n - f sources had answered within three periods.") Counter (Whole s.stale_rounds) ∷
     []
 
 -- how many fusions were refused, for each reason
@@ -87,6 +157,13 @@ refusals_metric s = record {
   samples = count (Refusal NoPoint) s.no_point ∷ count (Refusal TooFewKnown) s.too_few ∷ [];
 }
 
+-- what was seen of broken assumptions
+abbrev pub break_metrics : Status → List Metric
+break_metrics s =
+    single (codes "truetime_assumption_breaks_total") (codes "Signs that an assumption of the service is broken.") Counter (Whole s.breaks) ∷
+    single (codes "truetime_slept_seconds_total") (codes "For how long the host has slept in this life.") Counter (Nanos (Some s.slept)) ∷
+    []
+
 -- what was done for clients, and who waits
 abbrev pub client_metrics : Status → List Metric
 client_metrics s =
@@ -96,18 +173,38 @@ client_metrics s =
     single (codes "truetime_connections_waiting") (codes "Connections that wait for a worker.") Gauge (Whole s.waiting) ∷
     []
 
+-- who serves clients, and what they wait for
+abbrev pub worker_metrics : Status → List Metric
+worker_metrics s =
+    single (codes "truetime_workers") (codes "Workers, each of which serves one connection at a time.") Gauge (Whole s.workers) ∷
+    single (codes "truetime_workers_busy") (codes "Workers that serve a connection.") Gauge (Whole s.busy) ∷
+    single (codes "truetime_commits_waiting") (codes "Commits that wait.") Gauge (Whole s.commits_waiting) ∷
+    []
+
+-- how long commits have waited
+abbrev pub commit_waits_metric : Status → Metric
+commit_waits_metric s = histogram_metric (codes "truetime_commit_wait_seconds") (codes "How long commits have waited.") s.commit_waits
+
+-- how long answers were on their way
+abbrev pub round_trips_metric : Status → Metric
+round_trips_metric s = histogram_metric (codes "truetime_round_trip_seconds") (codes "The round trips of accepted answers.") s.round_trips
+
+-- the histograms
+abbrev pub histogram_metrics : Status → List Metric
+histogram_metrics s = commit_waits_metric s ∷ round_trips_metric s ∷ []
+
 -- what is written for others
 abbrev pub written_metrics : Status → List Metric
 written_metrics s =
     single (codes "truetime_sharing") (codes "1 as long as a shared file is written, else 0.") Gauge (Flag s.sharing) ∷
-    single (codes "truetime_records_left_out_total") (codes "Lines of the log and statuses for which no place was free.") Counter (Whole s.left_out) ∷
+    single (codes "truetime_records_left_out_total") (codes "Lines of the log, statuses and texts of evidence for which no place was free.") Counter (Whole s.left_out) ∷
     []
 
 -- the metrics of a status
 abbrev pub metrics_of : Status → List Metric
 metrics_of s =
     (build_metric ∷ []) ++ publication_metrics s ++ known_metrics s ++ source_metrics s ++ round_metrics s ++ (refusals_metric s ∷ [])
-    ++ client_metrics s ++ written_metrics s
+    ++ break_metrics s ++ client_metrics s ++ worker_metrics s ++ histogram_metrics s ++ written_metrics s
 
 -- the text of a status: each metric, with the number of the machine at each sample
 abbrev pub status_text : Status → List ℕ

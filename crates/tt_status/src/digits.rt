@@ -1,9 +1,18 @@
 //! Numbers with a fixed count of digits, and nanoseconds as seconds.
 
 ghost use Rattle.std.specs.Prelude.{◌≡◌, ◌++◌, OnOk, string_bytes};
-ghost use Rattle.tt_status.specs.Digits.{two_digits, three_digits, four_digits, nine_digits, seconds_text};
+ghost use Rattle.tt_status.specs.Digits.{two_digits, three_digits, four_digits, nine_digits, seconds_text, difference_text};
 
 use std::alloc::AllocError;
+
+/// A number that may be below 0. A size of 0 is 0, whatever `below` says.
+#[derive(Clone, Copy, Debug, PartialEq, Eq)]
+pub struct Difference {
+    /// Whether it is below 0.
+    pub below: bool,
+    /// Its distance from 0.
+    pub size: u64,
+}
 
 /// Adds the last two digits of a number.
 pub(crate) fn push_two_digits(text: &mut String, number: u64) -> Result<(), AllocError>
@@ -48,4 +57,15 @@ pub(crate) fn push_seconds(text: &mut String, nanoseconds: u64) -> Result<(), Al
 {
     write!(text, "{}.", nanoseconds / 1_000_000_000)?;
     push_nine_digits(text, nanoseconds)
+}
+
+/// Adds a difference in nanoseconds as seconds, with `-` before it where it is below 0.
+pub(crate) fn push_difference(text: &mut String, difference: Difference) -> Result<(), AllocError>
+    ensures { OnOk result (string_bytes text.new ≡ string_bytes text.old ++ difference_text difference) }
+{
+    if difference.below && difference.size > 0 {
+        text.push_str("-")?;
+        return push_seconds(text, difference.size);
+    }
+    push_seconds(text, difference.size)
 }

@@ -3,19 +3,22 @@
 //! All of it is functions over values: no file is written here.
 //!
 //! - `statuses`: [`Status`], and its text in the format that Prometheus collects.
-//! - `metrics`: the text of a metric. `digits`, `moments`: numbers with a fixed count of digits, seconds, and UTC.
+//! - `metrics`, `histograms`: the text of a metric. `digits`, `moments`: numbers with a fixed count of digits, seconds, and UTC.
 //! - `lines`: [`LogEvent`], and the line of a log that says it.
 //! - `limits`: [`Limit`], which lets one line of a kind pass in ten seconds and counts the others.
 #![tactic(auto)]
 
 mod digits;
+mod histograms;
 mod limits;
 mod lines;
 mod metrics;
 mod moments;
 mod statuses;
 
+pub use digits::Difference;
+pub use histograms::{BOUNDS, Histogram};
 pub use limits::{Limit, QUIET};
 pub use lines::{LogEvent, LogFormat, RefusedFusion, push_event};
 pub use metrics::VERSION;
-pub use statuses::{MAX_SOURCES, SourceStatus, Status, push_status};
+pub use statuses::{MAX_SOURCES, REASONS, SourceStatus, Status, push_status, refusal_place};

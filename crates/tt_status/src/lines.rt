@@ -45,23 +45,41 @@ pub enum LogFormat {
 #[derive(Clone, Copy, Debug, PartialEq, Eq)]
 pub enum LogEvent {
     /// The machine has started in this epoch, and serves clients at this port.
-    Started { machine: u64, epoch: u64, port: u64 },
+    Started {
+        machine: u64,
+        epoch: u64,
+        port: u64,
+    },
     /// The first publication of this life, with its width in nanoseconds.
-    FirstPublication { width: u64 },
+    FirstPublication {
+        width: u64,
+    },
     /// No answer of this source came in a round.
-    SourceSilent { source: u64 },
+    SourceSilent {
+        source: u64,
+    },
     /// This source is a suspect of the fusion: its span does not meet the fused span.
-    SourceSuspect { source: u64 },
+    SourceSuspect {
+        source: u64,
+    },
     /// A fusion was refused for this reason.
-    FusionRefused { reason: RefusedFusion },
+    FusionRefused {
+        reason: RefusedFusion,
+    },
     /// The clock could not be read, or went back.
     ClockBack,
     /// This many answers of sources were refused in a round.
-    AnswersRefused { count: u64 },
+    AnswersRefused {
+        count: u64,
+    },
     /// A round ended with the fault of this number: its link failed, or its fusion was not published.
-    RoundFailed { number: u64 },
+    RoundFailed {
+        number: u64,
+    },
     /// The shared file is no longer written, because of the fault of this number.
-    SharingEnded { number: u64 },
+    SharingEnded {
+        number: u64,
+    },
     /// The shared file is written again.
     SharingResumed,
     /// The status file was not written.
@@ -77,15 +95,56 @@ pub enum LogEvent {
     /// The machine ends in order.
     Ended,
     /// This master answers polls at this port from now on.
-    MasterStarted { source: u64, port: u64 },
+    MasterStarted {
+        source: u64,
+        port: u64,
+    },
     /// A master's link or reference failed, with this number: 1501 or 304.
-    MasterFailed { number: u64 },
+    MasterFailed {
+        number: u64,
+    },
     /// The socket for polls failed with this number, and is made anew after this pause in nanoseconds.
-    SocketRenewed { number: u64, pause: u64 },
+    SocketRenewed {
+        number: u64,
+        pause: u64,
+    },
     /// A publication has lasted this long so far, in nanoseconds: a reader has not left its reading.
-    PublicationSlow { lasted: u64 },
+    PublicationSlow {
+        lasted: u64,
+    },
     /// A packet to this source could not be sent.
-    SourceUnsent { source: u64 },
+    SourceUnsent {
+        source: u64,
+    },
+    /// An assumption of the service is broken: at this clock reading the fused span and the last published one, aged to
+    /// it, do not meet. All are in nanoseconds.
+    AssumptionBroken {
+        clock: u64,
+        lower: u64,
+        upper: u64,
+        last_lower: u64,
+        last_upper: u64,
+    },
+    /// The host slept, for so long in nanoseconds.
+    HostSlept {
+        slept: u64,
+    },
+    /// The machine is a guest whose clock was disrupted, as its host says.
+    GuestDisrupted,
+    /// That the host sleeps would not be seen: `/proc/uptime` can't be read, or is not the kernel's.
+    SleepUnseen,
+    /// Only this many sources have answered within three periods, which is fewer than are needed.
+    SourcesStale {
+        answered: u64,
+        needed: u64,
+    },
+    /// The start waits for so long in nanoseconds, since so many lives ended by a broken assumption one behind the other.
+    StartPaused {
+        pause: u64,
+        breaks: u64,
+    },
+    /// The evidence was not written.
+    EvidenceUnwritten,
 }
 
 impl LogEvent {
@@ -129,6 +188,13 @@ impl LogEvent {
             LogEvent::SocketRenewed { .. } => "socket_renewed",
             LogEvent::PublicationSlow { .. } => "publication_slow",
             LogEvent::SourceUnsent { .. } => "source_unsent",
+            LogEvent::AssumptionBroken { .. } => "assumption_broken",
+            LogEvent::HostSlept { .. } => "host_slept",
+            LogEvent::GuestDisrupted => "guest_disrupted",
+            LogEvent::SleepUnseen => "sleep_unseen",
+            LogEvent::SourcesStale { .. } => "sources_stale",
+            LogEvent::StartPaused { .. } => "start_paused",
+            LogEvent::EvidenceUnwritten => "evidence_unwritten",
         }
     }
 }
@@ -267,13 +333,28 @@ fn push_numbers(text: &mut String, format: LogFormat, event: LogEvent) -> Result
         }
         LogEvent::PublicationSlow { lasted } => push_field(text, format, "lasted_ns", lasted),
         LogEvent::SourceUnsent { source } => push_field(text, format, "source", source),
-        LogEvent::ClockBack
-        | LogEvent::SharingResumed
-        | LogEvent::StatusUnwritten
-        | LogEvent::NotAccepted
-        | LogEvent::StateLoose
-        | LogEvent::EpochLoose
-        | LogEvent::SharedLoose
-        | LogEvent::Ended => Ok(()),
+        LogEvent::AssumptionBroken {
+            clock,
+            lower,
+            upper,
+            last_lower,
+            last_upper,
+        } => {
+            push_field(text, format, "clock_ns", clock)?;
+            push_field(text, format, "lower_ns", lower)?;
+            push_field(text, format, "upper_ns", upper)?;
+            push_field(text, format, "last_lower_ns", last_lower)?;
+            push_field(text, format, "last_upper_ns", last_upper)
+        }
+        LogEvent::HostSlept { slept } => push_field(text, format, "slept_ns", slept),
+        LogEvent::SourcesStale { answered, needed } => {
+            push_field(text, format, "answered", answered)?;
+            push_field(text, format, "needed", needed)
+        }
+        LogEvent::StartPaused { pause, breaks } => {
+            push_field(text, format, "pause_ns", pause)?;
+            push_field(text, format, "breaks", breaks)
+        }
+        _ => Ok(()),
     }
 }

@@ -1,24 +1,28 @@
 //! Metrics in the text format of Prometheus, version 0.0.4.
 
-ghost use Rattle.std.specs.Prelude.{◌≡◌, ◌++◌, OnOk, string_bytes};
+ghost use Rattle.std.specs.Prelude.{◌≡◌, ◌++◌, OnOk, codes, string_bytes};
 ghost use Rattle.std.specs.List.{flat_map};
 ghost use Rattle.std.specs.Fmt.{decimal};
-ghost use Rattle.tt_status.specs.Metric.{kind_word, outcome_word, label_text, labels_text, value_text, head_text, sample_text, metric_text, single};
+ghost use Rattle.tt_status.specs.Digits.{seconds_text};
+ghost use Rattle.tt_status.specs.Metric.{kind_word, outcome_word, suffix_of, label_text, labels_text, value_text, head_text, sample_text, metric_text, single};
 
-use crate::digits::push_seconds;
+use crate::digits::{Difference, push_difference, push_seconds};
 use crate::lines::RefusedFusion;
 use std::alloc::AllocError;
+use tt_source::SourceFault;
 
 /// The version of the program.
 pub const VERSION: &str = "0.2 (rattle-kit-13)";
 
-/// Whether a number may fall.
+/// What numbers a metric has.
 #[derive(Clone, Copy)]
 pub(crate) enum Kind {
-    /// It may.
+    /// Each may fall.
     Gauge,
-    /// It never does in one life of the machine.
+    /// None ever falls in one life of the machine.
     Counter,
+    /// How many values are at most each bound, their sum and their count. None ever falls in one life of the machine.
+    Histogram,
 }
 
 impl Kind {
@@ -29,6 +33,7 @@ impl Kind {
         match self {
             Kind::Gauge => "gauge",
             Kind::Counter => "counter",
+            Kind::Histogram => "histogram",
         }
     }
 }
@@ -40,8 +45,10 @@ pub(crate) enum Value {
     Whole(u64),
     /// Shown as 1 if it is so, otherwise as 0.
     Flag(bool),
-    /// A time in nanoseconds, if there is one, which is shown in seconds.
-    Seconds(Option<u64>),
+    /// So many billionths, if they are known. Nanoseconds are shown as seconds, and parts per billion as a ratio.
+    Nanos(Option<u64>),
+    /// The same of a number that may be below 0.
+    Signed(Option<Difference>),
 }
 
 /// What became of a source in a round.
@@ -78,9 +85,31 @@ pub(crate) enum Subject {
     Source(u64),
     /// The rounds with this outcome of this source.
     OutcomeOf(u64, Outcome),
+    /// The rounds in which answers of this source came and all were refused, the last one for this reason.
+    RefusedOf(u64, SourceFault),
+    /// The values of a histogram that are at most this bound, in nanoseconds; all of them where there is none.
+    AtMost(Option<u64>),
+    /// The sum of the values of a histogram.
+    Sum,
+    /// How many values a histogram has.
+    Count,
 }
 
-/// A metric of one number of the machine: its name, what it says, whether it may fall, and the number.
+impl Subject {
+    /// What stands behind the name of the metric in a sample of it.
+    fn suffix(self) -> &'static str
+        ensures { result.now ≡ suffix_of self }
+    {
+        match self {
+            Subject::AtMost(_) => "_bucket",
+            Subject::Sum => "_sum",
+            Subject::Count => "_count",
+            _ => "",
+        }
+    }
+}
+
+/// A metric of one number of the machine: its name, what it says, its kind, and the number.
 #[derive(Clone, Copy)]
 pub(crate) struct Row<'a> {
     pub(crate) name: &'a str,
@@ -133,7 +162,8 @@ pub(crate) fn push_sample(
     ensures { OnOk result (string_bytes text.new ≡ string_bytes text.old
         ++ sample_text name.now machine (record { subject = subject; value = value })) }
 {
-    write!(text, "{name}{{machine=\"{machine}\"")?;
+    let suffix = subject.suffix();
+    write!(text, "{name}{suffix}{{machine=\"{machine}\"")?;
     push_labels(text, subject)?;
     text.push_str("} ")?;
     push_value(text, value)?;
@@ -145,7 +175,7 @@ fn push_labels(text: &mut String, subject: Subject) -> Result<(), AllocError>
     ensures { OnOk result (string_bytes text.new ≡ string_bytes text.old ++ labels_text subject) }
 {
     match subject {
-        Subject::Machine => Ok(()),
+        Subject::Machine | Subject::Sum | Subject::Count => Ok(()),
         Subject::Version => push_word(text, "version", VERSION),
         Subject::Refusal(reason) => push_number(text, "number", reason.number()),
         Subject::Source(source) => push_number(text, "source", source),
@@ -153,6 +183,12 @@ fn push_labels(text: &mut String, subject: Subject) -> Result<(), AllocError>
             push_number(text, "source", source)?;
             push_word(text, "outcome", outcome.word())
         }
+        Subject::RefusedOf(source, fault) => {
+            push_number(text, "source", source)?;
+            push_number(text, "number", u64::from(fault.number()))
+        }
+        Subject::AtMost(Some(bound)) => push_bound(text, bound),
+        Subject::AtMost(None) => push_word(text, "le", "+Inf"),
     }
 }
 
@@ -170,6 +206,15 @@ fn push_number(text: &mut String, name: &str, number: u64) -> Result<(), AllocEr
     write!(text, ",{name}=\"{number}\"")
 }
 
+/// Adds the label of a bound in nanoseconds.
+fn push_bound(text: &mut String, bound: u64) -> Result<(), AllocError>
+    ensures { OnOk result (string_bytes text.new ≡ string_bytes text.old ++ label_text (codes "le") (seconds_text bound)) }
+{
+    text.push_str(",le=\"")?;
+    push_seconds(text, bound)?;
+    text.push_str("\"")
+}
+
 /// Adds the number of a sample.
 fn push_value(text: &mut String, value: Value) -> Result<(), AllocError>
     ensures { OnOk result (string_bytes text.new ≡ string_bytes text.old ++ value_text value) }
@@ -178,7 +223,8 @@ fn push_value(text: &mut String, value: Value) -> Result<(), AllocError>
         Value::Whole(number) => write!(text, "{number}"),
         Value::Flag(true) => text.push_str("1"),
         Value::Flag(false) => text.push_str("0"),
-        Value::Seconds(Some(nanoseconds)) => push_seconds(text, nanoseconds),
-        Value::Seconds(None) => text.push_str("NaN"),
+        Value::Nanos(Some(number)) => push_seconds(text, number),
+        Value::Signed(Some(difference)) => push_difference(text, difference),
+        Value::Nanos(None) | Value::Signed(None) => text.push_str("NaN"),
     }
 }

@@ -1,5 +1,7 @@
 -- The numbers of the refusals, and how the program ends.
 use Rattle.std.specs.Prelude.{ℕ}
+use Rattle.tt_rounds.specs.Fault.{link_number_of}
+use Rattle.tt_rounds.specs.declared.faults.LinkFault.TheVariants as links
 use Rattle.tt_settings.specs.Fault.{number_of as settings_number}
 use Rattle.tt_shared.specs.Fault.{shared_number_of}
 use Rattle.tt_server.specs.Fault.{number_of as server_number}
@@ -15,6 +17,8 @@ use Rattle.tt_settings.specs.declared.faults.SettingsFault.{SettingsFault}
 use Rattle.tt_settings.specs.declared.faults.SettingsFault.TheVariants as settings
 use Rattle.ttd.specs.declared.faults.ServiceFault.{ServiceFault}
 use Rattle.ttd.specs.declared.faults.ServiceFault.TheVariants.{Words, BadFile, ReadFailed, LinkFailed, Settings, Shared, Server, Memory}
+use Rattle.ttd_commands.specs.Fault.{number_of as command_number}
+use Rattle.ttd_commands.specs.declared.faults.Fault.TheVariants as command
 use Rattle.ttd_words.specs.Fault.{number_of as words_number}
 use Rattle.ttd_words.specs.declared.ending.Status.{Status}
 use Rattle.ttd_words.specs.declared.ending.Status.TheVariants.{Memory as NoMemory, Bad, Device}
@@ -24,9 +28,9 @@ use Rattle.ttd_words.specs.declared.faults.WordsFault.TheVariants as words
 -- The number of each refusal.
 abbrev pub number_of : ServiceFault → ℕ
 number_of (Words fault) = words_number fault
-number_of BadFile = 1603
-number_of ReadFailed = 1604
-number_of LinkFailed = 1501
+number_of BadFile = command_number command.BadInput
+number_of ReadFailed = command_number command.ReadFailed
+number_of LinkFailed = link_number_of links.Failed
 number_of (Settings fault) = settings_number fault
 number_of (Shared fault) = shared_number_of fault
 number_of (Server fault) = server_number fault

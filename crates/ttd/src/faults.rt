@@ -8,9 +8,11 @@ use std::alloc::{AllocError, AllocFailed};
 use thiserror::Error;
 use tt_epoch::EpochFault;
 use tt_publish::PublishFault;
+use tt_rounds::LinkFault;
 use tt_server::ServerFault;
 use tt_settings::SettingsFault;
 use tt_shared::SharedFault;
+use ttd_commands::Fault;
 use ttd_words::{Status, WordsFault};
 
 /// Why a service prints a refusal.
@@ -50,9 +52,9 @@ impl ServiceFault {
     {
         match self {
             ServiceFault::Words(fault) => fault.number(),
-            ServiceFault::BadFile => 1603,
-            ServiceFault::ReadFailed => 1604,
-            ServiceFault::LinkFailed => 1501,
+            ServiceFault::BadFile => Fault::BadInput.number(),
+            ServiceFault::ReadFailed => Fault::ReadFailed.number(),
+            ServiceFault::LinkFailed => LinkFault::Failed.number(),
             ServiceFault::Settings(fault) => fault.number(),
             ServiceFault::Shared(fault) => fault.number(),
             ServiceFault::Server(fault) => fault.number(),

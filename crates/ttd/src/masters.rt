@@ -63,7 +63,7 @@ pub(crate) fn serve_polls<
     let Ok(address) = socket.local_addr() else {
         return Err(ServiceFault::LinkFailed);
     };
-    let reporter = match Reporter::start(rt, rt.alloc(), log, None) {
+    let reporter = match Reporter::start(rt, rt.alloc(), log, None, None) {
         Ok(reporter) => reporter,
         Err(ReporterFault::NoThread) => return Err(ServiceFault::Server(ServerFault::NoThread)),
         Err(ReporterFault::Memory) => return Err(ServiceFault::Memory),

@@ -14,7 +14,7 @@ use ttd_words::write;
 /// Writes the reading of a shared file. Standard error says if it is stale.
 ///
 /// Refuses with 1701 `CannotOpen` where the file can't be opened, with 1702 `BadFile` where it is not a shared file,
-/// and then as the reader does: 801, 802, 803, 1701, 1703, 1704.
+/// and then as the reader does: 801, 802, 803, 1701, 1703, 1704, 1708.
 pub(crate) fn read<H: Files<File = File> + SystemClock + Eprint, O: ByteWriter>(
     rt: &H,
     file: &str,

@@ -15,7 +15,7 @@ use tt_report::Disk;
 use tt_server::{ServerFault, outline, serve};
 use tt_settings::{Refusal, Settings, SettingsFault};
 use tt_stream::{ByteWriter, Counted, ReadFault, read_to_end};
-use ttd_words::write;
+use ttd_words::{Status, write};
 
 /// The most bytes of a configuration: 1 MiB.
 const MOST_FILE: usize = 1_048_576;
@@ -70,7 +70,8 @@ fn say_refusal<H: Eprint>(rt: &H, path: &str, refusal: &Refusal) {
     };
 }
 
-/// Runs the machine of a configuration until it is ended. With `check` it only writes what the machine would do.
+/// Runs the machine of a configuration until it is ended. With `check` it only writes what the machine would do. Where the
+/// machine ends because it knows that an assumption is broken, the program ends with status 3.
 ///
 /// Refuses with 1604 `ReadFailed` where the file is not a regular one or can't be read, with 1603 `BadFile` where it is
 /// longer than 1 MiB or is not UTF-8, with 1801 to 1806, 1810, 1817 or 1818 where the configuration is refused, and with
@@ -95,7 +96,13 @@ pub(crate) fn run_server<
     let settings = settings_of(rt, rt.alloc(), file)?;
     if !check {
         return match serve(rt, &settings, until_eof) {
-            Ok(_end) => Ok(()),
+            Ok(end) => {
+                if end.broken {
+                    Err(Stop::Told(Status::Broken))
+                } else {
+                    Ok(())
+                }
+            }
             Err(ServerFault::Memory) => Err(Stop::Refused(ServiceFault::Memory)),
             Err(fault) => Err(Stop::Refused(ServiceFault::Server(fault))),
         };

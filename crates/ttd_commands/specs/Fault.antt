@@ -8,6 +8,8 @@ use Rattle.tt_judge.specs.Fault.{number_of as history_number}
 use Rattle.tt_script.specs.Fault.{number_of as script_number}
 use Rattle.tt_twin.specs.TwinFault.{number_of as twin_number}
 use Rattle.tt_world.specs.Fault.{number_of as world_number}
+use Rattle.tt_rounds.specs.Fault.{number_of as node_number}
+use Rattle.tt_rounds.specs.declared.faults.NodeFault.TheVariants as node
 use Rattle.tt_live.specs.Fault.{number_of as live_number}
 use Rattle.ttd_words.specs.declared.ending.Status.{Status}
 use Rattle.ttd_words.specs.declared.ending.Status.TheVariants.{Memory as NoMemory, Bad, Device}
@@ -36,7 +38,7 @@ number_of Memory = 1
 abbrev pub status_at : ℕ → Status
 status_at number =
     if nat_eq number 1 then NoMemory
-    else (if nat_eq number 1501 || (nat_eq number 1502 || nat_eq number 304) then Device else Bad)
+    else (if nat_eq number (node_number node.LinkFailed) || (nat_eq number (node_number node.ClockFailed) || nat_eq number (node_number node.ReferenceFailed)) then Device else Bad)
 
 -- How the program ends after each refusal: as at a device fault where reading failed, as out of memory, as a run in threads ended, and else as
 -- at what was rejected.

@@ -10,6 +10,7 @@ use tt_fuse::FuseFault;
 use tt_judge::HistoryFault;
 use tt_live::LiveFault;
 use tt_poll::PollFault;
+use tt_rounds::NodeFault;
 use tt_script::ScriptFault;
 use tt_source::SourceFault;
 use tt_twin::TwinFault;
@@ -121,9 +122,14 @@ impl Fault {
 fn status_at(number: u16) -> Status
     ensures { result ≡ status_at number }
 {
-    match number {
-        1 => Status::Memory,
-        304 | 1501 | 1502 => Status::Device,
-        _ => Status::Bad,
+    if number == 1 {
+        Status::Memory
+    } else if number == NodeFault::LinkFailed.number()
+        || number == NodeFault::ClockFailed.number()
+        || number == NodeFault::ReferenceFailed.number()
+    {
+        Status::Device
+    } else {
+        Status::Bad
     }
 }

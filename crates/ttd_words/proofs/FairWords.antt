@@ -79,6 +79,7 @@ acts_fair None = tt
 acts_fair (Some texts) = acts_in_fair texts
 
 master_fair : (rows : List Row) → IsFair (master_of rows)
+unfolding master_of
 master_fair rows =
     then_fair (number_to (codes "source") max_source rows) _ (up_to_fair max_source (number_at (codes "source") rows)) (λ source.
     then_fair (port_at (codes "listen") rows) _ (then_fair (text_at (codes "listen") rows) _ (text_fair (codes "listen") rows) (λ text. some_fair (port_of text) (BadValue given.Listen) (λ e. cc))) (λ port.
@@ -88,6 +89,7 @@ master_fair rows =
     then_fair (acts_at (all_of (codes "act") rows)) _ (acts_fair (all_of (codes "act") rows)) (λ acts. tt))))))
 
 ask_fair : (rows : List Row) → IsFair (ask_of rows)
+unfolding ask_of
 ask_fair rows =
     then_fair (place_at (codes "address") rows) _ (then_fair (text_at (codes "address") rows) _ (text_fair (codes "address") rows) place_in_fair) (λ place.
     then_fair (number_to (codes "retry") 9999 rows) _ (up_to_fair 9999 (number_at (codes "retry") rows)) (λ retry. tt))

@@ -5,11 +5,13 @@ use Rattle.clap.specs.Walk.{Row, Rule, Text}
 use Rattle.clap.specs.Simple.{App, new_app, new_rule, on_top, subcommand_of, with_rule, with_subcommand}
 use Rattle.clap.specs.Faults.{fault_of}
 use Rattle.clap.specs.Kinds.{Kinds}
+use Rattle.clap.specs.Matches.{count_text}
 use Rattle.clap.specs.declared.builder.action.ArgAction.TheVariants.{Append, SetTrue}
 use Rattle.clap.specs.declared.builder.value_parser.ValueParser.TheVariants as vp
 use Rattle.tt_span.specs.Drift.{max_drift}
 use Rattle.tt_span.specs.Time.{max_time}
 use Rattle.tt_poll.specs.Message.{max_source}
+use Rattle.tt_daemon.specs.Config.{default_drift}
 
 -- The greatest number of 64 bits.
 abbrev pub max_number : ℕ
@@ -27,9 +29,9 @@ number_rule name most = record (new_rule name) {
 abbrev pub given_rule : Text → Rule
 given_rule name = record (number_rule name max_number) { required = true }
 
--- The option `--drift N`, which is 200 where it is not given, and at most the greatest drift.
+-- The option `--drift N`, which is that of a machine where it is not given, and at most the greatest drift.
 abbrev pub drift_rule : Rule
-drift_rule = record (number_rule (codes "drift") max_drift) { defaults = codes "200" ∷ [] }
+drift_rule = record (number_rule (codes "drift") max_drift) { defaults = count_text default_drift ∷ [] }
 
 -- The command `age` with its four options.
 abbrev pub age_app : App

@@ -174,7 +174,7 @@ abbrev pub line_at : Option (List Text) → Option Text
 line_at words = option_map (join_by (λ text. text) (codes " ")) words
 
 -- The command `master` by what was found for its options.
-abbrev pub master_of : List Row → Result Meaning WordsFault
+unfoldable pub master_of : List Row → Result Meaning WordsFault
 master_of rows = do
   source ← number_to (codes "source") max_source rows
   port ← port_at (codes "listen") rows
@@ -191,7 +191,7 @@ serve_of rows = do
   Ok (Serve file (flag_at (codes "check") rows) (flag_at (codes "until-eof") rows))
 
 -- The command `ask` by what was found.
-abbrev pub ask_of : List Row → Result Meaning WordsFault
+unfoldable pub ask_of : List Row → Result Meaning WordsFault
 ask_of rows = do
   place ← place_at (codes "address") rows
   retry ← number_to (codes "retry") 9999 rows

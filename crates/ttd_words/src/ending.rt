@@ -17,7 +17,7 @@ pub enum Status {
     /// written: 2.
     Bad,
     /// A report was written of something wrong: a run that does not keep the assumptions, a wrong reading of `live`, or
-    /// a history that is not consistent: 3.
+    /// a history that is not consistent; or a life of `serve` ended itself, since one of its assumptions is broken: 3.
     Broken,
     /// A device failed: in reading (1604) or in writing (1605, which can't be written), a file, a connection or a
     /// clock: 4.

@@ -14,7 +14,8 @@ Exit status:
   0  the answer, this help or the version was printed
   1  out of memory: `refused 1`
   2  the arguments or the input were refused
-  3  run: the run breaks an assumption; live: a reading was wrong; judge: a commit is violated
+  3  run: the run breaks an assumption; live: a reading was wrong; judge: a commit is violated;
+     serve: the machine has ended itself, since one of its assumptions is broken
   4  a device failed: 1604 in reading, 1605 in writing; live: also 1501 a link, 1502 a clock,
      304 a reference
   5  ask: a commit is still pending after all tries

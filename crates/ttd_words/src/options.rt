@@ -1,9 +1,11 @@
 //! The options and the positional arguments, as they are given to clap.
 
 ghost use Rattle.std.specs.Prelude.{◌≡◌, codes, false};
+ghost use Rattle.clap.specs.Matches.{count_text};
 ghost use Rattle.clap.specs.Words.{rule_of};
 ghost use Rattle.tt_span.specs.Time.{max_time};
 ghost use Rattle.tt_poll.specs.Message.{max_source};
+ghost use Rattle.tt_daemon.specs.Config.{default_drift};
 ghost use Rattle.ttd_words.specs.CommandLine.{act_rule, drift_rule, flag_rule, given_rule, log_rule, needed_rule, offset_rule, place_rule, retry_rule, text_rule, words_rule};
 
 use crate::words::MOST_RETRY;
@@ -12,7 +14,14 @@ use std::alloc::Global;
 use tt_poll::MAX_SOURCE;
 use tt_span::{MAX_DRIFT, MAX_TIME};
 
-/// The option `--drift N`: 200 if it is not given, and at most [`MAX_DRIFT`].
+/// The default drift, [`tt_daemon::DEFAULT_DRIFT`], in decimal.
+fn default_drift() -> &'static str
+    ensures { result.now ≡ count_text default_drift }
+{
+    "200"
+}
+
+/// The option `--drift N`: [`tt_daemon::DEFAULT_DRIFT`] if it is not given, and at most [`MAX_DRIFT`].
 pub(crate) fn drift_option<'a>(alloc: Global) -> Arg<'a>
     ensures rule { rule_of result ≡ drift_rule }
     ensures local { result.global ≡ false }
@@ -20,7 +29,7 @@ pub(crate) fn drift_option<'a>(alloc: Global) -> Arg<'a>
     Arg::new(alloc, "drift")
         .long("drift")
         .value_name("N")
-        .default_value("200")
+        .default_value(default_drift())
         .help("What the clock may be wrong by, in parts per million, up to 100000")
         .value_parser(value_parser!(u64).range(..=i64::from(MAX_DRIFT)))
 }

@@ -9,7 +9,7 @@ use tt_status::LogFormat;
 pub enum Command {
     /// `age`: ages the answer that is read.
     Age {
-        /// The drift of the clock: 200 parts per million if it was not given.
+        /// The drift of the clock: [`DEFAULT_DRIFT`](tt_daemon::DEFAULT_DRIFT) if it was not given.
         drift: Drift,
         /// The clock when the poll was sent, in nanoseconds.
         sent: u64,

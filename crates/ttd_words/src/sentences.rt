@@ -3,7 +3,7 @@
 ghost use Rattle.std.specs.Prelude.{◌≡◌};
 ghost use Rattle.ttd_words.specs.Sentence.{sentence_of};
 
-/// The sentence for standard error about the reply `refused N` of a machine.
+/// The sentence for standard error about the reply `refused N` of a machine, or about 1708 of its shared file.
 pub fn sentence_of(number: u64) -> &'static str
     ensures { result.now ≡ sentence_of number }
 {
@@ -22,8 +22,11 @@ pub fn sentence_of(number: u64) -> &'static str
         1102 => "the line is longer than 64 bytes",
         1103 => "the id of the commit is below the last one of this connection",
         1104 => "another commit of this connection is pending",
+        1708 => "the reading is wider than the machine allows",
         1821 => "the floor is further ahead than the machine allows",
         1822 => "the connection or the machine ended while the commit was pending",
+        1823 => "the machine knows that one of its assumptions is broken",
+        1824 => "the reading is wider than the machine allows",
         _ => "docs/FORMATS.md says what the number means",
     }
 }

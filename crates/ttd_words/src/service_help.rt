@@ -24,6 +24,9 @@ Runs one machine by its configuration, at most 1048576 bytes of TOML: it polls i
 their answers, and serves clients, until it is ended. With --until-eof it ends in order when
 standard input ends. With --check it prints what it would do, and ends.
 
+When it notices that one of its assumptions is broken, it says so and ends itself; the status is 3.
+With `on_break = \"warn\"` in the configuration it only says so.
+
 Example:
   ttd serve node.toml
 
@@ -73,10 +76,11 @@ Example:
 
 Refused:
   1601  invalid arguments
-  801   nothing is published yet
+  801   nothing is published yet, or nothing any more
   802   the clock is below that of the publication
   803   the clock can't be read; the status is 4
   1701  the file can't be opened or read; the status is 4
   1702  it is not a shared file of this boot
   1703  no machine wrote what it holds
-  1704  each try met another publication";
+  1704  each try met another publication
+  1708  the reading is wider than the machine allows";

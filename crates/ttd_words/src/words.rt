@@ -4,6 +4,7 @@ ghost use Rattle.std.specs.Prelude.{◌≡◌, ◌≢◌, ◌≤◌, ◌⊎◌, 
 ghost use Rattle.clap.specs.Walk.{texts};
 ghost use Rattle.clap.specs.Words.{FailsBy, found_of, rows_of, subcommand_rows_of};
 ghost use Rattle.tt_span.specs.Drift.{max_drift};
+ghost use Rattle.tt_daemon.specs.Config.{default_drift};
 ghost use Rattle.ttd_words.specs.CommandLine.{faults_of, is_service as names_one, named_by, names_service};
 ghost use Rattle.ttd_words.specs.Reading.{AreForHelp, AreMistaken, AreTaken, HasAge, HasNumbers, IsMeant, IsRefused, IsUnlessMemory, Meaning, Request, age_of, ask_of, asked_of, command_named, master_of, number_at, read_of, request_in, request_named, serve_of, service_named, twin_of};
 
@@ -92,6 +93,7 @@ fn command_asked(matches: &ArgMatches<'_>) -> Result<Command, WordsFault>
 }
 
 /// The service `master` with these options.
+#[tactic(auto, unfolding(crate::specs::Reading::master_of))]
 fn master_asked<'a>(alloc: Global, matches: &ArgMatches<'a>) -> Result<Service<'a>, WordsFault>
     ensures { IsMeant (master_of (rows_of (found_of matches.now))) result }
 {
@@ -124,6 +126,7 @@ fn serve_asked<'a>(matches: &ArgMatches<'a>) -> Result<Service<'a>, WordsFault>
 }
 
 /// The service `ask` with these options.
+#[tactic(auto, unfolding(crate::specs::Reading::ask_of))]
 fn ask_asked<'a>(alloc: Global, matches: &ArgMatches<'a>) -> Result<Service<'a>, WordsFault>
     ensures { IsMeant (ask_of (rows_of (found_of matches.now))) result }
 {
@@ -239,5 +242,5 @@ pub fn word_laws()
     ensures nothing { AreMistaken [] }
     ensures help { AreForHelp (codes "--help" ∷ []) × AreForHelp (codes "age" ∷ codes "--help" ∷ []) × AreForHelp (codes "--version" ∷ []) }
     ensures age { asked_of (codes "age" ∷ codes "--sent" ∷ codes "500" ∷ codes "--got" ∷ codes "900" ∷ codes "--clock"
-        ∷ codes "30000000900" ∷ []) ≡ Ok (Request.ToRun (Command.Age 200 500 900 30000000900)) }
+        ∷ codes "30000000900" ∷ []) ≡ Ok (Request.ToRun (Command.Age default_drift 500 900 30000000900)) }
 {}

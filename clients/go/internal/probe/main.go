@@ -37,12 +37,12 @@ func tryVectors(lines *bufio.Scanner) {
 	out := bufio.NewWriter(os.Stdout)
 	defer out.Flush()
 	for lines.Scan() {
-		var n [5]uint64
+		var n [6]uint64
 		for place, word := range strings.Fields(lines.Text()) {
 			n[place] = number(word)
 		}
-		publication := truetime.Publication{Clock: n[0], Lo: n[1], Hi: n[2], Drift: n[3]}
-		reading, err := publication.At(n[4])
+		publication := truetime.Publication{Clock: n[0], Lo: n[1], Hi: n[2], Drift: n[3], UsableUntil: n[4]}
+		reading, err := publication.At(n[5])
 		fmt.Fprintln(out, said(fmt.Sprint(reading.Earliest, reading.Latest), err))
 	}
 }
@@ -53,7 +53,7 @@ func published(client *truetime.Client, err error) string {
 	if err == nil {
 		p, err = client.Read()
 	}
-	return said(fmt.Sprintln("published", p.Clock, p.Lo, p.Hi, p.ValidUntil, p.Epoch, p.Number, p.Drift), err)
+	return said(fmt.Sprintln("published", p.Clock, p.Lo, p.Hi, p.ValidUntil, p.UsableUntil, p.Epoch, p.Number, p.Drift), err)
 }
 
 func tryFiles(lines *bufio.Scanner) {

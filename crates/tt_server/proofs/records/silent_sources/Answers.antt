@@ -1,5 +1,5 @@
 -- One more source is silent, or not.
-use Rattle.std.proofs.Common.{◌≡◌, ℕ, ◌++◌, [], ◌∷◌, ◌+◌, ◌<◌, Bool, true, false, List, get_or, length, arith, ap, ◌∙◌, sym}
+use Rattle.std.proofs.Common.{◌≡◌, ℕ, ◌++◌, [], ◌∷◌, ◌<◌, Bool, List, get_or, length, arith, ap, ◌∙◌, sym}
 use Rattle.std.proofs.lemmas.List.{get_or_default}
 use Rattle.arrayvec.specs.ArrayVec.{ArrayVec, array_vec_len}
 use Rattle.tt_rounds.specs.declared.reports.SourceReport.{SourceReport}

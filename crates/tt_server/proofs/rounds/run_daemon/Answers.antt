@@ -15,5 +15,5 @@ loop-preserved g c = record {
   source = c.go_round.ensures.source ∙ c.loop.invariant.source;
 }
 
-pub returns-then-has_ended-clause-calls : goal.returns-then-has_ended-clause-calls
-returns-then-has_ended-clause-calls g c = rw c.end.ensures.same (calls-later _ _ _ _ _ (one-more _ _ _ _ _ _ c.loop.invariant.calls c.go_round.ensures.call) c.end.ensures.rises)
+pub returns-then-poller-clause-calls : goal.returns-then-poller-clause-calls
+returns-then-poller-clause-calls g c = rw c.end.ensures.same (calls-later _ _ _ _ _ (one-more _ _ _ _ _ _ c.loop.invariant.calls c.go_round.ensures.call) c.end.ensures.rises)

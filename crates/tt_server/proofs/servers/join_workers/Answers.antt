@@ -1,4 +1,4 @@
-use Rattle.std.proofs.Common.{IfSome, rules, sym, subst, arith}
+use Rattle.std.proofs.Common.{IfSome, rules, subst, arith}
 use Rattle.std.proofs.lemmas.List.Elements.{All-pop, All-push}
 use Rattle.std.specs.declared.thread.PromisedHandle.{PromisedHandle}
 use Rattle.tt_publish.specs.Known.{new_watch}

@@ -1,4 +1,4 @@
-use Rattle.std.proofs.Common.{◌≡◌, take, refl, sym, subst, All}
+use Rattle.std.proofs.Common.{◌≡◌, take, sym, subst}
 use Rattle.std.proofs.lemmas.Bool.{false≢true}
 use Rattle.std.proofs.lemmas.List.{take_all}
 use Rattle.std.proofs.lemmas.List.Elements.{All-more}

@@ -1,4 +1,3 @@
-use Rattle.std.proofs.Common.{inl, refl}
 use Rattle.tt_server.proofs.Living.{one-session}
 use Rattle.tt_server.proofs.workers.serve_one.Goals as goal
 

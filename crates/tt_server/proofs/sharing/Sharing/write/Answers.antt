@@ -10,7 +10,7 @@ returns-in_err-publish-clause-cause g c = λ before e.
     let why : CannotWrite g.P.Place.does g.P.Place.failed c.args.span c.in_ok-teller.teller =
     cannot g.P.Place.does g.P.Place.failed c.args.span c.in_ok-teller.teller c.publish.new.self (Err c.in_err-publish.field-0.0)
     c.in_err-publish.ensures.broken.0 (λ is. (c.in_err-publish.ensures.used_up.0 is).1) (λ is. (c.in_err-publish.ensures.clock_back.0 is).2)
-    c.in_err-publish.ensures.cause c.in_err-publish.ensures.never.0 c.in_err-publish.ensures.never.1 in
+    c.in_err-publish.ensures.cause c.in_err-publish.ensures.never.0 c.in_err-publish.ensures.never.1 c.in_err-publish.ensures.never.2 in
     let same = same_open (g.O.Opener.opens c.args.self.now.opener) c.args.self.now.teller c.in_ok-teller.teller before c.in_ok-teller.ensures.opened e in
     on_err (CannotWrite g.P.Place.does g.P.Place.failed c.args.span before) c.from_residual-in_err-publish.result
     (subst (λ (t : TellerState g.row.P.Denot). CannotWrite g.P.Place.does g.P.Place.failed c.args.span t) same why)

@@ -1,0 +1,163 @@
+//! Signs that the host slept or that a guest was disrupted, which the clock does not show.
+
+use std::fs::{File, Files, OpenOptions};
+use std::io::{self, Error, ErrorKind};
+use std::os::unix::fs::MetadataExt;
+use std::time::Clock as SystemClock;
+use tt_connections::reading_of;
+use tt_health::{Lead, Look, disruptions_in, is_wide, narrowed, slept_between, uptime_in};
+use tt_shared::read_start;
+
+/// How long the host has been up, sleep included.
+const UPTIME: &str = "/proc/uptime";
+
+/// What is on the same device as the kernel's own file.
+const OF_KERNEL: &str = "/proc/self";
+
+/// How often a round looks at most, where a delay makes a look worthless.
+const LOOKS: u32 = 3;
+
+/// The most bytes that are read of a file.
+const MOST: usize = 64;
+
+/// The bits of a mode that say what a file is, and what they are for a FIFO.
+const KIND: u32 = 0o170000;
+
+const FIFO: u32 = 0o010000;
+
+/// Reads the first bytes of a file that is no FIFO, which could have it wait. Answers how many.
+fn read_at<R: Files<File = File>>(rt: &R, path: &str, bytes: &mut [u8; MOST]) -> io::Result<usize> {
+    if rt.metadata(path)?.mode() & KIND == FIFO {
+        return Err(Error::from(ErrorKind::InvalidInput));
+    }
+    let mut how = OpenOptions::new();
+    how.read(true);
+    let mut file = how.open(rt, path)?;
+    read_start(&mut file, bytes)
+}
+
+/// Whether a file is the kernel's own.
+fn is_of_kernel<R: Files>(rt: &R, path: &str) -> bool {
+    match (rt.metadata(path), rt.metadata(OF_KERNEL)) {
+        (Ok(file), Ok(kernel)) => file.dev() == kernel.dev(),
+        _ => false,
+    }
+}
+
+/// One look at how long the host has been up.
+fn look<R: SystemClock + Files<File = File>>(rt: &R) -> Option<Lead> {
+    let mut bytes = [0; MOST];
+    let before = reading_of(rt)?;
+    let count = read_at(rt, UPTIME, &mut bytes).ok()?;
+    let after = reading_of(rt)?;
+    let uptime = uptime_in(bytes.get(..count)?)?;
+    let look = Look {
+        before,
+        uptime,
+        after,
+    };
+    look.lead()
+}
+
+/// The best of a few looks: the first that no delay makes wide, or else the last.
+fn look_well<R: SystemClock + Files<File = File>>(rt: &R) -> Option<Lead> {
+    let mut lead = look(rt)?;
+    for _ in 1..LOOKS {
+        if !is_wide(&lead) {
+            return Some(lead);
+        }
+        lead = look(rt)?;
+    }
+    Some(lead)
+}
+
+/// Watches how far the time since the start of the host, sleep included, leads the clock.
+#[derive(Clone, Copy)]
+pub(crate) struct SleepWatch {
+    lead: Option<Lead>,
+    is_off: bool,
+}
+
+/// What a look of [`SleepWatch::look`] found.
+#[derive(Clone, Copy, Debug, PartialEq, Eq)]
+pub(crate) enum Sleep {
+    /// The host did not sleep, as far as it is seen.
+    Awake,
+    /// The host slept for so many nanoseconds at least.
+    Slept(u64),
+    /// It can't be seen, from now on.
+    Unseen,
+}
+
+impl SleepWatch {
+    /// No look was made.
+    pub(crate) fn new() -> SleepWatch {
+        SleepWatch {
+            lead: None,
+            is_off: false,
+        }
+    }
+
+    /// It can't be seen, from now on.
+    fn give_up(&mut self) -> Sleep {
+        self.is_off = true;
+        Sleep::Unseen
+    }
+
+    /// Looks whether the host has slept since the last look. The first look sees whether the file is the kernel's own.
+    pub(crate) fn look<R: SystemClock + Files<File = File>>(&mut self, rt: &R) -> Sleep {
+        if self.is_off {
+            return Sleep::Awake;
+        }
+        if self.lead.is_none() && !is_of_kernel(rt, UPTIME) {
+            return self.give_up();
+        }
+        let Some(later) = look_well(rt) else {
+            return self.give_up();
+        };
+        let Some(earlier) = self.lead else {
+            self.lead = Some(later);
+            return Sleep::Awake;
+        };
+        let slept = slept_between(&earlier, &later);
+        self.lead = Some(narrowed(&earlier, &later));
+        if slept > 0 {
+            Sleep::Slept(slept)
+        } else {
+            Sleep::Awake
+        }
+    }
+}
+
+/// Watches the counter of disruptions that a hypervisor gives its guest.
+#[derive(Clone, Copy)]
+pub(crate) struct GuestWatch {
+    last: Option<u64>,
+}
+
+impl GuestWatch {
+    /// No look was made.
+    pub(crate) fn new() -> GuestWatch {
+        GuestWatch { last: None }
+    }
+
+    /// Looks whether the counter at this path has changed since the last look that read it.
+    pub(crate) fn look<R: Files<File = File>>(&mut self, rt: &R, path: &str) -> bool {
+        let mut bytes = [0; MOST];
+        let Ok(count) = read_at(rt, path, &mut bytes) else {
+            return false;
+        };
+        let Some(bytes) = bytes.get(..count) else {
+            return false;
+        };
+        let Some(counter) = disruptions_in(bytes) else {
+            return false;
+        };
+        let before = self.last;
+        self.last = Some(counter);
+        match before {
+            Some(before) => before != counter,
+            None => false,
+        }
+    }
+}
