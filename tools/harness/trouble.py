@@ -11,6 +11,7 @@ import threading
 import time
 
 from harness.processes import Fault, Machine, free_port, truetime
+from harness.program import compile_c, write
 
 NOBODY = 65534
 POLL_S, WAIT_S = 0.1, 0.1
@@ -19,6 +20,8 @@ REQUEST, SPAN = struct.Struct(">4s4BQQ"), struct.Struct(">QQ")
 
 class Node(Machine):
     """A machine that a scenario starts in a way of its own."""
+    #: Its environment, where that is not the one of this process.
+    environment = None
 
     def start(self):
         """It is started by `run`."""
@@ -27,7 +30,7 @@ class Node(Machine):
         """Starts it behind these words, with these arguments of Popen."""
         self.began = time.monotonic()
         with open(self.log, "ab") as log:
-            how = {"stdin": subprocess.PIPE, "stdout": log, "stderr": log, **how}
+            how = {"stdin": subprocess.PIPE, "stdout": log, "stderr": log, "env": self.environment, **how}
             self.running = subprocess.Popen([*prefix, self.program, *self.words], **how)
 
     def again(self):
@@ -173,9 +176,9 @@ class Fake(threading.Thread):
         self.send(self.answer_to(poll, nonce_ahead))
 
     @staticmethod
-    def answer_to(poll, nonce_ahead=0):
-        """The answer to a poll by this host's clock."""
-        nonce, now = int.from_bytes(poll[8:16], "big") + nonce_ahead, time.time_ns()
+    def answer_to(poll, nonce_ahead=0, ahead_ns=0):
+        """The answer to a poll by this host's clock, or by one that is so far ahead of it."""
+        nonce, now = int.from_bytes(poll[8:16], "big") + nonce_ahead, time.time_ns() + ahead_ns
         return poll[:4] + b"\2" + poll[5:8] + nonce.to_bytes(8, "big") + poll[16:24] + SPAN.pack(now - 1_000_000, now + 1_000_000)
 
 
@@ -226,6 +229,67 @@ def send_empty(fake):
             fake.send(b"")
         due += 0.002
         time.sleep(max(0, due - time.monotonic()))
+
+
+# Calls.
+
+class Spoils:
+    """A folder of files that spoil the calls of programs, as tools/spoil_calls.c says, and the monotonic clock that these see."""
+    #: A turn of the clock is told so long before it comes, so that no program has seen a later time by then.
+    AHEAD_NS = 30_000_000
+
+    def __init__(self, room):
+        self.folder, self.course = os.path.join(room, "spoil"), []
+        os.mkdir(self.folder)
+        library = compile_c("spoil_calls", room, "-Wall", "-Wextra", "-Wshadow", "-Wconversion", "-Werror", "-shared", "-fPIC")
+        self.environment = dict(os.environ, LD_PRELOAD=library, SPOIL=self.folder)
+
+    def path(self, kind):
+        return os.path.join(self.folder, kind)
+
+    def tell(self, kind, text=""):
+        """Calls of this kind are spoiled from now on, by this text."""
+        draft = os.path.join(self.folder, f"{kind}.new")
+        write(draft, text.encode())
+        os.rename(draft, self.path(kind))
+
+    @contextlib.contextmanager
+    def spoiled(self, kind):
+        """Calls of this kind are spoiled as long as this lasts."""
+        self.tell(kind)
+        try:
+            yield
+        finally:
+            os.remove(self.path(kind))
+
+    def shown(self, now):
+        """What the clock shows when that of this process shows `now`."""
+        since, shown, rate = next((turn for turn in reversed(self.course) if turn[0] <= now), (now, now, 0))
+        return shown + (now - since) + (now - since) * rate // 1_000_000
+
+    def turn(self, rate=0, jump_ns=0):
+        """Lets the clock jump, and then run by so many parts per million faster; the time since 1970 at which it does."""
+        since = time.monotonic_ns() + self.AHEAD_NS
+        self.course.append((since, self.shown(since) + jump_ns, rate))
+        self.tell("course", "".join("%d %d %d\n" % turn for turn in self.course))
+        while (left := since - time.monotonic_ns()) > 0:
+            time.sleep(left / 1e9)
+        return time.time_ns() - (time.monotonic_ns() - since)
+
+
+# Guests.
+
+def page(marker):
+    """The page of a vmclock device of the kernel, as its vmclock-abi.h has it."""
+    return struct.pack("<IIHBBIQ", 0x4b4c4356, 4096, 1, 0, 0, 0, marker).ljust(4096, b"\0")
+
+
+def disrupt(path, marker):
+    """A guest is disrupted: its counter changes in place."""
+    with open(path, "r+b") as file:
+        file.seek(16)
+        file.write(struct.pack("<Q", marker))
+    return time.time_ns()
 
 
 # Networks.

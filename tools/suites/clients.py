@@ -29,34 +29,46 @@ CLIENTS, GO = in_top("clients"), in_top("clients/go")
 MAX = 4_000_000_000_000_000_000
 
 
-def reading_at(clock, lo, hi, drift, now):
+NO_LIMIT = 2**64 - 1
+
+
+def reading_at(clock, lo, hi, drift, usable, now):
     """What a publication is worth at a clock reading, by whole numbers of any size."""
     if now < clock or now > MAX:
         return "refused 802"
+    if now > usable:
+        return "refused 1708"
     elapsed = now - clock
     widening = -(-elapsed * drift // 1_000_000)
     return f"{min(lo + elapsed - widening, MAX)} {min(hi + elapsed + widening, MAX)}"
 
 
-# Worked out by hand: publication (clock, lo, hi, drift), clock reading, reading.
+# Worked out by hand: publication (clock, lo, hi, drift, until when it is usable), clock reading, reading.
 BY_HAND = [
-    ((0, 0, 0, 0, 0), "0 0"),
-    ((1000, 5, 15, 200, 1000), "5 15"),
-    ((1000, 5, 15, 200, 6000), "5004 5016"),
-    ((1000, 5, 15, 200, 999), "refused 802"),
-    ((50, 45, 55, 200, 30000000050), "29994000045 30006000055"),
-    ((0, 0, 0, 1, 1), "0 2"),
-    ((0, 0, 0, 1, 1000000), "999999 1000001"),
-    ((0, 0, 0, 1, 1000001), "999999 1000003"),
-    ((0, 0, 0, 100000, 10), "9 11"),
-    ((0, 0, 0, 100000, 11), "9 13"),
-    ((0, 0, 0, 100000, MAX), f"3600000000000000000 {MAX}"),
-    ((0, MAX, MAX, 100000, MAX), f"{MAX} {MAX}"),
-    ((MAX, MAX, MAX, 100000, MAX), f"{MAX} {MAX}"),
-    ((0, 0, MAX, 0, MAX + 1), "refused 802"),
-    ((0, 0, MAX, 0, 2**64 - 1), "refused 802"),
-    ((0, 1, 2, 0, MAX), f"{MAX} {MAX}"),
-    ((0, 1, 2, 0, MAX - 2), f"{MAX - 1} {MAX}"),
+    ((0, 0, 0, 0, NO_LIMIT, 0), "0 0"),
+    ((1000, 5, 15, 200, NO_LIMIT, 1000), "5 15"),
+    ((1000, 5, 15, 200, NO_LIMIT, 6000), "5004 5016"),
+    ((1000, 5, 15, 200, NO_LIMIT, 999), "refused 802"),
+    ((50, 45, 55, 200, NO_LIMIT, 30000000050), "29994000045 30006000055"),
+    ((0, 0, 0, 1, NO_LIMIT, 1), "0 2"),
+    ((0, 0, 0, 1, NO_LIMIT, 1000000), "999999 1000001"),
+    ((0, 0, 0, 1, NO_LIMIT, 1000001), "999999 1000003"),
+    ((0, 0, 0, 100000, NO_LIMIT, 10), "9 11"),
+    ((0, 0, 0, 100000, NO_LIMIT, 11), "9 13"),
+    ((0, 0, 0, 100000, NO_LIMIT, MAX), f"3600000000000000000 {MAX}"),
+    ((0, MAX, MAX, 100000, NO_LIMIT, MAX), f"{MAX} {MAX}"),
+    ((MAX, MAX, MAX, 100000, NO_LIMIT, MAX), f"{MAX} {MAX}"),
+    ((0, 0, MAX, 0, NO_LIMIT, MAX + 1), "refused 802"),
+    ((0, 0, MAX, 0, NO_LIMIT, 2**64 - 1), "refused 802"),
+    ((0, 1, 2, 0, NO_LIMIT, MAX), f"{MAX} {MAX}"),
+    ((0, 1, 2, 0, NO_LIMIT, MAX - 2), f"{MAX - 1} {MAX}"),
+    ((1000, 5, 15, 200, 6000, 6000), "5004 5016"),
+    ((1000, 5, 15, 200, 5999, 6000), "refused 1708"),
+    ((1000, 5, 15, 200, 1, 999), "refused 802"),
+    ((1000, 5, 15, 200, 1, 1000), "refused 1708"),
+    ((0, 0, MAX, 0, MAX, MAX + 1), "refused 802"),
+    ((0, 0, MAX, 0, MAX - 1, MAX), "refused 1708"),
+    ((0, 0, MAX, 0, 2**63, MAX), f"{MAX} {MAX}"),
 ]
 
 
@@ -72,7 +84,8 @@ def vectors(seed, number):
         clock = a_time()
         now = chance.choice([a_time(), min(clock + a_time(), MAX), clock, clock + 1, max(clock, 1) - 1, MAX + 1])
         drift = chance.choice([0, 1, 200, 99_999, 100_000, chance.randrange(100_001)])
-        yield clock, lo, hi, drift, now
+        usable = chance.choice([NO_LIMIT, NO_LIMIT, now, now + 1, max(now, 1) - 1, a_time(), chance.randrange(2**64)])
+        yield clock, lo, hi, drift, usable, now
 
 
 def index_of(count):
@@ -80,43 +93,59 @@ def index_of(count):
     return bytes((digits[place] - digits[place + 1]) % 256 for place in range(8))
 
 
+SLOT_BYTES, FILE_BYTES = 128, 320
+
+
 def file_of(count, publication, boot, **changes):
-    """The 192 bytes of a file whose last publication this is; `changes` puts other bytes at a place."""
+    """The bytes of a file whose last publication this is; `changes` puts other bytes at a place."""
     index = index_of(count)
-    slots = [bytes(64), bytes(64)]
+    slots = [bytes(SLOT_BYTES), bytes(SLOT_BYTES)]
     if count > 0:
-        clock, lo, hi, until, epoch, number, drift = publication
-        slots[count % 2] = index + struct.pack("<7Q", clock, lo, hi, until, epoch, number, drift)
-    whole = bytearray(b"TTS1\xc0\0\0\0\1\0\0\0\0\0\0\0" + index + boot + bytes(4) + slots[0] + slots[1])
+        clock, lo, hi, until, usable, epoch, number, drift = publication
+        slots[count % 2] = (index + struct.pack("<8Q", clock, lo, hi, until, epoch, number, drift, usable)).ljust(SLOT_BYTES, b"\0")
+    whole = bytearray(b"TTS2" + struct.pack("<IQ", FILE_BYTES, 1) + index + boot + bytes(4) + slots[0] + slots[1])
     for place, byte in changes.get("at", {}).items():
         whole[place] = byte
     return bytes(whole[: changes.get("length", len(whole))]) + changes.get("more", b"")
+
+
+def file_of_version_1(boot):
+    """A file as version 1 of the format has it."""
+    index = index_of(1)
+    return b"TTS1" + struct.pack("<IQ", 192, 1) + index + boot + bytes(4 + 64) + index + struct.pack("<7Q", 10, 20, 30, 40, 7, 1, 200)
 
 
 def files():
     """Files, how their modes are, and what a reader says of them."""
     with open("/proc/sys/kernel/random/boot_id", "rb") as file:
         boot = file.read(36)
-    good = (10, 20, 30, 2**64 - 1, 7, 2**64 - 2, 100_000)
-    said = "published 10 20 30 18446744073709551615 7 18446744073709551614 100000"
+    good = (10, 20, 30, 2**64 - 1, 2**64 - 3, 7, 2**64 - 2, 100_000)
+    said = "published 10 20 30 18446744073709551615 18446744073709551613 7 18446744073709551614 100000"
     for count in (1, 2, 3, 255, 256, 257, 511, 512, 65_535, 65_536, 65_537, 2**32 - 1, 2**32, 2**56, 2**64 - 1):
         yield f"count {count}", file_of(count, good, boot), 0o644, said
     yield "nothing published", file_of(0, good, boot), 0o644, "refused 801"
-    yield "another format", file_of(1, good, boot, at={3: ord("2")}), 0o644, "refused 1702"
-    yield "another length in the head", file_of(1, good, boot, at={4: 0xC1}), 0o644, "refused 1702"
+    yield "another format", file_of(1, good, boot, at={3: ord("1")}), 0o644, "refused 1702"
+    yield "version 1", file_of_version_1(boot), 0o644, "refused 1702"
+    yield "another length in the head", file_of(1, good, boot, at={4: 0x41}), 0o644, "refused 1702"
     yield "another clock", file_of(1, good, boot, at={8: 2}), 0o644, "refused 1702"
     yield "another boot", file_of(1, good, bytes([boot[0] ^ 1]) + boot[1:]), 0o644, "refused 1702"
     yield "no zeros behind the boot", file_of(1, good, boot, at={63: 1}), 0o644, "refused 1702"
-    yield "too short", file_of(1, good, boot, length=191), 0o644, "refused 1702"
+    yield "too short", file_of(1, good, boot, length=FILE_BYTES - 1), 0o644, "refused 1702"
     yield "too long", file_of(1, good, boot, more=b"\0"), 0o644, "refused 1702"
     yield "empty", b"", 0o644, "refused 1702"
     yield "writable by the group", file_of(1, good, boot), 0o664, "refused 1702"
     yield "writable by others", file_of(1, good, boot), 0o646, "refused 1702"
-    yield "a slot of another index", file_of(1, good, boot, at={128: 2}), 0o644, "refused 1703"
-    edge = (MAX, MAX, MAX, 0, 0, 0, 0)
-    yield "the greatest times", file_of(1, edge, boot), 0o644, f"published {MAX} {MAX} {MAX} 0 0 0 0"
-    for name, bad in [("a clock past the greatest time", (MAX + 1, 0, 0, 0, 0, 0, 0)), ("ends out of order", (0, 2, 1, 0, 0, 0, 0)),
-                      ("an end past the greatest time", (0, 0, MAX + 1, 0, 0, 0, 0)), ("a drift too great", (0, 0, 0, 0, 0, 0, 100_001))]:
+    yield "a slot of another index", file_of(1, good, boot, at={192: 2}), 0o644, "refused 1703"
+    yield "no zero behind the numbers", file_of(1, good, boot, at={192 + 72: 1}), 0o644, "refused 1703"
+    yield "no zero at the end of the slot", file_of(1, good, boot, at={319: 1}), 0o644, "refused 1703"
+    yield "no zero in the other slot", file_of(1, good, boot, at={191: 1}), 0o644, said
+    yield "nothing any more", file_of(1, (10, 20, 30, 40, 0, 7, 8, 200), boot), 0o644, "refused 801"
+    yield "nothing any more, in a bad slot", file_of(1, (10, 20, 30, 40, 0, 7, 8, 100_001), boot), 0o644, "refused 1703"
+    yield "usable at the first reading alone", file_of(1, (0, 20, 30, 40, 1, 7, 8, 200), boot), 0o644, "published 0 20 30 40 1 7 8 200"
+    edge = (MAX, MAX, MAX, 0, 2**64 - 1, 0, 0, 0)
+    yield "the greatest times", file_of(1, edge, boot), 0o644, f"published {MAX} {MAX} {MAX} 0 18446744073709551615 0 0 0"
+    for name, bad in [("a clock past the greatest time", (MAX + 1, 0, 0, 0, 1, 0, 0, 0)), ("ends out of order", (0, 2, 1, 0, 1, 0, 0, 0)),
+                      ("an end past the greatest time", (0, 0, MAX + 1, 0, 1, 0, 0, 0)), ("a drift too great", (0, 0, 0, 0, 1, 0, 0, 100_001))]:
         yield name, file_of(1, bad, boot), 0o644, "refused 1703"
 
 
@@ -470,13 +499,13 @@ def try_files(trial, name, words, reader, path):
 
 
 def try_shrinking(trial, name, reader, path):
-    """A file that becomes shorter after it was opened, and is whole again; the number of lengths. The count is odd, so the last 64 bytes are
-    the slot that is read."""
+    """A file that becomes shorter after it was opened, and is whole again; the number of lengths. The count is odd, so the last 128 bytes
+    are the slot that is read."""
     whole = next(content for what, content, *_ in files() if what == "count 1")
     with open(path, "wb") as file:
         file.write(whole)
     os.chmod(path, 0o644)
-    good, lengths = reader.say(f"open {path}"), (191, 129, 128, 127, 64, 24, 23, 17, 16, 15, 1, 0)
+    good, lengths = reader.say(f"open {path}"), (319, 264, 193, 192, 191, 64, 24, 23, 17, 16, 15, 1, 0)
     for length in lengths:
         os.truncate(path, length)
         shorter = reader.say("again")
@@ -514,6 +543,25 @@ def readers(trial):
             files_tried, lengths = try_files(trial, name, words, reader, path), try_shrinking(trial, name, reader, path)
         trial.note(f"{name}: {len(wanted)} vectors, {files_tried} files, each mapped and not, {lengths} shorter ones, "
                    f"{len(trial.result.wrong) - before} wrong")
+
+
+@suite.case(root=True, programs=("unshare",))
+def time_namespaces(trial):
+    """A file whose clock the reader's time namespace shifts is refused; one that shifts nothing does not matter."""
+    apart = ["unshare", "--time", "--fork"]
+    if run([*apart, "true"]).status != 0:
+        trial.note("time namespaces are not tried: there are none here")
+        return
+    path = os.path.join(trial.room, "shifted")
+    _, content, mode, answer = next(files())
+    with open(path, "wb") as file:
+        file.write(content)
+    os.chmod(path, mode)
+    for name, words in trial.shared:
+        for offset, wanted in ([], answer), (["--monotonic", "-1"], "refused 1702"), (["--monotonic", "1000"], "refused 1702"):
+            said = run([*apart, *offset, *words, "open", path], seconds=60).said.strip()
+            trial.check(name, said == wanted, f"{offset}: {said} in place of {wanted!r}")
+    trial.note(f"time namespaces: {len(trial.shared)} languages, {len(trial.result.wrong)} wrong")
 
 
 @suite.case()

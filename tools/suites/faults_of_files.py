@@ -8,7 +8,7 @@ from concurrent.futures import ThreadPoolExecutor
 
 from harness import trouble
 from harness.processes import free_port
-from harness.program import read, write
+from harness.program import read, run, write
 from harness.trouble import as_nobody, full_listener, full_pipe, hold_lock
 from suites.faults import suite
 
@@ -303,11 +303,11 @@ def shared_file_is_replaced(trial):
     """By a file that is none, and that stays as it is where it was moved away."""
     node = trial.running_node(trial.masters(3))
     foreign = os.path.join(trial.room, "foreign")
-    write(foreign, b"x" * 192)
+    write(foreign, b"x" * 320)
     os.link(foreign, os.path.join(trial.room, "kept"))
     os.rename(foreign, node.path("shared"))
     yield from comes_back(trial, node)
-    if read(os.path.join(trial.room, "kept")) != b"x" * 192:
+    if read(os.path.join(trial.room, "kept")) != b"x" * 320:
         yield "the foreign file was written"
 
 
@@ -316,6 +316,38 @@ def shared_file_is_shortened(trial):
     node = trial.running_node(trial.masters(3))
     os.truncate(node.path("shared"), 0)
     yield from comes_back(trial, node)
+    yield from node.answers()
+
+
+@suite.case()
+def shared_file_of_version_1(trial):
+    """It is replaced, and stays as it is for who has it open."""
+    node = trial.node(trial.masters(3))
+    with open("/proc/sys/kernel/random/boot_id", "rb") as file:
+        content = b"TTS1\xc0\0\0\0\1\0\0\0\0\0\0\0" + bytes(8) + file.read(36) + bytes(132)
+    write(node.path("shared"), content)
+    with open(node.path("shared"), "rb") as kept:
+        node.run()
+        node.wait_until_ready()
+        yield from comes_back(trial, node)
+        if kept.read() != content:
+            yield "the file of version 1 was written"
+
+
+@suite.case(root=True, programs=("unshare",))
+def shared_in_a_time_namespace(trial):
+    """A machine whose clock is not that of the host shares nothing, and goes on."""
+    apart = ["unshare", "--time", "--monotonic", "1000", "--fork", "--kill-child"]
+    if run([*apart, "true"]).status != 0:
+        trial.note("there are no time namespaces here")
+        return
+    node = trial.node(trial.masters(3))
+    node.run(prefix=apart)
+    node.wait_until_ready()
+    yield from node.comes_to("sharing", 0, 2)
+    numbers = [int(fields["number"]) for fields in node.said("sharing_ended")]
+    if numbers != [1702] or os.path.exists(node.path("shared")):
+        yield f"it refuses with {numbers}, and the file is {'there' if os.path.exists(node.path('shared')) else 'not there'}"
     yield from node.answers()
 
 
@@ -394,7 +426,7 @@ def shared_file_prepared_by_another(trial):
     os.chmod(folder, 0o777)
     path = os.path.join(folder, "shared")
     with open("/proc/sys/kernel/random/boot_id", "rb") as file:
-        content = b"TTS1\xc0\0\0\0\1\0\0\0\0\0\0\0" + bytes(8) + file.read(36) + bytes(132)
+        content = b"TTS2\x40\1\0\0\1\0\0\0\0\0\0\0" + bytes(8) + file.read(36) + bytes(260)
     with as_nobody():
         write(path, content)
     kept = os.open(path, os.O_RDONLY)
@@ -402,7 +434,7 @@ def shared_file_prepared_by_another(trial):
     node.run()
     node.wait_until_ready()
     time.sleep(0.5)
-    if os.pread(kept, 192, 0) != content:
+    if os.pread(kept, 320, 0) != content:
         yield "the file of another user was written"
     sharing = (node.status_or_none() or {}).get("truetime_sharing")
     if sharing != (os.stat(path).st_uid == 0):

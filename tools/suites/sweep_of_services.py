@@ -177,7 +177,8 @@ class Life(Machine):
         self.give_up, self.last, self.has_served = time.monotonic() + LONGEST_S, (0, 0), False
         # The text of the epoch before and after the start.
         self.epochs = b"", b"tt-epoch 1 1\n"
-        settings = {"listen": "%s:%d" % self.port.getsockname(), "poll": "20ms", "wait": "100ms", "workers": 2}
+        settings = {"listen": "%s:%d" % self.port.getsockname(), "poll": "20ms", "wait": "100ms", "workers": 2,
+                    "max_width": "1s", "evidence": os.path.join(trying.room, "A", "evidence")}
         super().__init__(Service(trying.place.program, trying.room), "A", 0, trying.place.masters, settings)
         self.address = self.port.getsockname()
 

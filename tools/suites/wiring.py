@@ -5,11 +5,11 @@ busy. Masters are scripts that keep what a machine sends.
 
 - Each setting of a machine, each option of `master` and each of its acts has its effect, with a value that is no default.
 - Each number of the status and of the shared file is that of what was done: rounds of a known kind, packets of each kind that is refused
-  (of which the status has only the sum), clients with known lines, calls that tools/spoil_calls.c lets fail or last.
+  by its number, answers of known age, delay, span and rate, clients with known lines, calls that tools/spoil_calls.c spoils.
 - Each kind of line of the log is provoked, with its numbers; one before which others were left out says how many.
 
 The names are in wiring_checks.py, and each of them has to be checked. Not tried are the order of the refusals of settings (tests/), what
-becomes of clients, files and networks that fail (the suite `faults`), and numbers that a run cannot reach: 402, 805, counts at their ends.
+becomes of clients, files and networks that fail (the suite `faults`), and numbers that a run cannot reach: 402, 403, 805, counts at their ends.
 """
 from harness.suite import Suite, wrong_in
 from suites.wiring_checks import NAMES, Checks

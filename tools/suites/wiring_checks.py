@@ -5,35 +5,52 @@ import re
 import shutil
 import time
 import typing
+from decimal import Decimal
 
 from harness.metrics import faults_in
 from harness.processes import SECOND, Process, fields_of, truetime
-from harness.program import compile_c, read_text, run, write
+from harness.program import read_text, run
 from harness.trial import Trial
-from harness.trouble import REQUEST, SPAN, Fake, honest
+from harness.trouble import REQUEST, SPAN, Fake, Spoils, honest
 
 # The names. One that changes is changed here; that of a setting or of an event also where a scenario gives or awaits it.
 
-SETTINGS = "machine masters faulty workers drift poll wait floor_ahead idle lease_lo lease_hi listen log state socket shared status".split()
+SETTINGS = """machine masters faulty workers drift poll wait floor_ahead idle lease_lo lease_hi listen log on_break max_width state socket shared
+status evidence vmclock""".split()
 OPTIONS = "source listen uncertainty offset act log".split()
 ACTS = "honest ahead behind silent garbage repeat".split()
 
 # The numbers of the status in their order, by the names that the checks use: those before the ones of each source, these, and the others.
 FIRST = {
     "epoch": "truetime_epoch", "width": "truetime_width_seconds", "fusion_age": "truetime_fusion_age_seconds",
-    "sources": "truetime_sources", "known": "truetime_sources_known",
+    "sources": "truetime_sources", "known": "truetime_sources_known", "newest": "truetime_newest_answer_age_seconds",
+    "needed": "truetime_needed_answer_age_seconds",
 }
+# The numbers by which the answers of a source are refused. The first two cannot be provoked from outside.
+UNREACHED, REASONS = ["402", "403"], ["404", "405", "407", "406"]
 OF_SOURCES = {
     "suspect": 'truetime_source_suspect{source="%d"}', "accepted": 'truetime_source_rounds_total{source="%d",outcome="accepted"}',
     "refused": 'truetime_source_rounds_total{source="%d",outcome="refused"}',
-    "silent": 'truetime_source_rounds_total{source="%d",outcome="silent"}', "unsent": 'truetime_source_packets_unsent_total{source="%d"}',
+    "silent": 'truetime_source_rounds_total{source="%d",outcome="silent"}',
+    **{f"refused_{number}": f'truetime_source_rounds_refused_total{{source="%d",number="{number}"}}' for number in UNREACHED + REASONS},
+    "unsent": 'truetime_source_packets_unsent_total{source="%d"}', "age": 'truetime_source_answer_age_seconds{source="%d"}',
+    "round_trip": 'truetime_source_round_trip_seconds{source="%d"}', "lower": 'truetime_source_lower_seconds{source="%d"}',
+    "upper": 'truetime_source_upper_seconds{source="%d"}', "rate": 'truetime_source_clock_rate_ratio{source="%d"}',
+    "rate_error": 'truetime_source_clock_rate_error_ratio{source="%d"}',
 }
 LAST = {
     "rounds": "truetime_rounds_total", "publications": "truetime_publications_total", "answers_refused": "truetime_answers_refused_total",
-    "fusions_504": 'truetime_fusions_refused_total{number="504"}', "fusions_701": 'truetime_fusions_refused_total{number="701"}',
-    "sessions": "truetime_sessions_total", "lines": "truetime_lines_total", "lines_refused": "truetime_lines_refused_total",
-    "waiting": "truetime_connections_waiting", "sharing": "truetime_sharing", "left_out": "truetime_records_left_out_total",
+    "rounds_stale": "truetime_rounds_stale_total", "fusions_504": 'truetime_fusions_refused_total{number="504"}',
+    "fusions_701": 'truetime_fusions_refused_total{number="701"}', "breaks": "truetime_assumption_breaks_total",
+    "slept": "truetime_slept_seconds_total", "sessions": "truetime_sessions_total", "lines": "truetime_lines_total",
+    "lines_refused": "truetime_lines_refused_total", "waiting": "truetime_connections_waiting", "workers": "truetime_workers",
+    "busy": "truetime_workers_busy", "commits_waiting": "truetime_commits_waiting",
+    "commits_waited": "truetime_commit_wait_seconds_sum", "commits_released": "truetime_commit_wait_seconds_count",
+    "round_trips": "truetime_round_trip_seconds_sum", "answers": "truetime_round_trip_seconds_count",
+    "sharing": "truetime_sharing", "left_out": "truetime_records_left_out_total",
 }
+# The buckets of histograms, which stand before their sums.
+BUCKETS = {"commit_buckets": "truetime_commit_wait_seconds_bucket", "answer_buckets": "truetime_round_trip_seconds_bucket"}
 
 # The numbers of a publication in the shared file, as clients/python names them.
 SHARED = truetime.Publication._fields
@@ -45,6 +62,9 @@ EVENTS = {
     "fusion_refused": "warn number", "round_failed": "warn number", "sharing_ended": "warn number", "socket_renewed": "warn number pause_ns",
     "publication_slow": "warn lasted_ns", "clock_back": "warn", "status_unwritten": "warn", "not_accepted": "warn",
     "state_loose": "warn", "epoch_loose": "warn", "shared_loose": "warn", "answers_refused": "warn count", "master_failed": "warn number",
+    "assumption_broken": "warn clock_ns lower_ns upper_ns last_lower_ns last_upper_ns", "host_slept": "warn slept_ns",
+    "guest_disrupted": "warn", "sleep_unseen": "warn", "sources_stale": "warn answered needed", "start_paused": "warn pause_ns breaks",
+    "evidence_unwritten": "warn",
 }
 
 # The forms of a line.
@@ -56,7 +76,10 @@ FORMS = {
 
 # The names of all checks that are to be made.
 NAMES = [*(f"setting {name}" for name in SETTINGS), *(f"option {name}" for name in OPTIONS), *(f"act {name}" for name in ACTS),
-         *(f"status {name}" for name in ("build_info", "form", *FIRST, *OF_SOURCES, *LAST)), *(f"shared {name}" for name in SHARED), *(f"log {name}" for name in EVENTS)]
+         *(f"status {name}" for name in ("build_info", "form", *FIRST, *OF_SOURCES, *LAST, *BUCKETS)), *(f"shared {name}" for name in SHARED),
+         *(f"log {name}" for name in EVENTS)]
+for unreached in UNREACHED:
+    NAMES.remove(f"status refused_{unreached}")
 
 
 def eventually(call, seconds=6.0, pause_s=0.02):
@@ -120,43 +143,37 @@ class Checks(Trial):
         return [self.keep(Scripted(*(one if isinstance(one, (list, tuple)) else [one]))) for one in acts]
 
     def spoilable(self, masters, **settings):
-        """A machine that has published, and a folder in which a file spoils its calls, as tools/spoil_calls.c says."""
-        folder, library = os.path.join(self.room, "spoil"), compile_c("spoil_calls", self.room, "-shared", "-fPIC")
-        os.mkdir(folder)
-        node = self.node(masters, **settings)
-        node.run(env=dict(os.environ, LD_PRELOAD=library, SPOIL=folder))
+        """A machine that has published, and what spoils its calls."""
+        spoils, node = Spoils(self.room), self.node(masters, **settings)
+        node.environment = spoils.environment
+        node.run()
         node.wait_until_ready()
-        return node, folder
-
-
-@contextlib.contextmanager
-def spoiled(folder, kind):
-    """Calls of this kind are spoiled as long as this lasts."""
-    path = os.path.join(folder, kind)
-    write(path, b"")
-    try:
-        yield
-    finally:
-        os.remove(path)
+        return node, spoils
 
 
 def number_of(numbers, name):
-    """A number of a status; that of a name in seconds is in nanoseconds. None where it is not there or `NaN`."""
+    """A number of a status; one with a fraction is in parts of a thousand million. None where it is not there or `NaN`."""
     value = numbers.get(name)
-    return int(value * SECOND) if value is not None and "_seconds" in name else value
+    return int(value * SECOND) if isinstance(value, Decimal) else value
 
 
 def status_of(node):
-    """The numbers of its status by the names above, and those of each source as lists."""
+    """The numbers of its status by the names above, those of each source as lists, and buckets by their bounds in nanoseconds."""
     numbers = node.status()
     found = {name: number_of(numbers, line) for name, line in (FIRST | LAST).items()}
-    return found | {name: [numbers.get(line % source) for source in range(found["sources"] or 0)] for name, line in OF_SOURCES.items()}
+    for name, line in OF_SOURCES.items():
+        found[name] = [number_of(numbers, line % source) for source in range(found["sources"] or 0)]
+    for name, line in BUCKETS.items():
+        found[name] = {int(Decimal(bound) * SECOND): numbers[sample] for sample in numbers if sample.startswith(line)
+                       for bound in re.findall(r'le="([0-9.]+)"', sample)}
+    return found
 
 
 def names_of(sources, version):
-    """The names of the numbers of a status with so many sources, in their order."""
-    of_sources = [line % source for lines in (["suspect"], ["accepted", "refused", "silent"], ["unsent"])
-                  for source in range(sources) for line in map(OF_SOURCES.get, lines)]
+    """The names of the numbers of a status with so many sources, in their order, but for buckets."""
+    together = ["suspect"], ["accepted", "refused", "silent"], [name for name in OF_SOURCES if name.startswith("refused_")]
+    of_sources = [OF_SOURCES[name] % source for names in (*together, *([name] for name in list(OF_SOURCES)[list(OF_SOURCES).index("unsent"):]))
+                  for source in range(sources) for name in names]
     return [f'truetime_build_info{{version="{version}"}}', *FIRST.values(), *of_sources, *LAST.values()]
 
 
@@ -215,6 +232,19 @@ def answer(poll, ahead_ns=0, **changed):
 def lies(ahead_ns):
     """It is so far ahead."""
     return lambda fake, poll: fake.send(answer(poll, ahead_ns))
+
+
+def spans(below_ns, above_ns):
+    """Its span goes from so much below this host's clock to so much above it."""
+    def act(fake, poll):
+        now = time.time_ns()
+        fake.send(answer(poll)[:REQUEST.size] + SPAN.pack(now - below_ns, now + above_ns))
+    return act
+
+
+def runs(rate):
+    """Its clock runs by so many parts per million faster from its first poll on."""
+    return lambda fake, poll: fake.send(answer(poll, (time.time_ns() - fake.times[0]) * rate // 1_000_000))
 
 
 def forges(*packets):

@@ -5,10 +5,11 @@ import socket
 import time
 
 from harness.processes import SECOND
-from harness.program import write
-from harness.trouble import hold_lock, honest, silent
+from harness.program import read, write
+from harness.trouble import Spoils, disrupt, hold_lock, honest, page, silent
+from suites.breaks_world import is_valid
 from suites.wiring import suite
-from suites.wiring_checks import eventually, published, spoiled, status_of
+from suites.wiring_checks import eventually, published, status_of
 
 
 @suite.case()
@@ -70,6 +71,52 @@ def status_that_fails(trial):
 
 
 @suite.case()
+def evidence_that_fails(trial):
+    """A folder lies where it is written, and later does not."""
+    path = os.path.join(trial.room, "evidence")
+    node = trial.running_node(trial.scripts(honest), evidence=path)
+    trial.check("setting evidence", eventually(lambda: is_valid(trial.program, path)), "nothing valid is there")
+    eventually(lambda: os.makedirs(f"{path}.new/kept") or True)
+    trial.logs(node, "evidence_unwritten")
+    shutil.rmtree(f"{path}.new", ignore_errors=True)
+    before = read(path)
+    trial.check("setting evidence", eventually(lambda: read(path) != before), "it stays as it was")
+
+
+@suite.case()
+def sleep_that_is_not_seen(trial):
+    """The uptime cannot be read."""
+    spoils, node = Spoils(trial.room), trial.node(trial.scripts(honest))
+    spoils.tell("no-uptime")
+    node.environment = spoils.environment
+    node.run()
+    trial.logs(node, "sleep_unseen")
+    time.sleep(0.5)
+    trial.equal("log sleep_unseen", len(node.said("sleep_unseen")), 1)
+    trial.numbers(node, slept=0, breaks=0)
+
+
+@suite.case()
+def starts_after_breaks(trial):
+    """Lives end by a disruption, with the status 3, and starts pause."""
+    path = os.path.join(trial.room, "vmclock0")
+    write(path, page(1))
+    node = trial.node(trial.scripts(honest), vmclock=path)
+    node.words.remove("--until-eof")
+    for breaks, pause_ns in ((0, 0), (1, SECOND // 10), (2, SECOND // 5)):
+        node.run()
+        node.wait_until_ready()
+        trial.equal("log start_paused", len(node.said("start_paused")), breaks)
+        if breaks:
+            trial.logs(node, "start_paused", breaks=breaks, pause_ns=pause_ns)
+            trial.between("log start_paused", pause_ns / SECOND, time.monotonic() - node.began, pause_ns / SECOND + 1)
+        time.sleep(0.3)  # the counter is read for the first time behind the first round
+        disrupt(path, breaks + 2)
+        trial.equal("setting on_break", eventually(node.running.poll), 3)
+    trial.equal("log guest_disrupted", len(node.said("guest_disrupted")), 3)
+
+
+@suite.case()
 def no_descriptors(trial):
     """None is left for a connection."""
     node = trial.running_node(trial.scripts(honest))
@@ -100,18 +147,18 @@ def left_out_lines(trial):
 def calls_that_fail(trial):
     """No packet goes to one master; then none is received; then the clock goes back."""
     masters = trial.scripts(*[honest] * 3)
-    node, folder = trial.spoilable(masters)
-    with spoiled(folder, f"send-{masters[1].address.split(':')[1]}"):
+    node, spoils = trial.spoilable(masters)
+    with spoils.spoiled(f"send-{masters[1].address.split(':')[1]}"):
         trial.logs(node, "source_unsent", source=1)
         time.sleep(1)
     time.sleep(0.3)
     unsent = len(masters[0].polls) - len(masters[1].polls)
     trial.between("status unsent", max(1, unsent - 1), status_of(node)["unsent"][1], unsent + 1)
     trial.equal("log source_unsent", {line["source"] for line in node.said("source_unsent")}, {"1"})
-    with spoiled(folder, "receive"):
+    with spoils.spoiled("receive"):
         trial.logs(node, "round_failed", number=1501)
         trial.logs(node, "socket_renewed", number=1501, pause_ns=SECOND // 10)
-    with spoiled(folder, "clock"):
+    with spoils.spoiled("clock"):
         trial.logs(node, "clock_back")
     rounds = status_of(node)["rounds"]
     trial.check("status rounds", eventually(lambda: status_of(node)["rounds"] > rounds + 1), "no rounds once the clock is right again")
@@ -121,15 +168,15 @@ def calls_that_fail(trial):
 def calls_that_last(trial):
     """A rename of the status lasts for a second, and then sending a poll lasts until it is logged: a second more than `wait`."""
     masters = trial.scripts(*[honest] * 3)
-    node, folder = trial.spoilable(masters, poll="50ms", wait="3s")
+    node, spoils = trial.spoilable(masters, poll="50ms", wait="3s")
     trial.numbers(node, left_out=0)
-    with spoiled(folder, "rename"):
+    with spoils.spoiled("rename"):
         time.sleep(0.1)
         begun = len(masters[0].polls)
         time.sleep(1)
         made = len(masters[0].polls) - begun
     status = eventually(lambda: (seen := status_of(node))["left_out"] > 0 and seen) or status_of(node)
     trial.between("status left_out", max(1, made - 3), status["left_out"], made + 12)
-    with spoiled(folder, "sending"):
+    with spoils.spoiled("sending"):
         line = trial.logs(node, "publication_slow", 12)
     trial.between("log publication_slow", 4 * SECOND, int(line.get("lasted_ns", 0)), 12 * SECOND)

@@ -136,11 +136,29 @@ def workers(trial):
             last = ask_at(doors, address)
             trial.check("setting workers", not has_reply(last, 0.4), f"of 5 more than {number} serve {name}")
             waiting.append((served[0], last))
-        trial.numbers(node, waiting=2)
+        trial.numbers(node, waiting=2, busy=5, workers=5)
         for served, last in waiting:
             served.close()
             trial.check("setting workers", has_reply(last, 5), "a client that waited is not served when another has left")
-    trial.numbers(node, waiting=0)
+    trial.numbers(node, waiting=0, busy=0)
+
+
+@suite.case()
+def max_width(trial):
+    """A reading is refused once it is wider: the master answers once. The shared file says until when it may be used."""
+    node = trial.running_node(trial.scripts([honest, silent]), max_width="60ms", drift=DRIFT, poll="50ms", wait="50ms")
+    widest, shared = 0, published(node)
+    for at, is_narrow in ((shared.usable_until_ns, True), (shared.usable_until_ns + 1, False)):
+        reading = shared._replace(usable_until_ns=2**64 - 1).read_at(at)
+        trial.equal("shared usable_until_ns", reading.latest_ns - reading.earliest_ns <= 60 * MILLISECOND, is_narrow)
+    with truetime.Session(node.address, 10) as session:
+        while (reply := session.ask("now")).startswith("now "):
+            earliest, latest = map(int, reply.split()[1:])
+            widest = max(widest, latest - earliest)
+        trial.equal("setting max_width", (reply, session.ask("commit 1 0")), ("refused 1824",) * 2)
+    trial.between("setting max_width", 40 * MILLISECOND, widest, 60 * MILLISECOND)
+    said = trial.command("read", node.path("shared"))
+    trial.equal("setting max_width", said.answer, ("refused 1708\n", 2))
 
 
 def pause_between(times):
@@ -217,7 +235,7 @@ def files(trial):
     node = trial.running_node(trial.scripts(honest), "A", socket=None, shared=None, status=None)
     trial.equal("setting state", sorted(os.listdir(node.folder)), ["node.toml", "state"])
     trial.equal("setting state", read(node.path("state/epoch")), b"tt-epoch 1 1\n")
-    places = {name: os.path.join(trial.room, f"other-{name}") for name in ("state", "socket", "shared", "status")}
+    places = {name: os.path.join(trial.room, f"other-{name}") for name in ("state", "socket", "shared", "status", "evidence")}
     os.mkdir(places["state"])
     node = trial.node(trial.scripts(honest), "B", listen="127.0.0.1:0", **places)
     node.run()
@@ -227,16 +245,18 @@ def files(trial):
             trial.equal(f"setting {name}", session.ask("now").split()[0], "now")
     with truetime.Client(places["shared"], os.geteuid()) as client:
         trial.check("setting shared", client.read().number, "nothing is there")
-    trial.check("setting status", eventually(lambda: os.path.getsize(places["status"])), "nothing is there")
+    for name in ("status", "evidence"):
+        trial.check(f"setting {name}", eventually(lambda name=name: os.path.getsize(places[name])), "nothing is there")
     trial.equal("setting state", read(os.path.join(places["state"], "epoch")), b"tt-epoch 1 1\n")
     trial.equal("setting state", sorted(os.listdir(node.folder)), ["node.toml", "state"])
     trial.equal("setting state", os.listdir(node.path("state")), [])
     node = trial.node(trial.scripts(honest), "C", **{name: name for name in places})
     node.run(cwd=node.folder)
     trial.check("setting shared", published(node), "nothing is there, and its path is relative")
-    trial.check("setting status", eventually(lambda: os.path.getsize(node.path("status"))), "nothing is there, and its path is relative")
+    for name in ("status", "evidence"):
+        trial.check(f"setting {name}", eventually(lambda name=name: os.path.getsize(node.path(name))), "nothing is there, and its path is relative")
     there = {"node.toml", "shared.lock", *places}
-    trial.equal("setting state", set(os.listdir(node.folder)) - {"status.new"}, there)
+    trial.equal("setting state", set(os.listdir(node.folder)) - {"status.new", "evidence.new"}, there)
 
 
 @suite.case()
@@ -261,13 +281,14 @@ def outline(trial):
     ports = [free_port(socket.SOCK_DGRAM) for _ in range(4)]
     masters = [f"127.0.0.1:{port}" for port in ports]
     node = trial.node(masters, machine=6, faulty=0, workers=7, drift=321, poll="31ms", wait="32ms", floor_ahead="33ms", idle="34s",
-                      lease_lo=35, lease_hi=36)
+                      lease_lo=35, lease_hi=36, on_break="warn", max_width="37ms", evidence="evidence", vmclock="vmclock")
     growth = 2 * -(-63_000_000 * 321 // 1_000_000)
     numbers = {"faulty": 0, "workers": 7, "drift": 321, "poll": 31_000_000, "wait": 32_000_000, "floor_ahead": 33_000_000,
-               "idle": 34 * SECOND, "lease": "35 36", "growth": growth, "threads": 12, "memory": 4_194_304 + 7 * 131_072}
+               "idle": 34 * SECOND, "lease": "35 36", "on_break": "warn", "max_width": 37_000_000, "growth": growth, "threads": 13,
+               "memory": 4_194_304 + 7 * 131_072}
     lines = ["machine 6", f"listen 127.0.0.1:{node.address[1]}", *(f"master {master}" for master in masters),
              *(f"{name} {value}" for name, value in numbers.items()),
-             *(f"{name} {node.path(name)}" for name in ("state", "socket", "shared", "status"))]
+             *(f"{name} {node.path(name)}" for name in ("state", "socket", "shared", "status")), "evidence evidence", "vmclock vmclock"]
     said, status = trial.command("serve", "--check", node.path("node.toml")).answer
     trial.equal("--check", (status, said.splitlines()), (0, lines))
 
@@ -307,11 +328,18 @@ REFUSED = [
     ({"lease_lo": "36", "lease_hi": "35"}, 1804, "lease_hi: 35 is below lease_lo"),
     ({"listen": '"10.0.0.1:1"'}, 1805, 'listen: "10.0.0.1:1": an address of this host, as 127.0.0.1:7001'),
     ({"log": '"Json"'}, 1804, 'log: "Json": "text" or "json"'),
+    ({"on_break": '"End"'}, 1804, 'on_break: "End": "end" or "warn"'),
+    ({"max_width": '"3601s"'}, 1804, 'max_width: "3601s" is above 3600s'),
+    ({"max_width": "5"}, 1804, "max_width: 5: a whole number and ns, us, ms or s, in quotes"),
     ({"state": '""'}, 1804, 'state: "": a path'),
     ({"socket": "7"}, 1804, "socket: 7: a path, in quotes"),
     ({"shared": '["a"]'}, 1804, "shared: a list: a path, in quotes"),
     ({"status": '"./state/epoch\\n"', "shared": '"state/epoch\\n"'}, 1817,
      'status: "./state/epoch\\n": the path, its draft or its lock has another purpose as well'),
+    ({"evidence": '""'}, 1804, 'evidence: "": a path'),
+    ({"evidence": '"a"', "status": '"a.break-2"'}, 1817, 'evidence: "a": the path, its draft or its lock has another purpose as well'),
+    ({"vmclock": '""'}, 1804, 'vmclock: "": a path'),
+    ({"vmclock": "7"}, 1804, "vmclock: 7: a path, in quotes"),
     ({"lisen": "1"}, 1802, "lisen: unknown key; did you mean listen?"),
     ({"drfit": "1"}, 1802, "drfit: unknown key; did you mean drift?"),
     ({"lease-lo": "1"}, 1802, "lease-lo: unknown key; did you mean lease_lo?"),

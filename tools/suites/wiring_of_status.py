@@ -2,14 +2,17 @@
 that tell of rounds."""
 import contextlib
 import os
+import socket
 import subprocess
 import time
 
 from harness.processes import SECOND, truetime
 from harness.program import write
-from harness.trouble import honest, silent
+from harness.trouble import disrupt, honest, late, page, reset, silent
+from harness.users import latest_of
 from suites.wiring import suite
-from suites.wiring_checks import eventually, forges, lies, look_at_form, names_of, other, published, status_of
+from suites.wiring_checks import (
+    BUCKETS, REASONS, UNREACHED, eventually, forges, lies, look_at_form, names_of, other, published, runs, spans, status_of)
 
 # The epoch of the life before, and the times of the rounds.
 EPOCH = 41
@@ -48,9 +51,10 @@ def rounds(trial):
     trial.logs(node, "started", machine=3, epoch=EPOCH + 1, port=node.address[1])
     made = TOO_FEW + NO_POINT + 1 + len(REFUSED)
     eventually(lambda: len(masters[0].polls) > made, 15)
-    wanted = {"epoch": EPOCH + 1, "sources": 7, "known": 6, "suspect": [int(source in LIARS) for source in range(7)], "answers_refused": sum(map(len, REFUSED)),
-              "fusions_701": TOO_FEW, "fusions_504": NO_POINT, "sharing": 1,
-              "refused": [0] * 7, "unsent": [0] * 7, **dict.fromkeys(("waiting", "left_out", "sessions", "lines", "lines_refused"), 0)}
+    nothing = "waiting left_out sessions lines lines_refused breaks slept busy commits_waiting commits_released".split()
+    wanted = {"epoch": EPOCH + 1, "sources": 7, "known": 6, "suspect": [int(source in LIARS) for source in range(7)],
+              "answers_refused": sum(map(len, REFUSED)), "fusions_701": TOO_FEW, "fusions_504": NO_POINT, "rounds_stale": TOO_FEW,
+              "sharing": 1, "workers": 4, "refused": [0] * 7, "unsent": [0] * 7, **dict.fromkeys(nothing, 0)}
     seen = {}
 
     def look():
@@ -60,7 +64,8 @@ def rounds(trial):
         if not WAIT_S < since_s < WAIT_S + POLL_S or polls < len(masters[0].polls):
             return False
         silent_in = [polls if source == SILENT else 0 if source in LIARS else TOO_FEW for source in range(7)]
-        wanted.update(silent=silent_in, accepted=[polls - rounds for rounds in silent_in], rounds=polls, publications=polls - TOO_FEW - NO_POINT, width=shared.hi_ns - shared.lo_ns)
+        accepted = [polls - rounds for rounds in silent_in]
+        wanted.update(silent=silent_in, accepted=accepted, answers=sum(accepted), rounds=polls, publications=polls - TOO_FEW - NO_POINT)
         seen.update(status, shared=shared)
         return all(status[name] == value for name, value in wanted.items())
 
@@ -68,10 +73,13 @@ def rounds(trial):
     for name, value in wanted.items():
         trial.equal(f"status {name}", seen.get(name), value)
     trial.between("status fusion_age", 0, seen["fusion_age"], SECOND // 2)
+    width = seen["shared"].hi_ns - seen["shared"].lo_ns
+    trial.between("status width", width, seen["width"], width + SECOND // 1000)
     trial.equal("shared number", seen["shared"].number, wanted["publications"])
     trial.equal("shared epoch", seen["shared"].epoch, EPOCH + 1)
     said = subprocess.run([trial.program, "--version"], capture_output=True, text=True, check=True).stdout
-    trial.equal("status build_info", list(node.status()), names_of(7, said.strip().partition(" ")[2]))
+    numbers = [name for name in node.status() if not name.startswith(tuple(BUCKETS.values()))]
+    trial.equal("status build_info", numbers, names_of(7, said.strip().partition(" ")[2]))
     look_at_form(trial, node)
     trial.logs(node, "answers_refused", count=len(REFUSED[0]))
     for number in (701, 504):
@@ -95,7 +103,9 @@ def first_publication(trial):
     trial.between("shared clock_ns", before[0], shared.clock_ns, after[0])
     trial.between("shared lo_ns", before[1] - SECOND, shared.lo_ns, after[1])
     trial.between("shared hi_ns", before[1], shared.hi_ns, after[1] + SECOND)
-    trial.equal("shared valid_until_ns", shared.valid_until_ns - shared.clock_ns, 3 * 1100 * SECOND // 1000)
+    periods = 3 * 1100 * SECOND // 1000
+    trial.between("shared valid_until_ns", periods - SECOND // 10, shared.valid_until_ns - shared.clock_ns, periods)
+    trial.equal("shared usable_until_ns", shared.usable_until_ns, 2**64 - 1)
     for number in (2, 4):
         later = published(node, number)
         trial.between("shared number", number, later and later.number, number + 1)
@@ -110,17 +120,110 @@ def first_publication(trial):
 
 @suite.case()
 def refused_sources(trial):
-    """A source whose answers are all refused is neither accepted nor silent."""
-    masters = trial.scripts(honest, lambda fake, poll: fake.send(b"x"), honest)
-    node = trial.running_node(masters, poll="300ms", wait="100ms")
+    """Sources whose answers are all refused, each for another reason, are neither accepted nor silent."""
+    packets = {"404": lambda _: b"x", "405": other(source=1), "406": other(nonce=1), "407": other(epoch=1)}
+    acts = [lambda fake, poll, packet=packet: fake.send(packet(poll)) for packet in packets.values()]
+    node = trial.node(trial.scripts(*acts[:2], honest, *acts[2:]), poll="200ms", wait="100ms")
+    node.run()
+    places, seen = dict(zip(packets, (0, 1, 3, 4))), []
+
+    def look():
+        status = status_of(node)
+        rounds, names = status["rounds"], ["accepted", "refused", "silent", *(f"refused_{number}" for number in UNREACHED + REASONS)]
+        wanted = {"accepted": [0, 0, rounds, 0, 0], "refused": [rounds, rounds, 0, rounds, rounds], **dict.fromkeys(names[2:], [0] * 5),
+                  **{f"refused_{number}": [rounds * (place == source) for source in range(5)] for number, place in places.items()}}
+        seen.append({name: status[name] for name in names})
+        return rounds > 3 and seen[-1] == wanted
+
+    is_right = eventually(look)
+    for name in ("refused", *(f"refused_{number}" for number in REASONS)):
+        trial.check(f"status {name}", is_right, f"{seen[-3:]}")
+
+
+@suite.case()
+def ages(trial):
+    """One source answers always, one no more, and one never. The machine wants two of them."""
+    masters = trial.scripts(honest, [honest] * 4 + [silent], silent)
+    node = trial.node(masters, poll="150ms", wait="50ms")
+    node.run()
+    eventually(lambda: len(masters[1].times) > 11)
     seen = []
 
     def look():
-        status, polls = status_of(node), len(masters[1].polls)
-        seen.append([status[name] for name in ("accepted", "refused", "silent")])
-        return polls > 3 and seen[-1] == [[polls, 0, polls], [0, polls, 0], [0, 0, 0]]
+        """Whether the ages are those when the status was written; its rounds are those since the second source was fresh."""
+        written, status = os.stat(node.path("status")).st_mtime_ns, status_of(node)
+        seen.append([status["age"], (status["newest"], status["needed"]), written - masters[1].times[3]])
+        first, second, third = status["age"]
+        return (third is None and first < SECOND // 4 and abs(second - seen[-1][2]) < SECOND // 20
+                and (status["newest"], status["needed"]) == (first, second))
 
-    trial.check("status refused", eventually(look), f"accepted, refused and silent are {seen[-3:]}")
+    is_right = eventually(look)
+    for name in ("age", "newest", "needed"):
+        trial.check(f"status {name}", is_right, f"the ages of sources, the newest and the needed, and that of the second are {seen[-3:]}")
+    before = status_of(node)
+    time.sleep(1)
+    after = status_of(node)
+    trial.between("status rounds_stale", 1, after["rounds_stale"], len(masters[1].times) - 5)
+    trial.equal("status rounds_stale", after["rounds_stale"] - before["rounds_stale"], after["rounds"] - before["rounds"])
+    trial.logs(node, "sources_stale", answered=1, needed=2)
+
+
+# How late sources answer, and by how much more a round trip may be seen, in seconds.
+DELAYS, MORE = [0.012, 0.06, 0.12], 0.04
+
+
+@suite.case()
+def round_trips(trial):
+    """Each source answers late by a time of its own."""
+    masters = trial.scripts(*map(late, DELAYS))
+    node = trial.running_node(masters, poll="50ms", wait="400ms")
+    status = eventually(lambda: (seen := status_of(node))["rounds"] > 7 and seen) or status_of(node)
+    for delay, taken in zip(DELAYS, status["round_trip"]):
+        trial.between("status round_trip", delay * SECOND, taken, (delay + MORE) * SECOND)
+    of_each = list(zip(DELAYS, status["accepted"]))
+    trial.equal("status answers", status["answers"], sum(status["accepted"]))
+    trial.between("status round_trips", sum(delay * SECOND * number for delay, number in of_each), status["round_trips"],
+                  sum((delay + MORE) * SECOND * number for delay, number in of_each))
+    for bound, counted in status["answer_buckets"].items():
+        surely, perhaps = (sum(number for delay, number in of_each if (delay + more) * SECOND <= bound) for more in (MORE, 0))
+        trial.between("status answer_buckets", surely, counted, perhaps)
+
+
+# How far the spans of sources reach below and above this host's clock, and by how much the ends that are seen may differ, in milliseconds.
+SPANS, NEAR = [(100, 100), (300, 500), (200, 200)], 20
+
+
+@suite.case()
+def spans_of_sources(trial):
+    """Of three sources, one of which may be faulty, the fused span is that of the third one."""
+    node = trial.running_node(trial.scripts(*(spans(low * 1_000_000, high * 1_000_000) for low, high in SPANS)))
+    status = eventually(lambda: (seen := status_of(node))["publications"] > 2 and seen) or status_of(node)
+    for (low, high), lower, upper in zip(SPANS, status["lower"], status["upper"]):
+        trial.between("status lower", SPANS[2][0] - low - NEAR, lower and lower / 1e6, SPANS[2][0] - low + NEAR)
+        trial.between("status upper", high - SPANS[2][1] - NEAR, upper and upper / 1e6, high - SPANS[2][1] + NEAR)
+
+
+# By how much the clocks of sources run fast, in parts per million.
+RATES = [0, 20_000, 0, -10_000, 0]
+
+
+@suite.case()
+def rates(trial):
+    """Two of five sources run fast and slow: the machine's clock loses and gains as much, within an error that shrinks."""
+    node = trial.running_node(trial.scripts(*map(runs, RATES)), poll="50ms", wait="50ms")
+    wanted, seen = [-fast * 1000 for fast in RATES], []
+
+    def look():
+        status = status_of(node)
+        seen.append((status["rate"], status["rate_error"]))
+        return all(None not in (rate, error) and error < SECOND // 500 and abs(rate - right) <= error + SECOND // 10_000
+                   for rate, error, right in zip(*seen[-1], wanted))
+
+    is_right = eventually(look, 15)
+    for name in ("rate", "rate_error"):
+        trial.check(f"status {name}", is_right, f"the rates and their errors are {seen[-1]}, and {wanted} is wanted")
+    rate_errors = [max(errors) for _, errors in seen if None not in errors]
+    trial.check("status rate_error", len(rate_errors) > 1 and rate_errors[-1] < rate_errors[0], f"the greatest errors were {rate_errors}")
 
 
 @suite.case()
@@ -141,7 +244,11 @@ def no_more_fusions(trial):
     eventually(look, 3)
     age, wanted = seen[-1]
     trial.between("status fusion_age", max(SECOND, wanted - SECOND // 3), age, wanted + SECOND // 3)
-    trial.numbers(node, publications=shared.number, width=shared.hi_ns - shared.lo_ns)
+    trial.numbers(node, publications=shared.number)
+    status = status_of(node)
+    width = shared.hi_ns - shared.lo_ns
+    grown = 2 * 200 * status["fusion_age"] // 1_000_000
+    trial.between("status width", width + grown - 1000, status["width"], width + grown + 1000)
 
 
 # Lines of a client, and how their replies begin.
@@ -178,13 +285,76 @@ def nothing_published(trial):
     with eventually(lambda: truetime.Session(node.address, 10)) as session:
         trial.equal("status publications", session.ask("now"), "refused 801")
     trial.between("the first answer", 1.9, time.monotonic() - node.began, 6)
-    trial.numbers(node, lines=1, lines_refused=1, sessions=1, sources=2, known=0, suspect=[0, 0], width=None, fusion_age=None, publications=0,
-                  fusions_504=0, sharing=0)
+    none = dict.fromkeys(("width", "fusion_age", "newest", "needed"), None)
+    of_sources = dict.fromkeys(("age", "round_trip", "lower", "upper", "rate", "rate_error"), [None, None])
+    trial.numbers(node, lines=1, lines_refused=1, sessions=1, sources=2, known=0, suspect=[0, 0], publications=0, fusions_504=0, sharing=0,
+                  **none, **of_sources)
     seen = []
 
     def look():
         status, polls = status_of(node), len(masters[0].polls)
-        seen.append((status["rounds"], status["fusions_701"], polls))
-        return seen[-1] == (polls,) * 3
+        seen.append((status["rounds"], status["fusions_701"], status["rounds_stale"], polls))
+        return seen[-1] == (polls,) * 4
 
-    trial.check("status rounds", eventually(look, 4), f"rounds, those with 701, and polls are {seen[-3:]}")
+    trial.check("status rounds", eventually(look, 4), f"rounds, those with 701, stale ones, and polls are {seen[-3:]}")
+
+
+def ends_of_waits(session, latest, number):
+    """Releases a commit whose floor is a quarter of a second ahead, and some that have none; how long each took, in nanoseconds."""
+    took = []
+    for floor in (latest + SECOND // 4, *[0] * (number - 1)):
+        began = time.monotonic_ns()
+        session.commit(floor)
+        took.append(time.monotonic_ns() - began)
+    return took
+
+
+@suite.case()
+def commits(trial):
+    """Three wait for a floor that is far ahead, and are counted as long as they do; five are released, and one of them waited for long."""
+    node = trial.running_node(trial.scripts(honest), workers=6, socket=None, poll="50ms", floor_ahead="10s")
+    with truetime.Session(node.address, 10) as session:
+        latest = latest_of(session)
+        trial.numbers(node, busy=1, workers=6, commits_waiting=0)
+        doors = [socket.create_connection(node.address, 5) for _ in range(3)]
+        for door in doors:
+            door.sendall(b"commit 1 %d\n" % (latest + 9 * SECOND))
+        trial.numbers(node, busy=4, commits_waiting=3, commits_released=0)
+        for door in doors:
+            reset(door)
+        trial.numbers(node, busy=1, commits_waiting=0, commits_released=0)
+        took = ends_of_waits(session, latest_of(session), 5)
+        status = trial.numbers(node, commits_released=5, commits_waiting=0)
+    trial.between("status commits_waited", SECOND // 4 - SECOND // 50, status["commits_waited"], sum(took))
+    for bound, counted in status["commit_buckets"].items():
+        surely = sum(wait <= bound for wait in took)
+        perhaps = 5 - (bound < SECOND // 5)
+        trial.between("status commit_buckets", surely, counted, perhaps)
+    trial.check("status commit_buckets", 0 < len(status["commit_buckets"]), "there are none")
+
+
+@suite.case()
+def breaks(trial):
+    """By `on_break = "warn"` each sign of a break is counted: two disruptions, a sleep, and a step of the one source."""
+    path = os.path.join(trial.room, "vmclock0")
+    write(path, page(1))
+    masters = trial.scripts(honest)
+    node, spoils = trial.spoilable(masters, on_break="warn", vmclock=path, poll="100ms", wait="100ms")
+    trial.numbers(node, breaks=0, slept=0)
+    for number, marker in enumerate((2, 3), 1):
+        disrupt(path, marker)
+        trial.numbers(node, breaks=number)
+    trial.check("setting vmclock", trial.logs(node, "guest_disrupted"), "it is not read")
+    spoils.tell("uptime", str(800_000_000))
+    status = trial.numbers(node, breaks=3)
+    trial.between("status slept", SECOND * 77 // 100, status["slept"], SECOND * 80 // 100)
+    trial.between("log host_slept", SECOND * 77 // 100, int(trial.logs(node, "host_slept").get("slept_ns", 0)), SECOND * 80 // 100)
+    masters[0].acts = [lies(5 * SECOND)]
+    line = trial.logs(node, "assumption_broken")
+    trial.numbers(node, breaks=4)
+    lower, upper, last_lower, last_upper = (int(line.get(f"{name}_ns", 0)) for name in ("lower", "upper", "last_lower", "last_upper"))
+    trial.between("log assumption_broken", 5 * SECOND - SECOND // 10, lower - last_upper, 5 * SECOND)
+    trial.between("log assumption_broken", 2_000_000, upper - lower, SECOND // 10)
+    trial.between("log assumption_broken", 2_000_000, last_upper - last_lower, SECOND // 10)
+    trial.between("log assumption_broken", 0, time.monotonic_ns() - int(line.get("clock_ns", 0)), 10 * SECOND)
+    trial.check("setting on_break", node.running.poll() is None, "it has ended")

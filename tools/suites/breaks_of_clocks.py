@@ -1,0 +1,270 @@
+"""Scenarios of the suite `breaks`: clocks that stand still, jump or run fast, hosts that sleep, and guests that are disrupted."""
+import os
+import random
+import signal
+import time
+
+from harness.processes import SECOND
+from harness.program import read, write
+from harness.trouble import disrupt, page
+from suites.breaks import suite
+from suites.breaks_world import MILLISECOND, Users, World
+from suites.wiring_checks import eventually
+
+# Rates by which a clock stands still, is 1 % fast, and a fifth of that.
+STANDS, FAST, LESS_FAST = -1_000_000, 10_000, 2_000
+
+
+def between_rounds(world):
+    """Returns just after a round, so that a turn of the clock that is told of now comes before the next one."""
+    seen = len(world.sources[0].polls[0])
+    eventually(lambda: len(world.sources[0].polls[0]) > seen, pause_s=0.001)
+    time.sleep(0.01)
+
+
+def pause(world, seconds):
+    """The machine and its clock stand still, as those of a guest that is paused, and no source answers until a quarter of a second later;
+    when the machine went on, and when the sources did, since 1970."""
+    world.node.running.send_signal(signal.SIGSTOP)
+    world.spoils.turn(STANDS)
+    time.sleep(seconds)
+    for source in world.sources:
+        source.is_silent = True
+    world.spoils.turn()
+    went_on = time.time_ns()
+    world.node.running.send_signal(signal.SIGCONT)
+    time.sleep(0.25)
+    answered = time.time_ns()
+    for source in world.sources:
+        source.is_silent = False
+    return went_on, answered
+
+
+def orders(trial, worlds, began, until):
+    """Commits of all machines are in order, but for those that are under way between these times."""
+    history = [commit for users in worlds for commit in users.commits]
+    kept = [commit for commit in history if commit[1] < began or commit[0] > until]
+    trial.note(f"{trial.judge(history)} of {len(history)} commits are out of order, {len(history) - len(kept)} of them during the break")
+    if wrong := trial.judge(kept):
+        yield f"{wrong} of {len(kept)} commits before and after it are out of order"
+    if not any(commit[0] > until for commit in kept):
+        yield "there is no commit after it"
+
+
+def paused(trial, seconds, silenced=0):
+    """Wrong readings until the first round that is answered, and never more, also where so many sources are silent from then on."""
+    world = World(trial)
+    other = trial.running_node(world.sources, "B", machine=1, poll="25ms", wait="50ms")
+    users = trial.keep(Users(other))
+    time.sleep(0.3)
+    began = time.time_ns()
+    went_on, answered = pause(world, seconds)
+    line = world.line("assumption_broken", answered)
+    ended, _ = world.end(line["time"] if line else answered)
+    first = eventually(lambda: next((got for got in world.users.readings if got.before >= ended), None))
+    for source in world.sources[len(world.sources) - silenced:]:
+        source.is_silent = True
+    yield from world.breaks("assumption_broken", answered, 1, went_on)
+    yield from world.has_evidence(0, SECOND)
+    yield from world.goes_on_rightly(1.5)
+    if users.wrong():
+        yield f"a machine whose clock went on gave {users.wrong()[0]}"
+    yield from orders(trial, (world.users, users), began, first.after if first else time.time_ns())
+
+
+@suite.case()
+def guest_paused_for_2_s(trial):
+    yield from paused(trial, 2)
+
+
+@suite.case()
+def guest_paused_for_10_s(trial):
+    yield from paused(trial, 10)
+
+
+@suite.case()
+def guest_paused_and_two_sources_silent(trial):
+    """Two of three, as soon as the new life has published."""
+    yield from paused(trial, 10, 2)
+
+
+@suite.case()
+def clock_stands(trial):
+    """For two seconds, while the machine goes on: it is noticed by the next round, again in each life that begins meanwhile, and not any more
+    once the clock goes on."""
+    world = World(trial, poll="300ms")
+    between_rounds(world)
+    since = world.spoils.turn(STANDS)
+    line = world.line("assumption_broken", since)
+    if not line:
+        yield "the log says no assumption_broken"
+        return
+    if (rounds := world.rounds(since, line["time"])) > 1:
+        yield f"it was noticed in round {rounds}"
+    time.sleep(max(0, since + 2 * SECOND - time.time_ns()) / SECOND)
+    yield from world.recovers(world.spoils.turn() + SECOND)
+    trial.note(f"{len(world.unit.ends)} lives ended in 2 seconds; {len(world.users.wrong())} readings were wrong")
+    yield from world.was_right_until(since)
+
+
+@suite.case()
+def clock_jumps_ahead(trial):
+    """By a second."""
+    world = World(trial, poll="100ms")
+    between_rounds(world)
+    since = world.spoils.turn(jump_ns=SECOND)
+    yield from world.breaks("assumption_broken", since, 1)
+    yield from world.has_evidence(SECOND, 2 * SECOND)
+    yield from world.goes_on_rightly()
+
+
+@suite.case()
+def clock_runs_fast(trial):
+    """By 1 %, 50 times the drift. Narrow masters are a fifth of a millisecond wide, and it gains one in a round."""
+    masters = [trial.master(source, uncertainty=10_000) for source in range(3)]
+    world = World(trial, masters, poll="100ms")
+    since = world.spoils.turn(FAST)
+    line = world.line("assumption_broken", since)
+    took = (line["time"] - since) / SECOND if line else 0
+    trial.note(f"it was noticed {took:.2f} seconds later")
+    if not line or took > 0.5:
+        yield f"it was noticed {took:.2f} seconds later: {line}"
+    elif world.end(line["time"])[1] != 3:
+        yield f"the life ended with status {world.end(line['time'])[1]}"
+    yield from world.recovers(world.spoils.turn())
+    yield from world.was_right_until(since)
+
+
+@suite.case()
+def clock_fast_within_the_width(trial):
+    """By 0.2 %, ten times the drift, where masters are wide: no round is out of the last one, and only the rate in the status shows it."""
+    world = World(trial)
+    world.spoils.turn(LESS_FAST)
+    yield from world.rises('source_clock_rate_ratio{source="0"}', 0.0015, 20)
+    yield from world.goes_on_rightly()
+
+
+# Sleep.
+
+def sleeps(world, ns):
+    """The host sleeps for so long: its uptime is ahead of its monotonic clock; when it has, since 1970."""
+    since = time.time_ns()
+    world.spoils.tell("uptime", str(ns))
+    return since
+
+
+@suite.case()
+def host_sleeps(trial):
+    """For 1.5 seconds."""
+    world = World(trial)
+    since = sleeps(world, 1500 * MILLISECOND)
+    yield from world.breaks("host_slept", since, 2)
+    slept = int((world.line("host_slept", since) or {}).get("slept_ns", 0))
+    if not 1470 * MILLISECOND <= slept <= 1530 * MILLISECOND:
+        yield f"it slept for {slept} ns by the log"
+    yield from world.goes_on_rightly()
+
+
+@suite.case()
+def host_sleeps_and_is_warned_of(trial):
+    """The status adds up how long it slept."""
+    world = World(trial, on_break="warn")
+    for number in (1, 2):
+        since = sleeps(world, number * 400 * MILLISECOND)
+        if number == 1 and not world.line("host_slept", since):
+            yield "the log does not say host_slept"
+        yield from world.rises("slept_seconds_total", number * 0.37)
+    yield from world.goes_on_rightly()
+    if world.number("slept_seconds_total") > 0.86:
+        yield f"it slept for {world.number('slept_seconds_total')} seconds by the status"
+
+
+@suite.case()
+def machine_stopped(trial):
+    """Ten times for up to a quarter of a second, somewhere in a round, while clocks go on: no break is noticed, and none is there."""
+    world, chance = World(trial), random.Random(trial.seed())
+    for _ in range(10):
+        time.sleep(chance.uniform(0, 0.1))
+        world.node.running.send_signal(signal.SIGSTOP)
+        time.sleep(chance.uniform(0, 0.25))
+        world.node.running.send_signal(signal.SIGCONT)
+    yield from world.goes_on_rightly()
+    if world.unit.ends or world.users.wrong():
+        yield f"lives ended so: {world.unit.ends}; {len(world.users.wrong())} readings were wrong"
+    if world.number("slept_seconds_total") != 0 or world.number("assumption_breaks_total") != 0:
+        yield f"it slept for {world.number('slept_seconds_total')} seconds"
+
+
+@suite.case(root=True, programs=("unshare", "mount"))
+def uptime_of_another_file_system(trial):
+    """As that of a container: it says nothing of sleep, and the log says so once."""
+    path, node = os.path.join(trial.room, "uptime"), trial.node(trial.masters(3))
+    write(path, b"1000.00 0.00\n")
+    node.run(["unshare", "--mount", "sh", "-c", 'mount --bind "$0" /proc/uptime && exec "$@"', path])
+    node.wait_until_ready()
+    write(path, b"2000.00 0.00\n")
+    yield from node.goes_on()
+    if len(node.said("sleep_unseen")) != 1 or node.said("host_slept"):
+        yield f"the log says {node.end_of_log()}"
+
+
+# Guests.
+
+@suite.case()
+def guest_disrupted(trial):
+    """Its counter changes."""
+    path = os.path.join(trial.room, "vmclock0")
+    write(path, page(7))
+    world = World(trial, vmclock=path)
+    if world.line("guest_disrupted", seconds=0):
+        yield "it was disrupted from the beginning"
+    yield from world.breaks("guest_disrupted", disrupt(path, 8), 2)
+    yield from world.goes_on_rightly()
+
+
+@suite.case()
+def breaks_in_a_row(trial):
+    """Each start after one pauses twice as long as the one before."""
+    path = os.path.join(trial.room, "vmclock0")
+    write(path, page(1))
+    world = World(trial, vmclock=path)
+    paused = []
+    for marker in range(2, 6):
+        since = disrupt(path, marker)
+        told = world.line("guest_disrupted", since)
+        pause = world.line("start_paused", since)
+        paused.append(int(pause["pause_ns"]) if pause else None)
+        ended, status = world.end(since)
+        if not told or status != 3:
+            yield f"break {marker - 1}: status {status}, {told}"
+            return
+        first = eventually(lambda end=ended: next((got for got in world.users.readings if got.before > end), None))
+        trial.note(f"after break {marker - 1} the next reading comes {first and (first.after - ended) / MILLISECOND:.0f} ms after the end")
+        time.sleep(0.3)
+    if paused != [SECOND // 10 << number for number in range(4)]:
+        yield f"the starts paused for {paused} ns"
+    if not (text := read(world.node.path("state/break"))).startswith(b"tt-break 1 4 "):
+        yield f"state/break has {text!r}"
+
+
+def pause_of(trial, name, record):
+    """How long a start pauses that finds this record of a break, by its log."""
+    node = trial.node(trial.masters(3), name)
+    write(node.path("state/break"), record)
+    node.run()
+    line = eventually(lambda: node.said("start_paused") or node.said("first_publication"))
+    node.kill()
+    return line and int(line[0].get("pause_ns", 0))
+
+
+@suite.case()
+def records_of_breaks(trial):
+    """The pause is half a minute at most. There is none after a minute, after a start of the host, and where the file has another text."""
+    now = time.monotonic_ns()
+    wanted = [(1, now, 100_000_000), (9, now, 25_600_000_000), (10, now, 30_000_000_000), (2**64 - 1, now, 30_000_000_000),
+              (1, max(now - 61 * SECOND, 0), 0), (1, now + 3600 * SECOND, 0)]
+    for number, (breaks, clock, pause) in enumerate(wanted):
+        if (seen := pause_of(trial, f"{number}", b"tt-break 1 %d %d\n" % (breaks, clock))) != pause:
+            yield f"after {breaks} breaks, the last one at {clock} and now at {now}, it pauses for {seen} ns"
+    if pause := pause_of(trial, "other", b"tt-break 2 1 1\n"):
+        yield f"after another text it pauses for {pause} ns"
