@@ -63,13 +63,17 @@ def nothing_after_a_break(trial):
     node.wait_until_ready()
     with contextlib.ExitStack() as doors:
         waiting, door = (doors.enter_context(socket.create_connection(node.address, 5)) for _ in range(2))
-        waiting.sendall(b"commit 1 %d\n" % (time.time_ns() + 5 * SECOND))
+        line = b"commit 1 %d\n" % (time.time_ns() + 5 * SECOND)
+        waiting.sendall(line)
+        if not (begun := waiting.recv(100)).startswith(b"waiting 1 "):
+            yield f"a commit is answered {begun}"
         asking = Asking(door)
         time.sleep(0.3)
         disrupt(path, 2)
         asking.join(5)
         replies = [asking.told, b""]
         with contextlib.suppress(OSError):
+            waiting.sendall(line)
             replies[1] = waiting.recv(100)
     if set(replies) - {b"", b"refused 1823\n"} or not asking.asked:
         yield f"after {len(asking.asked)} readings sessions get {replies}"

@@ -82,19 +82,11 @@ def send_slowly(door):
             door.sendall(b"n")
 
 
-def close_one_side(door):
-    """A commit that waits for nine seconds, of a client that sends no more."""
-    door.sendall(b"now\n")
-    latest = int(door.recv(100).split()[2])
-    door.sendall(b"commit 1 %d\n" % (latest + 9 * SECOND))
-    door.shutdown(socket.SHUT_WR)
-
-
 @suite.case()
 def idle(trial):
-    """Clients that say nothing, send slowly, close one side, or never read are let go then, and neither at once nor much later."""
+    """Clients that say nothing, send slowly, or never read are let go then, and neither at once nor much later."""
     node = trial.running_node(trial.scripts(honest), idle="1s", floor_ahead="10s")
-    for act in (say_nothing, send_slowly, close_one_side):
+    for act in (say_nothing, send_slowly):
         with socket.create_connection(node.address, 5) as door:
             began = time.monotonic()
             act(door)

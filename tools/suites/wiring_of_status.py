@@ -252,7 +252,7 @@ def no_more_fusions(trial):
 
 
 # Lines of a client, and how their replies begin.
-LINES = [("now", "now "), ("after 0", "yes"), ("before 0", "no"), ("commit 5 0", "committed 5 "), ("commit 4 0", "refused 1103"),
+LINES = [("now", "now "), ("after 0", "yes"), ("before 0", "no"), ("commit 5 0", "waiting 5 "), ("commit 4 0", "refused 1103"),
          ("commit 5 0", "committed 5 "), ("nonsense", "refused 1101"), ("lease 7 6", "refused 101"),
          ("lease 0 4000000000000000001", "refused 102"), ("commit 6 2000000000000000000", "refused 1821"), ("lease 0 1", "leased 0 1"),
          ("commit 6 0", "refused 903"), ("now", "now ")]

@@ -133,7 +133,7 @@ impl<'a, R: Wait, C: Clock> Post<'a, R, C> {
         reading.latest().saturating_sub(reading.earliest()) > self.terms.max_width
     }
 
-    /// Waits after a release step: see [`StampSeat::pause`].
+    /// Waits before a release step: see [`StampSeat::pause`].
     pub(crate) fn pause(&self, stamp: u64, earliest: u64) {
         self.seat.pause(stamp, earliest);
     }

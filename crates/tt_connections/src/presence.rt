@@ -28,6 +28,12 @@ pub trait Presence {
     fn is_broken(&self) -> bool
         ensures said { says self.now Question.IsBroken result };
 
+    /// What a clock shows, in nanoseconds, by which the session knows how long it has waited. None without a clock, as
+    /// here. Nothing is claimed of it.
+    fn clock(&self) -> Option<u64> {
+        None
+    }
+
     /// A commit of the session is queued, and waits from now on. This body does nothing.
     fn began_waiting(&self) {}
 

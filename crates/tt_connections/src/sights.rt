@@ -224,6 +224,10 @@ impl<'a, R: Wait + SystemClock> Presence for Client<'a, R> {
         self.broken.load(Ordering::SeqCst)
     }
 
+    fn clock(&self) -> Option<u64> {
+        reading_of(self.rt)
+    }
+
     fn began_waiting(&self) {
         let now = reading_of(self.rt).unwrap_or(UNREAD);
         self.since.store(now, Ordering::SeqCst);

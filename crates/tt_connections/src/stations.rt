@@ -28,6 +28,17 @@ struct Page {
     alloc: Global,
     /// The stamp of the commit that was queued last, in nanoseconds.
     stamp: u64,
+    /// The last release step of this commit, if one was made, and it was not released.
+    missed: Option<Missed>,
+}
+
+/// A release step that did not release its commit, in nanoseconds.
+#[derive(Clone, Copy)]
+struct Missed {
+    /// The earliest of its reading.
+    earliest: u64,
+    /// What the client's device showed then, if it has a clock.
+    clock: Option<u64>,
 }
 
 impl Model for Page {
@@ -48,6 +59,7 @@ impl Page {
             book: Book::new(alloc),
             alloc,
             stamp: 0,
+            missed: None,
         }
     }
 
@@ -77,6 +89,7 @@ impl CommitBook for Page {
         self.turn();
         self.book.queue_commit(id, stamp)?;
         self.stamp = stamp;
+        self.missed = None;
         Ok(())
     }
 
@@ -178,14 +191,33 @@ impl<'a, 'c, R: Wait, C: Clock, V: Presence> Station<'a, 'c, R, C, V> {
         Ok(stamp)
     }
 
-    /// The answer for a pending commit: no after a pause, or a refusal if the client has left.
-    fn put_off(&self, earliest: u64) -> Result<bool, u16>
-        ensures { AnswersReceipt V.says self.now.client result None }
+    /// Waits until the stamp of the pending commit should have passed, if a release step was made since the commit began:
+    /// for the time from the earliest of the step's reading to the stamp, less what has gone by since.
+    fn wait_on(&self) {
+        let Some(missed) = self.book.missed else {
+            return;
+        };
+        let gone = match (missed.clock, self.client.clock()) {
+            (Some(then), Some(now)) => now.saturating_sub(then),
+            _ => 0,
+        };
+        self.post
+            .pause(self.book.stamp, missed.earliest.saturating_add(gone));
+    }
+
+    /// The answer for a pending commit, after a step by a reading with this earliest: no, or a refusal if the client has
+    /// left.
+    fn put_off(&mut self, earliest: u64) -> Result<bool, u16>
+        ensures answer { AnswersReceipt V.says self.old.client result None }
+        ensures same { self.new ≡ self.old }
     {
         if self.client.has_left() {
             return Err(StationFault::ClientLeft.number());
         }
-        self.post.pause(self.book.stamp, earliest);
+        self.book.missed = Some(Missed {
+            earliest,
+            clock: self.client.clock(),
+        });
         Ok(false)
     }
 }
@@ -229,13 +261,13 @@ impl<'a, 'c, R: Wait, C: Clock, V: Presence> Service for Station<'a, 'c, R, C, V
     }
 
     /// One [`Watch::now`](tt_publish::Watch::now), then one [`Book::release`] by this reading. Answers whether the
-    /// commit with this number is released then. If it is not, a pause follows: as long as the stamp of the commit that
-    /// was begun last lies above the earliest of the reading, and at most [`MAX_PAUSE`](tt_session::MAX_PAUSE) and its
-    /// margin.
+    /// commit with this number is released then. The first step of a commit is made at once. A pause comes before each
+    /// further one: until the stamp should have passed, and at most [`MAX_PAUSE`](tt_session::MAX_PAUSE) and its margin.
     ///
     /// Refuses, in this order: 801, 803, 802 if there is no reading, 1823, 1824 if it is not used, as at `now`, and then
     /// nothing is released, 1822 if the commit is pending and the client has left.
     fn pass(&mut self, number: u64) -> Result<bool, u16> {
+        self.wait_on();
         let reading = self.look()?;
         let id = Id { session: 0, number };
         match self.book.release_commits(&reading, id) {

@@ -17,7 +17,7 @@ clock_failures clock = clock.failures
 
 -- the most release steps of one line
 abbrev pub max_waits : ℕ
-max_waits = 10000
+max_waits = 1
 
 -- a session of a worker of the server
 abbrev pub ServerSession : Type 0

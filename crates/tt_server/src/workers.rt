@@ -21,8 +21,8 @@ use tt_publish::{Clock, Watch};
 use tt_session::{DeadlineReader, DeadlineWriter, Turns};
 use tt_stamp::{Seat, Sequencer};
 
-/// The most release steps of one line. Each makes a pause of at most a twentieth of a second.
-const WAITS: u32 = 10_000;
+/// The release steps of one line: a commit that is pending is answered at once, and its line waits when it comes again.
+const WAITS: u32 = 1;
 
 /// A seat, and the sequencer that it belongs to.
 #[derive(Drop)]
