@@ -1,7 +1,7 @@
 """Tests the readers and sessions of clients/: each is compiled without a warning, gives the answers that are wanted for the same
 vectors, the same files, mapped and not, a file that becomes shorter, and the same conversations with a stand-in for the service, and the C
-reader is put beside a writer that never pauses, also with the compiler's checks of addresses, undefined behaviour and threads. Go has
-tests of its own, too, which are run in each way in which it is built, with checks of races, and beside a machine.
+reader is put beside a writer that never pauses, also with the compiler's checks of addresses, undefined behaviour and threads. The cases
+of stampers are in clients_of_stampers.py. Go has tests of its own, too, which are run in each way in which it is built, with checks of races, and beside a machine.
 
 The readers run beside writers for 10 seconds, or as many as --seconds says. A language whose compiler is not here is left out, with a line
 that says so. Everything is built in a temporary folder.
@@ -354,10 +354,10 @@ def probes(room):
     """The probe of each language, as the words that start it."""
     source = os.path.join(CLIENTS, "c", "test", "probe.c")
     for compiler in ("gcc", "clang"):
-        made = build_c(room, compiler, f"probe-{compiler}", "-std=c11", "-D_POSIX_C_SOURCE=200809L", source)
+        made = build_c(room, compiler, f"probe-{compiler}", "-std=c11", "-D_POSIX_C_SOURCE=200809L", "-pthread", source)
         if made:
             yield f"C by {compiler}", [made]
-    made = build_c(room, "g++", "probe-g++", "-std=c++17", "-x", "c++", source)
+    made = build_c(room, "g++", "probe-g++", "-std=c++17", "-pthread", "-x", "c++", source)
     if made:
         yield "C++ by g++", [made]
     yield "Python", [sys.executable, "-W", "error", os.path.join(CLIENTS, "python", "test", "probe.py")]
@@ -454,10 +454,10 @@ def tests_of_go(trial):
 
 
 class Reader:
-    """The probe's reader of a file that is not mapped, which reads again and again."""
+    """A probe that answers line by line: its reader of a file that is not mapped, which reads again and again, or what else is named."""
 
-    def __init__(self, words):
-        self.probe = subprocess.Popen([*words, "files"], stdin=subprocess.PIPE, stdout=subprocess.PIPE, text=True, bufsize=1)
+    def __init__(self, words, what="files"):
+        self.probe = subprocess.Popen([*words, what], stdin=subprocess.PIPE, stdout=subprocess.PIPE, text=True, bufsize=1)
 
     def __enter__(self):
         return self

@@ -6,11 +6,13 @@
  *     probe session < CALLS    for each call of a session, what it gives, `refused N`, `timed out`, `invalid` or `failed`.
  *                              The calls are `open tcp PORT MILLISECONDS`, `open unix PATH MILLISECONDS`, `now`, `after T`,
  *                              `before T`, `begin FLOOR`, `wait`, `commit FLOOR`, `ask LINE`, `close`
+ *     probe stamper < LINES    for each line what a stamper says; tools/suites/clients_of_stampers.py has the lines
  */
 #include "../truetime_session.h"
 
-#include "../truetime.h"
+#include "../truetime_stamper.h"
 
+#include <pthread.h>
 #include <stdlib.h>
 
 static void print_reading_at(const tt_publication *published, uint64_t now_ns) {
@@ -133,11 +135,144 @@ static int try_sessions(void) {
     return 0;
 }
 
+/* The stamp of a stamper that gave `last` last, or none where that is 0. Its next stamp has to be above this one, and the same
+ * as before where it was refused. */
+static void print_row(uint64_t last, const tt_reading *reading, uint64_t floor_ns, uint64_t lease_lo_ns, uint64_t lease_hi_ns) {
+    tt_stamper stamper;
+    uint64_t stamp_ns = 0, free_ns = last == 0 ? 0 : last + 1;
+    int refused = tt_stamper_open(&stamper, NULL, lease_lo_ns, lease_hi_ns);
+    stamper.least_free_ns = free_ns;
+    if (refused == 0) refused = tt_stamper_stamp_at(&stamper, reading, floor_ns, &stamp_ns);
+    if (stamper.least_free_ns != (refused == 0 ? stamp_ns + 1 : free_ns) || (refused != 0 && stamp_ns != 0))
+        puts("wrong");
+    else if (refused != 0)
+        printf("refused %d\n", refused);
+    else
+        printf("stamp %" PRIu64 "\n", stamp_ns);
+}
+
+static void print_stamp(int refused, const tt_stamp *stamp) {
+    if (refused != 0)
+        printf("refused %d\n", refused);
+    else
+        printf("stamp %" PRIu64 " %" PRIu64 " %" PRIu64 " %s %" PRIu64 "\n", stamp->stamp_ns, stamp->earliest_ns,
+               stamp->latest_ns, stamp->fresh ? "fresh" : "stale", stamp->epoch);
+}
+
+/* One of several threads that take stamps of one stamper. */
+typedef struct stamping {
+    pthread_t thread;
+    pthread_barrier_t *begin;
+    tt_stamper *stamper;
+    uint64_t floor_ns;
+    size_t each;
+    tt_stamp *stamps;
+    int *refusals;
+} stamping;
+
+static void *stamp_on(void *given) {
+    stamping *me = (stamping *)given;
+    pthread_barrier_wait(me->begin);
+    for (size_t i = 0; i < me->each; i++) me->refusals[i] = tt_stamper_stamp(me->stamper, me->floor_ns, &me->stamps[i]);
+    return NULL;
+}
+
+static void stamp_in_threads(tt_stamper *stamper, unsigned number, size_t each, uint64_t floor_ns) {
+    enum { MOST = 32 };
+    stamping all[MOST];
+    pthread_barrier_t begin;
+    if (number > MOST) number = MOST;
+    pthread_barrier_init(&begin, NULL, number);
+    for (unsigned i = 0; i < number; i++) {
+        all[i].begin = &begin, all[i].stamper = stamper, all[i].floor_ns = floor_ns, all[i].each = each;
+        all[i].stamps = (tt_stamp *)calloc(each, sizeof *all[i].stamps);
+        all[i].refusals = (int *)calloc(each, sizeof *all[i].refusals);
+        if (all[i].stamps == NULL || all[i].refusals == NULL) abort();
+        pthread_create(&all[i].thread, NULL, stamp_on, &all[i]);
+    }
+    for (unsigned i = 0; i < number; i++) {
+        pthread_join(all[i].thread, NULL);
+        for (size_t k = 0; k < each; k++) {
+            printf("%u ", i);
+            print_stamp(all[i].refusals[k], &all[i].stamps[k]);
+        }
+        free(all[i].stamps);
+        free(all[i].refusals);
+    }
+    pthread_barrier_destroy(&begin);
+    puts("end");
+}
+
+static void print_is_past(int refused, bool is_past) {
+    if (refused != 0 && !is_past)
+        printf("refused %d\n", refused);
+    else
+        puts(refused != 0 ? "wrong" : is_past ? "yes" : "no");
+}
+
+/* Closes the client, and opens it and the stamper anew. */
+static void open_stamper(tt_client *client, tt_stamper *stamper, const char *path, uint64_t lease_lo_ns, uint64_t lease_hi_ns) {
+    tt_close(client);
+    int refused = tt_open(client, path, geteuid());
+    if (refused == 0) refused = tt_stamper_open(stamper, client, lease_lo_ns, lease_hi_ns);
+    if (refused != 0)
+        printf("refused %d\n", refused);
+    else
+        puts("open");
+}
+
+static void call_stamper(tt_stamper *stamper, const char *line) {
+    tt_stamp stamp;
+    uint64_t number, more, floor_ns, clock_ns = 0;
+    bool is_past = true;
+    if (sscanf(line, "stamp %" SCNu64, &number) == 1) {
+        int refused = tt_stamper_stamp(stamper, number, &stamp);
+        if (refused != 0 && stamp.stamp_ns != 0)
+            puts("wrong");
+        else
+            print_stamp(refused, &stamp);
+    } else if (sscanf(line, "past %" SCNu64, &number) == 1) {
+        int refused = tt_stamper_is_past(stamper, number, &is_past);
+        print_is_past(refused, is_past);
+    } else if (sscanf(line, "wait %" SCNu64 "%" SCNu64, &number, &more) == 2 && tt_clock(&clock_ns) == 0) {
+        int refused = tt_stamper_wait_past(stamper, number, clock_ns + more * 1000000, &is_past);
+        print_is_past(refused, is_past);
+    } else if (sscanf(line, "threads %" SCNu64 "%" SCNu64 "%" SCNu64, &number, &more, &floor_ns) == 3) {
+        stamp_in_threads(stamper, (unsigned)number, (size_t)more, floor_ns);
+    } else {
+        puts("invalid");
+    }
+}
+
+static int try_stampers(void) {
+    tt_client client;
+    tt_stamper stamper;
+    tt_reading reading;
+    char line[512], path[256];
+    uint64_t last, floor_ns, lo_ns, hi_ns;
+    memset(&client, 0, sizeof client);
+    memset(&reading, 0, sizeof reading);
+    tt_stamper_open(&stamper, &client, 0, TT_MAX_TIME_NS);
+    while (fgets(line, sizeof line, stdin) != NULL) {
+        if (sscanf(line, "row %" SCNu64 "%" SCNu64 "%" SCNu64 "%" SCNu64 "%" SCNu64 "%" SCNu64, &last, &reading.earliest_ns,
+                   &reading.latest_ns, &floor_ns, &lo_ns, &hi_ns) == 6)
+            print_row(last, &reading, floor_ns, lo_ns, hi_ns);
+        else if (sscanf(line, "open %255s%" SCNu64 "%" SCNu64, path, &lo_ns, &hi_ns) == 3)
+            open_stamper(&client, &stamper, path, lo_ns, hi_ns);
+        else
+            call_stamper(&stamper, line);
+        fflush(stdout);
+    }
+    tt_close(&client);
+    return 0;
+}
+
 int main(int count, char **words) {
     if (count == 2 && strcmp(words[1], "vectors") == 0) return try_vectors();
     if (count == 3 && strcmp(words[1], "open") == 0) return try_file(words[2]);
     if (count == 2 && strcmp(words[1], "files") == 0) return try_files();
     if (count == 2 && strcmp(words[1], "session") == 0) return try_sessions();
-    fprintf(stderr, "usage: probe vectors | probe open PATH | probe files | probe session\n");
+    if (count == 2 && strcmp(words[1], "stamper") == 0) return try_stampers();
+    fprintf(stderr, "usage: probe vectors | probe open PATH | probe files | probe session | probe stamper\n");
     return 2;
 }

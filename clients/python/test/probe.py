@@ -2,6 +2,7 @@
 import os
 import pathlib
 import sys
+import threading
 
 sys.path.insert(0, str(pathlib.Path(__file__).resolve().parent.parent))
 
@@ -74,6 +75,75 @@ def try_sessions(calls):
             print("invalid")
 
 
+def answer_row(numbers):
+    last, lo, hi, floor, lease_lo, lease_hi = numbers
+    with_last = truetime.Stamper(None, lease_lo, lease_hi)
+    with_last._least_free_ns = last + 1 if last else 0
+    before = with_last._least_free_ns
+    try:
+        stamp = with_last.stamp_at(truetime.Reading(lo, hi, 0, 0, True), floor)
+    except truetime.Refused as refused:
+        return f"refused {refused.number}" if with_last._least_free_ns == before else "wrong"
+    return f"stamp {stamp}" if with_last._least_free_ns == stamp + 1 else "wrong"
+
+
+def said_of(given):
+    return f"stamp {given.stamp_ns} {given.earliest_ns} {given.latest_ns} {'fresh' if given.fresh else 'stale'} {given.epoch}"
+
+
+def stamp_in_threads(stamper, threads, each, floor):
+    """Stamps of so many threads, which begin together; the lines of each one behind those of the last."""
+    begin, said = threading.Barrier(threads), [[] for _ in range(threads)]
+
+    def stamp_on(mine):
+        begin.wait()
+        for _ in range(each):
+            try:
+                mine.append(stamper.stamp(floor))
+            except truetime.Refused as refused:
+                mine.append(refused.number)
+
+    running = [threading.Thread(target=stamp_on, args=(mine,)) for mine in said]
+    for thread in running:
+        thread.start()
+    for thread in running:
+        thread.join()
+    for number, mine in enumerate(said):
+        for given in mine:
+            yield f"{number} " + (f"refused {given}" if isinstance(given, int) else said_of(given))
+    yield "end"
+
+
+def call_stamper(stamper, name, rest):
+    """Makes a call of a stamper; the lines that it gives."""
+    if name == "row":
+        return [answer_row(map(int, rest.split()))]
+    if name == "stamp":
+        return [said_of(stamper.stamp(int(rest)))]
+    if name == "past":
+        return ["yes" if stamper.is_past(int(rest)) else "no"]
+    if name == "wait":
+        stamp, milliseconds = map(int, rest.split())
+        return ["yes" if stamper.wait_past(stamp, milliseconds / 1000) else "no"]
+    return stamp_in_threads(stamper, *map(int, rest.split()))
+
+
+def try_stampers(lines):
+    client = stamper = None
+    for line in lines:
+        name, _, rest = line.rstrip("\n").partition(" ")
+        try:
+            if name == "open":
+                path, lease_lo, lease_hi = rest.split(" ")
+                client = truetime.Client(path, os.geteuid())
+                stamper = truetime.Stamper(client, int(lease_lo), int(lease_hi))
+                print("open", flush=True)
+            else:
+                print(*call_stamper(stamper, name, rest), sep="\n", flush=True)
+        except truetime.Refused as refused:
+            print("refused", refused.number, flush=True)
+
+
 if sys.argv[1:] == ["vectors"]:
     answer(sys.stdin)
 elif len(sys.argv) == 3 and sys.argv[1] == "open":
@@ -82,5 +152,7 @@ elif sys.argv[1:] == ["files"]:
     try_files(sys.stdin)
 elif sys.argv[1:] == ["session"]:
     try_sessions(sys.stdin)
+elif sys.argv[1:] == ["stamper"]:
+    try_stampers(sys.stdin)
 else:
-    sys.exit("usage: probe.py vectors | probe.py open PATH | probe.py files | probe.py session")
+    sys.exit("usage: probe.py vectors | probe.py open PATH | probe.py files | probe.py session | probe.py stamper")

@@ -1,0 +1,391 @@
+"""Cases of the suite `clients`: stampers, in each language whose probe has one.
+
+`PROBE stamper` reads lines, and answers each at once:
+
+    row LAST LO HI FLOOR LEASE_LO LEASE_HI
+        `stamp N`, or `refused N`: what a stamper with this lease, whose last stamp is LAST, or none where that is 0, says to a floor by the
+        reading [LO, HI]. `wrong` where its last stamp is not N after that, or is another one after a refusal
+    open PATH LEASE_LO LEASE_HI
+        opens the file, mapped, and a stamper over it, in place of those before: `open`, or `refused N`
+    stamp FLOOR
+        `stamp N EARLIEST LATEST fresh|stale EPOCH`, or `refused N`
+    past T
+        `yes`, `no`, or `refused N`: whether this stamp has surely passed
+    wait T MILLISECONDS
+        the same, after a wait of at most so long
+    threads THREADS EACH FLOOR
+        so many threads, which begin together, each take so many stamps with this floor. When all have ended, for each thread from 0 on, each
+        of its stamps in its order: the thread's number and a blank before what `stamp` says. Then `end`
+
+What `row` has to say is worked out from the definition of the least stamp that may be given (MayGive and IsLeastStamp of
+crates/tt_stamp/specs/Stamp.antt), by trying stamps.
+"""
+import contextlib
+import itertools
+import os
+import random
+import struct
+import subprocess
+import tempfile
+import threading
+import time
+
+from harness.program import run
+from suites.clients import CLIENTS, MAX, NO_LIMIT, SLOT_BYTES, Reader, build_c, file_of, index_of, suite
+
+AHEAD, SECOND = 10_000_000_000, 1_000_000_000
+# Languages whose probes may have no stamper so far.
+LATER = {"Rust", "Java", "Go"}
+
+
+def may_give(given, latest, floor, lease, stamp):
+    """Whether this stamp may follow those that were given, for a commit whose reading ends at this latest."""
+    return stamp <= MAX and latest <= stamp and floor <= stamp and lease[0] <= stamp and all(other < stamp for other in given)
+
+
+def least_stamp(*asked):
+    """The least stamp that may be given, or None. Each one above it up to the greatest time may be given, too, so halving finds it."""
+    if not may_give(*asked, MAX):
+        return None
+    low, high = 0, MAX
+    while low < high:
+        middle = (low + high) // 2
+        low, high = (low, middle) if may_give(*asked, middle) else (middle + 1, high)
+    return low
+
+
+def row_of(last, _, latest, floor, *lease):
+    """What a stamper has to say."""
+    if floor > latest + AHEAD:
+        return "refused 902"
+    stamp = least_stamp([last] if last else [], latest, floor, lease)
+    if stamp is None:
+        return "refused 901"
+    return f"stamp {stamp}" if stamp <= lease[1] else "refused 903"
+
+
+# Worked out by hand: the last stamp, the reading, the floor, the lease, and the answer.
+BY_HAND = [
+    ((0, 0, 0, 0, 0, MAX), "stamp 0"),
+    ((0, 100, 200, 0, 0, MAX), "stamp 200"),
+    ((199, 100, 200, 0, 0, MAX), "stamp 200"),
+    ((200, 100, 200, 0, 0, MAX), "stamp 201"),
+    ((0, 100, 200, 300, 0, MAX), "stamp 300"),
+    ((300, 100, 200, 300, 0, MAX), "stamp 301"),
+    ((0, 100, 200, 0, 400, MAX), "stamp 400"),
+    ((0, 100, 200, 300, 0, 300), "stamp 300"),
+    ((300, 100, 200, 300, 0, 300), "refused 903"),
+    ((0, 100, 200, 0, 0, 199), "refused 903"),
+    ((0, 100, 200, 10_000_000_200, 0, MAX), "stamp 10000000200"),
+    ((0, 100, 200, 10_000_000_201, 0, MAX), "refused 902"),
+    ((0, 100, 200, 10_000_000_200, 0, 10), "refused 903"),
+    ((0, 100, 200, 10_000_000_201, 0, 10), "refused 902"),
+    ((MAX, 100, 200, 10_000_000_201, 0, 10), "refused 902"),
+    ((0, 0, 0, NO_LIMIT, 0, MAX), "refused 902"),
+    ((0, 0, MAX, 0, 0, MAX), f"stamp {MAX}"),
+    ((0, MAX, MAX, MAX, MAX, MAX), f"stamp {MAX}"),
+    ((0, 0, MAX, MAX + 1, 0, MAX), "refused 901"),
+    ((0, 0, MAX, MAX + AHEAD, 0, MAX), "refused 901"),
+    ((0, 0, MAX, MAX + AHEAD + 1, 0, MAX), "refused 902"),
+    ((MAX - 1, 0, 0, 0, 0, MAX), f"stamp {MAX}"),
+    ((MAX, 0, 0, 0, 0, MAX), "refused 901"),
+    ((MAX, 0, 0, 0, 0, 0), "refused 901"),
+    ((MAX - 1, 0, 0, 0, 0, MAX - 1), "refused 903"),
+    ((0, 0, 0, 0, MAX, MAX), f"stamp {MAX}"),
+]
+
+
+def corners():
+    """Each of these last stamps, readings, leases and floors with each other."""
+    middle = 10**18
+    leases = [(0, MAX), (0, 0), (MAX, MAX), (middle, middle), (middle - 1, middle + 1), (0, middle), (middle + 1, MAX)]
+    readings = [(0, 0), (0, MAX), (MAX, MAX), (MAX - 1, MAX - 1), (middle - 9, middle), (0, middle + 1), (middle - 1, middle - 1)]
+    for (lease_lo, lease_hi), (lo, hi) in itertools.product(leases, readings):
+        lasts = {0, 1, hi - 1, hi, hi + 1, lease_lo, lease_lo - 1, lease_hi - 1, lease_hi, lease_hi + 1, MAX - 1, MAX}
+        floors = {0, 1, hi - 1, hi, hi + 1, hi + AHEAD - 1, hi + AHEAD, hi + AHEAD + 1, lease_lo, lease_hi, lease_hi + 1, MAX, MAX + 1, 2**63,
+                  NO_LIMIT}
+        for last, floor in itertools.product(sorted(lasts), sorted(floors)):
+            if 0 <= last <= MAX and 0 <= floor:
+                yield last, lo, hi, floor, lease_lo, lease_hi
+
+
+def vectors(seed, number):
+    """Vectors whose numbers are mostly near each other, near an edge or near a bound."""
+    chance = random.Random(seed)
+
+    def a_time():
+        return chance.choice([chance.randrange(10**chance.randrange(1, 19)), chance.randrange(MAX + 1), MAX - chance.randrange(10**6)])
+
+    def near(time_ns):
+        step = chance.choice([0, 1, 2, chance.randrange(100), chance.randrange(2 * AHEAD), AHEAD, AHEAD + 1])
+        return min(max(time_ns + chance.choice([-step, step]), 0), MAX)
+
+    for _ in range(number):
+        lo, hi = sorted((near(middle := a_time()), near(middle)))
+        lease = sorted(chance.choice([(0, MAX), (near(hi), near(hi)), (near(hi), MAX), (0, near(hi)), (a_time(), a_time())]))
+        last = chance.choice([0, near(hi), near(lease[0]), near(lease[1]), a_time()])
+        floor = chance.choice([0, near(hi), hi + AHEAD, hi + AHEAD + 1, near(last), near(lease[1]), chance.randrange(2**64)])
+        yield last, lo, hi, floor, *lease
+
+
+# What is no lease, and what no stamper says to it.
+NO_LEASES = [(1, 0), (MAX, 0), (MAX + 1, MAX), (NO_LIMIT, 0)]
+
+
+def stamping_probes(trial):
+    """The probes that have a stamper."""
+    for name, words in trial.shared:
+        if name in LATER and not run([*words, "stamper"], b"row 0 5 7 0 0 9\n", 60).said.strip():
+            trial.note(f"{name}: its probe has no stamper")
+        else:
+            yield name, words
+
+
+def try_rows(trial, name, words, tried, wanted):
+    """The rule by vectors."""
+    lines = "".join("row " + " ".join(map(str, numbers)) + "\n" for numbers in tried)
+    answers = run([*words, "stamper"], lines.encode(), 300).said.splitlines()
+    trial.check(name, len(answers) == len(wanted), f"{len(answers)} answers to {len(wanted)} rows")
+    for numbers, came, answer in zip(tried, answers, wanted):
+        trial.check(name, came == answer, f"row {numbers}: {came} in place of {answer}")
+    for lease in NO_LEASES:
+        came = run([*words, "stamper"], f"row 0 0 0 0 {lease[0]} {lease[1]}\n".encode(), 60).said.strip()
+        trial.check(name, came == "refused 101", f"lease {lease}: {came}")
+    came = run([*words, "stamper"], f"row 0 0 0 0 0 {MAX + 1}\n".encode(), 60).said.strip()
+    trial.check(name, came == "refused 102", f"a lease past the greatest time: {came}")
+
+
+class Shared:
+    """A file of a daemon that is written in place. The true time is that of CLOCK_MONOTONIC and `offset` more."""
+    offset = 10**18
+
+    def __init__(self, path):
+        with open("/proc/sys/kernel/random/boot_id", "rb") as file:
+            self.nothing = file_of(0, None, file.read(36))
+        with contextlib.suppress(FileNotFoundError):
+            os.remove(path)
+        self.file, self.count = os.open(path, os.O_RDWR | os.O_CREAT | os.O_EXCL, 0o644), 0
+        os.fchmod(self.file, 0o644)
+        self.clear()
+
+    def __enter__(self):
+        return self
+
+    def __exit__(self, *_):
+        os.close(self.file)
+
+    def now(self):
+        """The true time."""
+        return time.monotonic_ns() + self.offset
+
+    def clear(self):
+        """Nothing was published."""
+        os.pwrite(self.file, self.nothing, 0)
+        self.count = 0
+
+    def publish(self, early=0, late=0, ahead=0, clock=None, until=NO_LIMIT, usable=NO_LIMIT, epoch=7, drift=0):
+        """Publishes the true time, which is `ahead` of what it is else, with these errors."""
+        clock = time.monotonic_ns() if clock is None else clock
+        self.count += 1
+        index, middle = index_of(self.count), clock + self.offset + ahead
+        numbers = struct.pack("<8Q", clock, middle - early, middle + late, until, epoch, self.count, drift, usable)
+        os.pwrite(self.file, (index + numbers).ljust(SLOT_BYTES, b"\0"), 64 + SLOT_BYTES * (self.count % 2))
+        os.pwrite(self.file, index, 16)
+
+
+def try_refusals(said, shared, path):
+    """What a stamper says where there is no reading: the reading's refusal, whatever else is asked for. What is wrong."""
+    for what, answer in (path + ".none", "refused 1701"), (os.path.dirname(path), "refused 1702"):
+        yield f"open {what}", said(f"open {what} 0 {MAX}"), answer
+    yield "open", said(f"open {path} 0 {MAX}"), "open"
+    hour = 3600 * SECOND
+    for what, change, answer in [
+            ("nothing published", shared.clear, "refused 801"),
+            ("nothing any more", lambda: shared.publish(usable=0), "refused 801"),
+            ("a drift too great", lambda: shared.publish(drift=100_001), "refused 1703"),
+            ("a clock below that of the publication", lambda: shared.publish(clock=time.monotonic_ns() + hour), "refused 802"),
+            ("the same, and not usable", lambda: shared.publish(clock=time.monotonic_ns() + hour, usable=1), "refused 802"),
+            ("not usable any more", lambda: shared.publish(usable=time.monotonic_ns()), "refused 1708")]:
+        change()
+        for line in ("stamp 0", f"stamp {NO_LIMIT}", "past 0", f"past {MAX}", "wait 0 1000", f"wait {MAX} 1000"):
+            yield f"{what}: {line}", said(line), answer
+
+
+def try_stamps(said, shared, path):
+    """Stamps of one stamper after the other; what it said, and what it has to."""
+    def stamp(floor):
+        word, *numbers = said(f"stamp {floor}").split()
+        return [int(number) if number.isdigit() else number for number in numbers] if word == "stamp" else [word, *numbers]
+
+    yield "open", said(f"open {path} 0 {MAX}"), "open"
+    shared.publish(early=300, late=500, until=1, epoch=NO_LIMIT)
+    begun = shared.now()
+    given, earliest, latest, fresh, epoch = stamp(0)
+    yield "of a stale publication", (given == latest, latest - earliest, fresh, epoch), (True, 800, "stale", NO_LIMIT)
+    yield "by a reading of the call", begun <= latest - 500 <= shared.now(), True
+    shared.publish(early=300, late=500, epoch=8)
+    floor = shared.now() + 5 * SECOND
+    for asked, answer in (floor, floor), (0, floor + 1), (floor + 9, floor + 9):
+        yield f"floor {asked}", stamp(asked)[::3], [answer, "fresh"]
+    yield "floor too far", stamp(shared.now() + 600 * SECOND), ["refused", "902"]
+    yield "nothing is used up", stamp(floor)[::4], [floor + 10, 8]
+    low = shared.now() + 3 * SECOND
+    yield "open with a lease", said(f"open {path} {low} {low + 1}"), "open"
+    for answer in [low], [low + 1], ["refused"], ["refused"]:
+        yield "within a lease", stamp(0)[:1], answer
+    yield "over", said("stamp 0"), "refused 903"
+    yield "over, and the floor too far", said(f"stamp {NO_LIMIT}"), "refused 902"
+    yield "open at the end of time", said(f"open {path} {MAX} {MAX}"), "open"
+    yield "the greatest time", stamp(0)[:1], [MAX]
+    yield "used up", said("stamp 0"), "refused 901"
+
+
+def timed(said, line, least_ms, most_ms, more_ms=1000):
+    """What is said to a line, and whether it took so long. The host may be busy, so it may take a second more, or as much as is named."""
+    began = time.monotonic()
+    answer, took_ms = said(line), 1000 * (time.monotonic() - began)
+    return f"{answer} {'in time' if least_ms <= took_ms <= most_ms + more_ms else f'after {took_ms} ms'}"
+
+
+def try_waits(said, shared, path):
+    """Waits; what was said, and what has to be."""
+    yield "open", said(f"open {path} 0 {MAX}"), "open"
+    shared.publish(early=1000, late=1000)
+    now = shared.now()
+    yield "below the earliest", said(f"past {now - 1002}"), "yes"
+    yield "ahead", said(f"past {now + 60 * SECOND}"), "no"
+    yield "the greatest number", said(f"past {NO_LIMIT}"), "no"
+    shared.publish(early=60 * SECOND, late=60 * SECOND)
+    yield "within the reading", (said(f"past {now}"), said(f"wait {now} 10")), ("no", "no")
+    shared.publish(clock=(clock := time.monotonic_ns()), ahead=MAX - shared.offset - clock)
+    yield "the greatest time, which is the earliest", (said(f"past {MAX}"), said(f"past {MAX - 1}")), ("no", "yes")
+    yield "the same, after a wait", (said(f"wait {MAX} 10"), said(f"wait {MAX - 1} 10")), ("no", "yes")
+    shared.publish(early=1000, late=1000)
+    yield "passed", timed(said, f"wait {now - 1002} 0", 0, 0), "yes in time"
+    yield "a time-out of 0", timed(said, f"wait {now + 60 * SECOND} 0", 0, 0), "no in time"
+    yield "a time-out", timed(said, f"wait {NO_LIMIT} 120", 119, 120), "no in time"
+    for ahead_ms in 1, 30, 130:
+        stamp = shared.now() + ahead_ms * SECOND // 1000
+        yield f"{ahead_ms} ms", timed(said, f"wait {stamp} 60000", 0, ahead_ms), "yes in time"
+        yield f"{ahead_ms} ms have passed", shared.now() > stamp + 1000, True
+    for what, change, answer in [("no publication any more", lambda: shared.publish(usable=0), "refused 801 in time"),
+                                 ("a narrower publication", lambda: shared.publish(ahead=90 * SECOND), "yes in time")]:
+        for _ in range(9):  # a sleep is at most 50 milliseconds; the host may be busy
+            shared.publish(early=1000, late=1000)
+            later = threading.Timer(0.1, change)
+            later.start()
+            came = timed(said, f"wait {shared.now() + 60 * SECOND} 10000", 0, 150, 60)
+            later.join()
+            if came == answer:
+                break
+        yield what, came, answer
+
+
+@suite.case()
+def stampers(trial):
+    """Stampers by vectors, and over files."""
+    tried = [numbers for numbers, _ in BY_HAND] + list(corners()) + list(vectors(2, 10_000))
+    wanted = [row_of(*numbers) for numbers in tried]
+    for numbers, answer in BY_HAND:
+        trial.check("by hand", answer == row_of(*numbers), f"{numbers}: {answer} by hand, and {row_of(*numbers)}")
+    for answer in "stamp ", "refused 901", "refused 902", "refused 903":
+        number = sum(other.startswith(answer) for other in wanted)
+        trial.check("rows", number > 500, f"only {number} rows with {answer}")
+    for name, words in stamping_probes(trial):
+        before, checks, path = len(trial.result.wrong), 0, os.path.join(trial.room, "stamped")
+        try_rows(trial, name, words, tried, wanted)
+        with Shared(path) as shared, Reader(words, "stamper") as probe:
+            late = threading.Timer(120, probe.probe.kill)
+            late.start()
+            for what, came, answer in (each for some in (try_refusals, try_stamps, try_waits) for each in some(probe.say, shared, path)):
+                checks += 1
+                trial.check(name, came == answer, f"{what}: {came} in place of {answer}")
+            late.cancel()
+        trial.note(f"{name}: {len(wanted)} rows, {checks} answers over files, {len(trial.result.wrong) - before} wrong")
+
+
+THREADS, EACH, WIDTH = 8, 10_000, 500_000
+
+
+@contextlib.contextmanager
+def publishing(path):
+    """Publishes about 10,000 times a second, in life after life, while the block lasts."""
+    over = threading.Event()
+
+    def publish_on():
+        chance = random.Random(3)
+        while not over.wait(0.00005):
+            early, late, until = chance.randrange(WIDTH), chance.randrange(WIDTH), time.monotonic_ns() + SECOND
+            shared.publish(early, late, drift=200, epoch=1 + shared.count // 1000, until=until)
+
+    with Shared(path) as shared:
+        shared.publish(WIDTH, WIDTH, drift=200, epoch=1)
+        writer = threading.Thread(target=publish_on)
+        writer.start()
+        try:
+            yield shared
+        finally:
+            over.set()
+            writer.join()
+
+
+def stamps_of(words, path, lease, floor, shared):
+    """The stamps of the probe's threads, by thread; how many stamps were refused with each number; and what is wrong."""
+    threads, refused, wrong, begun = [[] for _ in range(THREADS)], {}, [], shared.now()
+    ran = run([*words, "stamper"], f"open {path} {lease[0]} {lease[1]}\nthreads {THREADS} {EACH} {floor}\n".encode(), 120)
+    said, ended = ran.said.splitlines(), shared.now()
+    if ran.status != 0 or said[:1] != ["open"] or said[-1:] != ["end"] or len(said) != THREADS * EACH + 2:
+        return threads, refused, [f"status {ran.status}, and {len(said)} lines, the last one {said[-1:]}: {ran.error[:1000]}"]
+    for line in said[1:-1]:
+        number, word, *numbers = line.split()
+        if word == "refused":
+            refused[line.split(" ", 1)[1]] = refused.get(line.split(" ", 1)[1], 0) + 1
+            continue
+        stamp, earliest, latest, epoch = (int(numbers[place]) for place in (0, 1, 2, 4))
+        threads[int(number)].append(stamp)
+        if not earliest <= latest <= stamp or not begun <= latest <= ended + 2 * WIDTH or not 1 <= epoch <= 1 + shared.count // 1000:
+            wrong.append(f"not by a reading of the call: {line}")
+    return threads, refused, wrong
+
+
+def out_of_order(threads):
+    """What is wrong with the order of these stamps."""
+    together = sorted(stamp for thread in threads for stamp in thread)
+    equal = sum(one == other for one, other in zip(together, together[1:]))
+    falling = sum(one >= other for thread in threads for one, other in zip(thread, thread[1:]))
+    return [f"{equal} stamps are equal"] * (equal > 0) + [f"{falling} stamps are not above the thread's last"] * (falling > 0)
+
+
+def race(trial, name, words, path):
+    """Threads that stamp by their readings, and threads that stamp from one floor on, until the lease is over."""
+    with publishing(path) as shared:
+        threads, refused, wrong = stamps_of(words, path, (0, MAX), 0, shared)
+        trial.equal(name, [*wrong[:5], *out_of_order(threads), *refused.items()], [])
+        turns = sorted((stamp, number) for number, thread in enumerate(threads) for stamp in thread)
+        turns = sum(one[1] != other[1] for one, other in zip(turns, turns[1:]))
+        floor, wanted = shared.now() + 8 * SECOND, THREADS * EACH * 3 // 4
+        threads, refused, wrong = stamps_of(words, path, (0, floor + wanted - 1), floor, shared)
+        given = sorted(stamp for thread in threads for stamp in thread)
+        trial.equal(name, [*wrong[:5], *out_of_order(threads)], [])
+        trial.check(name, given == list(range(floor, floor + wanted)), f"{len(given)} stamps, and the {wanted} from {floor} on are wanted")
+        trial.equal(name, refused, {"refused 903": THREADS * EACH - wanted})
+        trial.note(f"{name}: {2 * THREADS * EACH} calls of {THREADS} threads beside {shared.count} publications; the next stamp was another "
+                   f"thread's {turns} times")
+
+
+@suite.case()
+def stampers_stress(trial):
+    """Threads that share one stamper, beside a writer."""
+    with tempfile.TemporaryDirectory(dir="/dev/shm" if os.path.isdir("/dev/shm") else None) as folder:
+        path = os.path.join(folder, "time")
+        for name, words in stamping_probes(trial):
+            race(trial, name, words, path)
+        flags = ["-std=c11", "-D_POSIX_C_SOURCE=200809L", "-pthread", "-fno-sanitize-recover=all", os.path.join(CLIENTS, "c", "test", "probe.c")]
+        for checks in ("address,undefined", "thread"):
+            try:
+                made = build_c(trial.room, "gcc", f"probe-{checks}", f"-fsanitize={checks}", *flags)
+            except subprocess.CalledProcessError:
+                trial.note(f"the C stamper is not tried with checks of {checks}: gcc has no library for them here")
+                continue
+            if made:
+                race(trial, f"C with checks of {checks}", [made], path)
