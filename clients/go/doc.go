@@ -16,6 +16,14 @@
 //	client, err := truetime.Open("/run/truetime/time", 0) // 0: the user who has to own the file
 //	now, err := client.Now()
 //
+// A [Stamper] gives timestamps by that file in the database's own process, without the service. Nobody may be told of a
+// commit before WaitPast has said that its timestamp has passed:
+//
+//	stamper := truetime.NewStamper(client) // one for all goroutines
+//	given, err := stamper.Stamp(0) // no other commit of this stamper has this timestamp
+//	// write and commit locally, under given.Timestamp
+//	isPast, err := stamper.WaitPast(ctx, given.Timestamp) // only now, if it is true, may anybody be told of the commit
+//
 // Times are nanoseconds of the scale that the masters have. Where a call gives an error, what it gives beside it tells a
 // caller that does not look nothing wrong: the interval of all times, false, or the timestamp 0.
 //

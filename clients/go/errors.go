@@ -10,9 +10,12 @@ type Refusal uint16
 
 // The refusals that a caller may want to tell apart; docs/FORMATS.md has all.
 const (
+	LeaseBackwards Refusal = 101  // the ends of the lease are out of order
+	LeasePastMax   Refusal = 102  // the upper end of the lease is above the greatest time
 	Nothing        Refusal = 801  // the daemon has published nothing so far, or nothing is published any more
 	ClockBack      Refusal = 802  // the clock is below that of the publication, or above the greatest time
 	ClockFailed    Refusal = 803  // the clock gave no reading
+	UsedUp         Refusal = 901  // no timestamp is left up to the greatest time
 	FloorTooFar    Refusal = 902  // the floor is too far ahead
 	LeaseOver      Refusal = 903  // the least timestamp is above the upper end of the lease
 	CommitPending  Refusal = 1104 // the last commit is not known as released
@@ -27,9 +30,12 @@ const (
 )
 
 var meanings = map[Refusal]string{
+	LeaseBackwards: "the ends of the lease are out of order",
+	LeasePastMax:   "the upper end of the lease is above the greatest time",
 	Nothing:        "the daemon has published nothing so far, or nothing is published any more",
 	ClockBack:      "the clock is below that of the publication, or above the greatest time",
 	ClockFailed:    "the clock gave no reading",
+	UsedUp:         "no timestamp is left up to the greatest time",
 	FloorTooFar:    "the floor is too far ahead",
 	LeaseOver:      "the least timestamp is above the upper end of the lease",
 	CommitPending:  "the last commit is not known as released",
@@ -55,7 +61,7 @@ func (r Refusal) Error() string {
 // of the step that would have released it: then it is pending, and has a timestamp.
 func (r Refusal) neverBegins() bool {
 	switch r {
-	case 901, FloorTooFar, LeaseOver, 1001, 1002, 1003, CommitPending, FloorAboveCap:
+	case UsedUp, FloorTooFar, LeaseOver, 1001, 1002, 1003, CommitPending, FloorAboveCap:
 		return true
 	}
 	return false

@@ -17,7 +17,7 @@ import java.util.Arrays;
 import java.util.Map;
 
 /**
- * The time with an error bound, read from shared memory.
+ * The time with an error bound, read from shared memory; a {@link Stamper} gives timestamps for commits by it.
  *
  * <p>The time daemon of a machine keeps its last publication in a file of 320 bytes. A client maps that file once and
  * reads it as often as it likes, without a lock and without waiting:
@@ -51,17 +51,22 @@ public final class TrueTime implements AutoCloseable {
     private static final long MAGIC_AND_LENGTH = 0x0000_0140_3253_5454L;
     private static final long LOWEST_BITS = 0x0101_0101_0101_0101L;
     private static final VarHandle WORD = MethodHandles.byteBufferViewVarHandle(long[].class, ByteOrder.LITTLE_ENDIAN);
-    private static final Map<Integer, String> MEANINGS = Map.of(
-        801, "the daemon has published nothing so far, or nothing is published any more",
-        802, "the clock is below that of the publication, or above the greatest time",
-        803, "the clock gave no reading",
-        1701, "the file cannot be opened, mapped or read",
-        1702, "not such a file, or of another owner, writable by others, of another boot or another clock",
-        1703, "no daemon wrote what stands there",
-        1704, "another publication came during each of the tries",
-        1708, "the clock is past the last reading at which the publication may be used",
-        1823, "the machine knows that an assumption of the service is broken",
-        1824, "the reading is wider than the machine allows");
+    private static final Map<Integer, String> MEANINGS = Map.ofEntries(
+        Map.entry(101, "the ends of the lease are out of order"),
+        Map.entry(102, "the upper end of the lease is above the greatest time"),
+        Map.entry(801, "the daemon has published nothing so far, or nothing is published any more"),
+        Map.entry(802, "the clock is below that of the publication, or above the greatest time"),
+        Map.entry(803, "the clock gave no reading"),
+        Map.entry(901, "no stamp is left up to the greatest time"),
+        Map.entry(902, "the floor is too far ahead of the latest"),
+        Map.entry(903, "the least stamp is above the upper end of the lease"),
+        Map.entry(1701, "the file cannot be opened, mapped or read"),
+        Map.entry(1702, "not such a file, or of another owner, writable by others, of another boot or another clock"),
+        Map.entry(1703, "no daemon wrote what stands there"),
+        Map.entry(1704, "another publication came during each of the tries"),
+        Map.entry(1708, "the clock is past the last reading at which the publication may be used"),
+        Map.entry(1823, "the machine knows that an assumption of the service is broken"),
+        Map.entry(1824, "the reading is wider than the machine allows"));
 
     /** One of these is null. */
     private final ByteBuffer mapped;

@@ -7,9 +7,17 @@ import java.net.UnixDomainSocketAddress;
 import java.nio.charset.StandardCharsets;
 import java.nio.file.Path;
 import java.time.Duration;
+import java.util.ArrayList;
+import java.util.List;
+import java.util.concurrent.Callable;
+import java.util.concurrent.CyclicBarrier;
+import java.util.concurrent.ExecutionException;
+import java.util.concurrent.ExecutorService;
+import java.util.concurrent.Executors;
+import java.util.concurrent.Future;
 import java.util.function.Supplier;
 
-/** What the reader answers, for the tests: as ../../c/test/probe.c. */
+/** What reader, stamper and sessions answer, for the tests: as ../../c/test/probe.c. */
 public final class Probe {
     private Probe() {}
 
@@ -113,7 +121,105 @@ public final class Probe {
         }
     }
 
-    public static void main(String[] words) throws IOException {
+    private static long[] numbers(String[] words, int from) {
+        long[] numbers = new long[words.length - from];
+        for (int place = 0; place < numbers.length; place++) {
+            numbers[place] = Long.parseUnsignedLong(words[from + place]);
+        }
+        return numbers;
+    }
+
+    /** The stamp behind the last one, 0 where none was given, by the reading [_, LATEST]. */
+    private static String row(long[] n) {
+        new Stamper(null, n[4], n[5]);
+        // Behind the greatest number there is none, and each past the greatest time is as good.
+        long free = n[0] == 0 || n[0] == -1 ? n[0] : n[0] + 1;
+        return "stamp " + Long.toUnsignedString(Stamper.stampOf(free, n[2], n[3], n[4], n[5]));
+    }
+
+    private static String stamp(Stamper stamper, long floorNs) {
+        Stamper.Stamp given = stamper.stamp(floorNs);
+        TrueTime.Reading by = given.reading();
+        return "stamp " + given.stampNs() + " " + by.earliestNs() + " " + by.latestNs() + (by.fresh() ? " fresh " : " stale ")
+            + Long.toUnsignedString(by.epoch());
+    }
+
+    /** Stamps of so many threads, which begin together; the lines of each one behind those of the last. */
+    private static String stampsInThreads(Stamper stamper, int threads, int each, long floorNs)
+            throws InterruptedException, ExecutionException {
+        ExecutorService pool = Executors.newFixedThreadPool(threads);
+        CyclicBarrier begin = new CyclicBarrier(threads);
+        List<Future<List<String>>> running = new ArrayList<>();
+        for (int number = 0; number < threads; number++) {
+            String before = number + " ";
+            Callable<List<String>> stampOn = () -> {
+                List<String> lines = new ArrayList<>();
+                begin.await();
+                for (int turn = 0; turn < each; turn++) {
+                    lines.add(before + answer(() -> stamp(stamper, floorNs)));
+                }
+                return lines;
+            };
+            running.add(pool.submit(stampOn));
+        }
+        pool.shutdown();
+        StringBuilder lines = new StringBuilder();
+        for (Future<List<String>> thread : running) {
+            thread.get().forEach(line -> lines.append(line).append('\n'));
+        }
+        return lines + "end";
+    }
+
+    /** What a call of a stamper gives. */
+    private static String stamped(Stamper stamper, String name, long[] n) throws InterruptedException, ExecutionException {
+        switch (name) {
+            case "row":
+                return row(n);
+            case "stamp":
+                return stamp(stamper, n[0]);
+            case "past":
+                return stamper.isPast(n[0]) ? "yes" : "no";
+            case "wait":
+                return stamper.awaitPast(n[0], Duration.ofMillis(n[1])) ? "yes" : "no";
+            default:
+                return stampsInThreads(stamper, (int) n[0], (int) n[1], n[2]);
+        }
+    }
+
+    /** What a call gives, or its refusal. */
+    private static String answer(Supplier<String> call) {
+        try {
+            return call.get();
+        } catch (TrueTime.Refused refused) {
+            return "refused " + refused.number();
+        }
+    }
+
+    private static Stamper openedStamper(String[] words) {
+        long[] lease = numbers(words, 2);
+        return new Stamper(TrueTime.open(Path.of(words[1]), System.getProperty("user.name")), lease[0], lease[1]);
+    }
+
+    private static void tryStampers(BufferedReader calls) throws IOException, InterruptedException, ExecutionException {
+        Stamper stamper = null;
+        for (String call = calls.readLine(); call != null; call = calls.readLine()) {
+            String[] words = call.split(" ");
+            String said;
+            try {
+                if (words[0].equals("open")) {
+                    stamper = openedStamper(words);
+                    said = "open";
+                } else {
+                    said = stamped(stamper, words[0], numbers(words, 1));
+                }
+            } catch (TrueTime.Refused refused) {
+                said = "refused " + refused.number();
+            }
+            System.out.println(said);
+        }
+    }
+
+    public static void main(String[] words) throws IOException, InterruptedException, ExecutionException {
         if (words.length == 2 && words[0].equals("open")) {
             System.out.println(published(() -> TrueTime.open(Path.of(words[1]), System.getProperty("user.name"))));
             return;
@@ -125,6 +231,10 @@ public final class Probe {
         }
         if (words.length == 1 && words[0].equals("session")) {
             trySessions(lines);
+            return;
+        }
+        if (words.length == 1 && words[0].equals("stamper")) {
+            tryStampers(lines);
             return;
         }
         StringBuilder answers = new StringBuilder();

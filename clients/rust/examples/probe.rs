@@ -1,11 +1,14 @@
-//! What the reader answers, for the tests: as ../../c/test/probe.c.
+//! What reader, stamper and sessions answer, for the tests: as ../../c/test/probe.c.
 use std::env;
 use std::fs;
 use std::io::{self, BufWriter, Write};
 use std::os::unix::fs::MetadataExt;
-use std::time::Duration;
+use std::sync::Barrier;
+use std::thread;
+use std::time::{Duration, Instant};
 use truetime::session::Error;
-use truetime::{Client, Publication, Refused, Session};
+use truetime::stamper::{Lease, Stamp};
+use truetime::{Client, Publication, Refused, Session, Stamper};
 
 fn answer_vectors() -> io::Result<()> {
     let mut out = BufWriter::new(io::stdout().lock());
@@ -101,6 +104,93 @@ fn try_sessions() -> io::Result<()> {
     Ok(())
 }
 
+/// The stamp behind the last one, 0 where none was given, by the reading [_, LATEST].
+fn answer_row([last_ns, _, latest_ns, floor_ns, lo_ns, hi_ns]: [u64; 6]) -> Result<String, Refused> {
+    let free_ns = if last_ns == 0 { 0 } else { last_ns.saturating_add(1) };
+    Lease::new(lo_ns, hi_ns)?.stamp_of(free_ns, latest_ns, floor_ns).map(|stamp_ns| format!("stamp {stamp_ns}"))
+}
+
+fn said_of(given: Result<Stamp, Refused>) -> String {
+    match given {
+        Ok(Stamp { stamp_ns, reading }) => {
+            let fresh = if reading.fresh { "fresh" } else { "stale" };
+            format!("stamp {stamp_ns} {} {} {fresh} {}", reading.earliest_ns, reading.latest_ns, reading.epoch)
+        }
+        Err(refused) => format!("refused {}", refused.number()),
+    }
+}
+
+/// Stamps of so many threads, which begin together; the lines of each one behind those of the last.
+fn stamp_in_threads(stamper: &Stamper, [threads, each, floor_ns]: [u64; 3]) -> String {
+    let begin = Barrier::new(threads as usize);
+    let stamp_on = || -> Vec<Result<Stamp, Refused>> {
+        begin.wait();
+        (0..each).map(|_| stamper.stamp(floor_ns)).collect()
+    };
+    let given: Vec<_> = thread::scope(|scope| {
+        let running: Vec<_> = (0..threads).map(|_| scope.spawn(stamp_on)).collect();
+        running.into_iter().map(|thread| thread.join().expect("a thread")).collect()
+    });
+    let mut lines = String::new();
+    for (number, mine) in given.into_iter().enumerate() {
+        lines.extend(mine.into_iter().map(|one| format!("{number} {}\n", said_of(one))));
+    }
+    lines + "end"
+}
+
+fn numbers_of<const COUNT: usize>(line: &str) -> [u64; COUNT] {
+    let numbers: Vec<u64> = line.split(' ').map(|word| word.parse().expect("a number")).collect();
+    numbers.try_into().expect("so many numbers")
+}
+
+fn open_stamper(rest: &str) -> Result<Stamper, Refused> {
+    let words: Vec<&str> = rest.split(' ').collect();
+    let [path, ends @ ..] = &words[..] else { panic!("three words") };
+    let [lo_ns, hi_ns] = numbers_of(&ends.join(" "));
+    Ok(Stamper::with_lease(Client::open(path, user()?)?, Lease::new(lo_ns, hi_ns)?))
+}
+
+/// Makes a call of a stamper, and gives what it gives.
+fn call_stamper(open: &mut Option<Stamper>, name: &str, rest: &str) -> Result<String, Refused> {
+    if name == "open" {
+        *open = Some(open_stamper(rest)?);
+        return Ok("open".to_string());
+    }
+    if name == "row" {
+        return answer_row(numbers_of(rest));
+    }
+    let stamper = open.as_ref().ok_or(Refused::NoFile)?;
+    let yes_or_no = |answer| String::from(if answer { "yes" } else { "no" });
+    match name {
+        "stamp" => {
+            let [floor_ns] = numbers_of(rest);
+            Ok(said_of(stamper.stamp(floor_ns)))
+        }
+        "past" => {
+            let [stamp_ns] = numbers_of(rest);
+            stamper.is_past(stamp_ns).map(yes_or_no)
+        }
+        "wait" => {
+            let [stamp_ns, milliseconds] = numbers_of(rest);
+            stamper.wait_past(stamp_ns, Instant::now() + Duration::from_millis(milliseconds)).map(yes_or_no)
+        }
+        _ => Ok(stamp_in_threads(stamper, numbers_of(rest))),
+    }
+}
+
+fn try_stampers() -> io::Result<()> {
+    let mut stamper = None;
+    for line in io::stdin().lines() {
+        let line = line?;
+        let (name, rest) = line.split_once(' ').unwrap_or((&line, ""));
+        match call_stamper(&mut stamper, name, rest) {
+            Ok(said) => println!("{said}"),
+            Err(refused) => println!("refused {}", refused.number()),
+        }
+    }
+    Ok(())
+}
+
 fn main() -> io::Result<()> {
     let words: Vec<String> = env::args().skip(1).collect();
     match words.iter().map(String::as_str).collect::<Vec<_>>()[..] {
@@ -111,6 +201,7 @@ fn main() -> io::Result<()> {
         }
         ["files"] => try_files(),
         ["session"] => try_sessions(),
-        _ => panic!("usage: probe vectors | probe open PATH | probe files | probe session"),
+        ["stamper"] => try_stampers(),
+        _ => panic!("usage: probe vectors | probe open PATH | probe files | probe session | probe stamper"),
     }
 }

@@ -1,4 +1,5 @@
-//! The time with an error bound, read from shared memory; timestamps for commits are in [`session`].
+//! The time with an error bound, read from shared memory; timestamps for commits are in [`stamper`], by the same memory, and
+//! in [`session`], by the service.
 //!
 //! The time daemon of a machine keeps its last publication in a file of 320 bytes. A client maps that file once and reads
 //! it as often as it likes, without a lock and without waiting.
@@ -20,8 +21,10 @@
 compile_error!("truetime needs Linux on a little-endian 64-bit machine");
 
 pub mod session;
+pub mod stamper;
 
 pub use session::Session;
+pub use stamper::Stamper;
 
 use std::ffi::{c_int, c_long, c_void};
 use std::fmt;
@@ -46,15 +49,25 @@ const TRIES: usize = 1000;
 const HEAD: [u64; 2] = [0x0000_0140_3253_5454, 1];
 const LOWEST_BITS: u64 = 0x0101_0101_0101_0101;
 
-/// Why there is no reading.
+/// Why there is no reading, or no stamp.
 #[derive(Clone, Copy, Debug, PartialEq, Eq)]
 pub enum Refused {
+    /// The ends of the lease are out of order.
+    LeaseBackwards,
+    /// The upper end of the lease is above the greatest time.
+    LeasePastMax,
     /// The daemon has published nothing so far, or nothing is published any more.
     Nothing,
     /// The clock is below that of the publication, or above the greatest time.
     ClockBack,
     /// The clock gave no reading.
     ClockFailed,
+    /// No stamp is left up to the greatest time.
+    UsedUp,
+    /// The floor is too far ahead of the latest.
+    FloorTooFar,
+    /// The least stamp is above the upper end of the lease.
+    LeaseOver,
     /// The file cannot be opened, mapped or read.
     NoFile,
     /// Not such a file, or of another owner, writable by others, of another boot or another clock.
@@ -71,9 +84,14 @@ impl Refused {
     /// The number of the refusal.
     pub fn number(self) -> u16 {
         match self {
+            Refused::LeaseBackwards => 101,
+            Refused::LeasePastMax => 102,
             Refused::Nothing => 801,
             Refused::ClockBack => 802,
             Refused::ClockFailed => 803,
+            Refused::UsedUp => 901,
+            Refused::FloorTooFar => 902,
+            Refused::LeaseOver => 903,
             Refused::NoFile => 1701,
             Refused::OtherFile => 1702,
             Refused::NoSlot => 1703,
@@ -86,9 +104,14 @@ impl Refused {
 impl fmt::Display for Refused {
     fn fmt(&self, out: &mut fmt::Formatter<'_>) -> fmt::Result {
         let meaning = match self {
+            Refused::LeaseBackwards => "the ends of the lease are out of order",
+            Refused::LeasePastMax => "the upper end of the lease is above the greatest time",
             Refused::Nothing => "the daemon has published nothing so far, or nothing is published any more",
             Refused::ClockBack => "the clock is below that of the publication, or above the greatest time",
             Refused::ClockFailed => "the clock gave no reading",
+            Refused::UsedUp => "no stamp is left up to the greatest time",
+            Refused::FloorTooFar => "the floor is too far ahead of the latest",
+            Refused::LeaseOver => "the least stamp is above the upper end of the lease",
             Refused::NoFile => "the file cannot be opened, mapped or read",
             Refused::OtherFile => "not such a file, or of another owner, writable by others, of another boot or another clock",
             Refused::NoSlot => "no daemon wrote what stands there",

@@ -1,4 +1,4 @@
-// Command probe says what the reader and sessions answer, for the tests: as ../../../c/test/probe.c.
+// Command probe says what reader, stamper and sessions answer, for the tests: as ../../../c/test/probe.c.
 package main
 
 import (
@@ -9,6 +9,7 @@ import (
 	"os"
 	"strconv"
 	"strings"
+	"sync"
 	"time"
 
 	truetime "example.org/truetime/clients/go"
@@ -27,8 +28,10 @@ func main() {
 		tryFiles(lines)
 	case len(words) == 1 && words[0] == "session":
 		trySessions(lines)
+	case len(words) == 1 && words[0] == "stamper":
+		tryStampers(lines)
 	default:
-		fmt.Fprintln(os.Stderr, "usage: probe vectors | probe open PATH | probe files | probe session")
+		fmt.Fprintln(os.Stderr, "usage: probe vectors | probe open PATH | probe files | probe session | probe stamper")
 		os.Exit(2)
 	}
 }
@@ -37,10 +40,7 @@ func tryVectors(lines *bufio.Scanner) {
 	out := bufio.NewWriter(os.Stdout)
 	defer out.Flush()
 	for lines.Scan() {
-		var n [6]uint64
-		for place, word := range strings.Fields(lines.Text()) {
-			n[place] = number(word)
-		}
+		n := numbers(lines.Text())
 		publication := truetime.Publication{Clock: n[0], Lo: n[1], Hi: n[2], Drift: n[3], UsableUntil: n[4]}
 		reading, err := publication.At(n[5])
 		fmt.Fprintln(out, said(fmt.Sprint(reading.Earliest, reading.Latest), err))
@@ -142,6 +142,121 @@ func call(session *truetime.Session, name, rest string, timeout time.Duration) (
 		return "", errors.New("an error with a timestamp")
 	}
 	return strconv.FormatUint(stamp, 10), err
+}
+
+func tryStampers(lines *bufio.Scanner) {
+	out := bufio.NewWriter(os.Stdout)
+	var stamper *truetime.Stamper
+	for lines.Scan() {
+		name, rest, _ := strings.Cut(lines.Text(), " ")
+		switch name {
+		case "row":
+			fmt.Fprintln(out, said(row(numbers(rest))))
+		case "open":
+			words := strings.Split(rest, " ")
+			var err error
+			stamper, err = openStamper(words[0], truetime.Lease{Lo: number(words[1]), Hi: number(words[2])})
+			fmt.Fprintln(out, said("open", err))
+		case "threads":
+			n := numbers(rest)
+			stampInGoroutines(out, stamper, int(n[0]), int(n[1]), n[2])
+		default:
+			fmt.Fprintln(out, said(callStamper(stamper, name, numbers(rest))))
+		}
+		out.Flush()
+	}
+}
+
+// row gives the timestamp behind the last one, 0 where none was given, by a reading.
+func row(n []uint64) (string, error) {
+	last, latest, floor, lease := n[0], n[2], n[3], truetime.Lease{Lo: n[4], Hi: n[5]}
+	if _, err := truetime.NewStamperWithLease(nil, lease); err != nil {
+		return "", err
+	}
+	if 0 < last && last < 1<<64-1 {
+		last++
+	}
+	stamp, err := lease.StampOf(last, latest, floor)
+	if stamp != 0 && err != nil {
+		return "", errors.New("an error with a timestamp")
+	}
+	return "stamp " + strconv.FormatUint(stamp, 10), err
+}
+
+func openStamper(path string, lease truetime.Lease) (*truetime.Stamper, error) {
+	client, err := truetime.Open(path, uint32(os.Geteuid()))
+	if err != nil {
+		return nil, err
+	}
+	return truetime.NewStamperWithLease(client, lease)
+}
+
+// callStamper makes a call, and says what it gives; one that has an error says nothing that it should not.
+func callStamper(stamper *truetime.Stamper, name string, n []uint64) (string, error) {
+	var is bool
+	var err error
+	switch name {
+	case "stamp":
+		return stampText(stamper.Stamp(n[0]))
+	case "past":
+		is, err = stamper.IsPast(n[0])
+	case "wait":
+		ctx, cancel := context.WithTimeout(context.Background(), time.Duration(n[1])*time.Millisecond)
+		defer cancel()
+		is, err = stamper.WaitPast(ctx, n[0])
+	}
+	if is && err != nil {
+		return "", errors.New("an error with a yes")
+	}
+	if errors.Is(err, context.DeadlineExceeded) {
+		err = nil
+	}
+	return map[bool]string{true: "yes", false: "no"}[is], err
+}
+
+// stampText is what a stamp is, or its error.
+func stampText(given truetime.Stamp, err error) (string, error) {
+	if err != nil && (given.Timestamp != 0 || given.Interval != truetime.Interval{Earliest: 0, Latest: truetime.MaxTime}) {
+		return "", errors.New("an error with a timestamp")
+	}
+	fresh := map[bool]string{true: "fresh", false: "stale"}[given.Fresh]
+	return fmt.Sprintln("stamp", given.Timestamp, given.Earliest, given.Latest, fresh, given.Epoch), err
+}
+
+// stampInGoroutines says the timestamps of so many goroutines, which begin together; the lines of each one behind those of
+// the last.
+func stampInGoroutines(out *bufio.Writer, stamper *truetime.Stamper, goroutines, each int, floor uint64) {
+	begin, texts := make(chan struct{}), make([][]string, goroutines)
+	var all sync.WaitGroup
+	for number := range texts {
+		all.Add(1)
+		go func(number int) {
+			defer all.Done()
+			given, errs := make([]truetime.Stamp, each), make([]error, each)
+			<-begin
+			for turn := range given {
+				given[turn], errs[turn] = stamper.Stamp(floor)
+			}
+			for turn := range given {
+				texts[number] = append(texts[number], said(stampText(given[turn], errs[turn])))
+			}
+		}(number)
+	}
+	close(begin)
+	all.Wait()
+	for number, mine := range texts {
+		for _, text := range mine {
+			fmt.Fprintln(out, number, text)
+		}
+	}
+	fmt.Fprintln(out, "end")
+}
+
+func numbers(line string) (n []uint64) {
+	for _, word := range strings.Fields(line) {
+		n = append(n, number(word))
+	}
+	return n
 }
 
 func number(text string) uint64 {

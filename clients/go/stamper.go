@@ -1,0 +1,149 @@
+package truetime
+
+import (
+	"context"
+	"sync/atomic"
+	"time"
+)
+
+// MaxAhead is how far a floor may lie ahead of the reading's latest, in nanoseconds: ten seconds.
+const MaxAhead = 10_000_000_000
+
+// longestSleep is the longest one before the next look: a newer publication may have a later earliest.
+const longestSleep = 50 * time.Millisecond
+
+// A Lease is the times from which timestamps are given, from Lo to Hi, both included.
+type Lease struct {
+	Lo, Hi uint64
+}
+
+// StampOf is the rule of all timestamps. It gives the least number up to MaxTime that is no less than the latest of the
+// reading, the floor, the lower end of the lease, and free. That is the least number above all timestamps given: 0 before the
+// first one, and then one more than the last one.
+//
+// It refuses, in this order, with FloorTooFar where the floor is more than MaxAhead above the latest, with UsedUp where there
+// is no such number, and with LeaseOver where it is above the upper end of the lease. The timestamp is 0 then.
+func (l Lease) StampOf(free, latest, floor uint64) (uint64, error) {
+	if floor > latest && floor-latest > MaxAhead {
+		return 0, FloorTooFar
+	}
+	stamp := later(later(latest, floor), later(l.Lo, free))
+	if stamp > MaxTime {
+		return 0, UsedUp
+	}
+	if stamp > l.Hi {
+		return 0, LeaseOver
+	}
+	return stamp, nil
+}
+
+func later(a, b uint64) uint64 {
+	if a < b {
+		return b
+	}
+	return a
+}
+
+// A Stamp is a timestamp, and the reading by which it was given, which was taken in the call. Fresh is false where the daemon
+// is late or gone, and another Epoch than before is another life of the daemon; the timestamp is as good in each case.
+type Stamp struct {
+	Timestamp uint64
+	Reading
+}
+
+// A Stamper gives timestamps for commits in the database's own process, by the time that the daemon shares. It does for a
+// commit what the service does, without asking it: it takes a reading in the call, and gives the least timestamp that is no
+// less than the reading's latest, and above all timestamps that it gave before. Any number of goroutines may use it.
+//
+// One lease, one stamper: a stamper knows its own timestamps alone. Two stampers whose leases meet, in one process or in two,
+// on one machine or on two, may give the same timestamp, and so may a stamper and the sessions of a machine, whose lease is
+// that of its settings lease_lo and lease_hi. So give each stamper a lease that meets no other, and share one among the
+// goroutines.
+//
+// After a restart a new stamper knows nothing of the timestamps given before, and a floor may have put some of them ahead of
+// the time. Stamp the first commit with a floor above the greatest timestamp of the log (FloorTooFar says that this is still
+// too far ahead: wait), or make the stamper with a lease that begins above it, or a new one.
+type Stamper struct {
+	client *Client
+	lease  Lease
+	free   atomic.Uint64 // the least number above all timestamps given: 0, or one more than the last one
+}
+
+// NewStamper gives a stamper by this client, with the whole of time as its lease. It has given no timestamp.
+func NewStamper(client *Client) *Stamper {
+	return &Stamper{client: client, lease: Lease{0, MaxTime}}
+}
+
+// NewStamperWithLease is NewStamper with a lease. It refuses with LeaseBackwards where the ends of the lease are out of order,
+// then with LeasePastMax where the upper one is above MaxTime.
+func NewStamperWithLease(client *Client, lease Lease) (*Stamper, error) {
+	if lease.Hi < lease.Lo {
+		return nil, LeaseBackwards
+	}
+	if lease.Hi > MaxTime {
+		return nil, LeasePastMax
+	}
+	return &Stamper{client: client, lease: lease}, nil
+}
+
+// Stamp gives the timestamp of a commit: the least that is no less than the latest of a reading taken in this call, the floor
+// and the lower end of the lease, and above every timestamp that this stamper gave before. It lies in the lease.
+//
+// It refuses as Client.Now, then as Lease.StampOf. After a refusal nothing is used up. By a mapped file it makes no system call
+// but the clock's. It has one load and one exchange, and one more of each where another goroutine was faster.
+func (s *Stamper) Stamp(floor uint64) (Stamp, error) {
+	now, err := s.client.Now()
+	if err != nil {
+		return Stamp{Reading: Reading{Interval: allTimes}}, err
+	}
+	for {
+		free := s.free.Load()
+		stamp, err := s.lease.StampOf(free, now.Latest, floor)
+		if err != nil {
+			return Stamp{Reading: Reading{Interval: allTimes}}, err
+		}
+		if s.free.CompareAndSwap(free, stamp+1) {
+			return Stamp{stamp, now}, nil
+		}
+	}
+}
+
+// IsPast says whether a timestamp has surely passed: it is below the earliest of a reading taken in this call. Only then may
+// anybody be told of its commit. It refuses as Client.Now, and makes the system calls of that.
+func (s *Stamper) IsPast(stamp uint64) (bool, error) {
+	now, err := s.client.Now()
+	if err != nil {
+		return false, err
+	}
+	return now.After(stamp), nil
+}
+
+// WaitPast sleeps until a timestamp has surely passed, and says true, or until the context ends, and says false, with the
+// context's error. It takes a reading before the first sleep and after each, also once the context has ended, and sleeps as
+// long as the timestamp is ahead of the earliest, at most 50 milliseconds at once.
+//
+// It refuses as Client.Now, at once. The timestamp is as it was after each error: wait again.
+func (s *Stamper) WaitPast(ctx context.Context, stamp uint64) (bool, error) {
+	for {
+		now, err := s.client.Now()
+		if err != nil {
+			return false, err
+		}
+		if now.After(stamp) {
+			return true, nil
+		}
+		if err := ctx.Err(); err != nil {
+			return false, err
+		}
+		sleep := longestSleep
+		if ahead := stamp - now.Earliest; ahead < uint64(longestSleep) {
+			sleep = time.Duration(ahead) + 1
+		}
+		timer := time.NewTimer(sleep)
+		select {
+		case <-timer.C:
+		case <-ctx.Done():
+			timer.Stop()
+		}
+	}
+}

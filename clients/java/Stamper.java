@@ -1,0 +1,156 @@
+import java.time.Duration;
+import java.util.concurrent.TimeUnit;
+import java.util.concurrent.atomic.AtomicLong;
+import java.util.concurrent.locks.LockSupport;
+
+/**
+ * Timestamps for commits, taken in the database's own process, by the time that the daemon shares:
+ *
+ * <pre>{@code
+ * TrueTime client = TrueTime.open(Path.of("/run/truetime/time"), "root");
+ * Stamper stamper = new Stamper(client); // one for all threads
+ * long stampNs = stamper.stamp(0).stampNs(); // no other commit of this stamper has this timestamp
+ * // write and commit locally, under this timestamp
+ * if (stamper.awaitPast(stampNs, Duration.ofSeconds(30))) {
+ *     // only now may anybody be told of the commit
+ * }
+ * }</pre>
+ *
+ * <p>A stamper does for a commit what the service does, without asking it: it takes a reading in the call, and gives the
+ * least stamp that is no less than the reading's latest, and above all stamps that it gave before. Any number of threads
+ * may use it. Times are nanoseconds, and unsigned, so a negative one is past the greatest time.
+ *
+ * <p><b>One lease, one stamper.</b> A stamper knows its own stamps alone. Two stampers whose leases meet, in one process or
+ * in two, on one machine or on two, may give the same stamp, and so may a stamper and the sessions of a machine, whose lease
+ * is that of its settings {@code lease_lo} and {@code lease_hi}. So give each stamper a lease that meets no other, and share
+ * one among the threads.
+ *
+ * <p><b>After a restart</b> a new stamper knows nothing of the stamps given before, and a floor may have put some of them
+ * ahead of the time. Stamp the first commit with a floor above the greatest stamp of the log (902 says that this is still
+ * too far ahead: wait), or make the stamper with a lease that begins above it, or a new one.
+ */
+public final class Stamper {
+    /** How far a floor may lie ahead of the reading's latest, in nanoseconds: ten seconds. */
+    public static final long MAX_AHEAD_NS = 10_000_000_000L;
+
+    /** The longest sleep before the next look: a newer publication may have a later earliest. */
+    private static final long LONGEST_SLEEP_NS = 50_000_000;
+
+    private final TrueTime client;
+    private final long leaseLoNs;
+    private final long leaseHiNs;
+    /** The least number above all stamps given: 0, or one more than the last one. */
+    private final AtomicLong freeNs = new AtomicLong();
+
+    /**
+     * A stamp, and the reading by which it was given, which was taken in the call. {@code fresh} is false where the daemon is
+     * late or gone, and another {@code epoch} than before is another life of the daemon; the stamp is as good in each case.
+     */
+    public record Stamp(long stampNs, TrueTime.Reading reading) {}
+
+    /** A stamper by this reader, with the whole of time as its lease. It has given no stamp. */
+    public Stamper(TrueTime client) {
+        this(client, 0, TrueTime.MAX_TIME_NS);
+    }
+
+    /**
+     * A stamper whose stamps lie from {@code leaseLoNs} to {@code leaseHiNs}, both included. Refuses with 101 where these are
+     * out of order, then with 102 where the upper one is above the greatest time.
+     */
+    public Stamper(TrueTime client, long leaseLoNs, long leaseHiNs) {
+        if (isBelow(leaseHiNs, leaseLoNs)) {
+            throw new TrueTime.Refused(101);
+        }
+        if (isBelow(TrueTime.MAX_TIME_NS, leaseHiNs)) {
+            throw new TrueTime.Refused(102);
+        }
+        this.client = client;
+        this.leaseLoNs = leaseLoNs;
+        this.leaseHiNs = leaseHiNs;
+    }
+
+    /**
+     * The stamp of a commit: the least that is no less than the latest of a reading taken in this call, the floor and the lower
+     * end of the lease, and above every stamp that this stamper gave before. It lies in the lease.
+     *
+     * <p>Refuses as {@link TrueTime#now}, then with 902 where the floor is more than {@link #MAX_AHEAD_NS} above the latest,
+     * 901 where no such stamp is left up to the greatest time, 903 where it is above the upper end of the lease. After a
+     * refusal nothing is used up. By a mapped reader it makes no system call but the clock's. It has one load and one
+     * exchange, and one more exchange each time that another thread was faster.
+     */
+    public Stamp stamp(long floorNs) {
+        TrueTime.Reading reading = client.now();
+        long free = freeNs.get();
+        while (true) {
+            long stampNs = stampOf(free, reading.latestNs(), floorNs, leaseLoNs, leaseHiNs);
+            long found = freeNs.compareAndExchange(free, stampNs + 1);
+            if (found == free) {
+                return new Stamp(stampNs, reading);
+            }
+            free = found;
+        }
+    }
+
+    /**
+     * Whether a stamp has surely passed: it is below the earliest of a reading taken in this call. Only then may anybody be
+     * told of its commit. Refuses as {@link TrueTime#now}, and makes the system calls of that.
+     */
+    public boolean isPast(long stampNs) {
+        return isBelow(stampNs, client.now().earliestNs());
+    }
+
+    /**
+     * Sleeps until a stamp has surely passed, and answers true, or until the time-out is over, and answers false. It takes a
+     * reading before the first sleep and after each, also once the time-out is over, and sleeps as long as the stamp is ahead
+     * of the earliest, at most 50 milliseconds at once.
+     *
+     * <p>Refuses as {@link TrueTime#now}, at once. The stamp is as it was after that, after false and after an interrupt: wait
+     * again.
+     */
+    public boolean awaitPast(long stampNs, Duration timeout) throws InterruptedException {
+        long began = System.nanoTime();
+        long limit = Math.max(TimeUnit.NANOSECONDS.convert(timeout), 0);
+        while (true) {
+            TrueTime.Reading reading = client.now();
+            if (isBelow(stampNs, reading.earliestNs())) {
+                return true;
+            }
+            long left = limit - (System.nanoTime() - began);
+            if (left <= 0) {
+                return false;
+            }
+            if (Thread.interrupted()) {
+                throw new InterruptedException();
+            }
+            long ahead = stampNs - reading.earliestNs();
+            long sleep = isBelow(ahead, LONGEST_SLEEP_NS) ? ahead + 1 : LONGEST_SLEEP_NS;
+            LockSupport.parkNanos(this, Math.min(sleep, left));
+        }
+    }
+
+    /**
+     * The rule of all stamps, over unsigned numbers. {@code freeNs} is the least number above all stamps given: 0 before the
+     * first one, and then one more than the last one.
+     */
+    static long stampOf(long freeNs, long latestNs, long floorNs, long leaseLoNs, long leaseHiNs) {
+        if (isBelow(latestNs, floorNs) && isBelow(MAX_AHEAD_NS, floorNs - latestNs)) {
+            throw new TrueTime.Refused(902);
+        }
+        long stampNs = greater(greater(latestNs, floorNs), greater(leaseLoNs, freeNs));
+        if (isBelow(TrueTime.MAX_TIME_NS, stampNs)) {
+            throw new TrueTime.Refused(901);
+        }
+        if (isBelow(leaseHiNs, stampNs)) {
+            throw new TrueTime.Refused(903);
+        }
+        return stampNs;
+    }
+
+    private static boolean isBelow(long a, long b) {
+        return Long.compareUnsigned(a, b) < 0;
+    }
+
+    private static long greater(long a, long b) {
+        return isBelow(a, b) ? b : a;
+    }
+}
