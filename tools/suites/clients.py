@@ -370,7 +370,7 @@ def probes(room):
         yield "Rust", [made]
     if is_here("javac", "Java"):
         java = os.path.join(CLIENTS, "java")
-        sources = [f"{java}/{name}.java" for name in ("TrueTime", "Session", "test/Probe")]
+        sources = [f"{java}/{name}.java" for name in ("TrueTime", "Stamper", "Session", "test/Probe")]
         subprocess.run(["javac", "-Xlint:all", "-Werror", "-d", room, *sources], check=True)
         yield "Java", ["java", "-Xshare:auto", "-cp", room, "Probe"]
     if has_go():

@@ -34,8 +34,6 @@ from harness.program import run
 from suites.clients import CLIENTS, MAX, NO_LIMIT, SLOT_BYTES, Reader, build_c, file_of, index_of, suite
 
 AHEAD, SECOND = 10_000_000_000, 1_000_000_000
-# Languages whose probes may have no stamper so far.
-LATER = {"Rust", "Java", "Go"}
 
 
 def may_give(given, latest, floor, lease, stamp):
@@ -130,15 +128,6 @@ def vectors(seed, number):
 
 # What is no lease, and what no stamper says to it.
 NO_LEASES = [(1, 0), (MAX, 0), (MAX + 1, MAX), (NO_LIMIT, 0)]
-
-
-def stamping_probes(trial):
-    """The probes that have a stamper."""
-    for name, words in trial.shared:
-        if name in LATER and not run([*words, "stamper"], b"row 0 5 7 0 0 9\n", 60).said.strip():
-            trial.note(f"{name}: its probe has no stamper")
-        else:
-            yield name, words
 
 
 def try_rows(trial, name, words, tried, wanted):
@@ -291,7 +280,7 @@ def stampers(trial):
     for answer in "stamp ", "refused 901", "refused 902", "refused 903":
         number = sum(other.startswith(answer) for other in wanted)
         trial.check("rows", number > 500, f"only {number} rows with {answer}")
-    for name, words in stamping_probes(trial):
+    for name, words in trial.shared:
         before, checks, path = len(trial.result.wrong), 0, os.path.join(trial.room, "stamped")
         try_rows(trial, name, words, tried, wanted)
         with Shared(path) as shared, Reader(words, "stamper") as probe:
@@ -378,7 +367,7 @@ def stampers_stress(trial):
     """Threads that share one stamper, beside a writer."""
     with tempfile.TemporaryDirectory(dir="/dev/shm" if os.path.isdir("/dev/shm") else None) as folder:
         path = os.path.join(folder, "time")
-        for name, words in stamping_probes(trial):
+        for name, words in trial.shared:
             race(trial, name, words, path)
         flags = ["-std=c11", "-D_POSIX_C_SOURCE=200809L", "-pthread", "-fno-sanitize-recover=all", os.path.join(CLIENTS, "c", "test", "probe.c")]
         for checks in ("address,undefined", "thread"):
@@ -389,3 +378,12 @@ def stampers_stress(trial):
                 continue
             if made:
                 race(trial, f"C with checks of {checks}", [made], path)
+
+
+@suite.case(programs=("javac", "java"))
+def tests_of_java_stampers(trial):
+    """The unit tests of the stamper in Java. Those in Rust and Go run with the other tests of these."""
+    sources = [os.path.join(CLIENTS, "java", f"{name}.java") for name in ("TrueTime", "Stamper", "test/StamperTest")]
+    made = run(["javac", "-Xlint:all", "-Werror", "-d", trial.room, *sources], seconds=120)
+    told = run(["java", "-cp", trial.room, "StamperTest"], seconds=120)
+    trial.check("Java", made.status == 0 and told.status == 0, f"javac said {made.error}, and the tests {told.said}{told.error}")
