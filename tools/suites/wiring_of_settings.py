@@ -29,6 +29,22 @@ def lease(trial):
 
 
 @suite.case()
+def stampers(trial):
+    """No stamp lies in their interval: before it there are stamps, in it none, and behind it those from its end on."""
+    lo = time.time_ns() + 3 * SECOND
+    node = trial.running_node(trial.scripts(honest), stampers=[lo, lo + 2 * SECOND], floor_ahead="10s")
+    with truetime.Session(node.address, 10) as session:
+        before = session.commit()
+        trial.check("setting stampers", before < lo, f"the stamp {before} lies in the interval from {lo} on")
+        trial.equal("setting stampers", reply_to(session, f"commit 1000 {lo}"), "refused 903")
+        trial.equal("setting stampers", reply_to(session, f"commit 1000 {lo + 2 * SECOND}"), "refused 903")
+        trial.equal("setting stampers", reply_to(session, f"lease {lo} {lo + 2 * SECOND + 5}"), f"leased {lo} {lo + 2 * SECOND + 5}")
+        trial.equal("setting stampers", reply_to(session, "commit 1000 0"), "refused 903")
+        behind = lo + 2 * SECOND + 1
+        trial.equal("setting stampers", reply_to(session, f"commit 1000 {behind}"), f"committed 1000 {behind}")
+
+
+@suite.case()
 def floor_ahead(trial):
     """Beyond it a floor and a lease are refused, and within it a floor is taken."""
     node = trial.running_node(trial.scripts(honest), floor_ahead="300ms")

@@ -28,12 +28,13 @@ use Rattle.tt_connections.specs.declared.faults.StationFault.TheVariants.{FloorA
 use Rattle.tt_connections.specs.declared.presence.Question.{Question}
 use Rattle.tt_connections.specs.declared.presence.Question.TheVariants.{HasLeft, IsBroken}
 
--- what a worker keeps from one session to the next: its watch and its clock, its seat, the lease that it stamps in, how far a floor may lie ahead, and how wide a reading may be
+-- what a worker keeps from one session to the next: its watch and its clock, its seat, the lease that it stamps in, the interval of the stampers, in which it does not stamp, how far a floor may lie ahead, and how wide a reading may be
 pub record PostState (C : Type 0) : Type 0 where
   pub watch : WatchState
   pub clock : C
   pub seat : SeatState
   pub lease : Interval
+  pub stampers : Option Interval
   pub ahead : ℕ
   pub max_width : ℕ
 
@@ -64,18 +65,32 @@ book_before book = page_if (waiting_of book) book
 abbrev pub common : Interval → Interval → Interval
 common a b = record { lo = max a.lo b.lo; hi = min a.hi b.hi }
 
--- the lease that stamps of a session lie in: what its own lease and that of the machine have in common
-abbrev pub lease_of : {C V : Type 0} → StationState C V → Interval
-lease_of station = common station.lease station.post.lease
+-- an interval that holds no time: its ends are not in order
+abbrev pub nowhere : Interval
+nowhere = record { lo = 1; hi = 0 }
 
--- one stamp of a seat, for this floor, in what two leases have in common; where that is nothing, the lease is over, and the seat stays
-abbrev pub StampsIn : Interval → Interval → ℕ → Interval → SeatState → Result ℕ StampFault → SeatState → Type 0
-StampsIn a b floor reading old answer new =
-    MatchBool (nat_lt (min a.hi b.hi) (max a.lo b.lo)) ((answer ≡ Err LeaseOver) × (new ≡ old)) (Stamps floor (common a b) reading old answer new)
+-- the side of the stampers' interval on which this time lies, as a part of a lease: above it, or below it, or neither
+abbrev pub side_of : Interval → Interval → ℕ → Interval
+side_of stampers lease time =
+    if nat_lt stampers.hi time then record { lo = max lease.lo (stampers.hi + 1); hi = lease.hi } else (if nat_lt time stampers.lo then record { lo = lease.lo; hi = min lease.hi (stampers.lo - 1) } else nowhere)
 
--- one stamp of a post is one of its seat, in what a lease and that of the machine have in common; the rest of the post stays
+-- what a stamp that is no less than this time may lie in: a lease, without the stampers' interval; of what is left on both sides of it, the one on which the least time of the lease from there on lies
+abbrev pub room_in : Option Interval → Interval → ℕ → Interval
+room_in None lease least = lease
+room_in (Some stampers) lease least = side_of stampers lease (max least lease.lo)
+
+-- what a stamp for this floor, by this reading, may lie in: what the lease of the session and that of the machine have in common, without the stampers' interval
+abbrev pub room_of : {C V : Type 0} → StationState C V → ℕ → Interval → Interval
+room_of station floor reading = room_in station.post.stampers (common station.lease station.post.lease) (max reading.hi floor)
+
+-- one stamp of a seat, for this floor, in this interval; where that holds no time, the lease is over, and the seat stays
+abbrev pub StampsIn : Interval → ℕ → Interval → SeatState → Result ℕ StampFault → SeatState → Type 0
+StampsIn room floor reading old answer new =
+    MatchBool (nat_lt room.hi room.lo) ((answer ≡ Err LeaseOver) × (new ≡ old)) (Stamps floor room reading old answer new)
+
+-- one stamp of a post is one of its seat, in what a lease and that of the machine have in common, without the stampers' interval; the rest of the post stays
 pub record StampsPost {C : Type 0} (floor : ℕ) (lease reading : Interval) (old : PostState C) (answer : Result ℕ StampFault) (new : PostState C) : Type 0 where
-  pub stamps : StampsIn lease old.lease floor reading old.seat answer new.seat
+  pub stamps : StampsIn (room_in old.stampers (common lease old.lease) (max reading.hi floor)) floor reading old.seat answer new.seat
   pub same : new ≡ record old { seat = new.seat }
 
 -- one queueing in the book of a session
@@ -113,6 +128,7 @@ pub record LooksPost {C V : Type 0} (gives : C → Option ℕ → C → Type 0) 
 -- a call that begins with a look, and then does this with what it is given; the client, the terms and the lease stay
 pub record LooksThen {C V : Type 0} (gives : C → Option ℕ → C → Type 0) (failed : C → ℕ) (says : V → Question → Bool → Type 0) (before : StationState C V) (Then : Result Interval ℕ → Type 0) (after : StationState C V) : Type 0 where
   pub lease : after.post.lease ≡ before.post.lease
+  pub stampers : after.post.stampers ≡ before.post.stampers
   pub ahead : after.post.ahead ≡ before.post.ahead
   pub max_width : after.post.max_width ≡ before.post.max_width
   pub client : after.client ≡ before.client
@@ -139,7 +155,7 @@ QueuesStamped before number answer after (Err fault) = (answer ≡ Err (stamp_nu
 -- a commit whose reading was taken is stamped and queued
 abbrev pub CommitsAt : {C V : Type 0} → StationState C V → ℕ → ℕ → Interval → Result ℕ ℕ → StationState C V → Type 0
 CommitsAt before number floor reading answer after =
-    (stamped : Result ℕ StampFault) × StampsIn before.lease before.post.lease floor reading before.post.seat stamped after.post.seat
+    (stamped : Result ℕ StampFault) × StampsIn (room_of before floor reading) floor reading before.post.seat stamped after.post.seat
     × QueuesStamped before.book number answer after.book stamped
 
 -- a floor, or a start of the session's lease, further ahead of the latest than the terms allow is refused; where no reading is given, the number of the reason is the answer

@@ -7,12 +7,12 @@
 //! wait for the queue. So a machine ends without a descriptor and without a path.
 //!
 //! A worker serves its clients in turn. What it keeps from one session to the next is a [`Post`]: a watch with its
-//! clock, a seat of the sequencer that all workers share, the lease, how far a floor may lie ahead, and how wide a reading
-//! may be. [`Post::serve`] serves one session. The service of that session alone is a [`Station`], with a book of its own.
+//! clock, a seat of the sequencer that all workers share, the lease, the interval of the stampers, how far a floor may lie
+//! ahead, and how wide a reading may be. [`Post::serve`] serves one session. The service of that session alone is a [`Station`], with a book of its own.
 //! So no session sees anything of another one, and its memory is freed when it ends.
 //!
 //! ```text
-//! let post = Post::new(&rt, rt.alloc(), watch, clock, seat, &sequencer, Terms { lease, ahead, max_width });
+//! let post = Post::new(&rt, rt.alloc(), watch, clock, seat, &sequencer, Terms { lease, stampers, ahead, max_width });
 //! let (post, first) = post.serve(&client, &mut reader, &mut writer, turns);
 //! // the same post serves the next client
 //! let (post, second) = post.serve(&other_client, &mut other_reader, &mut other_writer, turns);

@@ -1,10 +1,10 @@
 //! What a worker keeps from one session to the next.
 
-ghost use Rattle.std.specs.Prelude.{◌≡◌, ◌≢◌, ◌+◌, ◌-◌, nat_lt, Err, OnOk, IfOk, IsErrOf};
+ghost use Rattle.std.specs.Prelude.{◌≡◌, ◌≢◌, ◌+◌, ◌-◌, nat_lt, None, Some, Err, MatchBool, OnOk, IfOk, IsErrOf};
 ghost use Rattle.std.specs.Io.KnownBytes.{IsAtEnd};
 ghost use Rattle.tt_publish.specs.Looks.{Looks};
 ghost use Rattle.tt_session.specs.declared.serving.Served.{Served};
-ghost use Rattle.tt_connections.specs.Station.{ServesSession, BreaksSession, StampsPost};
+ghost use Rattle.tt_connections.specs.Station.{ServesSession, BreaksSession, StampsPost, common, room_in};
 
 use crate::presence::Presence;
 use crate::stations::Station;
@@ -22,11 +22,33 @@ use tt_stream::{ByteReader, ByteWriter};
 pub struct Terms {
     /// The lease of the machine, in which stamps lie.
     pub lease: Span,
+    /// The interval of the stampers, in which no stamp lies. None if there are no stampers.
+    pub stampers: Option<Span>,
     /// How far a floor may lie ahead of the latest of a reading, in nanoseconds. The rule of stamps has a bound too,
     /// [`tt_stamp::MAX_AHEAD`]: the lower of both counts.
     pub ahead: u64,
     /// How wide a reading may be that is used, in nanoseconds. `u64::MAX` where there is no limit.
     pub max_width: u64,
+}
+
+impl Terms {
+    /// What a stamp that is no less than `least` may lie in, if anything: what this lease and that of the machine have in
+    /// common, without the interval of the stampers. Of what is left on both sides of that interval, it is the one on which
+    /// the least time of the lease from `least` on lies.
+    fn room(&self, lease: &Span, least: u64) -> Option<Span>
+        ensures left { let room = room_in self.now.stampers (common lease.now self.now.lease) least in
+            MatchBool (nat_lt room.hi room.lo) (result ≡ None) (result ≡ Some room) }
+    {
+        let lo = lease.lo().max(self.lease.lo());
+        let hi = lease.hi().min(self.lease.hi());
+        let from = least.max(lo);
+        match self.stampers {
+            None => Span::new(lo, hi).ok(),
+            Some(taken) if from > taken.hi() => Span::new(lo.max(taken.hi() + 1), hi).ok(),
+            Some(taken) if from < taken.lo() => Span::new(lo, hi.min(taken.lo() - 1)).ok(),
+            Some(_) => None,
+        }
+    }
 }
 
 /// What a worker keeps from one session to the next: a watch and a clock of its own, by which it takes readings, and a
@@ -46,7 +68,7 @@ impl<'a, R, C> Model for Post<'a, R, C> {
 
     ghost Value = { PostState C };
 
-    ghost view = { λ p. record { watch = p.watch; clock = p.clock; seat = p.seat; lease = p.terms.lease; ahead = p.terms.ahead; max_width = p.terms.max_width } };
+    ghost view = { λ p. record { watch = p.watch; clock = p.clock; seat = p.seat; lease = p.terms.lease; stampers = p.terms.stampers; ahead = p.terms.ahead; max_width = p.terms.max_width } };
 }
 
 impl<'a, R, C: Drop> Post<'a, R, C> {
@@ -72,7 +94,7 @@ impl<'a, R: Wait, C: Clock> Post<'a, R, C> {
         terms: Terms,
     ) -> Self
         requires of_it { seat.table ≡ sequencer.now }
-        ensures made { result ≡ record { watch = watch; clock = clock; seat = seat; lease = terms.lease; ahead = terms.ahead; max_width = terms.max_width } }
+        ensures made { result ≡ record { watch = watch; clock = clock; seat = seat; lease = terms.lease; stampers = terms.stampers; ahead = terms.ahead; max_width = terms.max_width } }
     {
         Post {
             alloc,
@@ -142,19 +164,18 @@ impl<'a, R: Wait, C: Clock> Post<'a, R, C> {
 impl<'a, R: Wait, C> StampSource for Post<'a, R, C> {
     ghost stamps = { StampsPost };
 
-    /// One [`Sequencer::stamp`] in what this lease and that of the machine have in common. Where that is nothing, the
-    /// lease is over, and the sequencer is not asked.
+    /// One [`Sequencer::stamp`] in what this lease and that of the machine have in common, without the interval of the
+    /// stampers: on the side of it where the least stamp that the reading, the floor and the leases allow lies. Where there
+    /// is nothing, the lease is over, and the sequencer is not asked.
     fn next_stamp(
         &mut self,
         reading: &Reading,
         floor: u64,
         lease: &Span,
     ) -> Result<u64, StampFault> {
-        let lo = lease.lo().max(self.terms.lease.lo());
-        let hi = lease.hi().min(self.terms.lease.hi());
-        match Span::new(lo, hi) {
-            Ok(both) => self.seat.next_stamp(reading, floor, &both),
-            Err(_) => Err(StampFault::LeaseOver),
+        match self.terms.room(lease, reading.latest().max(floor)) {
+            Some(room) => self.seat.next_stamp(reading, floor, &room),
+            None => Err(StampFault::LeaseOver),
         }
     }
 }

@@ -233,11 +233,12 @@ impl<'a, 'c, R: Wait, C: Clock, V: Presence> Service for Station<'a, 'c, R, C, V
 
     /// One [`Watch::now`](tt_publish::Watch::now), then one [`Sequencer::stamp`](tt_stamp::Sequencer::stamp) by this
     /// reading, in the lease, then one [`Book::queue`] of the commit with this number, under the stamp. Answers the
-    /// stamp, in nanoseconds. The lease is what the leases of the session and of the machine have in common.
+    /// stamp, in nanoseconds. The lease is what the leases of the session and of the machine have in common, without the
+    /// interval of the stampers: on the side of it where the least stamp that reading, floor and leases allow lies.
     ///
     /// Refuses, in this order: 801, 803, 802 if there is no reading, 1823, 1824 if it is not used, as at `now`, 1821 if
     /// the floor, or the lower end of the session's lease, lies further ahead of the latest of the reading than the terms
-    /// allow, 903 if the two leases have nothing in common, 902, 901, 903 if there is no stamp, 1001, 1002, 1003, 1 if the
+    /// allow, 903 if nothing is left of the two leases there, 902, 901, 903 if there is no stamp, 1001, 1002, 1003, 1 if the
     /// commit is not queued: then the stamp is lost. After any other refusal the seat has given no stamp, and the book is
     /// as it was.
     fn begin(&mut self, number: u64, floor: u64) -> Result<u64, u16> {

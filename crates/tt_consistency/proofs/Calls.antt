@@ -18,7 +18,7 @@ use Rattle.tt_session.specs.Desk.{Queues, AnswersQueued}
 use Rattle.tt_session.specs.declared.calls.Call.{Call}
 use Rattle.tt_session.specs.declared.calls.Call.TheVariants as call
 use Rattle.tt_connections.specs.Fault.{number_of}
-use Rattle.tt_connections.specs.Station.{StationState, StampsIn, common, lease_of, Allows, AnswersReading, AnswersReceipt, BeginsAt, CommitsAt, PassesAt, QueuesStamped, Keeps as KeepsAll, id_at, book_before}
+use Rattle.tt_connections.specs.Station.{StationState, StampsIn, room_of, Allows, AnswersReading, AnswersReceipt, BeginsAt, CommitsAt, PassesAt, QueuesStamped, Keeps as KeepsAll, id_at, book_before}
 use Rattle.tt_connections.specs.declared.faults.StationFault.TheVariants.{FloorAboveCap, ClientLeft}
 use Rattle.tt_connections.specs.declared.presence.Question.{Question}
 use Rattle.tt_consistency.specs.Timed.{given_of}
@@ -61,38 +61,39 @@ goes_on-stamps floor lease reading old new (Err stamp.LeaseOver) stamps =
 goes_on-stamps floor lease reading old new (Err stamp.Seats) stamps = absurd stamps
 goes_on-stamps floor lease reading old new (Err stamp.Memory) stamps = absurd stamps
 
--- the same for a stamp in two leases
-goes_on-in : (floor : ℕ) (a b reading : Interval) (old new : SeatState) (stamped : Result ℕ StampFault) (over : Bool)
-    → MatchBool over ((stamped ≡ Err stamp.LeaseOver) × (new ≡ old)) (Stamps floor (common a b) reading old stamped new) → GoesOn old new
-goes_on-in floor a b reading old new stamped true says = goes_on-same old new says.1
-goes_on-in floor a b reading old new stamped false says = goes_on-stamps floor (common a b) reading old new stamped says
+-- the same for a stamp in an interval that may hold no time
+goes_on-in : (room reading : Interval) (floor : ℕ) (old new : SeatState) (stamped : Result ℕ StampFault) (over : Bool)
+    → MatchBool over ((stamped ≡ Err stamp.LeaseOver) × (new ≡ old)) (Stamps floor room reading old stamped new) → GoesOn old new
+goes_on-in room reading floor old new stamped true says = goes_on-same old new says.1
+goes_on-in room reading floor old new stamped false says = goes_on-stamps floor room reading old new stamped says
 
--- a stamp that was given in two leases was given in what they have in common
-given_in_both : (floor : ℕ) (a b reading : Interval) (old new : SeatState) (t : ℕ) (over : Bool)
-    → MatchBool over (◌≡◌ {A = Result ℕ StampFault} (Ok t) (Err stamp.LeaseOver) × (new ≡ old)) (Stamps floor (common a b) reading old (Ok t) new) → Stamps floor (common a b) reading old (Ok t) new
-given_in_both floor a b reading old new t true says = absurd (let is = says.0 in cc)
-given_in_both floor a b reading old new t false says = says
+-- a stamp that was given there was given in it
+given_in_room : (room reading : Interval) (floor : ℕ) (old new : SeatState) (t : ℕ) (over : Bool)
+    → MatchBool over (◌≡◌ {A = Result ℕ StampFault} (Ok t) (Err stamp.LeaseOver) × (new ≡ old)) (Stamps floor room reading old (Ok t) new) → Stamps floor room reading old (Ok t) new
+given_in_room room reading floor old new t true says = absurd (let is = says.0 in cc)
+given_in_room room reading floor old new t false says = says
 
 -- a commit that began: it was given this stamp by its reading, and queued with it
 pub record Began {C V : Type 0} (before after : StationState C V) (number floor stamp : ℕ) (reading : Interval) : Type 0 where
-  pub gave : Gives before.post.seat after.post.seat reading.hi floor (lease_of before) stamp
+  pub gave : Gives before.post.seat after.post.seat reading.hi floor (room_of before floor reading) stamp
   pub late : reading.hi ≤ stamp
-  pub inside : Holds (lease_of before) stamp
+  pub inside : Holds (room_of before floor reading) stamp
   pub book : after.book ≡ Queued (id_at number) stamp ∷ book_before before.book
 
 module _ {C V : Type 0} (before after : StationState C V) (number floor : ℕ) where
   -- ---- where a commit began
   module _ (s : ℕ) (reading : Interval) where
-    began_queued : (t : ℕ) → Gives before.post.seat after.post.seat reading.hi floor (lease_of before) t → reading.hi ≤ t → Holds (lease_of before) t → (queued : Result (Unit {0}) BookFault) → Queues (book_before before.book) (id_at number) t queued after.book → AnswersQueued t (Ok s) queued → Began before after number floor s reading
+    began_queued : (t : ℕ) → Gives before.post.seat after.post.seat reading.hi floor (room_of before floor reading) t → reading.hi ≤ t → Holds (room_of before floor reading) t → (queued : Result (Unit {0}) BookFault) → Queues (book_before before.book) (id_at number) t queued after.book → AnswersQueued t (Ok s) queued → Began before after number floor s reading
     began_queued t gave late inside (Err fault) queues answers = absurd (cc)
     began_queued t gave late inside (Ok done) queues answers =
         let same : t ≡ s = cc in
         subst (λ (n : ℕ). Began before after number floor n reading) same (record { gave = gave; late = late; inside = inside; book = queues.ok })
 
-    began_stamped : (stamped : Result ℕ StampFault) → StampsIn before.lease before.post.lease floor reading before.post.seat stamped after.post.seat → QueuesStamped before.book number (Ok s) after.book stamped → Began before after number floor s reading
+    began_stamped : (stamped : Result ℕ StampFault) → StampsIn (room_of before floor reading) floor reading before.post.seat stamped after.post.seat → QueuesStamped before.book number (Ok s) after.book stamped → Began before after number floor s reading
     began_stamped (Ok t) stamps queues =
-        let both = given_in_both floor before.lease before.post.lease reading before.post.seat after.post.seat t (nat_lt (min before.lease.hi before.post.lease.hi) (max before.lease.lo before.post.lease.lo)) stamps in
-        began_queued t both.1 both.2 both.3 queues.0 queues.1 queues.2
+        let room = room_of before floor reading in
+        let inside = given_in_room room reading floor before.post.seat after.post.seat t (nat_lt room.hi room.lo) stamps in
+        began_queued t inside.1 inside.2 inside.3 queues.0 queues.1 queues.2
     began_stamped (Err fault) stamps queues = absurd (let is = queues.0 in cc)
 
     began_capped : (capped : Bool) → MatchBool capped (◌≡◌ {A = Result ℕ ℕ} (Ok s) (Err (number_of FloorAboveCap)) × KeepsAll before after) (CommitsAt before number floor reading (Ok s) after) → Began before after number floor s reading
@@ -126,7 +127,8 @@ module _ {C V : Type 0} (before after : StationState C V) (number floor : ℕ) w
     seat_reading : (reading : Interval) (capped : Bool) → MatchBool capped ((answer ≡ Err (number_of FloorAboveCap)) × KeepsAll before after) (CommitsAt before number floor reading answer after) → GoesOn before.post.seat after.post.seat
     seat_reading reading true says = goes_on-same before.post.seat after.post.seat says.1.seat
     seat_reading reading false says =
-        goes_on-in floor before.lease before.post.lease reading before.post.seat after.post.seat says.0 (nat_lt (min before.lease.hi before.post.lease.hi) (max before.lease.lo before.post.lease.lo)) says.1
+        let room = room_of before floor reading in
+        goes_on-in room reading floor before.post.seat after.post.seat says.0 (nat_lt room.hi room.lo) says.1
 
     pub seat-begin : (given : Result Interval ℕ) → BeginsAt before number floor answer after given → GoesOn before.post.seat after.post.seat
     seat-begin (Ok reading) says = seat_reading reading (nat_lt (reading.hi + before.post.ahead) (max floor before.lease.lo)) says

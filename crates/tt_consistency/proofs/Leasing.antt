@@ -1,18 +1,19 @@
 -- The stamps of a conversation, and its leases.
-use Rattle.std.proofs.Common.{◌≡◌, ℕ, zero, suc, ◌<◌, List, [], ◌∷◌, Bool, true, false, Option, Some, Result, Ok, Err, refl, ap, ◌∙◌, subst, arith}
+use Rattle.std.proofs.Common.{◌≡◌, ℕ, zero, suc, ◌<◌, max, List, [], ◌∷◌, Bool, true, false, Option, Some, Result, Ok, Err, refl, sym, ap, ◌∙◌, subst, arith}
 use Rattle.std.specs.Prelude.{if◌then◌else◌, nat_lt}
 use Rattle.std.proofs.lemmas.Option.{same_Some, none-some}
 use Rattle.tt_span.specs.Time.{max_time}
-use Rattle.tt_span.specs.Interval.{Interval, Holds}
+use Rattle.tt_span.specs.Interval.{Interval, Holds, Meets}
 use Rattle.tt_span.specs.Fault.{number_of as span_number_of}
 use Rattle.tt_span.specs.declared.spans.SpanFault.TheVariants.{Backwards, PastMax}
 use Rattle.tt_session.specs.Conversation.{Conversation}
 use Rattle.tt_session.specs.declared.calls.Call.{Call}
 use Rattle.tt_session.specs.declared.calls.Call.TheVariants as call
-use Rattle.tt_connections.specs.Station.{StationState, Allows, new_station}
+use Rattle.tt_connections.specs.Station.{PostState, StationState, Allows, new_station, common, room_in}
 use Rattle.tt_connections.specs.declared.presence.Question.{Question}
+use Rattle.tt_connections.proofs.Leasing.{room_within, room_apart}
 use Rattle.tt_consistency.specs.Timed.{TimedSession}
-use Rattle.tt_consistency.specs.Order.{BeginsAt, LeasesAt, NoLeaseBetween}
+use Rattle.tt_consistency.specs.Order.{BeginsAt, LeasesAt, NoLeaseBetween, IsLeasedAt}
 use Rattle.tt_consistency.proofs.Calls.{begin-call}
 
 abbrev interval : ℕ → ℕ → Interval
@@ -57,11 +58,25 @@ module _ {C V : Type 0} (gives : C → Option ℕ → C → Type 0) (failed : C 
   machine-call before after (call.Lease lo hi answer) allowed = ap (λ (s : StationState C V). s.post.lease) allowed.set
   machine-call before after (call.Pass number answer) allowed = allowed.lease
 
+  stampers-call : (before after : StationState C V) (of : Call) → Allows gives failed says before of after → after.post.stampers ≡ before.post.stampers
+  stampers-call before after (call.Now answer) allowed = allowed.stampers
+  stampers-call before after (call.Begin number floor answer) allowed = allowed.stampers
+  stampers-call before after (call.Lease lo hi answer) allowed = ap (λ (s : StationState C V). s.post.stampers) allowed.set
+  stampers-call before after (call.Pass number answer) allowed = allowed.stampers
+
   -- the stamp lies in the lease of the session, and in that of the machine
   inside-both : (before after : StationState C V) (of : Call) (number floor s : ℕ) → of ≡ call.Begin number floor (Ok s) → Allows gives failed says before of after → Holds before.lease s × Holds before.post.lease s
   inside-both before after of number floor s is allowed =
       let began = begin-call gives failed says before after of number floor s is allowed in
-      ((omega (arith, began.1.inside.0), omega (arith, began.1.inside.1)), (omega (arith, began.1.inside.0), omega (arith, began.1.inside.1)))
+      let inside = room_within before.post.stampers (common before.lease before.post.lease) (max began.0.hi floor) s began.1.inside in
+      ((omega (arith, inside.0), omega (arith, inside.1)), (omega (arith, inside.0), omega (arith, inside.1)))
+
+  -- and not in the interval of the stampers
+  outside : (before after : StationState C V) (of : Call) (number floor s : ℕ) → of ≡ call.Begin number floor (Ok s) → Allows gives failed says before of after → (taken : Interval) → before.post.stampers ≡ Some taken → Holds taken s → ⊥
+  outside before after of number floor s is allowed taken has =
+      let began = begin-call gives failed says before after of number floor s is allowed in
+      room_apart taken (common before.lease before.post.lease) (max began.0.hi floor) s
+      (subst (λ (stampers : Option Interval). Holds (room_in stampers (common before.lease before.post.lease) (max began.0.hi floor)) s) has began.1.inside)
 
   -- ---- all calls
   inside-own : (calls : List Call) (before after : StationState C V) → Conversation (Allows gives failed says) before calls after → (place number s : ℕ) → BeginsAt calls place number s → NoLeaseBefore calls place → Holds before.lease s
@@ -92,6 +107,20 @@ module _ {C V : Type 0} (gives : C → Option ℕ → C → Type 0) (failed : C 
   inside-machine (first ∷ calls) before after talked (suc place) number s begins =
       subst (λ (l : Interval). Holds l s) (machine-call before talked.0 first talked.1) (inside-machine calls talked.0 after talked.2 place number s begins)
 
+  outside-stampers : (calls : List Call) (before after : StationState C V) → Conversation (Allows gives failed says) before calls after → (place number s : ℕ) → BeginsAt calls place number s → (taken : Interval) → before.post.stampers ≡ Some taken → Holds taken s → ⊥
+  outside-stampers [] before after talked place number s begins taken has = absurd (none-some _ begins.1)
+  outside-stampers (first ∷ calls) before after talked zero number s begins taken has =
+      outside before talked.0 first number begins.0 s (same_Some first (call.Begin number begins.0 (Ok s)) begins.1) talked.1 taken has
+  outside-stampers (first ∷ calls) before after talked (suc place) number s begins taken has =
+      outside-stampers calls talked.0 after talked.2 place number s begins taken (stampers-call before talked.0 first talked.1 ∙ has)
+
+  -- ---- what a conversation leaves of the terms
+  same-machine : (calls : List Call) (before after : StationState C V) → Conversation (Allows gives failed says) before calls after → (after.post.lease ≡ before.post.lease) × (after.post.stampers ≡ before.post.stampers)
+  same-machine [] before after talked = (ap (λ (s : StationState C V). s.post.lease) talked, ap (λ (s : StationState C V). s.post.stampers) talked)
+  same-machine (first ∷ calls) before after talked =
+      let rest = same-machine calls talked.0 after talked.2 in
+      (rest.0 ∙ machine-call before talked.0 first talked.1, rest.1 ∙ stampers-call before talked.0 first talked.1)
+
   -- ---- of a session
   pub session-leased : (session : TimedSession gives failed says) (place lo hi later number stamp : ℕ) → LeasesAt session.calls place lo hi → BeginsAt session.calls later number stamp → place < later → NoLeaseBetween session.calls place later → Holds (interval lo hi) stamp
   session-leased session place lo hi later number stamp leases begins is_later none =
@@ -100,3 +129,19 @@ module _ {C V : Type 0} (gives : C → Option ℕ → C → Type 0) (failed : C 
   pub session-machine : (session : TimedSession gives failed says) (place number stamp : ℕ) → BeginsAt session.calls place number stamp → Holds session.post.lease stamp
   session-machine session place number stamp begins =
       inside-machine session.calls (new_station session.post session.client) session.after session.talked place number stamp begins
+
+  pub session-outside : (session : TimedSession gives failed says) (place number stamp : ℕ) (taken : Interval) → session.post.stampers ≡ Some taken → BeginsAt session.calls place number stamp → Holds taken stamp → ⊥
+  session-outside session place number stamp taken has begins =
+      outside-stampers session.calls (new_station session.post session.client) session.after session.talked place number stamp begins taken has
+
+  pub session-keeps : (session : TimedSession gives failed says) → (session.after.post.lease ≡ session.post.lease) × (session.after.post.stampers ≡ session.post.stampers)
+  session-keeps session = same-machine session.calls (new_station session.post session.client) session.after session.talked
+
+-- ---- of two sessions
+pub leases-apart : {C V D W : Type 0} (gives : C → Option ℕ → C → Type 0) (failed : C → ℕ) (says : V → Question → Bool → Type 0) (gives' : D → Option ℕ → D → Type 0) (failed' : D → ℕ) (says' : W → Question → Bool → Type 0)
+    (one : TimedSession gives failed says) (other : TimedSession gives' failed' says') (lease other_lease : Interval) (place later number stamp other_place other_later other_number other_stamp : ℕ)
+    → (Meets lease other_lease → ⊥) → IsLeasedAt one.calls lease place later number stamp → IsLeasedAt other.calls other_lease other_place other_later other_number other_stamp → stamp ≡ other_stamp → ⊥
+leases-apart gives failed says gives' failed' says' one other lease other_lease place later number stamp other_place other_later other_number other_stamp apart leased other_leased same =
+    let here : Holds lease stamp = session-leased gives failed says one place lease.lo lease.hi later number stamp leased.leases leased.begins leased.after leased.none in
+    let there : Holds other_lease other_stamp = session-leased gives' failed' says' other other_place other_lease.lo other_lease.hi other_later other_number other_stamp other_leased.leases other_leased.begins other_leased.after other_leased.none in
+    apart (stamp, here, subst (Holds other_lease) (sym same) there)

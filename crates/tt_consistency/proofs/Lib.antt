@@ -33,3 +33,4 @@ mod WorkedOrder
 mod WorkedNode
 mod Working
 mod WorkedLife
+mod Stampers

@@ -187,7 +187,7 @@ module _ {C V : Type 0} (gives : C → Option ℕ → C → Type 0) (failed : C 
     lived-timed lived is session times served =
         session-timed lived.life lived.start lived.timeline is.proved is.assumed served.worker served.of_life session served.of_worker times served.timed
 
-    seen-timed : (session : WorkerSession gives failed says waits) (times : List CallTimes) (commit : Commit) → IsSeen (timed_of session times).calls times commit → IsSeen (timed_of session times).calls (timed_of session times).times commit
+    pub seen-timed : (session : WorkerSession gives failed says waits) (times : List CallTimes) (commit : Commit) → IsSeen (timed_of session times).calls times commit → IsSeen (timed_of session times).calls (timed_of session times).times commit
     seen-timed session times commit seen = subst (λ (t : List CallTimes). IsSeen (timed_of session times).calls t commit) (sym (timed-same session times).2) seen
 
     pub lives-seen : (lives : List (TimedLife gives failed says waits)) (history : List Commit) → All IsLived lives → All (IsSeenInOneOf lives) history → All (IsSeenAtSome gives failed says) history

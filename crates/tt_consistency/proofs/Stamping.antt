@@ -9,7 +9,7 @@ use Rattle.tt_stamp.proofs.Ids.{Contains-here, Contains-there, Contains-nil, Con
 use Rattle.tt_session.specs.Conversation.{Conversation}
 use Rattle.tt_session.specs.declared.calls.Call.{Call}
 use Rattle.tt_session.specs.declared.calls.Call.TheVariants as call
-use Rattle.tt_connections.specs.Station.{StationState, Allows, new_station, lease_of}
+use Rattle.tt_connections.specs.Station.{StationState, Allows, new_station, room_of}
 use Rattle.tt_connections.specs.declared.presence.Question.{Question}
 use Rattle.tt_consistency.specs.Timed.{TimedSession}
 use Rattle.tt_consistency.specs.Order.{BeginsAt, ShareSequencer}
@@ -75,7 +75,7 @@ module _ {C V : Type 0} (gives : C → Option ℕ → C → Type 0) (failed : C 
   given_in (first ∷ calls) before after talked zero number s begins =
       let began = begin-call gives failed says before talked.0 first number begins.0 s (same_Some first (call.Begin number begins.0 (Ok s)) begins.1) talked.1 in
       given_later talked.0.post.seat after.post.seat before.post.seat.numbers s (goes_on calls talked.0 after talked.2).after
-      (given_by before.post.seat talked.0.post.seat began.0.hi begins.0 (lease_of before) s began.1.gave)
+      (given_by before.post.seat talked.0.post.seat began.0.hi begins.0 (room_of before begins.0 began.0) s began.1.gave)
   given_in (first ∷ calls) before after talked (suc place) number s begins =
       subst (λ (numbers : List ℕ). IsGiven after.post.seat numbers s) (seat-call gives failed says before talked.0 first talked.1).numbers
       (given_in calls talked.0 after talked.2 place number s begins)
@@ -85,7 +85,7 @@ module _ {C V : Type 0} (gives : C → Option ℕ → C → Type 0) (failed : C 
   above_seen [] before after talked entry there place number s begins = absurd (none-some _ begins.1)
   above_seen (first ∷ calls) before after talked entry there zero number s begins =
       let began = begin-call gives failed says before talked.0 first number begins.0 s (same_Some first (call.Begin number begins.0 (Ok s)) begins.1) talked.1 in
-      gave_above before.post.seat talked.0.post.seat began.0.hi begins.0 (lease_of before) s began.1.gave entry there
+      gave_above before.post.seat talked.0.post.seat began.0.hi begins.0 (room_of before begins.0 began.0) s began.1.gave entry there
   above_seen (first ∷ calls) before after talked entry there (suc place) number s begins =
       above_seen calls talked.0 after talked.2 entry
       (entry_later before.post.seat.seen talked.0.post.seat.seen (seat-call gives failed says before talked.0 first talked.1).after entry there) place number s begins
@@ -100,7 +100,7 @@ module _ {C V : Type 0} (gives : C → Option ℕ → C → Type 0) (failed : C 
   rises (first ∷ calls) before after talked zero number s zero other_number t begins other is_later = absurd (omega (arith, is_later))
   rises (first ∷ calls) before after talked zero number s (suc later) other_number t begins other is_later =
       let began = begin-call gives failed says before talked.0 first number begins.0 s (same_Some first (call.Begin number begins.0 (Ok s)) begins.1) talked.1 in
-      above_given calls talked.0 after talked.2 before.post.seat.numbers s (given_by before.post.seat talked.0.post.seat began.0.hi begins.0 (lease_of before) s began.1.gave) later other_number t other
+      above_given calls talked.0 after talked.2 before.post.seat.numbers s (given_by before.post.seat talked.0.post.seat began.0.hi begins.0 (room_of before begins.0 began.0) s began.1.gave) later other_number t other
   rises (first ∷ calls) before after talked (suc place) number s zero other_number t begins other is_later = absurd (omega (arith, is_later))
   rises (first ∷ calls) before after talked (suc place) number s (suc later) other_number t begins other is_later =
       rises calls talked.0 after talked.2 place number s later other_number t begins other (omega (arith, is_later))

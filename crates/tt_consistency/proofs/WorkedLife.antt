@@ -54,7 +54,7 @@ abbrev clock_at : ℕ → ClockState
 clock_at last = record { last = last; failures = 0 }
 
 abbrev post : WatchState → ClockState → PostState ClockState
-post watch clock = record { watch = watch; clock = clock; seat = seat; lease = whole; ahead = 0; max_width = 1000 }
+post watch clock = record { watch = watch; clock = clock; seat = seat; lease = whole; stampers = None; ahead = 0; max_width = 1000 }
 
 abbrev station : WatchState → ClockState → StationState ClockState (Unit {0})
 station watch clock = new_station (post watch clock) tt
@@ -73,7 +73,7 @@ looks_early = record {
 }
 
 pub allows_early : Allows MachineGives failed ClientSays (station unseen (clock_at 0)) (call.Now (Err 801)) (station unseen (clock_at 0))
-allows_early = record { lease = refl; ahead = refl; max_width = refl; client = refl; own = refl; given = Err 801; look = record { looked = Err Nothing; looks = looks_early; admits = refl }; rest = (refl, record { seat = refl; book = refl }) }
+allows_early = record { lease = refl; stampers = refl; ahead = refl; max_width = refl; client = refl; own = refl; given = Err 801; look = record { looked = Err Nothing; looks = looks_early; admits = refl }; rest = (refl, record { seat = refl; book = refl }) }
 
 -- the others read what the daemon has published by then
 looks_at : (items : List Publication) (last clock : ℕ) → IsPrefix items (fused ∷ []) → last ≤ clock → 112 ≤ clock → clock ≤ 1000 → Looks MachineGives failed (record unseen { items = items }) (clock_at last) (Ok (read_at clock)) seen (clock_at clock)
@@ -95,6 +95,7 @@ begun = record { post = record (post seen (clock_at 120)) { seat = seat_after 10
 pub allows_begin : Allows MachineGives failed ClientSays (station unseen (clock_at 0)) (call.Begin 1 0 (Ok 1030)) begun
 allows_begin = record {
   lease = refl;
+  stampers = refl;
   ahead = refl;
   max_width = refl;
   client = refl;
@@ -113,7 +114,7 @@ abbrev released : StationState ClockState (Unit {0})
 released = record begun { post = record (post seen (clock_at 150)) { seat = seat_after 1030 }; book = Passed (receipt 1030 1038) ∷ Queued (id_at 1) 1030 ∷ [] }
 
 pub allows_pass : Allows MachineGives failed ClientSays begun (call.Pass 1 (Ok true)) released
-allows_pass = record { lease = refl; ahead = refl; max_width = refl; client = refl; own = refl; given = Ok (read_at 150); look = record { looked = Ok (read_at 150); looks = looks_at (fused ∷ []) 120 150 ([], refl) (omega arith) (omega arith) (omega arith); admits = (false, tt, admitted 150) }; rest = (refl, refl, (refl, omega arith)) }
+allows_pass = record { lease = refl; stampers = refl; ahead = refl; max_width = refl; client = refl; own = refl; given = Ok (read_at 150); look = record { looked = Ok (read_at 150); looks = looks_at (fused ∷ []) 120 150 ([], refl) (omega arith) (omega arith) (omega arith); admits = (false, tt, admitted 150) }; rest = (refl, refl, (refl, omega arith)) }
 
 -- then the clock jumps to 500000, and the machine knows that it is broken: the next reading is not given
 abbrev jumped : StationState ClockState (Unit {0})
@@ -134,6 +135,7 @@ looks_broken = record {
 pub allows_broken : Allows MachineGives failed ClientSays released (call.Now (Err 1823)) jumped
 allows_broken = record {
   lease = refl;
+  stampers = refl;
   ahead = refl;
   max_width = refl;
   client = refl;
@@ -247,6 +249,7 @@ life = record {
   number = 0;
   epoch = 1;
   lease = whole;
+  stampers = None;
   ahead = 0;
   max_width = 1000;
   calls = call_of 0 ∷ [];
@@ -256,7 +259,7 @@ life = record {
 }
 
 works_in : WorksIn life worker
-works_in = record { watch = refl; lease = refl; ahead = refl; width = refl; in_turn = (refl, tt); seen = ([], refl) }
+works_in = record { watch = refl; lease = refl; stampers = refl; ahead = refl; width = refl; in_turn = (refl, tt); seen = ([], refl) }
 
 is_life : IsLife life
 is_life = record {

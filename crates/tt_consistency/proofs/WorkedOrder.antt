@@ -53,7 +53,7 @@ abbrev pub seat : SeatState
 seat = new_seat (record { words = 0; slots = 0; views_name = 0; atom = 0; block = 0; offset = 0; slot_names = [] }) 1 0
 
 abbrev post : Clocks → PostState Clocks
-post clock = record { watch = watch; clock = clock; seat = seat; lease = whole; ahead = 0; max_width = 1000 }
+post clock = record { watch = watch; clock = clock; seat = seat; lease = whole; stampers = None; ahead = 0; max_width = 1000 }
 
 abbrev begin : Clocks → StationState Clocks (Unit {0})
 begin clock = new_station (post clock) tt
@@ -125,6 +125,7 @@ below_cap clock = le-ltb (910 + clock + 0) 0 (omega arith)
 begins_at : (clock : ℕ) (later : Clocks) → 112 ≤ clock → clock ≤ 1000 → Allows GivesInTurn failed says (begin (Some clock ∷ later)) (Begin 1 0 (Ok (910 + clock))) (begun_with later (910 + clock))
 begins_at clock later late early = record {
   lease = refl;
+  stampers = refl;
   ahead = refl;
   max_width = refl;
   client = refl;
@@ -146,10 +147,10 @@ abbrev released_with : ℕ → ℕ → StationState Clocks (Unit {0})
 released_with stamp earliest = record (begun_with [] stamp) { book = Passed (receipt stamp earliest) ∷ Queued (id_at 1) stamp ∷ [] }
 
 passes-0 : Allows GivesInTurn failed says (begun_with (Some 150 ∷ []) 1030) (Pass 1 (Ok true)) (released_with 1030 1038)
-passes-0 = record { lease = refl; ahead = refl; max_width = refl; client = refl; own = refl; given = Ok (read_at 150); look = record { looked = Ok (read_at 150); looks = looks_at 150 [] (omega arith) (omega arith); admits = (false, refl, admitted 150) }; rest = (refl, refl, (refl, omega arith)) }
+passes-0 = record { lease = refl; stampers = refl; ahead = refl; max_width = refl; client = refl; own = refl; given = Ok (read_at 150); look = record { looked = Ok (read_at 150); looks = looks_at 150 [] (omega arith) (omega arith); admits = (false, refl, admitted 150) }; rest = (refl, refl, (refl, omega arith)) }
 
 passes-1 : Allows GivesInTurn failed says (begun_with (Some 200 ∷ []) 1080) (Pass 1 (Ok true)) (released_with 1080 1088)
-passes-1 = record { lease = refl; ahead = refl; max_width = refl; client = refl; own = refl; given = Ok (read_at 200); look = record { looked = Ok (read_at 200); looks = looks_at 200 [] (omega arith) (omega arith); admits = (false, refl, admitted 200) }; rest = (refl, refl, (refl, omega arith)) }
+passes-1 = record { lease = refl; stampers = refl; ahead = refl; max_width = refl; client = refl; own = refl; given = Ok (read_at 200); look = record { looked = Ok (read_at 200); looks = looks_at 200 [] (omega arith) (omega arith); admits = (false, refl, admitted 200) }; rest = (refl, refl, (refl, omega arith)) }
 
 -- the true time is 900 more than the clock shows
 abbrev pub call_at : ℕ → CallTimes

@@ -45,7 +45,7 @@ abbrev seat : SeatState
 seat = new_seat (record { words = 0; slots = 0; views_name = 0; atom = 0; block = 0; offset = 0; slot_names = [] }) 1 0
 
 abbrev post : PostState (Unit {0})
-post = record { watch = watch; clock = tt; seat = seat; lease = whole; ahead = 0; max_width = 1000 }
+post = record { watch = watch; clock = tt; seat = seat; lease = whole; stampers = None; ahead = 0; max_width = 1000 }
 
 abbrev begin : StationState (Unit {0}) (Unit {0})
 begin = new_station post tt
@@ -117,6 +117,7 @@ below_cap clock = le-ltb (1008 + clock + 0) 0 (omega arith)
 begins_at : (clock : ℕ) → clock ≤ 1000 → Allows gives failed says begin (Begin 1 0 (Ok (1008 + clock))) (begun_with (1008 + clock))
 begins_at clock early = record {
   lease = refl;
+  stampers = refl;
   ahead = refl;
   max_width = refl;
   client = refl;
@@ -140,6 +141,7 @@ released = record (begun_with 1018) { book = Passed receipt ∷ Queued (id_at 1)
 passes : Allows gives failed says (begun_with 1018) (Pass 1 (Ok true)) released
 passes = record {
   lease = refl;
+  stampers = refl;
   ahead = refl;
   max_width = refl;
   client = refl;

@@ -13,3 +13,4 @@ pub mod Served
 pub mod Worked
 pub mod Lives
 pub mod Assumed
+pub mod Stampers

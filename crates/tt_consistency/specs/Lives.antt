@@ -17,12 +17,13 @@ pub record WorkerLife {C V : Type 0} (gives : C → Option ℕ → C → Type 0)
   pub post : PostState C
   pub sessions : List (WorkerSession gives failed says waits)
 
--- a life: its configuration, the number of its machine, its epoch, the lease of its stamps, how far a floor may lie ahead and how wide a reading may be; the calls of its daemon, what they published, the oldest first, and its workers
+-- a life: its configuration, the number of its machine, its epoch, the lease of its stamps, the interval of the stampers, how far a floor may lie ahead and how wide a reading may be; the calls of its daemon, what they published, the oldest first, and its workers
 pub record Life {C V : Type 0} (gives : C → Option ℕ → C → Type 0) (failed : C → ℕ) (says : V → Question → Bool → Type 0) (waits : ℕ) : Type 0 where
   pub config : Configuration
   pub number : ℕ
   pub epoch : ℕ
   pub lease : Interval
+  pub stampers : Option Interval
   pub ahead : ℕ
   pub max_width : ℕ
   pub calls : List RoundsCall
@@ -34,10 +35,11 @@ pub record Life {C V : Type 0} (gives : C → Option ℕ → C → Type 0) (fail
 abbrev pub begun_in : {C V : Type 0} {gives : C → Option ℕ → C → Type 0} {failed : C → ℕ} {says : V → Question → Bool → Type 0} {waits : ℕ} → Life gives failed says waits → Kept
 begun_in life = new_kept life.config life.number life.epoch
 
--- a worker began with a watch that had seen nothing, by a clock with the drift of this configuration, and with this lease, this bound for floors and this one for the width of readings; its sessions came one after the other, and what its watch has seen is the first ones of these publications
+-- a worker began with a watch that had seen nothing, by a clock with the drift of this configuration, and with this lease, this interval of the stampers, this bound for floors and this one for the width of readings; its sessions came one after the other, and what its watch has seen is the first ones of these publications
 pub record WorksIn {C V : Type 0} {gives : C → Option ℕ → C → Type 0} {failed : C → ℕ} {says : V → Question → Bool → Type 0} {waits : ℕ} (life : Life gives failed says waits) (worker : WorkerLife gives failed says waits) : Type 0 where
   pub watch : worker.post.watch ≡ new_watch life.source life.config.drift
   pub lease : worker.post.lease ≡ life.lease
+  pub stampers : worker.post.stampers ≡ life.stampers
   pub ahead : worker.post.ahead ≡ life.ahead
   pub width : worker.post.max_width ≡ life.max_width
   pub in_turn : AreServedInTurn worker.post worker.sessions

@@ -1,5 +1,6 @@
 -- The commits of sessions, in true time.
 use Rattle.std.specs.Prelude.{◌≡◌, ℕ, ◌<◌, ◌≤◌, List, true, Bool, Option, Some, Ok, slice_get}
+use Rattle.tt_span.specs.Interval.{Interval}
 use Rattle.tt_judge.specs.declared.history.Commit.{Commit}
 use Rattle.tt_session.specs.declared.calls.Call.{Call}
 use Rattle.tt_session.specs.declared.calls.Call.TheVariants.{Begin, Lease, Pass}
@@ -19,6 +20,13 @@ LeasesAt calls place lo hi = slice_get calls place ≡ Some (Lease lo hi (Ok tt)
 -- no call between these two places set a lease
 abbrev pub NoLeaseBetween : List Call → ℕ → ℕ → Type 0
 NoLeaseBetween calls place later = (between lo hi : ℕ) → place < between → between < later → LeasesAt calls between lo hi → ⊥
+
+-- the call at `later` gave a commit this stamp, under this lease, which the call at `place` had set
+pub record IsLeasedAt (calls : List Call) (lease : Interval) (place later number stamp : ℕ) : Type 0 where
+  pub leases : LeasesAt calls place lease.lo lease.hi
+  pub begins : BeginsAt calls later number stamp
+  pub after : place < later
+  pub none : NoLeaseBetween calls place later
 
 -- the call at this place answered that the commit with this number is released
 abbrev pub ReleasesAt : List Call → ℕ → ℕ → Type 0

@@ -34,7 +34,7 @@
 //!   `meeting_laws`.
 //! - `orders`: `session_laws`, `lease_laws`, `reply_laws`, `order_laws` and `sequencer_laws`.
 //! - `services`: `machine_laws`, `service_laws`, `consistency_laws` and `node_laws`.
-//! - `lives`: `life_laws`.
+//! - `lives`: `life_laws`. `stampers`: `stamper_laws`.
 #![tactic(auto)]
 
 mod lives;
@@ -42,9 +42,11 @@ mod meeting;
 mod orders;
 mod runs;
 mod services;
+mod stampers;
 
 pub use lives::life_laws;
 pub use meeting::meeting_laws;
 pub use orders::{lease_laws, order_laws, reply_laws, sequencer_laws, session_laws};
 pub use runs::{assumption_laws, reading_laws, round_laws, step_laws, timeline_laws};
 pub use services::{consistency_laws, machine_laws, node_laws, service_laws};
+pub use stampers::stamper_laws;

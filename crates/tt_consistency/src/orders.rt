@@ -1,7 +1,7 @@
 //! The laws of sessions, of their leases and replies, of the order of their commits, and of the stamps of one sequencer.
 
-ghost use Rattle.std.specs.Prelude.{◌≡◌, ℕ, ◌<◌, ◌≤◌, List, ◌∷◌, ◌++◌, Option, None, All};
-ghost use Rattle.tt_span.specs.Interval.{Holds};
+ghost use Rattle.std.specs.Prelude.{◌≡◌, ℕ, ◌<◌, ◌≤◌, List, ◌∷◌, ◌++◌, Option, Some, None, All};
+ghost use Rattle.tt_span.specs.Interval.{Interval, Holds, Meets};
 ghost use Rattle.tt_judge.specs.Consistency.{IsConsistent};
 ghost use Rattle.tt_judge.specs.declared.history.Commit.{Commit};
 ghost use Rattle.tt_session.specs.Answers.{AnswersLines};
@@ -12,7 +12,7 @@ ghost use Rattle.tt_session.specs.declared.serving.Served.{Served};
 ghost use Rattle.tt_stamp.specs.Stamping.{Continues};
 ghost use Rattle.tt_connections.specs.Station.{PostState, ServesSession, BreaksSession};
 ghost use Rattle.tt_consistency.specs.Timed.{CallTimes, TimedSession, IsTimed, times_at, served_at, broken_at};
-ghost use Rattle.tt_consistency.specs.Order.{BeginsAt, ReleasesAt, LeasesAt, NoLeaseBetween, IsCommitted, IsSeen, IsSeenAtSome, IsWithin, ShareSequencer};
+ghost use Rattle.tt_consistency.specs.Order.{BeginsAt, ReleasesAt, LeasesAt, NoLeaseBetween, IsLeasedAt, IsCommitted, IsSeen, IsSeenAtSome, IsWithin, ShareSequencer};
 ghost use Rattle.tt_consistency.specs.Told.{IsTold};
 
 use tt_connections::Presence;
@@ -57,17 +57,28 @@ pub fn session_laws<C: Clock, V: Presence>()
         IsTimed C.gives C.failed V.says session → IsSeen session.calls session.times commit → IsWithin commit }
 {}
 
-/// Laws of the leases of a session. Nothing is assumed about readings and times.
-pub fn lease_laws<C: Clock, V: Presence>()
+/// Laws of the leases of sessions. Nothing is assumed about readings and times.
+pub fn lease_laws<C: Clock, V: Presence, D: Clock, W: Presence>()
     // If a call set the lease of the session, then each stamp after it lies in this lease, as long as no other lease is
     // set.
     ensures leased { (session : TimedSession C.gives C.failed V.says) (place lo hi later number stamp : ℕ) →
         LeasesAt session.calls place lo hi → BeginsAt session.calls later number stamp → place < later →
         NoLeaseBetween session.calls place later → Holds (record { lo = lo; hi = hi }) stamp }
 
+    // So stamps under leases that do not meet differ, in any sessions of any machines.
+    ensures apart { (one : TimedSession C.gives C.failed V.says) (other : TimedSession D.gives D.failed W.says)
+        (lease other_lease : Interval) (place later number stamp other_place other_later other_number other_stamp : ℕ) →
+        (Meets lease other_lease → ⊥) → IsLeasedAt one.calls lease place later number stamp →
+        IsLeasedAt other.calls other_lease other_place other_later other_number other_stamp →
+        stamp ≡ other_stamp → ⊥ }
+
     // Each stamp of a session lies in the lease of the machine, whatever lease the session sets.
     ensures machine { (session : TimedSession C.gives C.failed V.says) (place number stamp : ℕ) →
         BeginsAt session.calls place number stamp → Holds session.post.lease stamp }
+
+    // None lies in the interval of the stampers, if the machine has one.
+    ensures stampers { (session : TimedSession C.gives C.failed V.says) (place number stamp : ℕ) (stampers : Interval) →
+        session.post.stampers ≡ Some stampers → BeginsAt session.calls place number stamp → Holds stampers stamp → ⊥ }
 {}
 
 /// Laws of the replies of a session.

@@ -131,6 +131,7 @@ pub(crate) fn session<R: Wait>(rt: &R, alloc: Global) -> Outcome {
     };
     let terms = Terms {
         lease: Span::whole(),
+        stampers: None,
         ahead: 0,
         max_width: u64::MAX,
     };

@@ -82,7 +82,7 @@ some-epoch does before after epoch takes = subst HasNumber takes.2 (steps-number
 
 -- a life that was made of these settings has them
 pub has-settings : (settings : Meaning) (epoch : ℕ) (made current : Current)
-    → made ≡ record { machine = settings.machine; epoch = epoch; config = settings.config; pauses = settings.pauses; lease = settings.lease; on_break = settings.on_break; max_width = widest_in settings.max_width } → current ≡ made → 0 < epoch → epoch < 2 ^ 64 → HasSettings settings current
+    → made ≡ record { machine = settings.machine; epoch = epoch; config = settings.config; pauses = settings.pauses; lease = settings.lease; stampers = settings.stampers; on_break = settings.on_break; max_width = widest_in settings.max_width } → current ≡ made → 0 < epoch → epoch < 2 ^ 64 → HasSettings settings current
 has-settings settings epoch made current is same some below =
     let e = same ∙ is in
     record {
@@ -90,6 +90,7 @@ has-settings settings epoch made current is same some below =
       config = ap (λ (l : Current). l.config) e;
       pauses = ap (λ (l : Current). l.pauses) e;
       lease = ap (λ (l : Current). l.lease) e;
+      stampers = ap (λ (l : Current). l.stampers) e;
       on_break = ap (λ (l : Current). l.on_break) e;
       max_width = ap (λ (l : Current). l.max_width) e;
       first = subst (λ (n : ℕ). 0 < n) (sym (ap (λ (l : Current). l.epoch) e)) some;
@@ -128,12 +129,13 @@ served-next first before after has (inl same) = (has.0, has.1, same ∙ has.2)
 served-next first before after has (inr (session, from, to)) = (session ∷ has.0, (from ∙ has.2, has.1), sym to)
 
 -- a worker that has served its sessions hands back what its watch has seen
-pub handed-back : (watch : WatchState) (terms : Terms) (first now : PostState ClockState) (end : WorkerEnd) → first.watch ≡ watch → first.lease ≡ terms.lease → first.ahead ≡ terms.ahead → first.max_width ≡ terms.max_width
+pub handed-back : (watch : WatchState) (terms : Terms) (first now : PostState ClockState) (end : WorkerEnd) → first.watch ≡ watch → first.lease ≡ terms.lease → first.stampers ≡ terms.stampers → first.ahead ≡ terms.ahead → first.max_width ≡ terms.max_width
     → HasServed first now → end.seen ≡ seen_of now.watch → HandsBack watch terms end
-handed-back watch terms first now end watch_is lease_is ahead_is width_is has seen = record {
+handed-back watch terms first now end watch_is lease_is stampers_is ahead_is width_is has seen = record {
   worker = record { post = first; sessions = has.0 };
   watch_is = watch_is;
   lease_is = lease_is;
+  stampers_is = stampers_is;
   ahead_is = ahead_is;
   width_is = width_is;
   in_turn = has.1;
@@ -186,6 +188,7 @@ new-watches source source' drift drift' watches same same' all =
 record Fits (watch : WatchState) (terms : Terms) (published : List Publication) (worker : ServerWorker) : Type 0 where
   pub watch_is : worker.post.watch ≡ watch
   pub lease_is : worker.post.lease ≡ terms.lease
+  pub stampers_is : worker.post.stampers ≡ terms.stampers
   pub ahead_is : worker.post.ahead ≡ terms.ahead
   pub width_is : worker.post.max_width ≡ terms.max_width
   pub in_turn : AreServedInTurn worker.post worker.sessions
@@ -220,7 +223,7 @@ told-of watch terms published (end ∷ ends) all begin =
     let begins : IsPrefix (seen_of (post_after here.worker.post here.worker.sessions).watch).items published =
     subst (λ (k : Known). IsPrefix k.items published) here.seen_is (All-head (Begins published) end ends begin) in
     let fits : Fits watch terms published here.worker =
-    record { watch_is = here.watch_is; lease_is = here.lease_is; ahead_is = here.ahead_is; width_is = here.width_is; in_turn = here.in_turn; seen = begins } in
+    record { watch_is = here.watch_is; lease_is = here.lease_is; stampers_is = here.stampers_is; ahead_is = here.ahead_is; width_is = here.width_is; in_turn = here.in_turn; seen = begins } in
     let len : length rest.workers ≡ length ends = rest.len in
     record {
       workers = here.worker ∷ rest.workers;
@@ -273,6 +276,7 @@ life-ended settings current end from to shown has configured below new called ha
       number = settings.machine;
       epoch = current.epoch;
       lease = current.lease;
+      stampers = current.stampers;
       ahead = current.pauses.floor_ahead;
       max_width = current.max_width;
       calls = calls;
@@ -283,6 +287,7 @@ life-ended settings current end from to shown has configured below new called ha
     let works : (worker : ServerWorker) → Fits watch terms published worker → WorksIn life worker = λ worker fits. record {
       watch = fits.watch_is;
       lease = fits.lease_is;
+      stampers = fits.stampers_is;
       ahead = fits.ahead_is;
       width = fits.width_is;
       in_turn = fits.in_turn;
@@ -303,6 +308,7 @@ life-ended settings current end from to shown has configured below new called ha
         config = has.config;
         number = refl;
         lease = has.lease;
+        stampers = has.stampers;
         ahead = ap (λ (p : Pauses). p.floor_ahead) has.pauses;
         max_width = has.max_width;
         epoch = sym epoch;

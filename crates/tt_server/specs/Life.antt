@@ -40,6 +40,7 @@ pub record HandsBack (watch : WatchState) (terms : Terms) (end : WorkerEnd) : Ty
   pub worker : ServerWorker
   pub watch_is : worker.post.watch ≡ watch
   pub lease_is : worker.post.lease ≡ terms.lease
+  pub stampers_is : worker.post.stampers ≡ terms.stampers
   pub ahead_is : worker.post.ahead ≡ terms.ahead
   pub width_is : worker.post.max_width ≡ terms.max_width
   pub in_turn : AreServedInTurn worker.post worker.sessions
@@ -57,6 +58,7 @@ pub record TellsOf (settings : Meaning) (end : LifeEnd) (life : ServerLife) : Ty
   pub config : life.config ≡ settings.config
   pub number : life.number ≡ settings.machine
   pub lease : life.lease ≡ settings.lease
+  pub stampers : life.stampers ≡ settings.stampers
   pub ahead : life.ahead ≡ settings.pauses.floor_ahead
   pub max_width : life.max_width ≡ widest_in settings.max_width
   pub epoch : life.epoch ≡ end.epoch

@@ -75,6 +75,11 @@ sums_text p c writers =
 unfoldable pub lease_text : Interval → List ℕ
 lease_text lease = line_of (codes "lease") (lease.lo ∷ lease.hi ∷ [])
 
+-- the interval of the stampers, where there are some
+abbrev pub stampers_text : Option Interval → List ℕ
+stampers_text (Some stampers) = line_of (codes "stampers") (stampers.lo ∷ stampers.hi ∷ [])
+stampers_text None = []
+
 -- what follows a sign that an assumption is broken
 abbrev pub break_word : OnBreak → List ℕ
 break_word End = codes "end"
@@ -91,6 +96,7 @@ numbers_text s =
     config_text s.config
     ++ pauses_text s.pauses
     ++ lease_text s.lease
+    ++ stampers_text s.stampers
     ++ word_line (codes "on_break") (break_word s.on_break)
     ++ width_text s.max_width
     ++ sums_text s.pauses s.config (writers_of (is_some s.status) (is_some s.evidence))

@@ -8,7 +8,7 @@ use Rattle.tt_server.specs.declared.workers.ServesClients.{ServesClients}
 
 -- the terms of a life
 abbrev pub terms_in : Current → Terms
-terms_in life = record { lease = life.lease; ahead = life.pauses.floor_ahead; max_width = life.max_width }
+terms_in life = record { lease = life.lease; stampers = life.stampers; ahead = life.pauses.floor_ahead; max_width = life.max_width }
 
 -- the widest reading that is given where there is this limit, or none
 abbrev pub widest_in : Option ℕ → ℕ
@@ -26,12 +26,13 @@ pub record AreReady (settings : Meaning) (source : Source) (watches : List Watch
   pub room : most ≡ settings.config.workers
   pub new : All (λ watch. watch ≡ new_watch source settings.config.drift) watches
 
--- this life has an epoch of 64 bits that is not 0, and the number, the configuration, the pauses, the lease and the limits of these settings
+-- this life has an epoch of 64 bits that is not 0, and the number, the configuration, the pauses, the lease, the stampers and the limits of these settings
 pub record HasSettings (settings : Meaning) (life : Current) : Type 0 where
   pub machine : life.machine ≡ settings.machine
   pub config : life.config ≡ settings.config
   pub pauses : life.pauses ≡ settings.pauses
   pub lease : life.lease ≡ settings.lease
+  pub stampers : life.stampers ≡ settings.stampers
   pub on_break : life.on_break ≡ settings.on_break
   pub max_width : life.max_width ≡ widest_in settings.max_width
   pub first : 0 < life.epoch

@@ -37,8 +37,8 @@
 //!
 //! Of a life that ends in order, [`serve`] proves from what its threads hand back: the daemon began new, in the epoch that
 //! the store gave; its calls came one after the other, at readings of its clock that do not fall; each worker began with a
-//! new watch, by a clock with the drift of the settings, with the lease and the bound for floors of the settings; it served
-//! its sessions one after the other; and the workers read nothing but what this daemon published. Of a life that is killed
+//! new watch, by a clock with the drift of the settings, with the lease, the interval of the stampers and the bound for
+//! floors of the settings; it served its sessions one after the other; and the workers read nothing but what this daemon published. Of a life that is killed
 //! each turn of a loop is one call with a contract of its own.
 #![tactic(auto)]
 

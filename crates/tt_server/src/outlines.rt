@@ -2,7 +2,7 @@
 
 ghost use Rattle.std.specs.Prelude.{◌≡◌, ◌++◌, OnOk, IfOk, string_bytes, option_copied, ◌≤◌};
 ghost use Rattle.std.specs.List.{flat_map};
-ghost use Rattle.tt_server.specs.Outline.{outline_text, word_line, path_line, master_line, address_text, numbers_text, files_text, growth_of, threads_of, memory_of, pauses_text, config_text, sums_text, lease_text, width_text, break_word, writers_of};
+ghost use Rattle.tt_server.specs.Outline.{outline_text, word_line, path_line, master_line, address_text, numbers_text, files_text, growth_of, threads_of, memory_of, pauses_text, config_text, sums_text, lease_text, stampers_text, width_text, break_word, writers_of};
 
 use crate::shares::period_of;
 use std::alloc::{AllocError, Global};
@@ -139,6 +139,16 @@ fn push_lease(text: &mut String, lease: &Span) -> Result<(), AllocError>
     push_line(text, "lease", &[lease.lo(), lease.hi()])
 }
 
+/// Adds the line of the interval of the stampers, if there is one.
+fn push_stampers(text: &mut String, stampers: Option<Span>) -> Result<(), AllocError>
+    ensures { OnOk result (string_bytes text.new ≡ string_bytes text.old ++ stampers_text stampers) }
+{
+    match stampers {
+        Some(stampers) => push_line(text, "stampers", &[stampers.lo(), stampers.hi()]),
+        None => Ok(()),
+    }
+}
+
 /// Adds the line of the widest reading, if there is a limit.
 fn push_width(text: &mut String, limit: Option<u64>) -> Result<(), AllocError>
     ensures { OnOk result (string_bytes text.new ≡ string_bytes text.old ++ width_text limit) }
@@ -169,6 +179,7 @@ fn push_numbers(text: &mut String, settings: &Settings) -> Result<(), AllocError
     push_config(text, &config)?;
     push_pauses(text, &pauses)?;
     push_lease(text, &settings.lease())?;
+    push_stampers(text, settings.stampers())?;
     push_words(text, "on_break", break_word(settings.on_break()))?;
     push_width(text, settings.max_width())?;
     let writers = writers_of(settings.status().is_some(), settings.evidence().is_some());
@@ -190,8 +201,8 @@ fn push_files(text: &mut String, settings: &Settings) -> Result<(), AllocError>
 
 /// What a machine with these settings would do, as text. There is one line for each of `machine`, `listen`, `master`
 /// (one for each master, in the order of the sources), `faulty`, `workers`, `drift`, `poll`, `wait`, `floor_ahead`,
-/// `idle`, `lease`, `on_break`, `max_width` (if there is a limit), `growth`, `threads`, `memory`, `state`, and for each of
-/// `socket`, `shared`, `status`, `evidence` and `vmclock` that the settings have. Times are in nanoseconds.
+/// `idle`, `lease`, `stampers` (if there are some), `on_break`, `max_width` (if there is a limit), `growth`, `threads`,
+/// `memory`, `state`, and for each of `socket`, `shared`, `status`, `evidence` and `vmclock` that the settings have. Times are in nanoseconds.
 ///
 /// A reading is as wide as what the masters state, plus the time that the poll took. Until the next publication it
 /// grows wider by at most `growth`, if no master fails. `memory` is an estimate, in bytes. Refuses if it is out of

@@ -25,6 +25,8 @@ pub(crate) struct Life {
     pub(crate) config: Config,
     pub(crate) pauses: Pauses,
     pub(crate) lease: Span,
+    /// The interval of the stampers, in which the sessions of the machine do not stamp, if there is one.
+    pub(crate) stampers: Option<Span>,
     /// What follows a sign that an assumption is broken.
     pub(crate) on_break: OnBreak,
     /// The widest reading that is given, in nanoseconds; 2^64 - 1 if there is no limit.
@@ -44,7 +46,7 @@ fn widest_in(limit: Option<u64>) -> u64
 impl Life {
     /// The life of this epoch, with these settings.
     pub(crate) fn of(settings: &Settings, epoch: u64) -> Life
-        ensures value { result ≡ record { machine = settings.now.machine; epoch = epoch; config = settings.now.config; pauses = settings.now.pauses; lease = settings.now.lease; on_break = settings.now.on_break; max_width = widest_in settings.now.max_width } }
+        ensures value { result ≡ record { machine = settings.now.machine; epoch = epoch; config = settings.now.config; pauses = settings.now.pauses; lease = settings.now.lease; stampers = settings.now.stampers; on_break = settings.now.on_break; max_width = widest_in settings.now.max_width } }
     {
         Life {
             machine: settings.machine(),
@@ -52,6 +54,7 @@ impl Life {
             config: settings.config(),
             pauses: settings.pauses(),
             lease: settings.lease(),
+            stampers: settings.stampers(),
             on_break: settings.on_break(),
             max_width: widest_in(settings.max_width()),
         }
@@ -63,6 +66,7 @@ impl Life {
     {
         Terms {
             lease: self.lease,
+            stampers: self.stampers,
             ahead: self.pauses.floor_ahead,
             max_width: self.max_width,
         }

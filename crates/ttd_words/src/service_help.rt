@@ -44,7 +44,7 @@ Refused:
 /// What `ask` does.
 pub(crate) const ABOUT_ASK: &str = "\
 Sends the words as one line, and prints the reply to it; without words, each line of standard input
-in turn. The lines are now, after T, before T and commit ID FLOOR.
+in turn. The lines are now, after T, before T, commit ID FLOOR and lease LO HI.
 
 A machine is named by its address, 127.0.0.1: and a port, or by the path of its Unix socket: a text
 with a slash, or without a colon.

@@ -15,5 +15,5 @@ pub returns-in_default : goal.returns-in_default
 returns-in_default g c =
     let made = c.new-post.ensures.made in
     handed-back c.args.watch c.args.terms c.new-post.result c.loop.post (record { seen = c.seen.result }) (ap (λ (p : PostState ClockState). p.watch) made)
-    (ap (λ (p : PostState ClockState). p.lease) made) (ap (λ (p : PostState ClockState). p.ahead) made) (ap (λ (p : PostState ClockState). p.max_width) made)
+    (ap (λ (p : PostState ClockState). p.lease) made) (ap (λ (p : PostState ClockState). p.stampers) made) (ap (λ (p : PostState ClockState). p.ahead) made) (ap (λ (p : PostState ClockState). p.max_width) made)
     c.loop.invariant (c.seen.ensures ∙ ap seen_of c.into_parts-watch.ensures.watch)

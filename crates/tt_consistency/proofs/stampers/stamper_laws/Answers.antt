@@ -1,0 +1,12 @@
+use Rattle.tt_consistency.proofs.Stampers.{stamper-rises, stamper-leased, stampers-apart, life-stamps, stamper-within, either-consistent}
+use Rattle.tt_consistency.proofs.stampers.stamper_laws.Goals as goal
+
+pub returns : goal.returns
+returns g c = record {
+  rising = stamper-rises;
+  leased = stamper-leased;
+  apart = stampers-apart;
+  sessions = life-stamps g.C.Clock.gives g.C.Clock.failed g.V.Presence.says;
+  within = stamper-within;
+  consistent = either-consistent g.C.Clock.gives g.C.Clock.failed g.V.Presence.says;
+}
