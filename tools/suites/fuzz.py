@@ -34,7 +34,7 @@ WORDS = ["send", "answer", "forge", "deliver", "fuse", "read", "arrive", "stamp"
          "at", "source", "worker", "packet", "publication", "clock", "lo", "hi", "session", "number", "floor", "bytes", "sources", "faulty", "workers",
          "drift", "masters", "acts", "honest", "ahead 1", "behind 1", "silent", "garbage", "repeat", "sessions", "base", "rounds", "turns", "uncertainty",
          "lease_lo", "lease_hi", "span", "claim", "left", "right", "below", "above", "commit", "now", "after", "before", "committed", "listen", "state",
-         "socket", "shared", "status", "poll", "wait", "idle", "floor_ahead", "127.0.0.1:0", "0.0.0.0:1", "1ms", "10s", "1ns", "[[machine]]\n",
+         "socket", "shared", "status", "stampers", "poll", "wait", "idle", "floor_ahead", "127.0.0.1:0", "0.0.0.0:1", "1ms", "10s", "1ns", "[[machine]]\n",
          "[[event]]\n", "[live]\n", "tt-epoch 1 ", "TTP1", "TTP2", "TTS1", "TTS2", '"', "'", '"""', "[", "]", "{", "}", "=", ",", "#", "\n", "\r\n", " ", "\t",
          "\\u0000", "0x", "1e9", "inf", "nan", "true", "1979-05-27T07:32:00Z", "\ufeff", "é", "%n%s%x", "../", "-", "+", "--"]
 REFUSED = r"refused \d+\n"
@@ -124,7 +124,7 @@ def first_texts():
                 texts[case["words"][0]].append(case["input"].encode())
     texts["serve"] = [b'machine = 0\nlisten = "127.0.0.1:5601"\nstate = "state"\nmasters = ["127.0.0.1:5701", "127.0.0.1:5702", "127.0.0.1:5703"]\n'
                       b'faulty = 1\nworkers = 32\ndrift = 200\npoll = "1s"\nwait = "50ms"\nfloor_ahead = "1s"\nidle = "60s"\nlease_lo = 0\n'
-                      b'lease_hi = 4000000000000000000\nsocket = "socket"\nshared = "shared"\nstatus = "status"\n']
+                      b'lease_hi = 4000000000000000000\nstampers = [0, 1]\nsocket = "socket"\nshared = "shared"\nstatus = "status"\n']
     texts["epoch"] = [b"tt-epoch 1 41\n", b"tt-epoch 1 18446744073709551614\n"]
     return texts
 

@@ -15,8 +15,8 @@ from harness.trouble import REQUEST, SPAN, Fake, Spoils, honest
 
 # The names. One that changes is changed here; that of a setting or of an event also where a scenario gives or awaits it.
 
-SETTINGS = """machine masters faulty workers drift poll wait floor_ahead idle lease_lo lease_hi listen log on_break max_width state socket shared
-status evidence vmclock""".split()
+SETTINGS = """machine masters faulty workers drift poll wait floor_ahead idle lease_lo lease_hi stampers listen log on_break max_width state socket
+shared status evidence vmclock""".split()
 OPTIONS = "source listen uncertainty offset act log".split()
 ACTS = "honest ahead behind silent garbage repeat".split()
 

@@ -42,6 +42,9 @@ def stampers(trial):
         trial.equal("setting stampers", reply_to(session, "commit 1000 0"), "refused 903")
         behind = lo + 2 * SECOND + 1
         trial.equal("setting stampers", reply_to(session, f"commit 1000 {behind}"), f"committed 1000 {behind}")
+    node = trial.running_node(trial.scripts(honest), "B", stampers=[0, 4 * 10**18])
+    with truetime.Session(node.address, 10) as session:
+        trial.equal("setting stampers", reply_to(session, "commit 1 0"), "refused 903")
 
 
 @suite.case()
@@ -304,6 +307,9 @@ def outline(trial):
 # The keys that have to be there, each with a value as a file writes it.
 NEEDED = {"machine": "0", "masters": '["127.0.0.1:1"]', "listen": '"127.0.0.1:0"', "state": '"state"'}
 
+# What `stampers` has to be.
+ENDS = "two whole numbers from 0 to 4000000000000000000 in brackets, the first at most the second"
+
 # What a file has besides, or (if it is empty) has not, the number that refuses it, and what is said of the first key that is named.
 REFUSED = [
     ({"machine": "8"}, 1804, "machine: 8 is above 7"),
@@ -334,6 +340,19 @@ REFUSED = [
     ({"idle": '"86401s"'}, 1804, 'idle: "86401s" is above 86400s'),
     ({"lease_lo": "4000000000000000001"}, 1804, "lease_lo: 4000000000000000001 is above 4000000000000000000"),
     ({"lease_lo": "36", "lease_hi": "35"}, 1804, "lease_hi: 35 is below lease_lo"),
+    ({"stampers": "5"}, 1804, f"stampers: 5: {ENDS}"),
+    ({"stampers": '"5-6"'}, 1804, f'stampers: "5-6": {ENDS}'),
+    ({"stampers": "[]"}, 1804, f"stampers: []: {ENDS}"),
+    ({"stampers": "[5]"}, 1804, f"stampers: [5]: {ENDS}"),
+    ({"stampers": "[5, 6, 7]"}, 1804, f"stampers: [5, 6, 7]: {ENDS}"),
+    ({"stampers": "[5, 6, 7, 8, 9]"}, 1804, f"stampers: [5, 6, 7, ..]: {ENDS}"),
+    ({"stampers": '[5, "6"]'}, 1804, f'stampers: [5, "6"]: {ENDS}'),
+    ({"stampers": "[[5, 6]]"}, 1804, f"stampers: [a list]: {ENDS}"),
+    ({"stampers": "[-1, 6]"}, 1804, f"stampers: [-1, 6]: {ENDS}"),
+    ({"stampers": "[5, 4000000000000000001]"}, 1804, f"stampers: [5, 4000000000000000001]: {ENDS}"),
+    ({"stampers": "[5, 4]"}, 1804, f"stampers: [5, 4]: {ENDS}"),
+    ({"stampers": "[5, 4]", "lease_lo": "36", "lease_hi": "35"}, 1804, "lease_hi: 35 is below lease_lo"),
+    ({"stampers": "[5, 4]", "listen": '"10.0.0.1:1"'}, 1804, f"stampers: [5, 4]: {ENDS}"),
     ({"listen": '"10.0.0.1:1"'}, 1805, 'listen: "10.0.0.1:1": an address of this host, as 127.0.0.1:7001'),
     ({"log": '"Json"'}, 1804, 'log: "Json": "text" or "json"'),
     ({"on_break": '"End"'}, 1804, 'on_break: "End": "end" or "warn"'),
@@ -351,6 +370,7 @@ REFUSED = [
     ({"lisen": "1"}, 1802, "lisen: unknown key; did you mean listen?"),
     ({"drfit": "1"}, 1802, "drfit: unknown key; did you mean drift?"),
     ({"lease-lo": "1"}, 1802, "lease-lo: unknown key; did you mean lease_lo?"),
+    ({"stamper": "[5, 6]"}, 1802, "stamper: unknown key; did you mean stampers?"),
     ({"port": "1"}, 1802, "port: unknown key"),
     ({'"a b"': "1"}, 1802, '"a b": unknown key'),
     ({"idle": "= 1"}, 1801, "not TOML: "),

@@ -7,7 +7,7 @@ use Rattle.tt_span.specs.Time.{max_time}
 use Rattle.tt_poll.specs.Message.{max_machine}
 use Rattle.tt_daemon.specs.Config.{max_workers}
 use Rattle.tt_settings.specs.declared.keys.Key.{Key}
-use Rattle.tt_settings.specs.declared.keys.Key.TheVariants.{Machine, Masters, Faulty, Workers, Drift, Poll, Wait, FloorAhead, Idle, LeaseLo, LeaseHi, Listen, Log, OnBreak, MaxWidth, Socket, State, Shared, Status, Evidence, Vmclock}
+use Rattle.tt_settings.specs.declared.keys.Key.TheVariants.{Machine, Masters, Faulty, Workers, Drift, Poll, Wait, FloorAhead, Idle, LeaseLo, LeaseHi, Stampers, Listen, Log, OnBreak, MaxWidth, Socket, State, Shared, Status, Evidence, Vmclock}
 use Rattle.tt_settings.specs.declared.keys.ValueKind.{ValueKind}
 use Rattle.tt_settings.specs.declared.keys.ValueKind.TheVariants as kind
 
@@ -31,6 +31,7 @@ entry_of FloorAhead = (codes "floor_ahead", kind.Duration 0 (10 * second))
 entry_of Idle = (codes "idle", kind.Duration second (86400 * second))
 entry_of LeaseLo = (codes "lease_lo", kind.Number 0 max_time)
 entry_of LeaseHi = (codes "lease_hi", kind.Number 0 max_time)
+entry_of Stampers = (codes "stampers", kind.Ends)
 entry_of Listen = (codes "listen", kind.Address)
 entry_of Log = (codes "log", kind.Form (codes "text", codes "json"))
 entry_of OnBreak = (codes "on_break", kind.Form (codes "end", codes "warn"))
@@ -51,8 +52,8 @@ kind_of key = (entry_of key).1
 -- all keys
 abbrev pub all_keys : List Key
 all_keys =
-    Machine ∷ Masters ∷ Faulty ∷ Workers ∷ Drift ∷ Poll ∷ Wait ∷ FloorAhead ∷ Idle ∷ LeaseLo ∷ LeaseHi ∷ Listen ∷ Log ∷ OnBreak ∷ MaxWidth
-    ∷ Socket ∷ State ∷ Shared ∷ Status ∷ Evidence ∷ Vmclock ∷ []
+    Machine ∷ Masters ∷ Faulty ∷ Workers ∷ Drift ∷ Poll ∷ Wait ∷ FloorAhead ∷ Idle ∷ LeaseLo ∷ LeaseHi ∷ Stampers ∷ Listen ∷ Log ∷ OnBreak
+    ∷ MaxWidth ∷ Socket ∷ State ∷ Shared ∷ Status ∷ Evidence ∷ Vmclock ∷ []
 
 -- the first of these keys that a text is
 abbrev pub key_among : List ℕ → List Key → Option Key

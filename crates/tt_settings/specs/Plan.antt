@@ -1,16 +1,17 @@
 -- The settings that are numbers.
-use Rattle.std.specs.Prelude.{ℕ, ◌*◌, ◌-◌, ◌/◌, nat_lt, nat_le, if◌then◌else◌, Result, Ok, Err}
-use Rattle.toml.specs.Data.{Members}
+use Rattle.std.specs.Prelude.{ℕ, ◌*◌, ◌-◌, ◌/◌, nat_lt, nat_le, if◌then◌else◌, Option, Result, Ok, Err}
+use Rattle.toml.specs.Data.{Data, Items, no_items, item, Members, get_member, as_array}
 use Rattle.tt_span.specs.Time.{max_time}
 use Rattle.tt_span.specs.Interval.{Interval}
 use Rattle.tt_daemon.specs.Config.{Configuration, max_workers, default_drift}
-use Rattle.tt_settings.specs.declared.keys.Key.TheVariants.{Faulty, Workers, Drift, Poll, Wait, FloorAhead, Idle, LeaseLo, LeaseHi}
+use Rattle.tt_settings.specs.declared.keys.Key.{Key}
+use Rattle.tt_settings.specs.declared.keys.Key.TheVariants.{Faulty, Workers, Drift, Poll, Wait, FloorAhead, Idle, LeaseLo, LeaseHi, Stampers}
 use Rattle.tt_settings.specs.declared.faults.SettingsFault.{SettingsFault}
 use Rattle.tt_settings.specs.declared.faults.SettingsFault.TheVariants.{WrongValue, TooManyFaulty}
 use Rattle.tt_settings.specs.declared.plans.Pauses.{Pauses}
 use Rattle.tt_settings.specs.Fault.{◌>>=◌}
-use Rattle.tt_settings.specs.Key.{millisecond, second}
-use Rattle.tt_settings.specs.Lookup.{amount_or}
+use Rattle.tt_settings.specs.Key.{millisecond, second, text_of}
+use Rattle.tt_settings.specs.Lookup.{typed_value, whole_in, within, amount_or, optional}
 
 -- how many of so many masters may be faulty at most
 abbrev pub most_faulty : ℕ → ℕ
@@ -55,13 +56,35 @@ pauses_in t = do
   idle ← amount_or Idle default_idle t
   Ok (record { poll = poll; wait = wait; floor_ahead = floor_ahead; idle = idle })
 
--- a lease whose end is not before its beginning
-abbrev pub lease_if : ℕ → ℕ → Result Interval SettingsFault
-lease_if lo hi = if nat_le lo hi then Ok (record { lo = lo; hi = hi }) else Err (WrongValue LeaseHi)
+-- the interval of two ends, where the first is at most the second
+abbrev pub span_if : Key → ℕ → ℕ → Result Interval SettingsFault
+span_if key lo hi = if nat_le lo hi then Ok (record { lo = lo; hi = hi }) else Err (WrongValue key)
 
 -- the lease, which is the whole of time where neither end is given
 unfoldable pub lease_in : Members → Result Interval SettingsFault
 lease_in t = do
   lo ← amount_or LeaseLo 0 t
   hi ← amount_or LeaseHi max_time t
-  lease_if lo hi
+  span_if LeaseHi lo hi
+
+-- the time that a value is, in nanoseconds
+abbrev pub time_in : Key → Data → Result ℕ SettingsFault
+time_in key d = within key 0 max_time (whole_in d)
+
+-- the interval whose ends are these items: two times, the first at most the second
+abbrev pub span_of : Key → Items → Result Interval SettingsFault
+span_of key (item first (item second no_items)) = do
+  lo ← time_in key first
+  hi ← time_in key second
+  span_if key lo hi
+span_of key _ = Err (WrongValue key)
+
+-- the interval whose ends a value lists
+abbrev pub span_in : Key → Data → Result Interval SettingsFault
+span_in key d = do
+  items ← typed_value key (as_array d)
+  span_of key items
+
+-- the interval that is left to stampers in other processes, where one is given
+abbrev pub stampers_in : Members → Result (Option Interval) SettingsFault
+stampers_in t = optional (span_in Stampers) (get_member (text_of Stampers) t)

@@ -16,7 +16,7 @@ use Rattle.tt_settings.specs.Fault.{◌>>=◌}
 use Rattle.tt_settings.specs.Key.{first_unknown}
 use Rattle.tt_settings.specs.Lookup.{amount_at, count_of, each}
 use Rattle.tt_settings.specs.Address.{address_at, master_items_in, master_in}
-use Rattle.tt_settings.specs.Plan.{configuration_in, pauses_in, lease_in}
+use Rattle.tt_settings.specs.Plan.{configuration_in, pauses_in, lease_in, stampers_in}
 use Rattle.tt_settings.specs.Form.{conduct_in}
 use Rattle.tt_settings.specs.Text.{paths_in}
 use Rattle.tt_settings.specs.Check.{all_fit}
@@ -27,6 +27,7 @@ pub record Meaning : Type 0 where
   pub config : Configuration
   pub pauses : Pauses
   pub lease : Interval
+  pub stampers : Option Interval
   pub listen : ℕ
   pub log : LogFormat
   pub on_break : OnBreak
@@ -40,12 +41,13 @@ pub record Meaning : Type 0 where
   pub vmclock : Option (List ℕ)
 
 -- what the parts of a document mean
-abbrev pub meaning_of : ℕ → Configuration → Pauses → Interval → ℕ → Conduct → List ℕ → Paths → Meaning
-meaning_of machine config pauses lease listen conduct masters paths = record {
+abbrev pub meaning_of : ℕ → Configuration → Pauses → Interval → Option Interval → ℕ → Conduct → List ℕ → Paths → Meaning
+meaning_of machine config pauses lease stampers listen conduct masters paths = record {
   machine = machine;
   config = config;
   pauses = pauses;
   lease = lease;
+  stampers = stampers;
   listen = listen;
   log = conduct.log;
   on_break = conduct.on_break;
@@ -73,11 +75,12 @@ keys_of t = do
   config ← configuration_in (count_of items) t
   pauses ← pauses_in t
   lease ← lease_in t
+  stampers ← stampers_in t
   listen ← address_at Listen t
   conduct ← conduct_in t
   masters ← each master_in items
   paths ← paths_in t
-  Ok (meaning_of machine config pauses lease listen conduct masters paths)
+  Ok (meaning_of machine config pauses lease stampers listen conduct masters paths)
 
 -- what a document means
 abbrev pub settings_of : Members → Result Meaning SettingsFault

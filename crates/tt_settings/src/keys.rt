@@ -34,6 +34,7 @@ pub enum Key {
     Idle,
     LeaseLo,
     LeaseHi,
+    Stampers,
     Listen,
     Log,
     OnBreak,
@@ -47,7 +48,7 @@ pub enum Key {
 }
 
 /// All keys.
-pub(crate) const KEYS: [Key; 21] = [
+pub(crate) const KEYS: [Key; 22] = [
     Key::Machine,
     Key::Masters,
     Key::Faulty,
@@ -59,6 +60,7 @@ pub(crate) const KEYS: [Key; 21] = [
     Key::Idle,
     Key::LeaseLo,
     Key::LeaseHi,
+    Key::Stampers,
     Key::Listen,
     Key::Log,
     Key::OnBreak,
@@ -109,6 +111,8 @@ pub(crate) enum ValueKind {
     Number { least: u64, most: u64 },
     /// The text of a length of time, from the least to the greatest, in nanoseconds.
     Duration { least: u64, most: u64 },
+    /// The ends of an interval of time, in nanoseconds: an array of two whole numbers, the first at most the second.
+    Ends,
     /// The text of an address of this host.
     Address,
     /// Addresses of this host.
@@ -177,6 +181,7 @@ impl Key {
             Key::Idle => duration("idle", SECOND, DAY),
             Key::LeaseLo => number("lease_lo", 0, MAX_TIME),
             Key::LeaseHi => number("lease_hi", 0, MAX_TIME),
+            Key::Stampers => plain("stampers", ValueKind::Ends),
             Key::Listen => plain("listen", ValueKind::Address),
             Key::Log => form("log", "text", "json"),
             Key::OnBreak => form("on_break", "end", "warn"),

@@ -38,7 +38,7 @@ pub(crate) fn value_at(table: &Table, key: Key) -> Result<&Value, SettingsFault>
 }
 
 /// The whole number that a value is, if it is one and not below 0.
-fn whole_in(value: &Value) -> Option<u64>
+pub(crate) fn whole_in(value: &Value) -> Option<u64>
     ensures { result ≡ whole_in (view value.now) }
 {
     match value.as_integer() {
@@ -51,7 +51,12 @@ fn whole_in(value: &Value) -> Option<u64>
 }
 
 /// An amount from the least to the greatest, if there is one.
-fn within(key: Key, least: u64, most: u64, amount: Option<u64>) -> Result<u64, SettingsFault>
+pub(crate) fn within(
+    key: Key,
+    least: u64,
+    most: u64,
+    amount: Option<u64>,
+) -> Result<u64, SettingsFault>
     ensures { result ≡ within key least most amount }
 {
     match amount {

@@ -1,16 +1,17 @@
 //! The settings that are numbers.
 
-ghost use Rattle.std.specs.Prelude.{◌≡◌, ◌<◌, ◌≤◌};
-ghost use Rattle.toml.specs.View.{table_view};
+ghost use Rattle.std.specs.Prelude.{◌≡◌, ◌<◌, ◌≤◌, IfOk};
+ghost use Rattle.toml.specs.View.{view, table_view};
 ghost use Rattle.tt_span.specs.Drift.{max_drift};
 ghost use Rattle.tt_span.specs.Sources.{max_sources};
+ghost use Rattle.tt_span.specs.Time.{max_time};
 ghost use Rattle.tt_daemon.specs.Config.{max_workers};
-ghost use Rattle.tt_settings.specs.Plan.{configuration_if, configuration_in, lease_in, pauses_in};
+ghost use Rattle.tt_settings.specs.Plan.{configuration_if, configuration_in, lease_in, pauses_in, span_if, span_in, stampers_in, time_in};
 
 use crate::faults::SettingsFault;
 use crate::keys::{Key, MILLISECOND, SECOND};
-use crate::lookups::amount_or;
-use toml::Table;
+use crate::lookups::{amount_or, found_at, items_in, whole_in, within};
+use toml::{Table, Value};
 use tt_daemon::{Config, DEFAULT_DRIFT, MAX_WORKERS};
 use tt_span::{Drift, MAX_TIME, Span};
 
@@ -109,8 +110,50 @@ pub(crate) fn lease_in(table: &Table) -> Result<Span, SettingsFault>
 {
     let lo = amount_or(table, Key::LeaseLo, 0)?;
     let hi = amount_or(table, Key::LeaseHi, MAX_TIME)?;
+    span_if(Key::LeaseHi, lo, hi)
+}
+
+/// The span of two ends. Refuses with 1804 `WrongValue` of this key if the first is above the second.
+fn span_if(key: Key, lo: u64, hi: u64) -> Result<Span, SettingsFault>
+    requires in_time { hi ≤ max_time }
+    ensures { result ≡ span_if key lo hi }
+{
     match Span::new(lo, hi) {
         Ok(span) => Ok(span),
-        Err(_) => Err(SettingsFault::WrongValue(Key::LeaseHi)),
+        Err(_) => Err(SettingsFault::WrongValue(key)),
+    }
+}
+
+/// The time that a value is, in nanoseconds.
+fn time_in(key: Key, value: &Value) -> Result<u64, SettingsFault>
+    ensures value { result ≡ time_in key (view value.now) }
+    ensures in_time { IfOk result (λ time. time ≤ max_time) }
+{
+    within(key, 0, MAX_TIME, whole_in(value))
+}
+
+/// The span whose ends a value lists: an array of two times, the first at most the second.
+fn span_in(key: Key, value: &Value) -> Result<Span, SettingsFault>
+    ensures { result ≡ span_in key (view value.now) }
+{
+    let items = items_in(key, value)?;
+    let [first, second] = items.as_slice() else {
+        return Err(SettingsFault::WrongValue(key));
+    };
+    let lo = time_in(key, first)?;
+    let hi = time_in(key, second)?;
+    span_if(key, lo, hi)
+}
+
+/// The interval that is left to stampers in other processes, if one is given.
+pub(crate) fn stampers_in(table: &Table) -> Result<Option<Span>, SettingsFault>
+    ensures { result ≡ stampers_in (table_view table.now) }
+{
+    match found_at(table, Key::Stampers) {
+        Some(value) => {
+            let span = span_in(Key::Stampers, value)?;
+            Ok(Some(span))
+        }
+        None => Ok(None),
     }
 }

@@ -13,7 +13,7 @@ use crate::faults::SettingsFault;
 use crate::forms::{Conduct, OnBreak, conduct_in};
 use crate::keys::Key;
 use crate::lookups::{amount_at, count_of, first_unknown};
-use crate::plans::{Pauses, configuration_in, lease_in, pauses_in};
+use crate::plans::{Pauses, configuration_in, lease_in, pauses_in, stampers_in};
 use crate::refusals::Refusal;
 use crate::texts::{FilePath, Paths, paths_in};
 use std::alloc::Global;
@@ -30,6 +30,7 @@ pub struct Settings {
     config: Config,
     pauses: Pauses,
     lease: Span,
+    stampers: Option<Span>,
     listen: u16,
     conduct: Conduct,
     masters: Vec<u16>,
@@ -43,7 +44,7 @@ impl Model for Settings {
 
     ghost Value = { Meaning };
 
-    ghost view = { λ s. meaning_of s.machine s.config s.pauses s.lease s.listen s.conduct s.masters.items s.paths };
+    ghost view = { λ s. meaning_of s.machine s.config s.pauses s.lease s.stampers s.listen s.conduct s.masters.items s.paths };
 
     ghost invariant = { λ s. s.machine ≤ max_machine };
 }
@@ -76,6 +77,14 @@ impl Settings {
         ensures value { result ≡ self.now.lease }
     {
         self.lease
+    }
+
+    /// The interval in which the machine's sessions give no stamps, since a stamper in another process does, in
+    /// nanoseconds. None if there is none.
+    pub fn stampers(&self) -> Option<Span>
+        ensures value { result ≡ self.now.stampers }
+    {
+        self.stampers
     }
 
     /// The port of 127.0.0.1 at which it serves clients.
@@ -164,20 +173,23 @@ impl Settings {
 /// be there. The others may be absent: `faulty` (default: as many as the number of masters allows), `workers` (1 to 32;
 /// default 32), `drift` (parts per million; default 200), `poll` (default `"1s"`), `wait` (default `"250ms"`), `floor_ahead`
 /// (default `"1s"`), `idle` (default `"60s"`), `lease_lo` and `lease_hi` (nanoseconds; default: the whole of time),
-/// `log` (`"text"` or `"json"`; default `"text"`), `on_break` (`"end"` or `"warn"`; default `"end"`), `max_width` (from 0
-/// to an hour, as `"10ms"`; default: no limit), `socket`, `shared`, `status`, `evidence` and `vmclock` (paths; default:
-/// none). An address is `127.0.0.1:` and a port; a length of time is as [`duration_of`](crate::duration_of) reads it.
+/// `stampers` (the two ends of an interval, as `[5, 6]`, in nanoseconds; default: none), `log` (`"text"` or `"json"`;
+/// default `"text"`), `on_break` (`"end"` or `"warn"`; default `"end"`), `max_width` (from 0 to an hour, as `"10ms"`;
+/// default: no limit), `socket`, `shared`, `status`, `evidence` and `vmclock` (paths; default: none). An address is
+/// `127.0.0.1:` and a port; a length of time is as [`duration_of`](crate::duration_of) reads it.
 ///
 /// Refuses with the first that applies, in this order:
 ///
 /// - 1801 `NotToml`: the text is not TOML.
 /// - 1802 `UnknownKey`: a key has another name.
 /// - Of the keys, in the order `machine`, `masters` (their number), `faulty`, `workers`, `drift`, `poll`, `wait`,
-///   `floor_ahead`, `idle`, `lease_lo`, `lease_hi`, `listen`, `log`, `on_break`, `max_width`, `masters` (each of them),
-///   `state`, `socket`, `shared`, `status`, `evidence`, `vmclock`: 1803 `MissingKey` where the key is absent, 1804
-///   `WrongValue` where its value has another type or is out of range, 1805 `NotLocal` where a text is not an address of
-///   this host; and behind `drift`, 1806 `TooManyFaulty` where fewer than `2 * faulty + 1` masters are listed. A lease
-///   that ends before it begins is refused with 1804 at `lease_hi`.
+///   `floor_ahead`, `idle`, `lease_lo`, `lease_hi`, `stampers`, `listen`, `log`, `on_break`, `max_width`, `masters` (each
+///   of them), `state`, `socket`, `shared`, `status`, `evidence`, `vmclock`: 1803 `MissingKey` where the key is absent,
+///   1804 `WrongValue` where its value has another type or is out of range, 1805 `NotLocal` where a text is not an
+///   address of this host; and behind `drift`, 1806 `TooManyFaulty` where fewer than `2 * faulty + 1` masters are listed.
+///   A lease that ends before it begins is refused with 1804 at `lease_hi`. `stampers` is refused with 1804 where it has
+///   not two items, or one that is no whole number from 0 to [`MAX_TIME`](tt_span::MAX_TIME), or the first is above the
+///   second.
 /// - 1804 `WrongValue` of `masters`, where the port of one is 0; 1818 `SameMaster`, where one is named twice.
 /// - 1810 `TooFewWorkers`: there is a Unix socket, and one worker.
 /// - Of `state`, `socket`, `shared`, `status` and `evidence`, in this order: 1804 `WrongValue` where the path is empty,
@@ -248,6 +260,7 @@ fn keys_of(alloc: Global, table: &Table) -> Result<Settings, SettingsFault>
     let config = configuration_in(table, count_of(items))?;
     let pauses = pauses_in(table)?;
     let lease = lease_in(table)?;
+    let stampers = stampers_in(table)?;
     let listen = address_at(table, Key::Listen)?;
     let conduct = conduct_in(table)?;
     let masters = masters_of(alloc, items)?;
@@ -257,6 +270,7 @@ fn keys_of(alloc: Global, table: &Table) -> Result<Settings, SettingsFault>
         config,
         pauses,
         lease,
+        stampers,
         listen,
         conduct,
         masters,

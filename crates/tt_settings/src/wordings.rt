@@ -9,10 +9,13 @@ use crate::places::is_plain;
 use std::alloc::{AllocError, Global};
 use toml::value::Array;
 use toml::{Table, Value};
-use tt_span::MAX_SOURCES;
+use tt_span::{MAX_SOURCES, MAX_TIME};
 
 /// The most characters of a text that are shown.
 const MOST_SHOWN: usize = 80;
+
+/// The most items of an array that are shown.
+const MOST_ITEMS: usize = 3;
 
 /// What is wrong with the value of this key in a document that is refused with this fault.
 pub(crate) fn words_of(
@@ -79,12 +82,15 @@ fn push_value(
     kind: &ValueKind,
     value: &Value,
 ) -> Result<(), AllocError> {
-    push_shown(words, alloc, value)?;
+    match (kind, value) {
+        (ValueKind::Ends, Value::Array(items)) => push_items(words, alloc, items)?,
+        _ => push_shown(words, alloc, value)?,
+    }
     words.push_str(": ")?;
     push_wanted(words, kind)?;
     match (kind, value) {
         (ValueKind::Addresses, _) => words.push_str(", in brackets"),
-        (ValueKind::Number { .. }, _) | (_, Value::String(_)) => Ok(()),
+        (ValueKind::Number { .. } | ValueKind::Ends, _) | (_, Value::String(_)) => Ok(()),
         _ => words.push_str(", in quotes"),
     }
 }
@@ -94,6 +100,10 @@ fn push_wanted(words: &mut String, kind: &ValueKind) -> Result<(), AllocError> {
     match kind {
         ValueKind::Number { least, most } => write!(words, "a whole number from {least} to {most}"),
         ValueKind::Duration { .. } => words.push_str("a whole number and ns, us, ms or s"),
+        ValueKind::Ends => write!(
+            words,
+            "two whole numbers from 0 to {MAX_TIME} in brackets, the first at most the second"
+        ),
         ValueKind::Address => words.push_str("an address of this host, as 127.0.0.1:7001"),
         ValueKind::Addresses => write!(words, "from 1 to {MAX_SOURCES} addresses of this host"),
         ValueKind::Form(form) => write!(words, "\"{}\" or \"{}\"", form.first(), form.second()),
@@ -190,6 +200,22 @@ fn push_shown(words: &mut String, alloc: Global, value: &Value) -> Result<(), Al
         Value::Table(_) => words.push_str("a table"),
         _ => write!(words, "{value}"),
     }
+}
+
+/// Adds an array as the file may write it. Of a long one only its beginning is shown.
+fn push_items(words: &mut String, alloc: Global, items: &Array) -> Result<(), AllocError> {
+    words.push_str("[")?;
+    for (place, item) in items.iter().enumerate() {
+        if place > 0 {
+            words.push_str(", ")?;
+        }
+        if place == MOST_ITEMS {
+            words.push_str("..")?;
+            break;
+        }
+        push_shown(words, alloc, item)?;
+    }
+    words.push_str("]")
 }
 
 /// Adds the name of a key as a file may write it: in quotes, unless it is a plain one.
