@@ -33,4 +33,4 @@ mod WorkedOrder
 mod WorkedNode
 mod Working
 mod WorkedLife
-mod Stampers
+mod BesideSessions

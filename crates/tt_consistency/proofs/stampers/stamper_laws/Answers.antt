@@ -1,4 +1,4 @@
-use Rattle.tt_consistency.proofs.Stampers.{stamper-rises, stamper-leased, stampers-apart, life-stamps, stamper-within, either-consistent}
+use Rattle.tt_consistency.proofs.BesideSessions.{stamper-rises, stamper-leased, stampers-apart, life-stamps, stamper-within, either-consistent}
 use Rattle.tt_consistency.proofs.stampers.stamper_laws.Goals as goal
 
 pub returns : goal.returns
