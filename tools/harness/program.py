@@ -5,6 +5,7 @@ import typing
 
 TOP = os.path.dirname(os.path.dirname(os.path.dirname(os.path.realpath(__file__))))
 PROGRAM = os.path.join(TOP, "crates/ttd/out/ttd")
+STAMPS = os.path.join(TOP, "crates/tt_stamp_rows/out/tt_stamp_rows")
 WARNINGS = ["-Wall", "-Wextra", "-Wpedantic", "-Wshadow", "-Wconversion", "-Werror"]
 
 

@@ -4,7 +4,7 @@ import dataclasses
 import os
 from xml.etree import ElementTree
 
-from harness.program import PROGRAM
+from harness.program import PROGRAM, STAMPS
 from harness.suite import NAMES, choose, wrong_in
 from harness.trial import Options, Result
 
@@ -44,6 +44,7 @@ def parser(about: str) -> argparse.ArgumentParser:
 def add_options(add) -> None:
     """The options of the suites."""
     add("--rows", metavar="FILE", help="the built tt_memory_sweep, for `sweep`")
+    add("--stamps", metavar="FILE", help="the built tt_stamp_rows, for `clients`; that of this repository where it is left out and there")
     add("--seconds", type=float, metavar="N", help="how long `service`, `clients`, `fuzz`, `demo` and `soak` go on")
     add("--seed", type=int, metavar="N", help="the seed of `judge`, `sweep`, `epochs`, `fuzz` and `soak`, which is drawn else")
     add("--number", type=int, metavar="N", help="how many histories `judge` tries, and clients in Python `soak` has")
@@ -52,7 +53,8 @@ def add_options(add) -> None:
 
 def options_of(given: argparse.Namespace) -> Options:
     """The options that were given."""
-    return Options(program=os.path.realpath(given.program or PROGRAM), rows=given.rows, seconds=given.seconds, seed=given.seed,
+    stamps = given.stamps or (STAMPS if os.path.isfile(STAMPS) else None)
+    return Options(program=os.path.realpath(given.program or PROGRAM), rows=given.rows, stamps=stamps, seconds=given.seconds, seed=given.seed,
                    number=given.number, long=given.long)
 
 

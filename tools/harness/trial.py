@@ -16,6 +16,8 @@ class Options:
     program: str = PROGRAM
     #: The program that makes each call which takes memory, or None where these are left out.
     rows: str | None = None
+    #: The program that says what a stamper has to answer, or None where only what was worked out by hand is tried.
+    stamps: str | None = None
     seconds: float | None = None
     seed: int | None = None
     number: int | None = None

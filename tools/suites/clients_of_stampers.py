@@ -17,8 +17,8 @@
         so many threads, which begin together, each take so many stamps with this floor. When all have ended, for each thread from 0 on, each
         of its stamps in its order: the thread's number and a blank before what `stamp` says. Then `end`
 
-What `row` has to say is worked out from the definition of the least stamp that may be given (MayGive and IsLeastStamp of
-crates/tt_stamp/specs/Stamp.antt), by trying stamps.
+What `row` has to say is what the proved rule says (`stamp_of` of crates/tt_stamp/specs/Stamp.antt): the program of --stamps, tt_stamp_rows,
+answers the same lines by it. Rows that were worked out by hand are a check of that program, too.
 """
 import contextlib
 import itertools
@@ -34,32 +34,6 @@ from harness.program import run
 from suites.clients import CLIENTS, MAX, NO_LIMIT, SLOT_BYTES, Reader, build_c, file_of, index_of, suite
 
 AHEAD, SECOND = 10_000_000_000, 1_000_000_000
-
-
-def may_give(given, latest, floor, lease, stamp):
-    """Whether this stamp may follow those that were given, for a commit whose reading ends at this latest."""
-    return stamp <= MAX and latest <= stamp and floor <= stamp and lease[0] <= stamp and all(other < stamp for other in given)
-
-
-def least_stamp(*asked):
-    """The least stamp that may be given, or None. Each one above it up to the greatest time may be given, too, so halving finds it."""
-    if not may_give(*asked, MAX):
-        return None
-    low, high = 0, MAX
-    while low < high:
-        middle = (low + high) // 2
-        low, high = (low, middle) if may_give(*asked, middle) else (middle + 1, high)
-    return low
-
-
-def row_of(last, _, latest, floor, *lease):
-    """What a stamper has to say."""
-    if floor > latest + AHEAD:
-        return "refused 902"
-    stamp = least_stamp([last] if last else [], latest, floor, lease)
-    if stamp is None:
-        return "refused 901"
-    return f"stamp {stamp}" if stamp <= lease[1] else "refused 903"
 
 
 # Worked out by hand: the last stamp, the reading, the floor, the lease, and the answer.
@@ -108,7 +82,7 @@ def corners():
 
 
 def vectors(seed, number):
-    """Vectors whose numbers are mostly near each other, near an edge or near a bound."""
+    """Rows whose numbers are mostly near each other, near an edge or near a bound."""
     chance = random.Random(seed)
 
     def a_time():
@@ -126,22 +100,49 @@ def vectors(seed, number):
         yield last, lo, hi, floor, *lease
 
 
-# What is no lease, and what no stamper says to it.
-NO_LEASES = [(1, 0), (MAX, 0), (MAX + 1, MAX), (NO_LIMIT, 0)]
+# Leases whose ends are none, and what a stamper says to them.
+NO_LEASES = [((1, 0), "refused 101"), ((MAX, 0), "refused 101"), ((MAX + 1, MAX), "refused 101"), ((NO_LIMIT, 0), "refused 101"),
+             ((0, MAX + 1), "refused 102")]
+# Lines that are no rows for tt_stamp_rows: in their form, or by a last stamp or a reading that there cannot be.
+NO_ROWS = ["\n", "row\n", "row 0 0 0 0 0\n", "row 0 0 0 0 0 0 0\n", "row 0 0 0 0 0 0", "row 0 0 0 0 0 00\n", "row 0 0 0 0 0 -1\n", "0 0 0 0 0 0\n",
+           f"row 0 0 0 {NO_LIMIT + 1} 0 0\n", f"row {MAX + 1} 0 0 0 0 0\n", "row 0 1 0 0 0 0\n", f"row 0 0 {MAX + 1} 0 0 0\n"]
 
 
-def try_rows(trial, name, words, tried, wanted):
-    """The rule by vectors."""
-    lines = "".join("row " + " ".join(map(str, numbers)) + "\n" for numbers in tried)
-    answers = run([*words, "stamper"], lines.encode(), 300).said.splitlines()
-    trial.check(name, len(answers) == len(wanted), f"{len(answers)} answers to {len(wanted)} rows")
-    for numbers, came, answer in zip(tried, answers, wanted):
+def lines_of(rows):
+    """The lines that ask these rows."""
+    return "".join("row " + " ".join(map(str, numbers)) + "\n" for numbers in rows).encode()
+
+
+def rows_and_answers(trial):
+    """The rows to try, each with what a stamper has to say to it."""
+    if not trial.options.stamps:
+        trial.note("only the rows by hand are tried: --stamps names no program, and tt_stamp_rows is not built here")
+        return BY_HAND
+    by_hand = [*BY_HAND, *(((0, 0, 0, 0, *lease), answer) for lease, answer in NO_LEASES)]
+    rows = [*(numbers for numbers, _ in by_hand), *corners(), *vectors(2, 10_000)]
+    ran = run([trial.options.stamps], lines_of(rows), 60)
+    answers = ran.said.splitlines()
+    trial.check("tt_stamp_rows", ran.status == 0 and len(answers) == len(rows), f"status {ran.status}, {len(answers)} answers: {ran.error}")
+    for (numbers, answer), came in zip(by_hand, answers):
+        trial.check("tt_stamp_rows", came == answer, f"row {numbers}: {came} in place of {answer}")
+    for answer in "stamp ", "refused 901", "refused 902", "refused 903":
+        number = sum(other.startswith(answer) for other in answers)
+        trial.check("tt_stamp_rows", number > 500, f"only {number} rows with {answer}")
+    for line in NO_ROWS:
+        ran = run([trial.options.stamps], lines_of([BY_HAND[0][0]]) + line.encode(), 60)
+        trial.check("tt_stamp_rows", ran.answer == ("stamp 0\n", 1) and "line 2 " in ran.error, f"{line!r}: {ran.answer} {ran.error.strip()}")
+    return BY_HAND + list(zip(rows, answers))[len(by_hand):]
+
+
+def try_rows(trial, name, words, tried):
+    """The rule, row by row."""
+    answers = run([*words, "stamper"], lines_of(numbers for numbers, _ in tried), 300).said.splitlines()
+    trial.check(name, len(answers) == len(tried), f"{len(answers)} answers to {len(tried)} rows")
+    for (numbers, answer), came in zip(tried, answers):
         trial.check(name, came == answer, f"row {numbers}: {came} in place of {answer}")
-    for lease in NO_LEASES:
-        came = run([*words, "stamper"], f"row 0 0 0 0 {lease[0]} {lease[1]}\n".encode(), 60).said.strip()
-        trial.check(name, came == "refused 101", f"lease {lease}: {came}")
-    came = run([*words, "stamper"], f"row 0 0 0 0 0 {MAX + 1}\n".encode(), 60).said.strip()
-    trial.check(name, came == "refused 102", f"a lease past the greatest time: {came}")
+    for lease, answer in NO_LEASES:
+        came = run([*words, "stamper"], lines_of([(0, 0, 0, 0, *lease)]), 60).said.strip()
+        trial.check(name, came == answer, f"lease {lease}: {came} in place of {answer}")
 
 
 class Shared:
@@ -272,17 +273,11 @@ def try_waits(said, shared, path):
 
 @suite.case()
 def stampers(trial):
-    """Stampers by vectors, and over files."""
-    tried = [numbers for numbers, _ in BY_HAND] + list(corners()) + list(vectors(2, 10_000))
-    wanted = [row_of(*numbers) for numbers in tried]
-    for numbers, answer in BY_HAND:
-        trial.check("by hand", answer == row_of(*numbers), f"{numbers}: {answer} by hand, and {row_of(*numbers)}")
-    for answer in "stamp ", "refused 901", "refused 902", "refused 903":
-        number = sum(other.startswith(answer) for other in wanted)
-        trial.check("rows", number > 500, f"only {number} rows with {answer}")
+    """Stampers by rows, and over files."""
+    tried = rows_and_answers(trial)
     for name, words in trial.shared:
         before, checks, path = len(trial.result.wrong), 0, os.path.join(trial.room, "stamped")
-        try_rows(trial, name, words, tried, wanted)
+        try_rows(trial, name, words, tried)
         with Shared(path) as shared, Reader(words, "stamper") as probe:
             late = threading.Timer(120, probe.probe.kill)
             late.start()
@@ -290,7 +285,7 @@ def stampers(trial):
                 checks += 1
                 trial.check(name, came == answer, f"{what}: {came} in place of {answer}")
             late.cancel()
-        trial.note(f"{name}: {len(wanted)} rows, {checks} answers over files, {len(trial.result.wrong) - before} wrong")
+        trial.note(f"{name}: {len(tried)} rows, {checks} answers over files, {len(trial.result.wrong) - before} wrong")
 
 
 THREADS, EACH, WIDTH = 8, 10_000, 500_000
