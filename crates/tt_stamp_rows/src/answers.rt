@@ -58,6 +58,7 @@ fn row_after(last: u64) -> Row
     if last > 0
         && let Ok(moment) = Span::new(last, last)
     {
+        // By this reading it is given: there is no floor, and the lease is the whole of time.
         let _ = row.stamp(&Reading::of(moment), 0, &Span::whole());
     }
     row
