@@ -1,0 +1,294 @@
+"""Checks the rules of Prometheus and the dashboard of Grafana in packaging/.
+
+- promtool takes the rules, and packaging/alerts_test.yml says of each alert when it fires and when not. The settings at their top are the
+  defaults of docs/FORMATS.md, and those that stand there in their place are followed.
+- Each metric that rules or dashboard name, with its labels, is in the status of a machine that runs, and each one that docs/OPERATING.md
+  calls an alarm is in a rule.
+- By the statuses of a machine that runs nothing fires; once three of its five masters are cut, what docs/OPERATING.md says of it does.
+- promtool takes each expression of the dashboard. No Grafana is here: its JSON is compared with what a dashboard of schema 38 has to have,
+  as Grafana's documents of its JSON model say, and was not opened in one.
+"""
+import json
+import os
+import re
+import time
+import typing
+
+from harness.metrics import read_metrics
+from harness.program import in_top, read_text, run, write
+from harness.suite import Suite, wrong_in
+from suites.wiring_checks import eventually
+
+suite = Suite(__name__, at_once=4, longest_s=60, again=True)
+RULES, TESTS, DASHBOARD = "packaging/alerts.yml", "packaging/alerts_test.yml", "packaging/dashboard.json"
+FIRING = 'count by (alertname, machine, source) (ALERTS{alertstate="firing"})'
+# Settings that are no defaults, and those by which the machine of this suite runs: a round takes a quarter of a second.
+OTHER = {"truetime:round_seconds": "10", "truetime:drift_ratio": "0.001", "truetime:max_width_seconds": "1"}
+POLL, WAIT, ROUND_S = "150ms", "100ms", 0.25
+
+
+class Alert(typing.NamedTuple):
+    name: str
+    expr: str
+    #: What else stands there.
+    text: str
+
+    @property
+    def metrics(self):
+        return set(re.findall(r"\btruetime_\w+", self.expr))
+
+
+def settings_in(text):
+    """The settings at the top of the rules, as texts."""
+    return dict(re.findall(r'record: "(truetime:\w+)", expr: "vector\((\S+)\)"', text))
+
+
+def alerts_in(text):
+    """All alerts of the rules."""
+    for part in text.split("- alert: ")[1:]:
+        name, _, rest = part.partition("\n")
+        expr, rest = re.fullmatch(r".*?^ +expr: (?:>-\n +)?(.*?)\n +((?:for|labels): .*)", rest, re.DOTALL | re.MULTILINE).groups()
+        yield Alert(name, " ".join(expr.split()), rest)
+
+
+def promtool(trial, what, *words):
+    """A command of promtool that has to succeed."""
+    ran = run(["promtool", *words], seconds=50, cwd=trial.room)
+    trial.check(what, ran.status == 0, f"status {ran.status}\n{ran.said}{ran.error}")
+    return ran.said + ran.error
+
+
+def try_rules(trial, what, settings, tests):
+    """Rules with these settings, and these tests in the form of promtool."""
+    text = read_text(RULES)
+    for name, value in settings.items():
+        text = re.sub(rf'("{name}", expr: "vector)\(\S+\)', rf"\g<1>({value})", text)
+    write(f"{trial.room}/alerts.yml", text.encode())
+    trial.equal(f"{what}: settings", settings_in(text), settings_in(read_text(RULES)) | settings)
+    write(f"{trial.room}/tests.yml", json.dumps({"rule_files": ["alerts.yml"], "evaluation_interval": "15s", "tests": tests}).encode())
+    promtool(trial, what, "test", "rules", "tests.yml")
+
+
+def fires(at, *labels):
+    """That these alerts fire at this time, and no other one does."""
+    return {"eval_time": at, "expr": FIRING, "exp_samples": [{"labels": one, "value": 1} for one in labels]}
+
+
+def machine(trial):
+    """A machine with five masters, two of which may be faulty, that has written a status; and its masters."""
+    masters = trial.masters(5)
+    node = trial.running_node(masters, poll=POLL, wait=WAIT, shared=f"{trial.room}/time")
+    trial.check("status", eventually(lambda: os.path.exists(node.path("status"))), "none is written")
+    return node, masters
+
+
+def labels_of_metrics(trial):
+    """The names in the status of a machine that runs, each with its labels."""
+    node, _ = machine(trial)
+    metrics, wrong = read_metrics(read_text(node.path("status")))
+    trial.equal("status", wrong, [])
+    return {name: set(labels) for metric in metrics.values() for name, labels, _ in metric.samples}
+
+
+@suite.case(programs=("promtool",))
+def rules(trial):
+    """The rules, their tests, and their settings."""
+    text, tests = read_text(RULES), read_text(TESTS)
+    alerts, settings = list(alerts_in(text)), settings_in(text)
+    said = promtool(trial, "check rules", "check", "rules", in_top(RULES))
+    trial.check("check rules", f"SUCCESS: {len(alerts) + len(settings)} rules found" in said, said)
+    trial.equal("names", len({alert.name for alert in alerts}), len(alerts))
+    promtool(trial, "test rules", "test", "rules", in_top(TESTS))
+    for alert in alerts:
+        is_tested = f'exp_samples: [{{labels: \'{{alertname="{alert.name}"' in tests or alert.name == "TruetimeWide"  # which `settings` provokes
+        trial.check(alert.name, is_tested, f"{TESTS} never has it fire")
+        trial.check(alert.name, re.search(r"severity: (page|ticket)\}", alert.text) and "summary: " in alert.text, "no severity or no summary")
+    trial.note(f"{len(alerts)} alerts; {len(trial.result.wrong)} wrong")
+
+
+@suite.case(programs=("promtool",))
+def settings(trial):
+    """Other settings at the top of the rules, in which each has its effect. Those that stand there are the defaults."""
+    formats = read_text("docs/FORMATS.md")
+    for name, default in ("poll", '`"1s"`'), ("wait", '`"250ms"`'), ("drift", "200"), ("max_width", "no limit"):
+        found = re.search(rf"^- `{name}`: .*\({re.escape(default)}\)", formats, re.MULTILINE)
+        trial.check(f"default of {name}", found, f"it is {default} in {RULES}, and another one in docs/FORMATS.md")
+    defaults = {"truetime:round_seconds": "1.25", "truetime:drift_ratio": "0.0002", "truetime:max_width_seconds": "Inf"}
+    trial.equal("defaults", settings_in(read_text(RULES)), defaults)
+    try_rules(trial, "other settings", OTHER, [{"interval": "15s", "input_series": [
+        {"series": 'truetime_width_seconds{machine="0"}', "values": "0.8x40 0.81x40"},
+        {"series": 'truetime_fusion_age_seconds{machine="0"}', "values": "30x40 30.1x40"},
+        {"series": 'truetime_source_clock_rate_ratio{machine="0",source="1"}', "values": "0.0019x40 0.0021x40"},
+        {"series": 'truetime_source_clock_rate_error_ratio{machine="0",source="1"}', "values": "0.001x80"},
+    ], "promql_expr_test": [fires("10m"), fires("15m", '{alertname="TruetimeWide",machine="0"}', '{alertname="TruetimeFusionOld",machine="0"}',
+                                                '{alertname="TruetimeClockRate",machine="0",source="1"}')]}])
+
+
+def sample(node, series, at_s):
+    """Appends what its status shows, as the collector would hand it on at this time."""
+    numbers = [one for metric in read_metrics(read_text(node.path("status")))[0].values() for one in metric.samples]
+    age_s = time.time() - os.stat(node.path("status")).st_mtime
+    numbers.append(("node_textfile_mtime_seconds", {"file": "/run/truetime/a/status.prom"}, f"{at_s - age_s:f}"))
+    for name, labels, value in numbers:
+        listed = ",".join(f'{label}="{given}"' for label, given in labels.items())
+        series.setdefault(f"{name}{{{listed}}}", []).append("NaN" if value is None else str(value))
+
+
+@suite.case(programs=("promtool",))
+def cut(trial):
+    """Three of five masters are cut. A status of each round is a sample of promtool's 15 seconds."""
+    node, masters = machine(trial)
+    healthy, ill, series = 12, 24, {}
+    for turn in range(healthy + ill):
+        if turn == healthy:
+            for master in masters[:3]:
+                master.kill()
+        time.sleep(ROUND_S)
+        sample(node, series, turn * 15)
+    wanted = ['{alertname="TruetimeSourcesOld",machine="0"}', '{alertname="TruetimeRoundsStale",machine="0"}',
+              *('{alertname="TruetimeSourceOld",machine="0",source="%d"}' % source for source in range(3))]
+    try_rules(trial, "three masters cut", {"truetime:round_seconds": str(ROUND_S)}, [{
+        "interval": "15s", "input_series": [{"series": name, "values": " ".join(values)} for name, values in series.items()],
+        "promql_expr_test": [fires(f"{(healthy - 1) * 15}s"), fires(f"{(healthy + ill - 1) * 15}s", *wanted)]}])
+    trial.equal("samples", {len(values) for values in series.values()}, {healthy + ill})
+    trial.note(f"{len(wanted)} alerts fire once three of five masters are cut, none before; {len(trial.result.wrong)} wrong")
+
+
+# Metrics.
+
+@suite.case()
+def metrics(trial):
+    """What rules and dashboard name is in a status, and each alarm of docs/OPERATING.md in a rule."""
+    known, alerts = labels_of_metrics(trial), list(alerts_in(read_text(RULES)))
+    for alert in alerts:
+        trial.check(alert.name, alert.metrics or "node_textfile_mtime_seconds" in alert.expr, "no metric of the status")
+        trial.equal(f"{alert.name}: metrics that no status has", alert.metrics - known.keys(), set())
+        labels = set.intersection(*(known[name] for name in alert.metrics & known.keys())) if alert.metrics else {"file"}
+        named = set(re.findall(r"\$labels\.(\w+)", alert.text))
+        trial.equal(f"{alert.name}: labels that it does not have", named - labels - {"instance"}, set())
+        trial.equal(f"{alert.name}: metrics in its words", set(re.findall(r"\btruetime_\w+", alert.text)) - known.keys(), set())
+    panels = [target["expr"] for panel in json.loads(read_text(DASHBOARD))["panels"] for target in panel.get("targets", ())]
+    shown = {name for expr in panels for name in re.findall(r"\btruetime_\w+", expr)}
+    trial.equal("metrics of the dashboard that no status has", shown - known.keys(), set())
+    trial.equal("metrics that it does not show", {name for name in known.keys() - shown if not name.endswith(("_sum", "_count"))}, set())
+    try_operating(trial, known, alerts)
+
+
+def try_operating(trial, known, alerts):
+    """Each alarm of section 3 has its rule, and each rule its alarm."""
+    section = read_text("docs/OPERATING.md").split("\n## 3.")[1].split("\n## 4.")[0]
+    in_rules, in_section = set().union(*(alert.metrics for alert in alerts)), set()
+    for line in re.findall("^- (.*)", section, re.MULTILINE):
+        what = f"docs/OPERATING.md, {line[:40]}.."
+        alarm, named = (metrics_in(text, known) for text in (line.partition(": ")[0], line))
+        in_section |= named
+        trial.check(what, alarm or line.startswith("the file is older"), "it names no metric")
+        trial.check(what, {name for name in alarm if not name.endswith(("_bucket", "_count"))} <= in_rules, f"no rule for one of {sorted(alarm)}")
+        rest = {name for name in named - alarm - in_rules if not any(name in alert.text for alert in alerts)}
+        trial.equal(f"{what}: metrics of which no rule speaks", rest, set())
+    trial.equal("metrics of rules that docs/OPERATING.md does not name", in_rules - in_section, set())
+    trial.note(f"{len(known)} metrics of a status, {len(in_rules)} in rules; {len(trial.result.wrong)} wrong")
+
+
+def metrics_in(text, known):
+    """The metrics that a text names without `truetime_`; of a histogram all its parts."""
+    names = {f"truetime_{name}" for name in re.findall(r"`(\w+)(?:\{[^`]*\})?`", text)}
+    return {name for name in known if name in names or re.sub("_(sum|count|bucket)$", "", name) in names}
+
+
+# The dashboard.
+
+KINDS = {"row", "stat", "table", "timeseries"}
+UNITS = {"short", "s", "ops", "percentunit", "bool"}
+NEEDS = {"uid": str, "title": str, "tags": list, "schemaVersion": int, "version": int, "time": dict, "refresh": str, "templating": dict,
+         "panels": list, "annotations": dict}
+NEEDS_OF_PANEL = {"id": int, "type": str, "title": str, "gridPos": dict, "datasource": dict, "fieldConfig": dict, "options": dict,
+                  "targets": list}
+
+
+def missing(of, wanted):
+    return [f"no {name} that is a {kind.__name__}" for name, kind in wanted.items() if not isinstance(of.get(name), kind)]
+
+
+def faults_of_panel(panel, source):
+    """What is wrong with the structure of a panel."""
+    if panel.get("type") not in KINDS:
+        yield f"the type {panel.get('type')}"
+    if panel.get("type") == "row":
+        yield from () if isinstance(panel.get("panels"), list) and isinstance(panel.get("collapsed"), bool) else ("not a row",)
+        return
+    yield from missing(panel, NEEDS_OF_PANEL)
+    field = panel["fieldConfig"]
+    if not isinstance(field.get("overrides"), list) or field.get("defaults", {}).get("unit") not in UNITS:
+        yield f"the fields {field}"
+    if panel["datasource"] != source:
+        yield f"the source {panel['datasource']}"
+    references = [target.get("refId") for target in panel["targets"]]
+    if not references or references != [chr(65 + at) for at in range(len(references))]:
+        yield f"the targets {references}"
+    for target in panel["targets"]:
+        yield from missing(target, {"expr": str, "legendFormat": str})
+
+
+def faults_of_layout(panels):
+    """What is wrong with the places of panels: 24 columns, and no two at one place."""
+    taken = {}
+    for panel in panels:
+        place = panel["gridPos"]
+        if place.keys() != set("hwxy") or min(place.values()) < 0 or min(place["h"], place["w"]) < 1 or place["x"] + place["w"] > 24:
+            yield f"panel {panel['id']}: the place {place}"
+            continue
+        columns, lines = range(place["x"], place["x"] + place["w"]), range(place["y"], place["y"] + place["h"])
+        below = {taken.setdefault((x, y), panel["id"]) for x in columns for y in lines} - {panel["id"]}
+        yield from (f"panels {other} and {panel['id']} lie on each other" for other in below)
+
+
+def faults_of_dashboard(dashboard):
+    """What is wrong with its structure."""
+    yield from missing(dashboard, NEEDS)
+    variables = dashboard["templating"]["list"]
+    names = [variable["name"] for variable in variables]
+    if [variable["type"] for variable in variables] != ["datasource"] + ["query"] * (len(variables) - 1) or len(set(names)) < len(names):
+        yield f"the variables {names}"
+    source = {"type": variables[0]["query"], "uid": f"${{{names[0]}}}"}
+    for variable in variables[1:]:
+        if variable["datasource"] != source or variable["query"].keys() != {"query", "refId"}:
+            yield f"the variable {variable['name']}"
+    if len({panel.get("id") for panel in dashboard["panels"]}) < len(dashboard["panels"]):
+        yield "two panels have one id"
+    for panel in dashboard["panels"]:
+        yield from (f"panel {panel.get('id')}: {fault}" for fault in faults_of_panel(panel, source))
+    yield from faults_of_layout(dashboard["panels"])
+    used = set(re.findall(r"\$\{?([a-z]+)", json.dumps(dashboard)))
+    if used != set(names):
+        yield f"the variables {sorted(used)} are used, and {sorted(names)} are there"
+
+
+@suite.case()
+def dashboard(trial):
+    """The structure of the dashboard."""
+    dashboard = json.loads(read_text(DASHBOARD))
+    yield from faults_of_dashboard(dashboard)
+    dashboard["panels"][1]["gridPos"], dashboard["panels"][2]["type"] = dashboard["panels"][3]["gridPos"], "graph"
+    dashboard["panels"][4]["targets"][0].pop("expr")
+    trial.equal("faults of a wrong one", len(list(faults_of_dashboard(dashboard))), 3)
+    trial.note(f"{len(dashboard['panels'])} panels; its structure alone: no Grafana is here")
+
+
+@suite.case(programs=("promtool",))
+def expressions(trial):
+    """Each expression of the dashboard, as that of a rule."""
+    exprs = [target["expr"] for panel in json.loads(read_text(DASHBOARD))["panels"] for target in panel.get("targets", ())]
+    replaced = [expr.replace("$__rate_interval", "1m").replace("$machine", ".*").replace("$instance", ".*") for expr in exprs]
+    trial.equal("variables", [expr for expr in replaced if "$" in expr], [])
+    for name, listed, status in ("expressions", replaced, 0), ("a wrong one", ["rate(truetime_epoch)"], 1):
+        rules = [{"record": f"panel:{number}", "expr": expr} for number, expr in enumerate(listed)]
+        write(f"{trial.room}/{name}.yml", json.dumps({"groups": [{"name": "dashboard", "rules": rules}]}).encode())
+        ran = run(["promtool", "check", "rules", f"{trial.room}/{name}.yml"])
+        trial.check(name, ran.status == status, f"status {ran.status}\n{ran.said}{ran.error}")
+    trial.note(f"{len(exprs)} expressions; {len(trial.result.wrong)} wrong")
+
+
+@suite.last_line
+def last_line(results):
+    return f"{sum(len(result.checks) for result in results)} checks, {wrong_in(results)} wrong"
