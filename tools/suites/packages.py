@@ -1,0 +1,379 @@
+"""Makes the Debian packages of the repository and the built program, by packaging/build-deb, and tries them.
+
+- Two builds of one commit, in other folders and by users with other habits, give the same bytes, and lintian says nothing of them.
+- Each file is that of the repository, and packaging/install puts the same ones to the same places.
+- In a copy of this host's root, which goes with the case, and by a systemctl that writes down what it is told: the packages are installed,
+  upgraded, removed and purged, and what lies there after each is what docs/OPERATING.md says. Nothing is enabled or started, and an
+  upgrade stops nothing.
+- There a user runs the units' commands with the example of settings, and asks by the clients as installed, in Python and C.
+"""
+import contextlib
+import glob
+import gzip
+import os
+import re
+import shutil
+import stat
+import subprocess
+import time
+from concurrent.futures import ThreadPoolExecutor
+
+from harness.processes import Fault
+from harness.program import in_top, read, read_text, run, write
+from harness.suite import Suite, wrong_in
+from suites.clients_as_installed import UNTYPED, VERSION, files_below
+from suites.wiring_checks import SETTINGS, eventually
+
+suite = Suite(__name__, longest_s=120)
+NAMES = ["libtruetime-dev", "python3-truetime", "truetime"]
+BUILDS = ("dpkg-buildpackage", "dh", "cmake", "git")
+TRIES = (*BUILDS, "unshare", "nsenter", "ip", "setpriv", "systemd-sysusers", "systemd-tmpfiles")
+UNITS = "lib/systemd/system"
+MODULE, SHARED = "usr/lib/python3/dist-packages/truetime", "usr/share/truetime"
+# Where each file of a package is from. What has no place in the repository is made; of the program only the symbols are missing.
+FILES = {
+    "libtruetime-dev": {
+        **{f"usr/include/{name}": f"clients/c/{name}" for name in ("truetime.h", "truetime_session.h", "truetime_stamper.h")},
+        "usr/share/pkgconfig/truetime.pc": "clients/c/truetime.pc",
+        "usr/share/cmake/truetime/truetime-config.cmake": None, "usr/share/cmake/truetime/truetime-config-version.cmake": None,
+    },
+    "python3-truetime": {
+        **{f"{MODULE}/{name}": f"clients/python/{name}" for name in ("__init__.py", "truetime.py", "py.typed")},
+        f"{MODULE}-{VERSION}.dist-info/METADATA": None, f"{MODULE}-{VERSION}.dist-info/INSTALLER": None,
+    },
+    "truetime": {
+        "usr/bin/ttd": None, "usr/share/man/man1/ttd.1.gz": None, "usr/share/man/man5/node.toml.5.gz": None,
+        **{f"{UNITS}/{name}": f"packaging/{name}" for name in ("truetime@.service", "truetime-master@.service")},
+        "usr/lib/sysusers.d/truetime.conf": "packaging/truetime.sysusers", "usr/lib/tmpfiles.d/truetime.conf": "packaging/truetime.tmpfiles",
+        **{f"{SHARED}/{name}": f"packaging/{name}" for name in ("alerts.yml", "dashboard.json")},
+        "usr/share/doc/truetime/examples/node.toml": "packaging/node.toml",
+        **{f"usr/share/doc/truetime/{name}.md": f"docs/{name}.md" for name in ("OPERATING", "FORMATS", "THREATS")},
+    },
+}
+# What packaging/install leaves to the packages.
+NOT_BY_INSTALL = re.compile(r"usr/share/(pkgconfig|cmake|doc/truetime/[A-Z])|usr/lib/python3")
+
+
+def build(trial, folder, **env):
+    """The packages, made into a folder."""
+    ran = run([in_top("packaging/build-deb"), trial.program, folder], seconds=100, env={**os.environ, **env}, cwd="/")
+    if ran.status != 0:
+        raise Fault(f"build-deb ends with status {ran.status}: {ran.said[-1500:]}{ran.error[-1500:]}")
+    return ran.said.split()
+
+
+@suite.shares
+def built(trial):
+    """The packages, and those of a later version."""
+    if all(map(shutil.which, BUILDS)):
+        with ThreadPoolExecutor() as pool:
+            made = [pool.submit(build, trial, f"{trial.room}/now"), pool.submit(build, trial, f"{trial.room}/later", VERSION="99")]
+            for one in made:
+                one.result()
+    yield trial.room
+
+
+def packages_in(folder):
+    """The packages of a folder by their names."""
+    return {os.path.basename(path).partition("_")[0]: path for path in sorted(glob.glob(f"{folder}/*.deb"))}
+
+
+def unpacked(trial, folder):
+    """Where the packages of a folder are unpacked."""
+    for path in packages_in(folder).values():
+        trial.equal(f"unpack {os.path.basename(path)}", run(["dpkg-deb", "-x", path, f"{trial.room}/root"]).status, 0)
+    return f"{trial.room}/root"
+
+
+@suite.case(programs=BUILDS)
+def reproducible(trial):
+    """The same bytes from another folder, by another umask, time zone and language."""
+    os.mkdir(f"{trial.room}/tmp")
+    before = os.umask(0o077)
+    try:
+        build(trial, f"{trial.room}/again", TMPDIR=f"{trial.room}/tmp", TZ="Pacific/Auckland", LC_ALL="de_DE.UTF-8")
+    finally:
+        os.umask(before)
+    first, again = packages_in(f"{trial.shared}/now"), packages_in(f"{trial.room}/again")
+    trial.equal("names", list(first), NAMES)
+    trial.equal("names of the second build", [os.path.basename(path) for path in again.values()], [os.path.basename(path) for path in first.values()])
+    for name in first:
+        trial.check(name, read(first[name]) == read(again[name]), "another build gives other bytes")
+    trial.equal("left behind", os.listdir(f"{trial.room}/tmp"), [])
+
+
+@suite.case(programs=(*BUILDS, "lintian"))
+def lintian(trial):
+    """What lintian says: nothing."""
+    ran = run(["lintian", "--allow-root", "--fail-on", "error,warning", *packages_in(f"{trial.shared}/now").values()], seconds=60)
+    trial.equal("lintian", (ran.status, ran.said + ran.error), (0, ""))
+    overrides = [name for name in files_below(in_top("packaging/debian")) if "overrides" in name]
+    trial.equal("overrides", overrides, [])
+
+
+@suite.case(programs=BUILDS)
+def files(trial):
+    """The files of each package, and those of packaging/install."""
+    for name, path in packages_in(f"{trial.shared}/now").items():
+        root = f"{trial.room}/{name}"
+        trial.equal(f"unpack {name}", run(["dpkg-deb", "-x", path, root]).status, 0)
+        always = {f"usr/share/doc/{name}/changelog.gz", f"usr/share/doc/{name}/copyright"}
+        found = {file if os.path.exists(f"{root}/{file}") else f"{file}.gz" for file in FILES[name]}
+        trial.equal(f"files of {name}", set(files_below(root)), found | always)
+        for file, source in FILES[name].items():
+            if source and (f"{file}.gz" in found or file in found):
+                content = read(f"{root}/{file}") if file in found else gzip.decompress(read(f"{root}/{file}.gz"))
+                trial.check(file, content == read(source), f"it is not {source}")
+        modes = {file: stat.S_IMODE(os.stat(f"{root}/{file}").st_mode) for file in files_below(root)}
+        trial.equal(f"modes of {name}", {file: oct(mode) for file, mode in modes.items() if mode != (0o755 if file == "usr/bin/ttd" else 0o644)}, {})
+    trial.equal("version", run([f"{trial.room}/truetime/usr/bin/ttd", "--version"]).answer, trial.command("--version").answer)
+    trial.equal("install", run([in_top("packaging/install"), f"{trial.room}/by_hand"], env={**os.environ, "TTD": trial.program}).status, 0)
+    wanted = {name.removesuffix(".gz").replace(UNITS, f"usr/{UNITS}") for of in FILES.values() for name in of if not NOT_BY_INSTALL.match(name)}
+    trial.equal("files of packaging/install", set(files_below(f"{trial.room}/by_hand")), wanted)
+
+
+@suite.case(programs=(*BUILDS, "man"))
+def manual(trial):
+    """The pages without a warning; that of the settings has each of them, and its example is a valid one."""
+    root = unpacked(trial, f"{trial.shared}/now")
+    env = {**os.environ, "MANWIDTH": "80", "LC_ALL": "C.UTF-8", "MANROFFSEQ": "", "MAN_KEEP_FORMATTING": ""}
+    shown = {}
+    for page in ("man1/ttd.1", "man5/node.toml.5"):
+        ran = run(["man", "--warnings", "-E", "UTF-8", "-l", f"{root}/usr/share/man/{page}.gz"], env=env)
+        trial.equal(f"warnings of {page}", (ran.status, ran.error), (0, ""))
+        shown[page] = re.sub(".\b", "", ran.said)
+    text = gzip.decompress(read(f"{root}/usr/share/man/man5/node.toml.5.gz")).decode()
+    keys = [key for line in re.findall(r"^\.TP\n(\\fB[a-z].*)$", text, re.MULTILINE) for key in re.findall(r"\\fB(\w+)\\fR", line)]
+    trial.equal("keys of node.toml.5", keys, SETTINGS)
+    for command in re.findall(r"^  ([a-z]+) ", trial.command("--help").said.split("\nOptions:")[0], re.MULTILINE):
+        trial.check(f"ttd.1, {command}", command == "help" or f"THE COMMAND {command.upper()}\n" in shown["man1/ttd.1"], "it is missing")
+    ran = trial.command("serve", "--check", f"{root}/usr/share/doc/truetime/examples/node.toml")
+    trial.equal("the example of settings", (ran.status, ran.error), (0, ""))
+    for line in read_text("packaging/node.toml").splitlines():
+        trial.check("the example of node.toml.5", line in shown["man5/node.toml.5"], f"{line!r} is not there")
+
+
+# A host.
+
+class Host:
+    """A copy of this host's root with a network of its own, which goes with the process that holds it. Its systemctl writes down what it is
+    told. What is written lies in `upper`, as seen from the mounts of that process."""
+    MOUNTS = """
+        set -e
+        mount -t tmpfs none "$1"
+        mkdir "$1/upper" "$1/work" "$1/root"
+        mount -t overlay none -o "lowerdir=/,upperdir=$1/upper,workdir=$1/work" "$1/root"
+        mount --bind /proc "$1/root/proc"
+        mount --rbind /dev "$1/root/dev"
+        rm -rf "$1/root/usr/sbin/policy-rc.d" "$1/root/etc/truetime" "$1/root/var/lib/truetime" "$1/root/run/truetime"
+        printf '#!/bin/sh\\necho "$*" >>/systemctl.log\\n' >"$1/root/usr/bin/systemctl"
+        chmod 755 "$1/root/usr/bin/systemctl"
+        mkdir -p "$1/root/run/systemd/system"
+        ip link set lo up
+        : >"$1/root/systemctl.log"
+        echo ready
+        exec sleep 600
+    """
+
+    def __init__(self, room):
+        self.top = f"{room}/host"
+        os.mkdir(self.top)
+        self.holder = subprocess.Popen(["unshare", "--mount", "--net", "sh", "-c", self.MOUNTS, "sh", self.top], stdout=subprocess.PIPE,
+                                       stderr=subprocess.PIPE)
+        if self.holder.stdout.readline() != b"ready\n":
+            raise Fault(f"no copy of the root: {self.holder.stderr.read().decode()}")
+        #: What stands before a command that runs there.
+        self.enter = ["nsenter", f"--mount=/proc/{self.holder.pid}/ns/mnt", f"--net=/proc/{self.holder.pid}/ns/net"]
+        self.inside = [*self.enter, "chroot", f"{self.top}/root", "env", "-i", "PATH=/usr/sbin:/usr/bin:/sbin:/bin", "HOME=/root", "LC_ALL=C.UTF-8",
+                       "DEBIAN_FRONTEND=noninteractive"]
+        #: The same as files of this process.
+        self.root = f"/proc/{self.holder.pid}/root{self.top}/root"
+
+    def close(self):
+        self.holder.kill()
+        self.holder.wait()
+        self.holder.stdout.close()
+        self.holder.stderr.close()
+
+    def do(self, *words, **how):
+        return run([*self.inside, *words], seconds=60, **how)
+
+    def dpkg(self, trial, what, *words):
+        """Calls dpkg, which has to succeed; what systemctl was told, but to read its files again."""
+        write(f"{self.root}/systemctl.log", b"")
+        ran = self.do("dpkg", *words)
+        trial.check(what, ran.status == 0, f"status {ran.status}\n{ran.said[-1500:]}{ran.error[-1500:]}")
+        return [line for line in read_text(f"{self.root}/systemctl.log").splitlines() if line not in ("daemon-reload", "--system daemon-reload")]
+
+    def bring(self, folder):
+        """Copies packages of a folder to it; their paths there."""
+        os.makedirs(f"{self.root}/debs", exist_ok=True)
+        return [os.path.join("/debs", os.path.basename(shutil.copy(path, f"{self.root}/debs"))) for path in packages_in(folder).values()]
+
+    def written(self):
+        """Each file and folder that was written there and is still there, but for what dpkg and its triggers keep for themselves."""
+        own = re.compile(r"(systemctl\.log|debs|proc|dev|tmp|var/(lib/(dpkg|systemd)|log|cache)|run/systemd)(/|$)"
+                         r"|etc/((passwd|group|shadow|gshadow)-?|\.pwd\.lock)$|usr/bin/systemctl$|usr/share/python3/.*")
+        ran = run([*self.enter, "find", f"{self.top}/upper", "!", "-type", "c", "-printf", "%P\\n"])
+        return {name for name in ran.said.splitlines() if name and not own.match(name)}
+
+    def exists(self, path):
+        return os.path.lexists(f"{self.root}/{path}")
+
+
+@contextlib.contextmanager
+def running(words):
+    """A command that runs as long as this lasts."""
+    process = subprocess.Popen(words, stdin=subprocess.DEVNULL, stdout=subprocess.DEVNULL, stderr=subprocess.DEVNULL)
+    try:
+        yield process
+    finally:
+        process.kill()
+        process.wait()
+
+
+EPOCH, ENABLED = "var/lib/truetime/a/epoch", "etc/systemd/system/multi-user.target.wants/truetime@a.service"
+CONFIGURED = "etc/truetime/a.toml"
+KEPT = {EPOCH, ENABLED, CONFIGURED}
+
+
+@suite.case(root=True, programs=TRIES)
+def life(trial):
+    """Installed, upgraded, removed and purged."""
+    host = trial.keep(Host(trial.room))
+    told = host.dpkg(trial, "install", "-i", *host.bring(f"{trial.shared}/now"))
+    trial.equal("systemctl, at the installation", told, [])
+    of_all = {name for of in FILES.values() for name in of}
+    trial.equal("files that are missing", [name for name in of_all if not host.exists(name) and not host.exists(f"{name}.gz")], [])
+    trial.equal("user", host.do("id", "-un", "truetime").said, "truetime\n")
+    trial.equal("folders", host.do("stat", "-c", "%U %a %n", "/etc/truetime", "/var/lib/truetime", "/run/truetime").said,
+                "root 755 /etc/truetime\nroot 755 /var/lib/truetime\nroot 755 /run/truetime\n")
+    trial.equal("enabled", {name for name in host.written() if name.startswith("etc/systemd/")}, set())
+    for name in KEPT:
+        os.makedirs(os.path.dirname(f"{host.root}/{name}"), exist_ok=True)
+    write(f"{host.root}/{EPOCH}", b"tt-epoch 1 7\n")
+    write(f"{host.root}/{CONFIGURED}", read("packaging/node.toml"))
+    os.symlink(f"/{UNITS}/truetime@.service", f"{host.root}/{ENABLED}")
+    try_upgrade(trial, host)
+    told = host.dpkg(trial, "remove", "-r", *NAMES)
+    trial.equal("systemctl, at the removal", told, ["stop truetime@*.service truetime-master@*.service"])
+    trial.equal("kept by the removal", {name for name in KEPT if host.exists(name)}, KEPT)
+    trial.equal("files behind the removal", {name for name in {MODULE, *of_all} if host.exists(name) or host.exists(f"{name}.gz")}, set())
+    host.dpkg(trial, "purge", "-P", *NAMES)
+    left = {name for name in host.written() if not os.path.isdir(f"/{name}")}
+    trial.equal("behind the purge", left - {os.path.dirname(ENABLED)}, {os.path.dirname(CONFIGURED), CONFIGURED})
+    trial.equal("user behind the purge", host.do("id", "-un", "truetime").said, "truetime\n")
+    trial.note(f"installed, upgraded, removed and purged; {len(trial.result.wrong)} wrong")
+
+
+def try_upgrade(trial, host):
+    """An upgrade to the later version, through which a master goes on by the old program."""
+    with running([*host.inside, "ttd", "master", "--source", "0", "--listen", "127.0.0.1:5701", "--uncertainty", "1000000"]) as master:
+        eventually(lambda: os.readlink(f"/proc/{master.pid}/exe").endswith("/usr/bin/ttd"))
+        told = host.dpkg(trial, "upgrade", "-i", *host.bring(f"{trial.shared}/later"))
+        trial.equal("systemctl, at the upgrade", told, [])
+        versions = host.do("dpkg-query", "-W", "-f", "${Version} ${db:Status-Status}\n", *NAMES).said.splitlines()
+        trial.equal("versions", versions, ["99 installed"] * len(NAMES))
+        exe = os.readlink(f"/proc/{master.pid}/exe")
+        trial.check("a master goes on through the upgrade", master.poll() is None and exe.endswith("/usr/bin/ttd (deleted)"), exe)
+    trial.equal("kept by the upgrade", {name for name in KEPT if host.exists(name)}, KEPT)
+
+
+# A user of what is installed.
+
+PYTHON = """
+import importlib.metadata, pwd, truetime
+assert truetime.__file__ == "/usr/lib/python3/dist-packages/truetime/__init__.py", truetime.__file__
+with truetime.Client("/run/truetime/a/time", owner=pwd.getpwnam("truetime").pw_uid) as client:
+    now = client.now()
+with truetime.Session(("127.0.0.1", 5601), 10) as session:
+    stamp = session.commit()
+print(importlib.metadata.version("truetime"), now.earliest_ns < now.latest_ns < stamp + 10**9)
+"""
+C = """
+#include <pwd.h>
+#include <stdio.h>
+#include <truetime.h>
+#include <truetime_session.h>
+#include <truetime_stamper.h>
+
+int main(void) {
+    tt_client client;
+    tt_reading now;
+    const struct passwd *user = getpwnam("truetime");
+    if (!user || tt_open(&client, "/run/truetime/a/time", user->pw_uid) != 0 || tt_now(&client, &now) != 0) return 1;
+    tt_close(&client);
+    return puts(now.earliest_ns < now.latest_ns ? "right" : "wrong") < 0;
+}
+"""
+CMAKE = """
+cmake_minimum_required(VERSION 3.14)
+project(user LANGUAGES C)
+find_package(truetime 0.3 REQUIRED CONFIG)
+add_executable(user user.c)
+target_link_libraries(user PRIVATE truetime::truetime)
+"""
+USER = ["setpriv", "--reuid=truetime", "--regid=truetime", "--clear-groups"]
+
+
+def succeeds(trial, host, what, *words, wanted=None):
+    """A command there that has to succeed, without a word on standard error."""
+    ran = host.do(*words)
+    trial.check(what, ran.status == 0 and not ran.error and wanted in (None, ran.said), f"status {ran.status}\n{ran.said}{ran.error}")
+    return ran.said
+
+
+def units_of(trial, host):
+    """The commands that the units start, and that systemd takes both."""
+    found = {}
+    for unit in ("truetime@", "truetime-master@"):
+        if shutil.which("systemd-analyze"):
+            succeeds(trial, host, f"verify {unit}", "systemd-analyze", "verify", f"/{UNITS}/{unit}.service")
+        found[unit] = re.search("^ExecStart=(.*)$", read_text(f"{host.root}/{UNITS}/{unit}.service"), re.MULTILINE)[1]
+    return found
+
+
+@suite.case(root=True, programs=(*TRIES, "cc", "make"))
+def use(trial):
+    """From the packages to a first answer: the example of settings and the commands of the units, by the user and in the folders of these."""
+    host = trial.keep(Host(trial.room))
+    host.dpkg(trial, "install", "-i", *host.bring(f"{trial.shared}/now"))
+    units = units_of(trial, host)
+    succeeds(trial, host, "settings", "cp", "/usr/share/doc/truetime/examples/node.toml", "/etc/truetime/a.toml")
+    for folder, mode in ("/var/lib/truetime/a", "0700"), ("/run/truetime/a", "0755"):  # as the unit of systemd makes them
+        succeeds(trial, host, folder, "install", "-d", "-o", "truetime", "-g", "truetime", "-m", mode, folder)
+    with contextlib.ExitStack() as processes:
+        for source in range(3):
+            words = units["truetime-master@"].replace("${SOURCE}", str(source)).replace("${LISTEN}", f"127.0.0.1:570{source + 1}")
+            processes.enter_context(running([*host.inside, *USER, *words.replace("${UNCERTAINTY}", "1000000").split()]))
+        processes.enter_context(running([*host.inside, *USER, *units["truetime@"].replace("%i", "a").split()]))
+        eventually(lambda: all(host.exists(f"run/truetime/a/{name}") for name in ("time", "status.prom", "evidence")), 10)
+        before = time.time_ns()
+        earliest, latest = (*succeeds(trial, host, "ask", "ttd", "ask", "127.0.0.1:5601", "now").split()[1:], 0, 0)[:2]
+        trial.check("now", before <= int(latest) and int(earliest) <= time.time_ns(), f"{earliest} {latest}, asked at {before}")
+        trial.check("read", succeeds(trial, host, "read", "ttd", "read", "/run/truetime/a/time").startswith("now "), "it gives no time")
+        trial.check("socket", host.do(*USER, "ttd", "ask", "/run/truetime/a/socket", "now").said.startswith("now "), "it gives no time")
+        succeeds(trial, host, "Python", "python3", "-W", "error", "-c", PYTHON, wanted=f"{VERSION} True\n")
+        try_c(trial, host)
+    succeeds(trial, host, "types", "python3", "-c", UNTYPED, wanted="")
+
+
+def try_c(trial, host):
+    """A program by pkg-config, and by CMake."""
+    os.makedirs(f"{host.root}/c", exist_ok=True)
+    write(f"{host.root}/c/user.c", C.encode())
+    write(f"{host.root}/c/CMakeLists.txt", CMAKE.encode())
+    succeeds(trial, host, "cmake", "cmake", "-S", "/c", "-B", "/c/out")
+    succeeds(trial, host, "cmake --build", "cmake", "--build", "/c/out")
+    succeeds(trial, host, "the program by CMake", "/c/out/user", wanted="right\n")
+    if not shutil.which("pkg-config"):
+        trial.note("pkg-config is left out: it is not here")
+        return
+    succeeds(trial, host, "cc", "sh", "-c", "cc -Wall -Wextra -Werror -std=gnu11 /c/user.c $(pkg-config --cflags --libs truetime) -o /c/user")
+    succeeds(trial, host, "pkg-config", "pkg-config", "--modversion", "truetime", wanted=f"{VERSION}\n")
+    succeeds(trial, host, "the program by pkg-config", "/c/user", wanted="right\n")
+
+
+@suite.last_line
+def last_line(results):
+    return f"{sum(len(result.checks) for result in results)} checks, {wrong_in(results)} wrong"
