@@ -126,10 +126,24 @@ def files(trial):
                 trial.check(file, content == read(source), f"it is not {source}")
         modes = {file: stat.S_IMODE(os.stat(f"{root}/{file}").st_mode) for file in files_below(root)}
         trial.equal(f"modes of {name}", {file: oct(mode) for file, mode in modes.items() if mode != (0o755 if file == "usr/bin/ttd" else 0o644)}, {})
-    trial.equal("version", run([f"{trial.room}/truetime/usr/bin/ttd", "--version"]).answer, trial.command("--version").answer)
+    try_program(trial, f"{trial.room}/truetime/usr/bin/ttd")
     trial.equal("install", run([in_top("packaging/install"), f"{trial.room}/by_hand"], env={**os.environ, "TTD": trial.program}).status, 0)
     wanted = {name.removesuffix(".gz").replace(UNITS, f"usr/{UNITS}") for of in FILES.values() for name in of if not NOT_BY_INSTALL.match(name)}
     trial.equal("files of packaging/install", set(files_below(f"{trial.room}/by_hand")), wanted)
+
+
+def try_program(trial, made):
+    """The program of the package: its code and its data are those of the built one. The versions are its own and that of the clients."""
+    trial.equal("version", run([made, "--version"]).answer, trial.command("--version").answer)
+    for section in (".text", ".rodata", ".data.rel.ro", ".data"):
+        for name, path in ("made", made), ("built", trial.program):
+            run(["objcopy", "-O", "binary", "--only-section", section, path, f"{trial.room}/{name}"])
+        content = read(f"{trial.room}/made")
+        trial.check(section, content == read(f"{trial.room}/built"), f"{len(content)} bytes, which are not those of the built program")
+    program = trial.command("--version").said.split()[1]
+    for name, path in packages_in(f"{trial.shared}/now").items():
+        found = run(["dpkg-deb", "-f", path, "Version"]).said.partition("+git")[0]
+        trial.equal(f"version of {name}", found, program if name == "truetime" else VERSION)
 
 
 @suite.case(programs=(*BUILDS, "man"))
@@ -337,7 +351,8 @@ def units_of(trial, host):
 def use(trial):
     """From the packages to a first answer: the example of settings and the commands of the units, by the user and in the folders of these."""
     host = trial.keep(Host(trial.room))
-    host.dpkg(trial, "install", "-i", *host.bring(f"{trial.shared}/now"))
+    ran = host.do("apt-get", "install", "-y", "--no-install-recommends", *host.bring(f"{trial.shared}/now"))
+    trial.check("apt-get install", ran.status == 0, f"status {ran.status}\n{ran.said[-1500:]}{ran.error[-1500:]}")
     units = units_of(trial, host)
     succeeds(trial, host, "settings", "cp", "/usr/share/doc/truetime/examples/node.toml", "/etc/truetime/a.toml")
     for folder, mode in ("/var/lib/truetime/a", "0700"), ("/run/truetime/a", "0755"):  # as the unit of systemd makes them
