@@ -4,13 +4,15 @@
   defaults of docs/FORMATS.md, and those that stand there in their place are followed.
 - Each metric that rules or dashboard name, with its labels, is in the status of a machine that runs, and each one that docs/OPERATING.md
   calls an alarm is in a rule.
-- By the statuses of a machine that runs nothing fires; once three of its five masters are cut, what docs/OPERATING.md says of it does.
+- By the statuses of a machine that runs nothing fires; once three of its five masters are cut, and once it is stopped, what docs/OPERATING.md
+  says of that does.
 - promtool takes each expression of the dashboard. No Grafana is here: its JSON is compared with what a dashboard of schema 38 has to have,
   as Grafana's documents of its JSON model say, and was not opened in one.
 """
 import json
 import os
 import re
+import signal
 import time
 import typing
 
@@ -136,22 +138,21 @@ def sample(node, series, at_s):
 
 @suite.case(programs=("promtool",))
 def cut(trial):
-    """Three of five masters are cut. A status of each round is a sample of promtool's 15 seconds."""
+    """Three of five masters are cut, and then the machine is stopped. A status of each round is a sample of promtool's 15 seconds."""
     node, masters = machine(trial)
-    healthy, ill, series = 12, 24, {}
-    for turn in range(healthy + ill):
-        if turn == healthy:
-            for master in masters[:3]:
-                master.kill()
+    phases, series = {12: lambda: [master.kill() for master in masters[:3]], 36: lambda: node.running.send_signal(signal.SIGSTOP)}, {}
+    for turn in range(54):
+        phases.get(turn, list)()
         time.sleep(ROUND_S)
         sample(node, series, turn * 15)
     wanted = ['{alertname="TruetimeSourcesOld",machine="0"}', '{alertname="TruetimeRoundsStale",machine="0"}',
               *('{alertname="TruetimeSourceOld",machine="0",source="%d"}' % source for source in range(3))]
     try_rules(trial, "three masters cut", {"truetime:round_seconds": str(ROUND_S)}, [{
         "interval": "15s", "input_series": [{"series": name, "values": " ".join(values)} for name, values in series.items()],
-        "promql_expr_test": [fires(f"{(healthy - 1) * 15}s"), fires(f"{(healthy + ill - 1) * 15}s", *wanted)]}])
-    trial.equal("samples", {len(values) for values in series.values()}, {healthy + ill})
-    trial.note(f"{len(wanted)} alerts fire once three of five masters are cut, none before; {len(trial.result.wrong)} wrong")
+        "promql_expr_test": [fires(f"{11 * 15}s"), fires(f"{35 * 15}s", *wanted), fires(f"{53 * 15}s", '{alertname="TruetimeStatusOld"}', *wanted)]}])
+    trial.equal("samples", {len(values) for values in series.values()}, {54})
+    trial.note(f"{len(wanted)} alerts once three of five masters are cut, one more once the machine stands, none before; "
+               f"{len(trial.result.wrong)} wrong")
 
 
 # Metrics.
