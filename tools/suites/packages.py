@@ -195,7 +195,8 @@ class Host:
         self.holder = subprocess.Popen(["unshare", "--mount", "--net", "sh", "-c", self.MOUNTS, "sh", self.top], stdout=subprocess.PIPE,
                                        stderr=subprocess.PIPE)
         if self.holder.stdout.readline() != b"ready\n":
-            raise Fault(f"no copy of the root: {self.holder.stderr.read().decode()}")
+            self.holder.wait()
+            raise Fault(f"no copy of the root: {self.holder.stderr.read().decode().strip()}")
         #: What stands before a command that runs there.
         self.enter = ["nsenter", f"--mount=/proc/{self.holder.pid}/ns/mnt", f"--net=/proc/{self.holder.pid}/ns/net"]
         self.inside = [*self.enter, "chroot", f"{self.top}/root", "env", "-i", "PATH=/usr/sbin:/usr/bin:/sbin:/bin", "HOME=/root", "LC_ALL=C.UTF-8",
@@ -235,6 +236,15 @@ class Host:
         return os.path.lexists(f"{self.root}/{path}")
 
 
+def host_of(trial):
+    """A host, or nothing where none can be made here; that is noted."""
+    try:
+        return trial.keep(Host(trial.room))
+    except Fault as fault:
+        trial.note(f"left out: {fault}")
+        return None
+
+
 @contextlib.contextmanager
 def running(words):
     """A command that runs as long as this lasts."""
@@ -254,7 +264,8 @@ KEPT = {EPOCH, ENABLED, CONFIGURED}
 @suite.case(root=True, programs=TRIES)
 def life(trial):
     """Installed, upgraded, removed and purged."""
-    host = trial.keep(Host(trial.room))
+    if not (host := host_of(trial)):
+        return
     told = host.dpkg(trial, "install", "-i", *host.bring(f"{trial.shared}/now"))
     trial.equal("systemctl, at the installation", told, [])
     of_all = {name for of in FILES.values() for name in of}
@@ -350,7 +361,8 @@ def units_of(trial, host):
 @suite.case(root=True, programs=(*TRIES, "cc", "make"))
 def use(trial):
     """From the packages to a first answer: the example of settings and the commands of the units, by the user and in the folders of these."""
-    host = trial.keep(Host(trial.room))
+    if not (host := host_of(trial)):
+        return
     ran = host.do("apt-get", "install", "-y", "--no-install-recommends", *host.bring(f"{trial.shared}/now"))
     trial.check("apt-get install", ran.status == 0, f"status {ran.status}\n{ran.said[-1500:]}{ran.error[-1500:]}")
     units = units_of(trial, host)
