@@ -1,8 +1,10 @@
-"""How a database uses the service: a commit, and what a snapshot waits for.
+"""How a database uses the service: a commit, and what a snapshot waits for, by sessions with the service or by a stamper of its own.
 
 A *place* is a machine of the database. It has `changing`, a lock of its writers, and `write(key, value, stamp)`, which commits in its
-own database and returns once that is durable. A session is a `truetime.Session` with the service of that machine.
+own database and returns once that is durable. A session is a `truetime.Session` with the service of that machine, for one thread. A
+stamper is a `truetime.Stamper` over that machine's shared file: one for all threads of the place.
 """
+import queue
 import time
 
 
@@ -21,3 +23,45 @@ def make_readable(place, session, moment):
         time.sleep(max(moment - session.now().earliest_ns, 10_000) / 1e9)
     with place.changing:  # whoever had begun one has written it
         pass
+
+
+def begin_by_stamper(place, stamper, key, value):
+    """Writes a value; its stamp. Nobody may be told of it before that has passed."""
+    with place.changing:
+        stamp = stamper.stamp().stamp_ns
+        place.write(key, value, stamp)
+    return stamp
+
+
+def commit_by_stamper(place, stamper, key, value):
+    """What `commit` does."""
+    stamp = begin_by_stamper(place, stamper, key, value)
+    stamper.wait_past(stamp)
+    return stamp
+
+
+def make_readable_by_stamper(place, stamper, moment):
+    """What `make_readable` does."""
+    stamper.wait_past(moment)
+    with place.changing:
+        pass
+
+
+class Pending:
+    """The commits of a writer that are written and wait for their stamps to pass: it begins the next one meanwhile. Another thread calls
+    `acknowledge`. The stamps of one writer rise, so the oldest passes first."""
+
+    def __init__(self, stamper):
+        self.stamper, self.commits = stamper, queue.SimpleQueue()
+
+    def add(self, stamp, tell):
+        self.commits.put((stamp, tell))
+
+    def close(self):
+        self.commits.put(None)
+
+    def acknowledge(self):
+        """Tells of each commit once its stamp has passed, until the end."""
+        for stamp, tell in iter(self.commits.get, None):
+            self.stamper.wait_past(stamp)
+            tell(stamp)
