@@ -10,9 +10,12 @@
  *
  * Calls answer 0, the number of a refusal, which is above 0, or the negative of an error number where the connection
  * fails: -ECONNRESET where the service ended it, -ETIMEDOUT where no reply came in time, -EPROTO where what came is no
- * reply, or that of the system. The session is closed then, and all later calls answer -ENOTCONN; nobody knows whether a
- * commit that was asked for was begun. A caller that does not look is told nothing wrong: a call that does not answer 0
- * gives the interval of all times, false, or the timestamp 0.
+ * reply, or that of the system. Nobody knows then whether a commit that was asked for was begun. A caller that does not look
+ * is told nothing wrong: a call that does not answer 0 gives the interval of all times, false, or the timestamp 0.
+ *
+ * The next call after a failure connects anew, to a new session of the service. No line is sent a second time by that: the
+ * last commit is forgotten. Nor is the lease set again: once tt_session_lease was called, tt_session_begin refuses with 903
+ * as long as the connection has no lease. A session that was closed, or never opened, answers -ENOTCONN.
  *
  * A session is for one thread, and takes no memory but its own. Needs POSIX and GCC or Clang: C11 or later (-std=gnu11, or
  * -std=c11 -D_POSIX_C_SOURCE=200809L), or C++17.
@@ -47,8 +50,9 @@ extern "C" {
 /* The most bytes of a line and of a reply, without the line feed; and of a number that is at most the greatest time. */
 enum { TT_LINE_BYTES = 64, TT_NUMBER_DIGITS = 19 };
 
-/* The refusal of a commit before the one that was begun is known as released. */
-enum { TT_COMMIT_PENDING = 1104 };
+/* The refusals of a commit by the session itself: the lease was lost with its connection, and the one that was begun is not
+ * known as released. */
+enum { TT_LEASE_LOST = 903, TT_COMMIT_PENDING = 1104 };
 
 /* The true time lies in [earliest_ns, latest_ns], both ends included. */
 typedef struct tt_interval {
@@ -59,56 +63,78 @@ typedef enum tt_commit_state { TT_NO_COMMIT, TT_WAITING, TT_COMMITTED } tt_commi
 
 /* A session. Set it by tt_session_open_tcp or tt_session_open_unix. */
 typedef struct tt_session {
-    int socket; /* below 0: not open */
+    int socket; /* below 0: not connected */
     int timeout_ms;
-    uint64_t number, stamp_ns; /* the last commit that has a timestamp, counted from 1, and its timestamp */
-    tt_commit_state state;     /* whether there is a commit to wait for */
+    uint64_t number, stamp_ns;   /* the last commit that has a timestamp, counted from 1, and its timestamp */
+    tt_commit_state state;       /* whether there is a commit to wait for */
+    bool wants_lease, has_lease; /* whether a lease was ever asked for, and whether this connection has one */
+    struct sockaddr_un address;  /* where to connect to; large enough for one of TCP, too */
+    socklen_t length;            /* of the address; 0: not open */
 } tt_session;
 
-/* Ends the session; a commit that is not released by then is never known as released. One that is not open stays so. */
-static inline void tt_session_close(tt_session *session) {
+/* Gives the connection up, and all that belongs to it. */
+static inline void tt_session_drop(tt_session *session) {
     if (session->socket >= 0) close(session->socket);
     session->socket = -1;
+    session->number = session->stamp_ns = 0;
     session->state = TT_NO_COMMIT;
+    session->has_lease = false;
 }
 
-/* Closes a session whose connection failed. */
+/* Ends the session for good; a commit that is not released by then is never known as released. One that is not open stays
+ * so. */
+static inline void tt_session_close(tt_session *session) {
+    tt_session_drop(session);
+    session->length = 0;
+}
+
+/* Drops a connection that failed. */
 static inline int tt_session_failed(tt_session *session, int error) {
-    tt_session_close(session);
+    tt_session_drop(session);
     return error == EAGAIN || error == EWOULDBLOCK || error == EINPROGRESS ? -ETIMEDOUT : -error;
 }
 
-/* Connects to an address; NULL is none. */
-static inline int tt_session_open(tt_session *session, const struct sockaddr *address, socklen_t length, int timeout_ms) {
+/* Connects a session that has no connection. */
+static inline int tt_session_connect(tt_session *session) {
     struct timeval timeout;
-    memset(session, 0, sizeof *session);
-    session->socket = -1;
-    session->timeout_ms = timeout_ms;
-    if (address == NULL || timeout_ms <= 0) return -EINVAL;
-    timeout.tv_sec = timeout_ms / 1000;
-    timeout.tv_usec = timeout_ms % 1000 * 1000;
-    session->socket = socket(address->sa_family, SOCK_STREAM | SOCK_CLOEXEC, 0);
+    int at_once = 1;
+    timeout.tv_sec = session->timeout_ms / 1000;
+    timeout.tv_usec = session->timeout_ms % 1000 * 1000;
+    session->socket = socket(session->address.sun_family, SOCK_STREAM | SOCK_CLOEXEC, 0);
     if (session->socket < 0) return -errno;
     /* The time-out for sending is that of connecting, too. */
     if (setsockopt(session->socket, SOL_SOCKET, SO_SNDTIMEO, &timeout, sizeof timeout) != 0 ||
         setsockopt(session->socket, SOL_SOCKET, SO_RCVTIMEO, &timeout, sizeof timeout) != 0 ||
-        connect(session->socket, address, length) != 0)
+        connect(session->socket, (struct sockaddr *)&session->address, session->length) != 0)
         return tt_session_failed(session, errno);
+    if (session->address.sun_family == AF_INET)
+        setsockopt(session->socket, IPPROTO_TCP, TCP_NODELAY, &at_once, sizeof at_once);
     return 0;
 }
 
+/* Connects to an address; NULL is none. */
+static inline int tt_session_open(tt_session *session, const void *address, socklen_t length, int timeout_ms) {
+    memset(session, 0, sizeof *session);
+    session->socket = -1;
+    session->timeout_ms = timeout_ms;
+    if (address == NULL || timeout_ms <= 0) return -EINVAL;
+    memcpy(&session->address, address, length);
+    session->length = length;
+    int failed = tt_session_connect(session);
+    if (failed != 0) tt_session_close(session);
+    return failed;
+}
+
 /* Connects to an IPv4 address in digits, as "127.0.0.1". `timeout_ms` is how long connecting, sending, each receiving and
- * the waiting for a release may take, above 0. Answers -EINVAL where an argument is wrong. */
+ * the waiting for a release may take, above 0. Answers -EINVAL where an argument is wrong. Where it does not answer 0, the
+ * session is not open. */
 static inline int tt_session_open_tcp(tt_session *session, const char *host, uint16_t port, int timeout_ms) {
     struct sockaddr_in address;
-    int at_once = 1;
     memset(&address, 0, sizeof address);
     address.sin_family = AF_INET;
     address.sin_port = htons(port);
-    const struct sockaddr *valid = inet_pton(AF_INET, host, &address.sin_addr) == 1 ? (struct sockaddr *)&address : NULL;
-    int failed = tt_session_open(session, valid, sizeof address, timeout_ms);
-    if (failed == 0) setsockopt(session->socket, IPPROTO_TCP, TCP_NODELAY, &at_once, sizeof at_once);
-    return failed;
+    bool is_valid = inet_pton(AF_INET, host, &address.sin_addr) == 1;
+    return tt_session_open(session, is_valid ? &address : NULL, sizeof address, timeout_ms);
 }
 
 /* Connects to the Unix socket at this path, as tt_session_open_tcp. */
@@ -119,7 +145,7 @@ static inline int tt_session_open_unix(tt_session *session, const char *path, in
     address.sun_family = AF_UNIX;
     if (length >= sizeof address.sun_path) return tt_session_open(session, NULL, 0, timeout_ms);
     memcpy(address.sun_path, path, length);
-    return tt_session_open(session, (const struct sockaddr *)&address, sizeof address, timeout_ms);
+    return tt_session_open(session, &address, sizeof address, timeout_ms);
 }
 
 static inline int tt_session_send(tt_session *session, const char *bytes, size_t length) {
@@ -148,17 +174,19 @@ static inline int tt_session_receive(tt_session *session, char reply[TT_LINE_BYT
     return 0;
 }
 
-/* Sends one line and gives its reply, both without the line feed; `refused N` is a reply like another. Answers -EINVAL
- * where the line has more than 64 bytes or a line feed, and then nothing was sent. */
+/* Sends one line and gives its reply, both without the line feed; `refused N` is a reply like another. Begin no commit and
+ * set no lease by it: the other calls do not know of that. Answers -EINVAL where the line has more than 64 bytes or a line
+ * feed, and then nothing was sent. */
 static inline int tt_session_ask(tt_session *session, const char *line, char reply[TT_LINE_BYTES + 1]) {
     char bytes[TT_LINE_BYTES + 1];
     size_t length = strlen(line);
     reply[0] = '\0';
-    if (session->socket < 0) return -ENOTCONN;
+    if (session->length == 0) return -ENOTCONN;
     if (length > TT_LINE_BYTES || strchr(line, '\n') != NULL) return -EINVAL;
     memcpy(bytes, line, length);
     bytes[length] = '\n';
-    int failed = tt_session_send(session, bytes, length + 1);
+    int failed = session->socket < 0 ? tt_session_connect(session) : 0;
+    if (failed == 0) failed = tt_session_send(session, bytes, length + 1);
     return failed != 0 ? failed : tt_session_receive(session, reply);
 }
 
@@ -225,6 +253,21 @@ static inline int tt_session_before(tt_session *session, uint64_t t_ns, bool *is
     return tt_session_compare(session, "before", t_ns, is_ahead);
 }
 
+/* Sets the lease: timestamps of commits that begin from now on lie from lo to hi, both included. Refuses with 101 and 102,
+ * and then the lease is what it was. */
+static inline int tt_session_lease(tt_session *session, uint64_t lo_ns, uint64_t hi_ns) {
+    char line[TT_LINE_BYTES + 1], reply[TT_LINE_BYTES + 1];
+    uint64_t numbers[2];
+    session->wants_lease = true;
+    snprintf(line, sizeof line, "lease %" PRIu64 " %" PRIu64, lo_ns, hi_ns);
+    int failed = tt_session_question(session, line, reply);
+    if (failed != 0) return failed;
+    if (!tt_is_reply(reply, "leased", 2, numbers) || numbers[0] != lo_ns || numbers[1] != hi_ns)
+        return tt_session_failed(session, EPROTO);
+    session->has_lease = true;
+    return 0;
+}
+
 /* Sends the line of a commit. The timestamp of one that has none so far has to be at least `floor_ns`. */
 static inline int tt_session_send_commit(tt_session *session, uint64_t number, uint64_t floor_ns) {
     char line[TT_LINE_BYTES + 1], reply[TT_LINE_BYTES + 1];
@@ -243,10 +286,13 @@ static inline int tt_session_send_commit(tt_session *session, uint64_t number, u
 }
 
 /* Begins a commit and gives its timestamp, no less than `floor_ns`. One commit at a time: refuses with 1104 before the
- * release of the last one. After another refusal begin again, with the same floor: the service may have begun it. */
+ * release of the last one. Refuses with 903 where the lease is over or was lost with its connection: set it again. After
+ * another refusal begin again, with the same floor: the service may have begun it. */
 static inline int tt_session_begin(tt_session *session, uint64_t floor_ns, uint64_t *stamp_ns) {
     *stamp_ns = 0;
+    if (session->length == 0) return -ENOTCONN;
     if (session->state == TT_WAITING) return TT_COMMIT_PENDING;
+    if (session->wants_lease && !session->has_lease) return TT_LEASE_LOST;
     session->state = TT_NO_COMMIT;
     int failed = tt_session_send_commit(session, session->number + 1, floor_ns);
     if (failed == 0) *stamp_ns = session->stamp_ns;
@@ -261,13 +307,13 @@ static inline int64_t tt_session_clock_ms(void) {
 }
 
 /* Waits until the timestamp of the commit has surely passed, and gives it. Answers -ETIMEDOUT where that takes longer than
- * the time-out; as after a refusal, the session is still open then, and may wait again. Answers -EINVAL where no commit
- * was begun. */
+ * the time-out; as after a refusal, the commit still waits then, and may be waited for again. Answers -EINVAL where no commit
+ * was begun, or the connection of the last one failed. */
 static inline int tt_session_wait(tt_session *session, uint64_t *stamp_ns) {
     const struct timespec pause = {0, 1000000};
     int64_t give_up_ms = tt_session_clock_ms() + session->timeout_ms;
     *stamp_ns = 0;
-    if (session->socket < 0) return -ENOTCONN;
+    if (session->length == 0) return -ENOTCONN;
     if (session->state == TT_NO_COMMIT) return -EINVAL;
     while (session->state == TT_WAITING) {
         int failed = tt_session_send_commit(session, session->number, 0);

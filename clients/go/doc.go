@@ -30,7 +30,8 @@
 // # Errors
 //
 // A [Refusal] has a number, and comes from the service or from the file; the session goes on after it. A [BrokenError] says
-// that the session is closed. The error of a context that ended leaves the session as it is: see [Session].
+// that the connection failed; the next call connects anew. The error of a context that ended leaves the session as it is: see
+// [Session].
 //
 // # Build tags
 //

@@ -17,7 +17,7 @@ const (
 	ClockFailed    Refusal = 803  // the clock gave no reading
 	UsedUp         Refusal = 901  // no timestamp is left up to the greatest time
 	FloorTooFar    Refusal = 902  // the floor is too far ahead
-	LeaseOver      Refusal = 903  // the least timestamp is above the upper end of the lease
+	LeaseOver      Refusal = 903  // the least timestamp is above the upper end of the lease, or a session has lost its lease
 	CommitPending  Refusal = 1104 // the last commit is not known as released
 	NoFile         Refusal = 1701 // the file cannot be opened, mapped or read, or the client is closed
 	OtherFile      Refusal = 1702 // not such a file, or of another owner, writable by others, of another boot or another clock
@@ -37,7 +37,7 @@ var meanings = map[Refusal]string{
 	ClockFailed:    "the clock gave no reading",
 	UsedUp:         "no timestamp is left up to the greatest time",
 	FloorTooFar:    "the floor is too far ahead",
-	LeaseOver:      "the least timestamp is above the upper end of the lease",
+	LeaseOver:      "the least timestamp is above the upper end of the lease, or the session has lost its lease",
 	CommitPending:  "the last commit is not known as released",
 	NoFile:         "the file cannot be opened, mapped or read, or the client is closed",
 	OtherFile:      "not such a file, or of another owner, writable by others, of another boot or another clock",
@@ -68,7 +68,7 @@ func (r Refusal) neverBegins() bool {
 }
 
 var (
-	// ErrNoCommit is the error of Wait where no commit was begun that could be waited for.
+	// ErrNoCommit is the error of Wait where no commit was begun that could be waited for, or its connection failed.
 	ErrNoCommit = errors.New("truetime: no commit was begun")
 	// ErrBadLine is the error of Ask where the line has more than 64 bytes or is not printable ASCII. Nothing was sent.
 	ErrBadLine = errors.New("truetime: the line is too long, or has a byte that is not printable")
@@ -78,15 +78,15 @@ var (
 	ErrUnsupported = errors.New("truetime: the shared file needs Linux on a little-endian machine of 64 bits; ask by a session")
 )
 
-// A BrokenError says that the session is closed, and why: os.ErrDeadlineExceeded where no reply came in time,
-// io.ErrUnexpectedEOF where the service ended the session, ErrReply where what came is no reply, net.ErrClosed where it was
-// closed before, or another error of the connection. If it was closed within Begin or Commit, the commit may have begun:
-// connect anew, and begin another one.
+// A BrokenError says that the connection failed, and why: os.ErrDeadlineExceeded where no reply came in time,
+// io.ErrUnexpectedEOF where the service ended the session, ErrReply where what came is no reply, net.ErrClosed where the
+// session was closed by Close, or another error of the connection. If it failed within Begin or Commit, the commit may have
+// begun: begin another one. The next call connects anew.
 type BrokenError struct {
 	Err error
 }
 
-func (b *BrokenError) Error() string { return "truetime: the session is closed: " + b.Err.Error() }
+func (b *BrokenError) Error() string { return "truetime: the connection failed: " + b.Err.Error() }
 
 // Unwrap gives the reason.
 func (b *BrokenError) Unwrap() error { return b.Err }

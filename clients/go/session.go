@@ -32,20 +32,35 @@ const (
 //     where that commit is pending, the next Begin has the service release it first. So it is after a refused Begin, too.
 //   - After Lease, the lease is the old one or the new one.
 //
-// If no reply comes in time, or the connection fails otherwise, a call fails with a BrokenError; the session is closed then.
+// If no reply comes in time, or the connection fails otherwise, a call fails with a BrokenError. The next call connects anew,
+// to a new session of the service. No line is sent a second time by that: the last commit is forgotten, and Wait fails with
+// ErrNoCommit. Nor is the lease set again: once Lease was called, Begin refuses with LeaseOver as long as the connection has no
+// lease.
 type Session struct {
-	conn      net.Conn
-	timeout   atomic.Int64
-	turn      chan struct{} // full while a call is under way
-	closed    chan struct{}
-	closeOnce sync.Once
-	replies   chan reply  // what was received
-	asked     atomic.Bool // whether a reply is to come
+	network, address string
+	timeout          atomic.Int64
+	turn             chan struct{} // full while a call is under way
+	closed           chan struct{}
+	closeOnce        sync.Once
+	link             atomic.Pointer[link] // nil where there is no connection; set by the call whose turn it is
 
 	// The rest is of the call whose turn it is.
-	judge func(reply string) error // of the reply that is owed, also a late one; nil where none is
-	sent  time.Time                // when the last line was
-	last  commit
+	wantsLease bool // whether a lease was ever asked for: then no commit begins without one
+
+	// And this belongs to the connection.
+	judge    func(reply string) error // of the reply that is owed, also a late one; nil where none is
+	sent     time.Time                // when the last line was
+	last     commit
+	hasLease bool
+}
+
+// A link is a connection.
+type link struct {
+	conn      net.Conn
+	replies   chan reply  // what was received
+	asked     atomic.Bool // whether a reply is to come
+	ended     chan struct{}
+	closeOnce sync.Once
 }
 
 // A reply is one line of the service, or why there will be none.
@@ -64,38 +79,66 @@ type commit struct {
 }
 
 // Dial connects to the service. The network is "tcp" (an address as "127.0.0.1:5601") or "unix" (a path). Close the session
-// in the end: it keeps a goroutine.
+// in the end: each connection keeps a goroutine.
 func Dial(ctx context.Context, network, address string) (*Session, error) {
 	switch network {
 	case "tcp", "tcp4", "tcp6", "unix":
 	default:
 		return nil, net.UnknownNetworkError(network)
 	}
-	dialer := net.Dialer{Timeout: Timeout}
-	conn, err := dialer.DialContext(ctx, network, address) // which sets TCP_NODELAY
+	s := &Session{network: network, address: address, turn: make(chan struct{}, 1), closed: make(chan struct{})}
+	s.SetTimeout(Timeout)
+	if _, err := s.connect(ctx); err != nil {
+		return nil, err
+	}
+	return s, nil
+}
+
+// connect makes a connection where there is none.
+func (s *Session) connect(ctx context.Context) (*link, error) {
+	ctx, cancel := context.WithCancel(ctx)
+	defer cancel()
+	go func() {
+		select {
+		case <-s.closed:
+			cancel()
+		case <-ctx.Done():
+		}
+	}()
+	dialer := net.Dialer{Timeout: time.Duration(s.timeout.Load())}
+	conn, err := dialer.DialContext(ctx, s.network, s.address) // which sets TCP_NODELAY
 	if err != nil {
 		return nil, err
 	}
-	return newSession(conn), nil
+	made := &link{conn: conn, replies: make(chan reply, 1), ended: make(chan struct{})}
+	s.link.Store(made)
+	go made.receiveAll()
+	select {
+	case <-s.closed:
+		made.close()
+	default:
+	}
+	return made, nil
 }
 
-func newSession(conn net.Conn) *Session {
-	s := &Session{conn: conn, turn: make(chan struct{}, 1), closed: make(chan struct{}), replies: make(chan reply, 1)}
-	s.SetTimeout(Timeout)
-	go s.receiveAll()
-	return s
-}
-
-// SetTimeout sets how long the reply to a line may take; 0 is without end.
+// SetTimeout sets how long the reply to a line, and connecting anew, may take; 0 is without end.
 func (s *Session) SetTimeout(timeout time.Duration) { s.timeout.Store(int64(timeout)) }
 
-// Close ends the session, and a call that is under way, which fails. A commit that is not released then is never known as
-// released.
+// Close ends the session for good, and a call that is under way, which fails. A commit that is not released then is never
+// known as released.
 func (s *Session) Close() error {
+	s.closeOnce.Do(func() { close(s.closed) })
+	if link := s.link.Load(); link != nil {
+		return link.close()
+	}
+	return nil
+}
+
+func (l *link) close() error {
 	err := net.ErrClosed
-	s.closeOnce.Do(func() {
-		close(s.closed)
-		err = s.conn.Close()
+	l.closeOnce.Do(func() {
+		close(l.ended)
+		err = l.conn.Close()
 	})
 	if errors.Is(err, net.ErrClosed) {
 		return nil
@@ -138,7 +181,8 @@ func (s *Session) compare(ctx context.Context, line string) (bool, error) {
 }
 
 // Begin begins a commit, and gives its timestamp, no less than floor, and whether it is released already, so that Wait sends
-// nothing. It refuses with CommitPending before the last commit is known as released.
+// nothing. It refuses with CommitPending before the last commit is known as released, and with LeaseOver where the lease is
+// over or was lost with its connection: set it again.
 func (s *Session) Begin(ctx context.Context, floor uint64) (stamp uint64, isCommitted bool, err error) {
 	err = s.inTurn(ctx, func() error {
 		if err := s.begin(ctx, floor); err != nil {
@@ -151,7 +195,8 @@ func (s *Session) Begin(ctx context.Context, floor uint64) (stamp uint64, isComm
 }
 
 // Wait waits until the timestamp of the commit has surely passed, and gives it: only then may anybody be told of the commit.
-// After a refusal, or where the context ended, it may be called again.
+// After a refusal, or where the context ended, it may be called again. It fails with ErrNoCommit where no commit was begun, or
+// the connection of the last one failed.
 func (s *Session) Wait(ctx context.Context) (stamp uint64, err error) {
 	err = s.inTurn(ctx, func() (err error) {
 		stamp, err = s.wait(ctx)
@@ -176,13 +221,18 @@ func (s *Session) Commit(ctx context.Context, floor uint64) (stamp uint64, err e
 // After a refusal the lease is what it was.
 func (s *Session) Lease(ctx context.Context, lo, hi uint64) error {
 	return s.inTurn(ctx, func() error {
-		_, err := s.question(ctx, lineOf("lease", lo, hi), func(reply string) bool { return reply == lineOf("leased", lo, hi) })
+		s.wantsLease = true
+		_, err := s.question(ctx, lineOf("lease", lo, hi), func(reply string) bool {
+			isSet := reply == lineOf("leased", lo, hi)
+			s.hasLease = s.hasLease || isSet
+			return isSet
+		})
 		return err
 	})
 }
 
-// Ask sends one line and gives its reply, both without the line feed; "refused N" is a reply like another. Begin no commit by
-// it: the other calls do not know of that.
+// Ask sends one line and gives its reply, both without the line feed; "refused N" is a reply like another. Begin no commit and
+// set no lease by it: the other calls do not know of that.
 func (s *Session) Ask(ctx context.Context, line string) (string, error) {
 	if len(line) > lineBytes || !isPrintable(line) {
 		return "", ErrBadLine
@@ -200,6 +250,9 @@ func (s *Session) Ask(ctx context.Context, line string) (string, error) {
 func (s *Session) begin(ctx context.Context, floor uint64) error {
 	if s.last.isTold && s.last.isPending {
 		return CommitPending
+	}
+	if s.wantsLease && !s.hasLease {
+		return LeaseOver
 	}
 	err := s.sendBegin(ctx, floor)
 	if err == CommitPending && s.last.isPending {
@@ -298,7 +351,7 @@ func (s *Session) inTurn(ctx context.Context, call func() error) error {
 		return err
 	}
 	if s.judge != nil {
-		if _, err := s.receive(ctx); err != nil && !isRefusal(err) {
+		if _, err := s.receive(ctx, s.link.Load()); err != nil && !isRefusal(err) {
 			return err
 		}
 	}
@@ -331,8 +384,19 @@ func (s *Session) question(ctx context.Context, line string, isReply func(reply 
 // exchange sends one line, and gives its reply once it is judged: a refusal is an error, and so is what is no reply, which
 // breaks the session. Where the context ends before, the reply is owed: the next call has it judged, and drops it.
 func (s *Session) exchange(ctx context.Context, line string, judge func(reply string) error) (string, error) {
+	link := s.link.Load()
+	if link == nil {
+		made, err := s.connect(ctx)
+		if err != nil && ctx.Err() != nil {
+			return "", ctx.Err()
+		}
+		if err != nil {
+			return "", s.fail(err)
+		}
+		link = made
+	}
 	select {
-	case got := <-s.replies:
+	case got := <-link.replies:
 		return "", s.fail(got.err) // the connection has ended since the last reply
 	default:
 	}
@@ -341,21 +405,21 @@ func (s *Session) exchange(ctx context.Context, line string, judge func(reply st
 	if timeout := time.Duration(s.timeout.Load()); timeout > 0 {
 		deadline = s.sent.Add(timeout)
 	}
-	if err := s.conn.SetWriteDeadline(deadline); err != nil {
+	if err := link.conn.SetWriteDeadline(deadline); err != nil {
 		return "", s.fail(err)
 	}
-	s.asked.Store(true)
+	link.asked.Store(true)
 	s.judge = judge
 	// One line at a time fits into what the system holds, so this does not wait.
-	if _, err := s.conn.Write(append([]byte(line), '\n')); err != nil {
+	if _, err := link.conn.Write(append([]byte(line), '\n')); err != nil {
 		return "", s.fail(err)
 	}
-	return s.receive(ctx)
+	return s.receive(ctx, link)
 }
 
 // receive waits for the reply that is owed, and has it judged.
-func (s *Session) receive(ctx context.Context) (string, error) {
-	got, err := s.await(ctx)
+func (s *Session) receive(ctx context.Context, link *link) (string, error) {
+	got, err := s.await(ctx, link)
 	if err != nil {
 		return "", err
 	}
@@ -372,9 +436,9 @@ func (s *Session) receive(ctx context.Context) (string, error) {
 	return got.text, nil
 }
 
-func (s *Session) await(ctx context.Context) (reply, error) {
+func (s *Session) await(ctx context.Context, link *link) (reply, error) {
 	select {
-	case got := <-s.replies:
+	case got := <-link.replies:
 		return got, nil
 	default:
 	}
@@ -385,7 +449,7 @@ func (s *Session) await(ctx context.Context) (reply, error) {
 		late = timer.C
 	}
 	select {
-	case got := <-s.replies:
+	case got := <-link.replies:
 		return got, nil
 	case <-ctx.Done():
 		return reply{}, ctx.Err()
@@ -396,16 +460,23 @@ func (s *Session) await(ctx context.Context) (reply, error) {
 	}
 }
 
+// fail gives the connection up, and all that belongs to it.
 func (s *Session) fail(err error) error {
-	s.Close()
+	if link := s.link.Swap(nil); link != nil {
+		link.close()
+	}
+	s.judge, s.last, s.hasLease = nil, commit{}, false
+	if s.ended(context.Background()) != nil {
+		err = net.ErrClosed
+	}
 	return &BrokenError{err}
 }
 
 // receiveAll receives replies until the connection ends, or what comes is no reply.
-func (s *Session) receiveAll() {
+func (l *link) receiveAll() {
 	var buffer [lineBytes + 1]byte
 	for length := 0; ; {
-		received, err := s.conn.Read(buffer[length:])
+		received, err := l.conn.Read(buffer[length:])
 		length += received
 		got, isWhole := replyIn(buffer[:length])
 		switch {
@@ -413,16 +484,16 @@ func (s *Session) receiveAll() {
 			got = reply{err: io.ErrUnexpectedEOF}
 		case received == 0 && err != nil:
 			got = reply{err: err}
-		case received > 0 && !s.asked.Load():
+		case received > 0 && !l.asked.Load():
 			got = reply{err: fmt.Errorf("%w: nothing was asked", ErrReply)}
 		case !isWhole:
 			continue
 		}
 		length = 0
-		s.asked.Store(false)
+		l.asked.Store(false)
 		select {
-		case s.replies <- got:
-		case <-s.closed:
+		case l.replies <- got:
+		case <-l.ended:
 			return
 		}
 		if got.err != nil {

@@ -29,32 +29,43 @@ import java.util.regex.Pattern;
  *
  * <p>A session has one line and its reply at a time, and is for one thread. A call throws {@link TrueTime.Refused} where the
  * service refuses, and an {@link IOException} where the connection fails: {@link SocketTimeoutException} where no reply came
- * in time, {@link EOFException} where the service ended the session. The session is closed then, and nobody knows whether
- * a commit that was asked for was begun.
+ * in time, {@link EOFException} where the service ended the session. Nobody knows then whether a commit that was asked for
+ * was begun.
+ *
+ * <p>The next call after that connects anew, to a new session of the service. No line is sent a second time by that: the last
+ * commit is forgotten. Nor is the lease set again: once {@link #lease} was called, {@link #begin} refuses with 903 as long as
+ * the connection has no lease. A session that was closed throws {@link ClosedChannelException}.
  */
 public final class Session implements AutoCloseable {
     /** The most bytes of a line and of a reply, without the line feed. */
     private static final int LINE_BYTES = 64;
+    private static final int LEASE_LOST = 903;
     private static final int COMMIT_PENDING = 1104;
     private static final long PAUSE_MS = 1;
     private static final Pattern LINE = Pattern.compile("[ -~]{0,64}");
     private static final Pattern NUMBER = Pattern.compile("0|[1-9][0-9]{0,18}");
     private static final Map<String, Integer> YES_OR_NO = Map.of("yes", 0, "no", 0);
+    private static final Map<String, Integer> LEASED = Map.of("leased", 2);
     private static final Map<String, Integer> COMMITTED_OR_WAITING = Map.of("committed", 2, "waiting", 2);
 
     private enum State { NO_COMMIT, WAITING, COMMITTED }
 
-    private final SocketChannel channel;
-    private final Selector selector;
+    private final SocketAddress address;
     private final Duration timeout;
+    private boolean isClosed;
+    /** Whether a lease was ever asked for: then no commit begins without one. */
+    private boolean wantsLease;
+    /** The connection, and null where there is none. What follows belongs to it. */
+    private SocketChannel channel;
+    private Selector selector;
     /** The last commit that has a timestamp, counted from 1, and its timestamp. */
     private long number;
     private long stampNs;
     private State state = State.NO_COMMIT;
+    private boolean hasLease;
 
-    private Session(SocketChannel channel, Selector selector, Duration timeout) {
-        this.channel = channel;
-        this.selector = selector;
+    private Session(SocketAddress address, Duration timeout) {
+        this.address = address;
         this.timeout = timeout;
     }
 
@@ -68,43 +79,77 @@ public final class Session implements AutoCloseable {
      * waiting for a release may take, at least a millisecond; connecting to a Unix socket has none.
      */
     public static Session connect(SocketAddress address, Duration timeout) throws IOException {
-        int timeoutMs = Math.toIntExact(timeout.toMillis());
-        if (timeoutMs <= 0) {
+        if (timeoutMs(timeout) <= 0) {
             throw new IllegalArgumentException("a time-out below a millisecond");
         }
+        Session session = new Session(address, timeout);
+        session.connect();
+        return session;
+    }
+
+    private static int timeoutMs(Duration timeout) {
+        return Math.toIntExact(timeout.toMillis());
+    }
+
+    private void connect() throws IOException {
         boolean isUnix = address instanceof UnixDomainSocketAddress;
-        SocketChannel channel = isUnix ? SocketChannel.open(address) : SocketChannel.open();
+        SocketChannel made = isUnix ? SocketChannel.open(address) : SocketChannel.open();
         try {
             if (!isUnix) {
-                channel.socket().connect(address, timeoutMs);
-                channel.setOption(StandardSocketOptions.TCP_NODELAY, true);
+                made.socket().connect(address, timeoutMs(timeout));
+                made.setOption(StandardSocketOptions.TCP_NODELAY, true);
             }
-            channel.configureBlocking(false);
-            Selector selector = Selector.open();
-            channel.register(selector, SelectionKey.OP_READ);
-            return new Session(channel, selector, timeout);
+            made.configureBlocking(false);
+            selector = Selector.open();
+            made.register(selector, SelectionKey.OP_READ);
+            channel = made;
         } catch (IOException | RuntimeException failed) {
-            channel.close();
+            made.close();
+            drop();
             throw failed;
         }
     }
 
-    /** Ends the session. A commit that is not released then is never known as released. */
-    @Override
-    public void close() throws IOException {
+    /** Gives the connection up, and all that belongs to it. */
+    private void drop() throws IOException {
+        SocketChannel channel = this.channel;
+        Selector selector = this.selector;
+        this.channel = null;
+        this.selector = null;
+        number = 0;
+        stampNs = 0;
         state = State.NO_COMMIT;
-        try (selector) {
-            channel.close();
+        hasLease = false;
+        try (selector; channel) {
+            // Both are closed, where there are any.
         }
     }
 
+    private void checkOpen() throws ClosedChannelException {
+        if (isClosed) {
+            throw new ClosedChannelException();
+        }
+    }
+
+    /** Ends the session for good. A commit that is not released then is never known as released. */
+    @Override
+    public void close() throws IOException {
+        isClosed = true;
+        drop();
+    }
+
     /**
-     * Sends one line and gives its reply, both without the line feed; {@code refused N} is a reply like another. Throws
-     * {@link IllegalArgumentException} where the line has more than 64 bytes, or a byte that is no printable ASCII.
+     * Sends one line and gives its reply, both without the line feed; {@code refused N} is a reply like another. Begin no
+     * commit and set no lease by it: the other calls do not know of that. Throws {@link IllegalArgumentException} where the
+     * line has more than 64 bytes, or a byte that is no printable ASCII.
      */
     public String ask(String line) throws IOException {
         if (!LINE.matcher(line).matches()) {
             throw new IllegalArgumentException("not a line: " + line);
+        }
+        checkOpen();
+        if (channel == null) {
+            connect();
         }
         try {
             send(line + "\n");
@@ -113,8 +158,8 @@ public final class Session implements AutoCloseable {
                 throw new IOException("not a reply to " + line);
             }
             return reply;
-        } catch (IOException failed) {
-            close();
+        } catch (IOException | RuntimeException failed) {
+            drop();
             throw failed;
         }
     }
@@ -123,7 +168,7 @@ public final class Session implements AutoCloseable {
     public Interval now() throws IOException {
         long[] numbers = answered("now", Map.of("now", 2)).numbers;
         if (numbers[0] > numbers[1]) {
-            throw closed("now");
+            throw failed("now");
         }
         return new Interval(numbers[0], numbers[1]);
     }
@@ -139,12 +184,32 @@ public final class Session implements AutoCloseable {
     }
 
     /**
+     * Sets the lease: timestamps of commits that begin from now on lie from {@code loNs} to {@code hiNs}, both included.
+     * Refuses with 101 and 102, and then the lease is what it was.
+     */
+    public void lease(long loNs, long hiNs) throws IOException {
+        checkOpen();
+        wantsLease = true;
+        String line = "lease " + Long.toUnsignedString(loNs) + " " + Long.toUnsignedString(hiNs);
+        Reply reply = answered(line, LEASED);
+        if (reply.numbers[0] != loNs || reply.numbers[1] != hiNs) {
+            throw failed(line);
+        }
+        hasLease = true;
+    }
+
+    /**
      * Begins a commit and gives its timestamp, no less than {@code floorNs}. One commit at a time: refuses with 1104 before
-     * the release of the last one. After another refusal begin again, with the same floor: the service may have begun it.
+     * the release of the last one. Refuses with 903 where the lease is over or was lost with its connection: set it again.
+     * After another refusal begin again, with the same floor: the service may have begun it.
      */
     public long begin(long floorNs) throws IOException {
+        checkOpen();
         if (state == State.WAITING) {
             throw new TrueTime.Refused(COMMIT_PENDING);
+        }
+        if (wantsLease && !hasLease) {
+            throw new TrueTime.Refused(LEASE_LOST);
         }
         state = State.NO_COMMIT;
         sendCommit(number + 1, floorNs);
@@ -153,14 +218,12 @@ public final class Session implements AutoCloseable {
 
     /**
      * Waits until the timestamp of the commit has surely passed, and gives it. Throws {@link SocketTimeoutException} where
-     * that takes longer than the time-out; as after a refusal, the session is still open then, and may wait again. Throws
-     * {@link IllegalStateException} where no commit was begun.
+     * that takes longer than the time-out; as after a refusal, the commit still waits then, and may be waited for again.
+     * Throws {@link IllegalStateException} where no commit was begun, or the connection of the last one failed.
      */
     public long awaitRelease() throws IOException {
         long began = System.nanoTime();
-        if (!channel.isOpen()) {
-            throw new ClosedChannelException();
-        }
+        checkOpen();
         if (state == State.NO_COMMIT) {
             throw new IllegalStateException("no commit was begun");
         }
@@ -189,7 +252,7 @@ public final class Session implements AutoCloseable {
         long stamp = reply.numbers[1];
         boolean isRight = commit == number ? stamp == stampNs : stamp >= floorNs;
         if (reply.numbers[0] != commit || !isRight) {
-            throw closed(line);
+            throw failed(line);
         }
         number = commit;
         stampNs = stamp;
@@ -207,7 +270,7 @@ public final class Session implements AutoCloseable {
             throw new TrueTime.Refused((int) numbers[0]);
         }
         if (wanted.getOrDefault(words[0], -1) != numbers.length) {
-            throw closed(line);
+            throw failed(line);
         }
         return new Reply(words[0], numbers);
     }
@@ -217,13 +280,13 @@ public final class Session implements AutoCloseable {
         // One of 19 digits is below 2^64.
         long value = NUMBER.matcher(text).matches() ? Long.parseUnsignedLong(text) : -1;
         if (value < 0 || value > TrueTime.MAX_TIME_NS) {
-            throw closed(line);
+            throw failed(line);
         }
         return value;
     }
 
-    private IOException closed(String line) throws IOException {
-        close();
+    private IOException failed(String line) throws IOException {
+        drop();
         return new IOException("not a reply to " + line);
     }
 

@@ -149,11 +149,14 @@ def files():
         yield name, file_of(1, bad, boot), 0o644, "refused 1703"
 
 
-SILENT, CLOSED, AGAIN = "(silent)", "(closed)", "(again)"
+SILENT, CLOSED, AGAIN, LATE, LATE_S = "(silent)", "(closed)", "(again)", "(late)", 3
+# In place of a line and its reply: the client connects anew.
+ANEW = ("(anew)", "")
 
 # Sessions, worked out by hand: the time-out in milliseconds, and the calls of the client. Each has the lines that it sends, with the
 # reply that the stand-in service gives to each, and what the client says of it. A reply comes in pieces that `|` cuts and ends with
-# `\n`, or with CLOSED, the end of the connection; SILENT never comes; one that begins with AGAIN comes as often as its line does.
+# `\n`, or with CLOSED, the end of the connection; SILENT never comes; LATE is a pause; one that begins with AGAIN comes as often as its
+# line does.
 SESSIONS = {
     "readings": (20_000, [
         ("now", [("now", "now 5 15\n")], "5 15"),
@@ -201,16 +204,47 @@ SESSIONS = {
         ("commit 0", [("commit 1 0", "waiting| 1 20|0\n"), ("commit 1 0", "c|ommitted 1 200|\n")], "200"),
         ("now", [("now", "refu|sed 8|03\n")], "refused 803"),
     ]),
+    "leases": (20_000, [
+        ("lease 300 400", [("lease 300 400", "leased 300 400\n")], "leased 300 400"),
+        ("begin 0", [("commit 1 0", "waiting 1 300\n")], "300"),
+        ("lease 500 400", [("lease 500 400", "refused 101\n")], "refused 101"),
+        (f"lease 0 {MAX + 1}", [(f"lease 0 {MAX + 1}", "refused 102\n")], "refused 102"),
+        ("wait", [("commit 1 0", "committed 1 300\n")], "300"),
+        ("begin 0", [("commit 2 0", "refused 903\n")], "refused 903"),
+        ("begin 0", [("commit 2 0", "refused 1821\n")], "refused 1821"),
+        (f"lease 0 {MAX}", [(f"lease 0 {MAX}", f"leased 0 {MAX}\n")], f"leased 0 {MAX}"),
+        ("commit 0", [("commit 2 0", "committed 2 401\n")], "401"),
+    ]),
+    # A session that asked for a lease begins nothing without one: what is refused here is never sent.
+    "the first lease is refused": (20_000, [
+        ("lease 9 5", [("lease 9 5", "refused 101\n")], "refused 101"),
+        ("begin 0", [], "refused 903"),
+        ("commit 0", [], "refused 903"),
+        ("now", [("now", "now 5 15\n")], "5 15"),
+        ("lease 5 9", [("lease 5 9", "leased 5 9\n")], "leased 5 9"),
+        ("begin 0", [("commit 1 0", "waiting 1 9\n")], "9"),
+    ]),
+    # Behind a failure the next call connects anew. Each line that comes is that of a call made then.
     "no reply in time": (1000, [
         ("now", [("now", SILENT)], "timed out"),
-        ("now", [], "failed"),
-        ("begin 0", [], "failed"),
-        ("wait", [], "failed"),
+        ("wait", [], "invalid"),
+        ("now", [ANEW, ("now", "now 5 15\n")], "5 15"),
+        ("begin 0", [("commit 1 0", SILENT)], "timed out"),
+        ("wait", [], "invalid"),
+        ("begin 7", [ANEW, ("commit 1 7", "waiting 1 200\n")], "200"),
+        ("wait", [("commit 1 0", SILENT)], "timed out"),
+        ("wait", [], "invalid"),
+        ("after 9", [ANEW, ("after 9", "no\n")], "no"),
+    ]),
+    "a late reply": (2000, [
+        ("now", [("now", f"{LATE}|now 1 2\n")], "timed out"),
+        ("now", [ANEW, ("now", "now 5 15\n")], "5 15"),
+        ("after 4", [("after 4", "yes\n")], "yes"),
     ]),
     "half a reply in time": (100, [
         ("begin 0", [("commit 1 0", "waiting 1| 2")], "timed out"),
-        ("wait", [], "failed"),
-        ("ask now", [], "failed"),
+        ("wait", [], "invalid"),
+        ("ask now", [ANEW, ("now", "now 5 15\n")], "now 5 15"),
     ]),
     "not released in time": (1000, [
         ("begin 0", [("commit 1 0", "waiting 1 200\n")], "200"),
@@ -218,16 +252,65 @@ SESSIONS = {
         ("now", [("now", "now 5 15\n")], "5 15"),
         ("wait", [("commit 1 0", "committed 1 200\n")], "200"),
     ]),
-    "closed": (20_000, [("now", [("now", CLOSED)], "failed"), ("after 1", [], "failed"), ("commit 0", [], "failed")]),
-    "closed within a reply": (20_000, [("now", [("now", "now 5 15|" + CLOSED)], "failed"), ("before 1", [], "failed")]),
+    "closed": (20_000, [
+        ("now", [("now", CLOSED)], "failed"),
+        ("after 1", [ANEW, ("after 1", CLOSED)], "failed"),
+        ("commit 3", [ANEW, ("commit 1 3", CLOSED)], "failed"),
+        ("wait", [], "invalid"),
+        ("commit 4", [ANEW, ("commit 1 4", "waiting 1 200\n"), ("commit 1 0", CLOSED)], "failed"),
+        ("wait", [], "invalid"),
+        ("ask now", [ANEW, ("now", CLOSED)], "failed"),
+        ("commit 5", [ANEW, ("commit 1 5", "waiting 1 300\n"), ("commit 1 0", "committed 1 300\n")], "300"),
+    ]),
+    "closed within a reply": (20_000, [
+        ("now", [("now", "now 5 15|" + CLOSED)], "failed"),
+        ("before 1", [ANEW, ("before 1", "no\n")], "no"),
+    ]),
     "closed while a commit waits": (20_000, [
         ("begin 0", [("commit 1 0", "waiting 1 200\n")], "200"),
         ("wait", [("commit 1 0", "waiting 1 200\n"), ("commit 1 0", CLOSED)], "failed"),
-        ("wait", [], "failed"),
-        ("begin 0", [], "failed"),
+        ("wait", [], "invalid"),
+        ("now", [ANEW, ("now", "now 5 15\n")], "5 15"),
+        ("wait", [], "invalid"),
+        ("begin 9", [("commit 1 9", "waiting 1 300\n")], "300"),
+        ("wait", [("commit 1 0", "committed 1 300\n")], "300"),
+    ]),
+    "closed behind a release": (20_000, [
+        ("commit 0", [("commit 1 0", "committed 1 200\n")], "200"),
+        ("now", [("now", CLOSED)], "failed"),
+        ("wait", [], "invalid"),
+        ("begin 0", [ANEW, ("commit 1 0", "waiting 1 300\n")], "300"),
+    ]),
+    "a lease is lost": (20_000, [
+        ("lease 300 400", [("lease 300 400", "leased 300 400\n")], "leased 300 400"),
+        ("begin 0", [("commit 1 0", "waiting 1 300\n")], "300"),
+        ("wait", [("commit 1 0", CLOSED)], "failed"),
+        ("begin 0", [], "refused 903"),
+        ("commit 0", [], "refused 903"),
+        ("now", [ANEW, ("now", "now 5 15\n")], "5 15"),
+        ("begin 0", [], "refused 903"),
+        ("lease 400 300", [("lease 400 300", "refused 101\n")], "refused 101"),
+        ("begin 0", [], "refused 903"),
+        ("lease 301 400", [("lease 301 400", "leased 301 400\n")], "leased 301 400"),
+        ("begin 0", [("commit 1 0", "waiting 1 301\n")], "301"),
+        ("wait", [("commit 1 0", "committed 1 301\n")], "301"),
+    ]),
+    "a lease is not answered": (1000, [
+        ("lease 300 400", [("lease 300 400", SILENT)], "timed out"),
+        ("begin 0", [], "refused 903"),
+        ("after 1", [ANEW, ("after 1", "yes\n")], "yes"),
+        ("commit 0", [], "refused 903"),
+        ("lease 300 400", [("lease 300 400", CLOSED)], "failed"),
+        ("lease 300 400", [ANEW, ("lease 300 400", "leased 300 400\n")], "leased 300 400"),
+        ("commit 0", [("commit 1 0", "committed 1 300\n")], "300"),
+    ]),
+    "closed for good": (20_000, [
+        ("begin 0", [("commit 1 0", "waiting 1 200\n")], "200"),
+        ("close", [], "closed"),
+        *((call, [], "failed") for call in ("now", "after 1", "before 1", "begin 0", "wait", "commit 0", "lease 5 9", "ask now")),
     ]),
 }
-# A call, its line, and what is no reply to it: the session fails, and is closed.
+# A call, its line, and what is no reply to it: the call fails, and the next one connects anew.
 NO_REPLIES = [
     ("now", "now", [
         "\n", "hello\n", "NOW 5 15\n", "now\n", "now 5\n", "now 5 15 25\n", "now5 15\n", "now  5 15\n", "now 5 15 \n", " now 5 15\n",
@@ -242,6 +325,7 @@ NO_REPLIES = [
     ]),
     ("commit 0", "commit 1 0", [f"waiting 1 {MAX + 1}\n", "released 1 200\n"]),
     ("ask now", "now", ["now 5 1\xb2\n", "now 5 15\t\n", "now 5 15\0\n", "no\nno\n", "x" * 65 + "\n"]),
+    ("lease 5 9", "lease 5 9", ["leased\n", "leased 5\n", "leased 5 8\n", "leased 6 9\n", "leased 5 9 \n", "leased 05 9\n", "waiting 5 9\n", "yes\n"]),
 ]
 WRONG_RELEASES = ["committed 1 201\n", "committed 1 199\n", "committed 2 200\n", "waiting 1 201\n", "no\n"]
 
@@ -252,10 +336,23 @@ def conversations():
         yield name, timeout, calls
     for call, line, replies in NO_REPLIES:
         for reply in replies:
-            yield f"{call}: {reply[:70]!r}", 20_000, [(call, [(line, reply)], "failed"), (call, [], "failed")]
+            yield f"{call}: {reply[:70]!r}", 20_000, [
+                (call, [(line, reply)], "failed"), ("wait", [], "invalid"), ("now", [ANEW, ("now", "now 7 9\n")], "7 9")]
     for reply in WRONG_RELEASES:
         begun = ("begin 0", [("commit 1 0", "waiting 1 200\n")], "200")
-        yield f"wait: {reply!r}", 20_000, [begun, ("wait", [("commit 1 0", reply)], "failed"), ("wait", [], "failed")]
+        yield f"wait: {reply!r}", 20_000, [
+            begun, ("wait", [("commit 1 0", reply)], "failed"), ("wait", [], "invalid"), ("now", [ANEW, ("now", "now 7 9\n")], "7 9")]
+
+
+def connections(calls):
+    """The lines and replies of a conversation, for each connection."""
+    played = [[]]
+    for exchange in (exchange for _, exchanges, _ in calls for exchange in exchanges):
+        if exchange == ANEW:
+            played.append([])
+        else:
+            played[-1].append(exchange)
+    return played
 
 
 def play(one, lines, exchanges):
@@ -268,7 +365,9 @@ def play(one, lines, exchanges):
             for piece in reply.replace(AGAIN, "").split("|"):
                 if piece == CLOSED:
                     return None
-                if piece != SILENT:
+                if piece == LATE:
+                    time.sleep(LATE_S)
+                elif piece != SILENT:
                     one.sendall(piece.encode("latin-1"))
                     time.sleep(0.005 if "|" in reply else 0)
             came = lines.readline()
@@ -278,15 +377,15 @@ def play(one, lines, exchanges):
 
 
 def serve(listener, wrong):
-    """A stand-in for the service: each connection is the next session. No line may come that is not among those of the session."""
-    for name, _, calls in conversations():
+    """A stand-in for the service: it plays each connection of each session. No line may come that is not among those of the session."""
+    for name, exchanges in ((name, exchanges) for name, _, calls in conversations() for exchanges in connections(calls)):
         try:
             one, _ = listener.accept()
             with one, one.makefile("rb") as lines:
                 one.settimeout(30)
                 if listener.family == socket.AF_INET:
                     one.setsockopt(socket.IPPROTO_TCP, socket.TCP_NODELAY, 1)
-                said = play(one, lines, [exchange for _, exchanges, _ in calls for exchange in exchanges])
+                said = play(one, lines, exchanges)
         except ConnectionError:
             continue  # the client closed it before it had read all
         except OSError as failed:
@@ -377,6 +476,14 @@ def probes(room):
         made = os.path.join(room, "probe-go")
         subprocess.run(["go", "build", "-o", made, "./internal/probe"], cwd=GO, env=go_in(room), check=True)
         yield "Go", [made]
+
+
+def session_probes(languages):
+    """The probes of all kinds of sessions."""
+    for name, words in languages:
+        yield name, words
+        if name == "Python":
+            yield "Python asyncio", [*words, "asyncio"]
 
 
 def has_go():
@@ -568,7 +675,7 @@ def time_namespaces(trial):
 def sessions(trial):
     """Conversations in each language. They wait more than they compute, so all languages run at once."""
     with ThreadPoolExecutor() as pool:
-        list(pool.map(lambda probe: try_sessions(trial, *probe), trial.shared))
+        list(pool.map(lambda probe: try_sessions(trial, *probe), session_probes(trial.shared)))
 
 
 WAYS = ("pwrite", "pieces", "stores", "bytes", "killed")

@@ -106,9 +106,9 @@ class StandIn(socketserver.ThreadingTCPServer):
     def __init__(self, room):
         super().__init__(("127.0.0.1", 0), Session)
         self.came, self.file = [], os.path.join(room, "time")
-        clock, always = time.clock_gettime_ns(time.CLOCK_MONOTONIC), 2**64 - 1
+        self.clock, always = time.clock_gettime_ns(time.CLOCK_MONOTONIC), 2**64 - 1
         with open("/proc/sys/kernel/random/boot_id", "rb") as file:
-            write(self.file, file_of(1, (clock, LO, LO + WIDTH, always, always, 7, 1, 0), file.read(36)))
+            write(self.file, file_of(1, (self.clock, LO, LO + WIDTH, always, always, 7, 1, 0), file.read(36)))
         os.chmod(self.file, 0o644)
         threading.Thread(target=self.serve_forever, args=(0.02,), daemon=True).start()
 
@@ -127,7 +127,8 @@ def try_example(trial, what, example, stand_in, words, **how):
     ran = succeeds(trial, what, words, **how)
     if FILE in example.text:
         readings = [(int(earliest), int(latest)) for earliest, latest in re.findall(r"^(\d+) (\d+)$", ran.said, re.MULTILINE)]
-        is_right = len(readings) == 1 and LO <= readings[0][0] == readings[0][1] - WIDTH <= LO + 100 * 10**9
+        passed = time.clock_gettime_ns(time.CLOCK_MONOTONIC) - stand_in.clock
+        is_right = len(readings) == 1 and LO <= readings[0][0] == readings[0][1] - WIDTH <= LO + passed
         trial.check(f"{what}: the reading", is_right, f"{ran.said!r}")
     if PORT in example.text:
         trial.check(f"{what}: the commit", stand_in.came.count("commit 1 0") == 2, f"these lines came: {stand_in.came}")
@@ -177,8 +178,8 @@ print(truetime.__file__, data.version("truetime"), data.metadata("truetime")["Re
 """
 # Prints each public call in which an argument, or what it gives, has no type.
 UNTYPED = """
-import inspect, truetime
-for name, one in vars(truetime).items():
+import inspect, truetime.aio
+for name, one in [*vars(truetime).items(), *vars(truetime.aio).items()]:
     if name.startswith("_") or getattr(one, "__module__", "").partition(".")[0] != "truetime":
         continue
     calls = vars(one) if inspect.isclass(one) else {name: one}
@@ -194,6 +195,8 @@ for name, one in vars(truetime).items():
 TYPED = {
     "right": ("def earliest(client: truetime.Client) -> int:\n    return client.now().earliest_ns\n", "Success: no issues found"),
     "wrong": ("def earliest(client: truetime.Client) -> str:\n    return client.now().earliest_ns\n", 'got "int", expected "str"'),
+    "async": ("async def begin(session: truetime.aio.Session) -> int:\n    return await session.begin(floor_ns=1)\n", "Success: no issues found"),
+    "async_wrong": ("async def begin(session: truetime.aio.Session) -> str:\n    return await session.begin()\n", 'got "int", expected "str"'),
 }
 
 
@@ -204,7 +207,7 @@ def try_types(trial, python):
         return
     for name, (text, wanted) in TYPED.items():
         path = f"{trial.room}/typed_{name}.py"
-        write(path, f"import truetime\n\n\n{text}".encode())
+        write(path, f"import truetime.aio\n\n\n{text}".encode())
         ran = run(["mypy", "--strict", "--python-executable", python, "--cache-dir", f"{trial.room}/mypy", path], seconds=60, cwd=trial.room)
         trial.check(f"mypy of a program that is {name}", wanted in ran.said, ran.said + ran.error)
 
@@ -231,7 +234,7 @@ def python(trial):
         shutil.unpack_archive(f"{room}/wheel/truetime-{VERSION}-py3-none-any.whl", f"{room}/wheel", "zip")
         for what, site in (("installed", folder), ("wheel of the source package", f"{room}/wheel")):
             found = {name: read(f"{site}/truetime/{name}") for name in files_below(f"{site}/truetime") if not name.endswith(".pyc")}
-            wanted = {name: read(f"clients/python/{name}") for name in ("__init__.py", "py.typed", "truetime.py")}
+            wanted = {name: read(f"clients/python/truetime/{name}") for name in files_below(f"{CLIENTS}/python/truetime") if not name.endswith(".pyc")}
             trial.check(what, found == wanted, f"{sorted(found)}, or they are not those of clients/python")
         try_types(trial, here)
         examples = [example for document, heading in (("clients/README.md", "Python"), ("README.md", "The service"))

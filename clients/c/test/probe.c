@@ -5,7 +5,7 @@
  *     probe files < LINES      for each line `open PATH` the same of a file that is not mapped, and for `again` of that file now
  *     probe session < CALLS    for each call of a session, what it gives, `refused N`, `timed out`, `invalid` or `failed`.
  *                              The calls are `open tcp PORT MILLISECONDS`, `open unix PATH MILLISECONDS`, `now`, `after T`,
- *                              `before T`, `begin FLOOR`, `wait`, `commit FLOOR`, `ask LINE`, `close`
+ *                              `before T`, `lease LO HI`, `begin FLOOR`, `wait`, `commit FLOOR`, `ask LINE`, `close`
  *     probe stamper < LINES    for each line what a stamper says; tools/suites/clients_of_stampers.py has the lines
  */
 #include "../truetime_session.h"
@@ -100,6 +100,11 @@ static int call_session(tt_session *session, const char *name, const char *rest,
         snprintf(said, most, "%s", is_so ? "yes" : "no");
         return failed == 0 || !is_so ? failed : 0;
     }
+    if (strcmp(name, "lease") == 0) {
+        uint64_t hi_ns = strtoull(strchr(rest, ' '), NULL, 10);
+        snprintf(said, most, "leased %s", rest);
+        return tt_session_lease(session, number, hi_ns);
+    }
     if (strcmp(name, "begin") == 0) failed = tt_session_begin(session, number, &stamp_ns);
     if (strcmp(name, "wait") == 0) failed = tt_session_wait(session, &stamp_ns);
     if (strcmp(name, "commit") == 0) failed = tt_session_commit(session, number, &stamp_ns);
@@ -131,6 +136,7 @@ static int try_sessions(void) {
             printf("refused %d\n", failed);
         else
             puts(failed == -ETIMEDOUT ? "timed out" : failed == -EINVAL ? "invalid" : "failed");
+        fflush(stdout);
     }
     return 0;
 }

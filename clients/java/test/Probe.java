@@ -87,6 +87,10 @@ public final class Probe {
                 return Long.toString(session.awaitRelease());
             case "commit":
                 return Long.toString(session.commit(Long.parseLong(rest)));
+            case "lease":
+                String[] ends = rest.split(" ");
+                session.lease(Long.parseLong(ends[0]), Long.parseLong(ends[1]));
+                return "leased " + rest;
             case "ask":
                 return session.ask(rest);
             default:

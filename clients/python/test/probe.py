@@ -1,4 +1,6 @@
-"""What the reader answers, for the tests: as ../../c/test/probe.c."""
+"""What the reader answers, for the tests: as ../../c/test/probe.c. `probe.py asyncio` is the same for sessions of truetime.aio."""
+import asyncio
+import inspect
 import os
 import pathlib
 import sys
@@ -7,6 +9,7 @@ import threading
 sys.path.insert(0, str(pathlib.Path(__file__).resolve().parent.parent))
 
 import truetime  # noqa: E402
+from truetime import aio  # noqa: E402
 
 
 def answer(lines):
@@ -41,38 +44,51 @@ def try_files(lines):
             print("refused", refused.number, flush=True)
 
 
+def opened(kind, address, timeout_s):
+    """A session of this kind that is connected."""
+    return kind.connect(address, timeout_s) if kind is aio.Session else kind(address, timeout_s)
+
+
 def call_session(session, name, rest):
-    """Makes a call, and gives the session and what the call gives."""
-    if name == "open":
-        kind, where, milliseconds = rest.split(" ")
-        address = where if kind == "unix" else ("127.0.0.1", int(where))
-        return truetime.Session(address, int(milliseconds) / 1000), "open"
-    if name == "close":
-        session.close()
-        return None, "closed"
-    if name == "ask":
-        return session, session.ask(rest)
-    given = getattr(session, name)(*map(int, rest.split()))
+    """Makes a call of either kind of session, and gives what it gives."""
+    if name in ("close", "ask"):
+        return getattr(session, name)(*[rest] * (name == "ask"))
+    return getattr(session, name)(*map(int, rest.split()))
+
+
+def said_of_call(name, rest, given):
+    """What is printed of what a call gave."""
+    if name in ("open", "close"):
+        return {"open": "open", "close": "closed"}[name]
+    if name == "lease":
+        return f"leased {rest}"
     if isinstance(given, bool):
-        return session, "yes" if given else "no"
-    return session, f"{given.earliest_ns} {given.latest_ns}" if name == "now" else given
+        return "yes" if given else "no"
+    return f"{given.earliest_ns} {given.latest_ns}" if name == "now" else given
 
 
-def try_sessions(calls):
-    session = None
+def try_sessions(kind, calls):
+    session, loop = None, asyncio.new_event_loop()
     for call in calls:
         name, _, rest = call.rstrip("\n").partition(" ")
         try:
-            session, said = call_session(session, name, rest)
-            print(said)
+            if name == "open":
+                network, where, milliseconds = rest.split(" ")
+                given = opened(kind, where if network == "unix" else ("127.0.0.1", int(where)), int(milliseconds) / 1000)
+            else:
+                given = call_session(session, name, rest)
+            given = loop.run_until_complete(given) if inspect.isawaitable(given) else given
+            session = given if name == "open" else session
+            print(said_of_call(name, rest, given), flush=True)
         except truetime.Refused as refused:
-            print("refused", refused.number)
+            print("refused", refused.number, flush=True)
         except TimeoutError:
-            print("timed out")
+            print("timed out", flush=True)
         except OSError:
-            print("failed")
+            print("failed", flush=True)
         except (RuntimeError, ValueError):
-            print("invalid")
+            print("invalid", flush=True)
+    loop.close()
 
 
 def answer_row(numbers):
@@ -151,8 +167,10 @@ elif len(sys.argv) == 3 and sys.argv[1] == "open":
 elif sys.argv[1:] == ["files"]:
     try_files(sys.stdin)
 elif sys.argv[1:] == ["session"]:
-    try_sessions(sys.stdin)
+    try_sessions(truetime.Session, sys.stdin)
+elif sys.argv[1:] == ["asyncio", "session"]:
+    try_sessions(aio.Session, sys.stdin)
 elif sys.argv[1:] == ["stamper"]:
     try_stampers(sys.stdin)
 else:
-    sys.exit("usage: probe.py vectors | probe.py open PATH | probe.py files | probe.py session | probe.py stamper")
+    sys.exit("usage: probe.py vectors | probe.py open PATH | probe.py files | probe.py [asyncio] session | probe.py stamper")

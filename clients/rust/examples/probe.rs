@@ -69,7 +69,12 @@ fn call_session(open: &mut Option<Session>, name: &str, rest: &str) -> Result<St
         *open = Some(open_session(rest)?);
         return Ok("open".to_string());
     }
-    let session = open.as_mut().ok_or(Error::NoCommit)?;
+    if name == "close" {
+        *open = None;
+        return Ok("closed".to_string());
+    }
+    // A session that was dropped cannot be called: the compiler says so.
+    let session = open.as_mut().ok_or(Error::Failed(io::ErrorKind::NotConnected.into()))?;
     let number = || rest.parse().expect("a number");
     let yes_or_no = |answer| String::from(if answer { "yes" } else { "no" });
     match name {
@@ -79,11 +84,11 @@ fn call_session(open: &mut Option<Session>, name: &str, rest: &str) -> Result<St
         "begin" => session.begin(number()).map(|stamp| stamp.to_string()),
         "wait" => session.wait().map(|stamp| stamp.to_string()),
         "commit" => session.commit(number()).map(|stamp| stamp.to_string()),
-        "ask" => session.ask(rest),
-        _ => {
-            *open = None;
-            Ok("closed".to_string())
+        "lease" => {
+            let [lo_ns, hi_ns] = numbers_of(rest);
+            session.lease(lo_ns, hi_ns).map(|()| format!("leased {rest}"))
         }
+        _ => session.ask(rest),
     }
 }
 

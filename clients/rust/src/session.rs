@@ -9,12 +9,17 @@
 //! session.wait()?; // only now may anybody be told of the commit
 //! # Ok::<(), truetime::session::Error>(())
 //! ```
+//!
+//! If the connection fails, the call fails, and nobody knows whether a commit that was asked for was begun. The next call
+//! connects anew, to a new session of the service. No line is sent a second time by that: the last commit is forgotten. Nor is
+//! the lease set again: once [`Session::lease`] was called, [`Session::begin`] refuses with 903 as long as the connection has
+//! no lease.
 use crate::MAX_TIME_NS;
 use std::fmt;
 use std::io::{self, ErrorKind, Read, Write};
 use std::net::{SocketAddr, TcpStream};
 use std::os::unix::net::UnixStream;
-use std::path::Path;
+use std::path::{Path, PathBuf};
 use std::thread;
 use std::time::{Duration, Instant};
 
@@ -22,6 +27,8 @@ use std::time::{Duration, Instant};
 const LINE_BYTES: usize = 64;
 /// The pause before a line is sent again.
 const PAUSE: Duration = Duration::from_millis(1);
+/// The refusal of a commit whose lease was lost with its connection.
+const LEASE_LOST: u16 = 903;
 /// The refusal of a commit before the last one is released.
 const COMMIT_PENDING: u16 = 1104;
 
@@ -31,12 +38,12 @@ pub enum Error {
     /// The service refuses, by this number. The session goes on.
     Refused(u16),
     /// The connection failed: no reply came in time (`TimedOut`), the service ended the session (`UnexpectedEof`), or what
-    /// came is no reply (`InvalidData`). The session is closed, and all later calls fail (`NotConnected`); nobody knows
-    /// whether a commit that was asked for was begun.
+    /// came is no reply (`InvalidData`). Nobody knows whether a commit that was asked for was begun. The next call connects
+    /// anew.
     Failed(io::Error),
     /// The commit is not released in time. The session goes on, and may wait again.
     NotReleased,
-    /// No commit was begun that could be waited for.
+    /// No commit was begun that could be waited for, or the connection of the last one failed.
     NoCommit,
     /// The line has more than 64 bytes or a line feed, and was not sent.
     BadLine,
@@ -83,6 +90,13 @@ trait Stream: Read + Write + Send + fmt::Debug {}
 impl Stream for TcpStream {}
 impl Stream for UnixStream {}
 
+/// Where the service is.
+#[derive(Clone, Debug)]
+enum Address {
+    Tcp(SocketAddr),
+    Unix(PathBuf),
+}
+
 /// The last commit that has a timestamp. Commits are counted from 1.
 #[derive(Clone, Copy, Debug)]
 struct Commit {
@@ -91,51 +105,58 @@ struct Commit {
     is_released: bool,
 }
 
+/// A connection, and what belongs to it.
+#[derive(Debug)]
+struct Connection {
+    stream: Box<dyn Stream>,
+    last: Commit,
+    /// Whether there is a commit to wait for, which is the last one.
+    is_begun: bool,
+    has_lease: bool,
+}
+
 /// A session with the service: one line and its reply at a time. It ends when it is dropped; a commit that is not released
 /// then is never known as released.
 #[derive(Debug)]
 pub struct Session {
-    stream: Option<Box<dyn Stream>>,
+    address: Address,
     timeout: Duration,
-    last: Commit,
-    /// Whether there is a commit to wait for, which is the last one.
-    is_begun: bool,
+    connection: Option<Connection>,
+    /// Whether a lease was ever asked for: then no commit begins without one.
+    wants_lease: bool,
 }
 
 impl Session {
     /// Connects to a TCP address. `timeout` is how long connecting, sending, each receiving and the waiting for a release
     /// may take; it may not be zero.
     pub fn connect_tcp(address: impl Into<SocketAddr>, timeout: Duration) -> Result<Session, Error> {
-        let stream = TcpStream::connect_timeout(&address.into(), timeout)?;
-        stream.set_nodelay(true)?;
-        stream.set_read_timeout(Some(timeout))?;
-        stream.set_write_timeout(Some(timeout))?;
-        Ok(Session::over(Box::new(stream), timeout))
+        Session::connect(Address::Tcp(address.into()), timeout)
     }
 
     /// Connects to the Unix socket at this path, as `connect_tcp`; connecting itself has no time-out.
     pub fn connect_unix(path: impl AsRef<Path>, timeout: Duration) -> Result<Session, Error> {
-        let stream = UnixStream::connect(path)?;
-        stream.set_read_timeout(Some(timeout))?;
-        stream.set_write_timeout(Some(timeout))?;
-        Ok(Session::over(Box::new(stream), timeout))
+        Session::connect(Address::Unix(path.as_ref().to_path_buf()), timeout)
     }
 
-    fn over(stream: Box<dyn Stream>, timeout: Duration) -> Session {
-        let last = Commit { number: 0, stamp_ns: 0, is_released: true };
-        Session { stream: Some(stream), timeout, last, is_begun: false }
+    fn connect(address: Address, timeout: Duration) -> Result<Session, Error> {
+        let connection = Some(Connection::to(&address, timeout)?);
+        Ok(Session { address, timeout, connection, wants_lease: false })
     }
 
-    /// Sends one line and gives its reply, both without the line feed; `refused N` is a reply like another.
+    /// Sends one line and gives its reply, both without the line feed; `refused N` is a reply like another. Begin no commit
+    /// and set no lease by it: the other calls do not know of that.
     pub fn ask(&mut self, line: &str) -> Result<String, Error> {
         if line.len() > LINE_BYTES || line.contains('\n') {
             return Err(Error::BadLine);
         }
-        // The stream comes back after a whole reply alone.
-        let mut stream = self.stream.take().ok_or(ErrorKind::NotConnected).map_err(io::Error::from)?;
-        stream.write_all(format!("{line}\n").as_bytes()).map_err(named)?;
-        let reply = receive(&mut *stream).map_err(named)?;
-        self.stream = Some(stream);
+        // The connection comes back after a whole reply alone.
+        let mut connection = match self.connection.take() {
+            Some(connection) => connection,
+            None => Connection::to(&self.address, self.timeout)?,
+        };
+        connection.stream.write_all(format!("{line}\n").as_bytes()).map_err(named)?;
+        let reply = receive(&mut *connection.stream).map_err(named)?;
+        self.connection = Some(connection);
         Ok(reply)
     }
 
@@ -157,36 +178,56 @@ impl Session {
         self.compare(&format!("before {t_ns}"))
     }
 
+    /// Sets the lease: timestamps of commits that begin from now on lie from `lo_ns` to `hi_ns`, both included. Refuses with
+    /// 101 and 102, and then the lease is what it was.
+    pub fn lease(&mut self, lo_ns: u64, hi_ns: u64) -> Result<(), Error> {
+        self.wants_lease = true;
+        let reply = self.question(&format!("lease {lo_ns} {hi_ns}"))?;
+        match (reply.numbers_behind("leased"), &mut self.connection) {
+            (Some(lease), Some(connection)) if lease == [lo_ns, hi_ns] => {
+                connection.has_lease = true;
+                Ok(())
+            }
+            _ => self.fail(),
+        }
+    }
+
     /// Begins a commit and gives its timestamp, no less than `floor_ns`. One commit at a time: refuses with 1104 before the
-    /// release of the last one. After another refusal begin again, with the same floor: the service may have begun it.
+    /// release of the last one. Refuses with 903 where the lease is over or was lost with its connection: set it again. After
+    /// another refusal begin again, with the same floor: the service may have begun it.
     pub fn begin(&mut self, floor_ns: u64) -> Result<u64, Error> {
-        if self.stream.is_some() && self.is_begun && !self.last.is_released {
+        let connection = self.connection.as_ref();
+        if connection.is_some_and(|connection| connection.is_begun && !connection.last.is_released) {
             return Err(Error::Refused(COMMIT_PENDING));
         }
-        self.is_begun = false;
-        self.send_commit(self.last.number + 1, floor_ns)?;
-        Ok(self.last.stamp_ns)
+        if self.wants_lease && !connection.is_some_and(|connection| connection.has_lease) {
+            return Err(Error::Refused(LEASE_LOST));
+        }
+        let mut number = 1;
+        if let Some(connection) = &mut self.connection {
+            connection.is_begun = false;
+            number = connection.last.number + 1;
+        }
+        Ok(self.send_commit(number, floor_ns)?.stamp_ns)
     }
 
     /// Waits until the timestamp of the commit has surely passed, and gives it. After a refusal the session may wait again.
     pub fn wait(&mut self) -> Result<u64, Error> {
         let began = Instant::now();
-        if self.stream.is_none() {
-            return Err(Error::Failed(ErrorKind::NotConnected.into()));
-        }
-        if !self.is_begun {
-            return Err(Error::NoCommit);
-        }
-        while !self.last.is_released {
-            self.send_commit(self.last.number, 0)?;
-            if !self.last.is_released {
+        let mut last = match &self.connection {
+            Some(connection) if connection.is_begun => connection.last,
+            _ => return Err(Error::NoCommit),
+        };
+        while !last.is_released {
+            last = self.send_commit(last.number, 0)?;
+            if !last.is_released {
                 if began.elapsed() > self.timeout {
                     return Err(Error::NotReleased);
                 }
                 thread::sleep(PAUSE);
             }
         }
-        Ok(self.last.stamp_ns)
+        Ok(last.stamp_ns)
     }
 
     /// Begins a commit, waits for its release, and gives its timestamp, as `begin` and `wait`.
@@ -196,17 +237,22 @@ impl Session {
     }
 
     /// Sends the line of a commit. The timestamp of one that has none so far has to be at least `floor_ns`.
-    fn send_commit(&mut self, number: u64, floor_ns: u64) -> Result<(), Error> {
+    fn send_commit(&mut self, number: u64, floor_ns: u64) -> Result<Commit, Error> {
         let reply = self.question(&format!("commit {number} {floor_ns}"))?;
         let released = reply.numbers_behind("committed");
-        let Some([echo, stamp_ns]) = released.or_else(|| reply.numbers_behind("waiting")) else { return self.fail() };
-        let is_right = if number == self.last.number { stamp_ns == self.last.stamp_ns } else { stamp_ns >= floor_ns };
+        let (Some([echo, stamp_ns]), Some(connection)) =
+            (released.or_else(|| reply.numbers_behind("waiting")), &mut self.connection)
+        else {
+            return self.fail();
+        };
+        let last = connection.last;
+        let is_right = if number == last.number { stamp_ns == last.stamp_ns } else { stamp_ns >= floor_ns };
         if echo != number || !is_right {
             return self.fail();
         }
-        self.last = Commit { number, stamp_ns, is_released: released.is_some() };
-        self.is_begun = true;
-        Ok(())
+        connection.last = Commit { number, stamp_ns, is_released: released.is_some() };
+        connection.is_begun = true;
+        Ok(connection.last)
     }
 
     fn compare(&mut self, line: &str) -> Result<bool, Error> {
@@ -226,10 +272,32 @@ impl Session {
         }
     }
 
-    /// Closes the session, since what came is no reply.
+    /// Gives the connection up, since what came is no reply.
     fn fail<T>(&mut self) -> Result<T, Error> {
-        self.stream = None;
+        self.connection = None;
         Err(Error::Failed(ErrorKind::InvalidData.into()))
+    }
+}
+
+impl Connection {
+    fn to(address: &Address, timeout: Duration) -> io::Result<Connection> {
+        let stream: Box<dyn Stream> = match address {
+            Address::Tcp(address) => {
+                let stream = TcpStream::connect_timeout(address, timeout)?;
+                stream.set_nodelay(true)?;
+                stream.set_read_timeout(Some(timeout))?;
+                stream.set_write_timeout(Some(timeout))?;
+                Box::new(stream)
+            }
+            Address::Unix(path) => {
+                let stream = UnixStream::connect(path)?;
+                stream.set_read_timeout(Some(timeout))?;
+                stream.set_write_timeout(Some(timeout))?;
+                Box::new(stream)
+            }
+        };
+        let last = Commit { number: 0, stamp_ns: 0, is_released: true };
+        Ok(Connection { stream, last, is_begun: false, has_lease: false })
     }
 }
 

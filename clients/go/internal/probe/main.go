@@ -117,6 +117,9 @@ func call(session *truetime.Session, name, rest string, timeout time.Duration) (
 			return "", errors.New("an error with an interval")
 		}
 		return fmt.Sprint(now.Earliest, now.Latest), err
+	case "lease":
+		ends := strings.Split(rest, " ")
+		return "leased " + rest, session.Lease(ctx, number(ends[0]), number(ends[1]))
 	case "after", "before":
 		compare := map[string]func(context.Context, uint64) (bool, error){"after": session.After, "before": session.Before}[name]
 		is, err := compare(ctx, number(rest))

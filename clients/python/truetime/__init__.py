@@ -1,0 +1,52 @@
+"""The time with an error bound, and timestamps for commits, from the time service of this machine.
+
+The time daemon of a machine keeps its last publication in a file of 320 bytes. A client maps that file once and reads
+it as often as it likes, without a lock and without waiting::
+
+    import truetime
+
+    with truetime.Client("/run/truetime/time", owner=0) as client:
+        now = client.now()
+        print(now.earliest_ns, now.latest_ns)   # the true time lies between them, in nanoseconds
+
+Timestamps come from the service itself, over TCP or its Unix socket::
+
+    with truetime.Session(("127.0.0.1", 5601)) as session:
+        stamp = session.begin()      # no other commit of this machine has this timestamp
+        ...                          # write and commit locally, under this timestamp
+        session.wait()               # only now may anybody be told of the commit
+
+:mod:`truetime.aio` has the same for asyncio. Or they are taken in this process, with a lease of their own::
+
+    with truetime.Client("/run/truetime/time", owner=0) as client:
+        stamper = truetime.Stamper(client, lease_lo_ns, lease_hi_ns)
+        stamp = stamper.stamp().stamp_ns   # no other stamp of this stamper is the same
+        ...                                # write and commit locally, under this timestamp
+        stamper.wait_past(stamp)           # only now may anybody be told of the commit
+
+Where an owner of the file or of its folder truncates the file, a mapped one raises SIGBUS, which ends Python. With
+``Client(path, owner, mapped=False)`` a call refuses instead; it makes three system calls more.
+
+Reads version 2 of the format (its first four bytes are TTS2), and refuses a file of version 1 with 1702. Needs Linux on
+a little-endian 64-bit machine, Python 3.9 or later, and nothing but the standard library.
+"""
+from ._calls import TIMEOUT_S, Interval
+from .readers import MAX_DRIFT_PPM, Client, Publication, Reading
+from .refusals import MAX_TIME_NS, Refused
+from .sessions import Session
+from .stampers import MAX_AHEAD_NS, Stamp, Stamper
+
+__all__ = [
+    "MAX_AHEAD_NS",
+    "MAX_DRIFT_PPM",
+    "MAX_TIME_NS",
+    "TIMEOUT_S",
+    "Client",
+    "Interval",
+    "Publication",
+    "Reading",
+    "Refused",
+    "Session",
+    "Stamp",
+    "Stamper",
+]

@@ -1,0 +1,227 @@
+"""Sessions with the service, for asyncio::
+
+    from truetime import aio
+
+    async with aio.Session(("127.0.0.1", 5601)) as session:
+        stamp_ns = await session.begin()   # no other commit of this machine has this timestamp
+        ...                                # write and commit locally, under this timestamp
+        await session.wait()               # only now may anybody be told of the commit
+"""
+import asyncio
+import time
+from typing import Any, Optional, TypeVar, Union, cast
+
+from ._calls import TIMEOUT_S, Address, Call, Calls, Interval, reply_in
+
+__all__ = ["Session"]
+
+_T = TypeVar("_T")
+
+
+class _Connection(asyncio.Protocol):
+    """A connection of an asyncio session: the reply to its last line, or why there is none."""
+
+    def __init__(self) -> None:
+        self.is_lost: "asyncio.Future[None]" = asyncio.get_running_loop().create_future()
+        self._transport: Optional[asyncio.Transport] = None
+        self._received = b""
+        self._reply: "Optional[asyncio.Future[Union[str, ConnectionError]]]" = None
+        self._failed: Optional[ConnectionError] = None
+
+    def send(self, line: str) -> "asyncio.Future[Union[str, ConnectionError]]":
+        """Sends a line. Its reply will be in the future, or why there is none."""
+        if self._failed or not self._transport:
+            raise self._failed or ConnectionError("there is no connection")
+        self._received = b""
+        self._reply = asyncio.get_running_loop().create_future()
+        self._transport.write(line.encode("ascii") + b"\n")
+        return self._reply
+
+    def end(self, failed: ConnectionError) -> None:
+        """Ends the connection. The first reason counts."""
+        self._failed = self._failed or failed
+        if self._reply and not self._reply.done():
+            self._reply.set_result(self._failed)
+        if self._transport:
+            self._transport.abort()
+
+    def connection_made(self, transport: asyncio.BaseTransport) -> None:
+        self._transport = cast(asyncio.Transport, transport)
+        if self._failed:
+            self._transport.abort()
+
+    def data_received(self, data: bytes) -> None:
+        self._received += data
+        try:
+            reply = reply_in(self._received)
+        except ConnectionError as failed:
+            self.end(failed)
+            return
+        if not self._reply or self._reply.done():
+            self.end(ConnectionError("a reply came to no line"))
+        elif reply is not None:
+            self._reply.set_result(reply)
+
+    def connection_lost(self, exc: Optional[Exception]) -> None:
+        self.end(ConnectionError(f"the connection failed: {exc}" if exc else "the service ended the session"))
+        if not self.is_lost.done():
+            self.is_lost.set_result(None)
+
+
+class Session:
+    """The calls of :class:`truetime.Session`, with the same refusals, errors and rules.
+
+    Calls of several tasks take turns. A session has one commit at a time, so each task that commits wants a session of its
+    own.
+
+    A call that is cancelled, as by :func:`asyncio.wait_for`, leaves the session as it is. If its line was sent, the reply is
+    still to come: the next call waits for it, and drops it. The call may have been done:
+
+    - After :meth:`wait` or :meth:`commit`, call :meth:`wait` again. :meth:`begin` refuses with 1104 before that.
+    - After :meth:`begin`, nobody has the timestamp, and no other commit gets it: the next :meth:`begin` has the service
+      release that commit first.
+    - After :meth:`lease`, the lease is the old one or the new one.
+    """
+
+    def __init__(self, address: Address, timeout_s: float = TIMEOUT_S) -> None:
+        """Takes a TCP address, or the path of a Unix socket. ``async with`` connects, or else the first call does.
+
+        ``timeout_s`` is how long connecting, each receiving and the waiting for a release may take.
+        """
+        self._address, self._timeout_s = address, timeout_s
+        self._calls = Calls(timeout_s)
+        self._is_closed = False
+        self._turn: Optional[asyncio.Lock] = None
+        self._connection: Optional[_Connection] = None
+        # The reply that is still to come, until when, and the call and the line to which it does.
+        self._owed: "Optional[tuple[asyncio.Future[Union[str, ConnectionError]], float, Call[Any], str]]" = None
+
+    @classmethod
+    async def connect(cls, address: Address, timeout_s: float = TIMEOUT_S) -> "Session":
+        """A session that is connected. Close it in the end."""
+        return await cls(address, timeout_s).__aenter__()
+
+    async def close(self) -> None:
+        """Ends the session for good, and a call that is under way, which fails. A commit that is not released then is never
+        known as released."""
+        self._is_closed = True
+        connection = self._connection
+        self._drop()
+        if connection:
+            await asyncio.wait({connection.is_lost})
+
+    async def __aenter__(self) -> "Session":
+        if not self._connection:
+            await self._connect()
+        return self
+
+    async def __aexit__(self, *_: object) -> None:
+        await self.close()
+
+    async def ask(self, line: str) -> str:
+        """As :meth:`truetime.Session.ask`."""
+        return await self._made(self._calls.ask(line))
+
+    async def now(self) -> Interval:
+        """As :meth:`truetime.Session.now`."""
+        return await self._made(self._calls.now())
+
+    async def after(self, t_ns: int) -> bool:
+        """As :meth:`truetime.Session.after`."""
+        return await self._made(self._calls.compare("after", t_ns))
+
+    async def before(self, t_ns: int) -> bool:
+        """As :meth:`truetime.Session.before`."""
+        return await self._made(self._calls.compare("before", t_ns))
+
+    async def lease(self, lo_ns: int, hi_ns: int) -> None:
+        """As :meth:`truetime.Session.lease`."""
+        await self._made(self._calls.lease(lo_ns, hi_ns))
+
+    async def begin(self, floor_ns: int = 0) -> int:
+        """As :meth:`truetime.Session.begin`."""
+        return await self._made(self._calls.begin(floor_ns))
+
+    async def wait(self) -> int:
+        """As :meth:`truetime.Session.wait`."""
+        return await self._made(self._calls.wait())
+
+    async def commit(self, floor_ns: int = 0) -> int:
+        """As :meth:`truetime.Session.commit`."""
+        return await self._made(self._calls.commit(floor_ns))
+
+    async def _made(self, call: "Call[_T]") -> _T:
+        """What a call gives, once it has its turn and the reply that is owed has come."""
+        self._turn = self._turn or asyncio.Lock()
+        async with self._turn:
+            self._check_open()
+            try:
+                if self._owed:
+                    _, _, cancelled, line = self._owed
+                    self._calls.take_late(cancelled, line, await self._received())
+                step = next(call)
+                while True:
+                    if isinstance(step, str):
+                        step = call.send(await self._exchanged(call, step))
+                    else:
+                        await asyncio.sleep(step)
+                        step = call.send("")
+            except StopIteration as done:
+                given: _T = done.value
+                return given
+            except ConnectionError:
+                self._drop()
+                raise
+
+    async def _exchanged(self, call: "Call[Any]", line: str) -> str:
+        connection = self._connection or await self._connect()
+        reply = connection.send(line)
+        self._owed = reply, time.monotonic() + self._timeout_s, call, line
+        return await self._received()
+
+    async def _received(self) -> str:
+        """The reply that is owed. It stays owed where this is cancelled."""
+        assert self._owed
+        reply, give_up, _, _ = self._owed
+        await asyncio.wait({reply}, timeout=max(give_up - time.monotonic(), 0))
+        self._owed = None
+        if not reply.done():
+            self._drop()
+            raise TimeoutError("no reply in time")
+        received = reply.result()
+        if isinstance(received, ConnectionError):
+            raise received
+        return received
+
+    async def _connect(self) -> _Connection:
+        self._check_open()
+        loop, connection = asyncio.get_running_loop(), _Connection()
+        if isinstance(self._address, str):
+            connecting = loop.create_task(loop.create_unix_connection(lambda: connection, self._address))
+        else:
+            connecting = loop.create_task(loop.create_connection(lambda: connection, *self._address))
+        try:
+            await asyncio.wait({connecting}, timeout=self._timeout_s)
+        finally:
+            if not connecting.done():
+                connecting.cancel()
+                connection.end(ConnectionError("the connection was given up"))
+        if connecting.cancelled() or not connecting.done():
+            raise TimeoutError("no connection in time")
+        connecting.result()
+        self._connection = connection
+        if self._is_closed:  # meanwhile
+            self._drop()
+        self._check_open()
+        return connection
+
+    def _check_open(self) -> None:
+        if self._is_closed:
+            raise ConnectionError("the session is closed")
+
+    def _drop(self) -> None:
+        """Gives the connection up, and all that belongs to it."""
+        if self._connection:
+            self._connection.end(ConnectionError("the session is closed"))
+        self._connection = self._owed = None
+        self._calls.forget()

@@ -1,0 +1,211 @@
+"""The reader of the file in which a daemon shares its last publication."""
+import mmap
+import os
+import stat
+import struct
+import sys
+import time
+from typing import NamedTuple, Union
+
+from .refusals import MAX_TIME_NS, Refused
+
+#: The greatest drift of a clock, in parts per million.
+MAX_DRIFT_PPM = 100_000
+
+_BYTES = 320
+_INDEX_AT = 16
+_SLOTS_AT = (64, 192)
+_TRIES = 1000
+_HEAD = b"TTS2\x40\1\0\0\1\0\0\0\0\0\0\0"
+_LOWEST_BITS = 0x0101010101010101
+# "@" makes CPython copy each number as one word of eight bytes; "<" or "=" would copy it byte by byte.
+_WORD = struct.Struct("@Q")
+_SLOT = struct.Struct("@16Q")
+_USED_WORDS = 9
+
+
+class Reading(NamedTuple):
+    """What is known of the true time: it lies from ``earliest_ns`` to ``latest_ns``, both included."""
+
+    earliest_ns: int
+    latest_ns: int
+    #: The daemon's life, and the number in it of the publication that was read.
+    epoch: int
+    number: int
+    #: False where the daemon is late or gone: the interval is right, and widens until the daemon is back.
+    fresh: bool
+
+    def after(self, t_ns: int) -> bool:
+        """Whether time ``t_ns`` has surely passed."""
+        return t_ns < self.earliest_ns
+
+    def before(self, t_ns: int) -> bool:
+        """Whether time ``t_ns`` has surely not arrived."""
+        return t_ns > self.latest_ns
+
+
+class Publication(NamedTuple):
+    """What the daemon published."""
+
+    #: The machine's clock at the fusion.
+    clock_ns: int
+    #: The interval that held the true time then.
+    lo_ns: int
+    hi_ns: int
+    #: The last clock reading at which a newer publication is not overdue.
+    valid_until_ns: int
+    #: The last clock reading at which it may be used. 2^64 - 1: there is no limit. 0: nothing is published any more.
+    usable_until_ns: int
+    epoch: int
+    number: int
+    #: How far the clock may drift.
+    drift_ppm: int
+
+    def read_at(self, clock_ns: int) -> Reading:
+        """The reading of this publication at a clock reading. Refuses with 802 and 1708."""
+        if clock_ns < self.clock_ns or clock_ns > MAX_TIME_NS:
+            raise Refused(802)
+        if clock_ns > self.usable_until_ns:
+            raise Refused(1708)
+        elapsed = clock_ns - self.clock_ns
+        widening = (elapsed * self.drift_ppm + 999_999) // 1_000_000
+        return Reading(
+            min(self.lo_ns + elapsed - widening, MAX_TIME_NS),
+            min(self.hi_ns + elapsed + widening, MAX_TIME_NS),
+            self.epoch,
+            self.number,
+            clock_ns <= self.valid_until_ns,
+        )
+
+
+class Client:
+    """A file of a daemon. Any number of threads may use one client."""
+
+    def __init__(self, path: str, owner: int, mapped: bool = True) -> None:
+        """Opens the file at this path, which the user ``owner`` has to own. Refuses with 1701 and 1702.
+
+        Where it is not ``mapped``, each call reads it.
+        """
+        if sys.byteorder != "little" or _WORD.size != 8:
+            raise Refused(1702)
+        self._mapped: Union[mmap.mmap, None] = None
+        self._file = _opened(path, owner)
+        if mapped:
+            try:
+                self._mapped = mmap.mmap(self._file, _BYTES, mmap.MAP_SHARED, mmap.PROT_READ)
+            except (OSError, ValueError):  # a ValueError where it has become shorter
+                raise Refused(1701) from None
+            finally:
+                self._close_file()
+
+    def close(self) -> None:
+        """Unmaps or closes the file."""
+        if self._mapped is not None:
+            self._mapped.close()
+        self._close_file()
+
+    def __enter__(self) -> "Client":
+        return self
+
+    def __exit__(self, *_: object) -> None:
+        self.close()
+
+    def read(self) -> Publication:
+        """The last publication. Refuses with 801, 1704 and 1703, then with 801 where nothing is published any more, and with 1701 where it
+        is not mapped and has become shorter."""
+        copied = self._copied_unmapped if self._mapped is None else self._copied
+        for _ in range(_TRIES):
+            index, word, again = copied()
+            if again != index:
+                continue
+            if index == 0:
+                raise Refused(801)
+            published = Publication(*word[1:5], word[8], *word[5:8])
+            if word[0] != index or not _is_in_range(published) or any(word[_USED_WORDS:]):
+                raise Refused(1703)
+            if published.usable_until_ns == 0:
+                raise Refused(801)
+            return published
+        raise Refused(1704)
+
+    def _copied(self) -> "tuple[int, tuple[int, ...], int]":
+        """The index, the slot that is current at it, and the index again."""
+        mapped = self._mapped
+        (index,) = _WORD.unpack_from(mapped, _INDEX_AT)
+        slot = _SLOT.unpack_from(mapped, _slot_at(index))
+        return index, slot, _WORD.unpack_from(mapped, _INDEX_AT)[0]
+
+    def _copied_unmapped(self) -> "tuple[int, tuple[int, ...], int]":
+        try:
+            (index,) = _WORD.unpack(os.pread(self._file, _WORD.size, _INDEX_AT))
+            slot = _SLOT.unpack(os.pread(self._file, _SLOT.size, _slot_at(index)))
+            return index, slot, _WORD.unpack(os.pread(self._file, _WORD.size, _INDEX_AT))[0]
+        except (OSError, struct.error):  # a struct.error where it has become shorter
+            raise Refused(1701) from None
+
+    def _close_file(self) -> None:
+        if self._file >= 0:
+            os.close(self._file)
+        self._file = -1
+
+    def now(self) -> Reading:
+        """The time now. Refuses as ``read``, and with 803, 802 and 1708."""
+        published = self.read()
+        # The clock is read after the publication, so it is not below that of the publication.
+        try:
+            clock_ns = time.clock_gettime_ns(time.CLOCK_MONOTONIC)
+        except OSError:
+            raise Refused(803) from None
+        return published.read_at(clock_ns)
+
+
+def _is_in_range(published: Publication) -> bool:
+    return (
+        published.clock_ns <= MAX_TIME_NS
+        and published.lo_ns <= published.hi_ns <= MAX_TIME_NS
+        and published.drift_ppm <= MAX_DRIFT_PPM
+    )
+
+
+def _slot_at(index: int) -> int:
+    # The publication's count is odd where an odd number of the eight bytes of the index are odd.
+    return _SLOTS_AT[bin(index & _LOWEST_BITS).count("1") & 1]
+
+
+def _opened(path: str, owner: int) -> int:
+    try:
+        file = os.open(path, os.O_RDONLY | os.O_CLOEXEC | os.O_NOFOLLOW | os.O_NONBLOCK)
+    except OSError:
+        raise Refused(1701) from None
+    try:
+        found = os.fstat(file)
+        is_plain = stat.S_ISREG(found.st_mode) and found.st_size == _BYTES
+        if not is_plain or found.st_uid != owner or found.st_mode & (stat.S_IWGRP | stat.S_IWOTH):
+            raise Refused(1702)
+        head = os.pread(file, 64, 0)
+        if head[:16] != _HEAD or head[60:] != bytes(4) or not _is_same_clock(head[24:60]):
+            raise Refused(1702)
+    except OSError:
+        os.close(file)
+        raise Refused(1701) from None
+    except Refused:
+        os.close(file)
+        raise
+    return file
+
+
+def _is_same_clock(boot: bytes) -> bool:
+    """Whether CLOCK_MONOTONIC is here what it is to the daemon: the same boot, and no time namespace that shifts it."""
+    try:
+        with open("/proc/sys/kernel/random/boot_id", "rb") as file:
+            if file.read(36) != boot:
+                return False
+    except OSError:
+        return False
+    try:
+        with open("/proc/self/timens_offsets", encoding="ascii") as file:
+            return file.readline().split() == ["monotonic", "0", "0"]
+    except FileNotFoundError:
+        return True  # a kernel without time namespaces
+    except OSError:
+        return False

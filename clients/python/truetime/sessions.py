@@ -1,0 +1,160 @@
+"""Sessions with the service."""
+import socket
+import time
+from typing import Optional, TypeVar
+
+from ._calls import LINE_BYTES, TIMEOUT_S, Address, Call, Calls, Interval, reply_in
+
+_T = TypeVar("_T")
+
+
+class Session:
+    """A session with the service: one line and its reply at a time, for one thread.
+
+    A call raises :class:`Refused` where the service refuses, and an :class:`OSError` where the connection fails:
+    :class:`TimeoutError` where no reply came in time, :class:`ConnectionError` where the service ended the session or what
+    came is no reply. Nobody knows then whether a commit that was asked for was begun.
+
+    The next call after that connects anew, to a new session of the service. No line is sent a second time by that: the last
+    commit is forgotten. Nor is the lease set again: once :meth:`lease` was called, :meth:`begin` refuses with 903 as long as
+    the connection has no lease.
+    """
+
+    def __init__(self, address: Address, timeout_s: float = TIMEOUT_S) -> None:
+        """Connects to a TCP address, or to the Unix socket at a path.
+
+        ``timeout_s`` is how long connecting, sending, each receiving and the waiting for a release may take.
+        """
+        self._address, self._timeout_s = address, timeout_s
+        self._calls = Calls(timeout_s)
+        self._is_closed = False
+        self._socket: Optional[socket.socket] = None
+        self._connect()
+
+    def close(self) -> None:
+        """Ends the session for good. A commit that is not released then is never known as released."""
+        self._is_closed = True
+        self._drop()
+
+    def __enter__(self) -> "Session":
+        return self
+
+    def __exit__(self, *_: object) -> None:
+        self.close()
+
+    def ask(self, line: str) -> str:
+        """Sends one line and gives its reply, both without the line feed. Raises nothing for ``refused N``.
+
+        Begin no commit and set no lease by it: the other calls do not know of that. Raises :class:`ValueError` where the line
+        has more than 64 bytes, or a byte that is no printable ASCII.
+        """
+        return self._made(self._calls.ask(line))
+
+    def now(self) -> Interval:
+        """The time now."""
+        return self._made(self._calls.now())
+
+    def after(self, t_ns: int) -> bool:
+        """Whether time ``t_ns`` has surely passed."""
+        return self._made(self._calls.compare("after", t_ns))
+
+    def before(self, t_ns: int) -> bool:
+        """Whether time ``t_ns`` has surely not arrived."""
+        return self._made(self._calls.compare("before", t_ns))
+
+    def lease(self, lo_ns: int, hi_ns: int) -> None:
+        """Sets the lease: timestamps of commits that begin from now on lie from ``lo_ns`` to ``hi_ns``, both included.
+
+        Refuses with 101 and 102, and then the lease is what it was.
+        """
+        self._made(self._calls.lease(lo_ns, hi_ns))
+
+    def begin(self, floor_ns: int = 0) -> int:
+        """Begins a commit and gives its timestamp, no less than ``floor_ns``.
+
+        One commit at a time: refuses with 1104 before the release of the last one. Refuses with 903 where the lease is over or
+        was lost with its connection: set it again. After another refusal begin again, with the same floor: the service may
+        have begun it.
+        """
+        return self._made(self._calls.begin(floor_ns))
+
+    def wait(self) -> int:
+        """Waits until the timestamp of the commit has surely passed, and gives it.
+
+        Raises :class:`TimeoutError` where that takes longer than the time-out; as after a refusal, the commit still waits
+        then, and may be waited for again. Raises :class:`RuntimeError` where no commit was begun, or the connection of the
+        last one failed.
+        """
+        return self._made(self._calls.wait())
+
+    def commit(self, floor_ns: int = 0) -> int:
+        """Begins a commit, waits for its release, and gives its timestamp."""
+        return self._made(self._calls.commit(floor_ns))
+
+    def _made(self, call: "Call[_T]") -> _T:
+        """What a call gives."""
+        if self._is_closed:
+            raise ConnectionError("the session is closed")
+        try:
+            step = next(call)
+            while True:
+                if isinstance(step, str):
+                    step = call.send(self._exchanged(step))
+                else:
+                    time.sleep(step)
+                    step = call.send("")
+        except StopIteration as done:
+            given: _T = done.value
+            return given
+        except ConnectionError:
+            self._drop()
+            raise
+
+    def _exchanged(self, line: str) -> str:
+        """Sends a line, and gives its reply. Without a reply the connection is given up."""
+        connection = self._socket or self._connect()
+        try:
+            connection.sendall(line.encode("ascii") + b"\n")
+            received, reply = b"", None
+            while reply is None:
+                piece = connection.recv(LINE_BYTES + 1 - len(received))
+                if not piece:
+                    raise ConnectionError("the service ended the session")
+                received += piece
+                reply = reply_in(received)
+            return reply
+        except socket.timeout:
+            self._drop()
+            raise TimeoutError("no reply in time") from None
+        except BaseException:
+            self._drop()
+            raise
+
+    def _connect(self) -> socket.socket:
+        try:
+            self._socket = _connected(self._address, self._timeout_s)
+        except socket.timeout:
+            raise TimeoutError("no connection in time") from None
+        return self._socket
+
+    def _drop(self) -> None:
+        """Gives the connection up, and all that belongs to it."""
+        if self._socket:
+            self._socket.close()
+        self._socket = None
+        self._calls.forget()
+
+
+def _connected(address: Address, timeout_s: float) -> socket.socket:
+    if not isinstance(address, str):
+        made = socket.create_connection(address, timeout_s)
+        made.setsockopt(socket.IPPROTO_TCP, socket.TCP_NODELAY, 1)
+        return made
+    made = socket.socket(socket.AF_UNIX)
+    try:
+        made.settimeout(timeout_s)
+        made.connect(address)
+    except BaseException:
+        made.close()
+        raise
+    return made
