@@ -26,7 +26,7 @@ from harness.suite import Suite
 
 suite = Suite(__name__)
 CLIENTS, GO = in_top("clients"), in_top("clients/go")
-MAX = 4_000_000_000_000_000_000
+MAX, SECOND = 4_000_000_000_000_000_000, 1_000_000_000
 
 
 NO_LIMIT = 2**64 - 1
@@ -560,6 +560,15 @@ def tests_of_go(trial):
         trial.note(f"Go: {what}: {passed} passed, {int(status != 0)} wrong, {time.monotonic() - began:.1f} seconds")
 
 
+@suite.case()
+def tests_of_asyncio(trial):
+    """The tests of the session of Python for asyncio: what its conversations do not show."""
+    ran = run([sys.executable, "-X", "dev", "-W", "error", os.path.join(CLIENTS, "python", "test", "aio_test.py")], seconds=120)
+    passed = re.search(r"^Ran (\d+) tests", ran.error, re.MULTILINE)
+    trial.holds(ran.status == 0 and passed, ran.said + ran.error)
+    trial.note(f"Python asyncio: {passed[1] if passed else 0} tests, {int(ran.status != 0)} wrong")
+
+
 class Reader:
     """A probe that answers line by line: its reader of a file that is not mapped, which reads again and again, or what else is named."""
 
@@ -676,6 +685,54 @@ def sessions(trial):
     """Conversations in each language. They wait more than they compute, so all languages run at once."""
     with ThreadPoolExecutor() as pool:
         list(pool.map(lambda probe: try_sessions(trial, *probe), session_probes(trial.shared)))
+
+
+def try_restarts(trial, name, words, machine):
+    """A session with a machine that is killed while a commit waits, stays away, and is started again: twice, as a lease goes with it."""
+    here = time.time_ns
+    with Reader(words, "session") as session:
+        def say(call):
+            said = session.say(call)
+            trial.check(name, said, f"{call}: the probe has ended")
+            return said
+
+        def wants(call, wanted):
+            said = say(call)
+            trial.check(name, said == wanted, f"{call}: {said!r} in place of {wanted!r}")
+
+        wants(f"open tcp {machine.address[1]} 10000", "open")
+        for lease in ([], [f"lease 0 {MAX}"]):
+            for call in lease:
+                wants(call, f"leased 0 {MAX}")
+            before = here()
+            stamp = int(say(f"begin {before + SECOND // 2}"))
+            trial.check(name, before + SECOND // 2 <= stamp, f"{stamp} for a commit of {before}")
+            machine.kill()
+            wants("wait", "failed")
+            wants("wait", "invalid")
+            wants("now", "failed")
+            wants("begin 0", "refused 903" if lease else "failed")
+            machine.start()
+            machine.wait_until_ready()
+            wants("wait", "invalid")
+            wants("after 1", "yes")
+            for call in lease:
+                wants("begin 0", "refused 903")
+                wants(call, f"leased 0 {MAX}")
+            later = int(say("commit 0"))
+            trial.check(name, before < later < here(), f"{later} is no timestamp of a commit from {before} to {here()}")
+        wants("close", "closed")
+        wants("now", "failed")
+
+
+@suite.case()
+def restarts(trial):
+    """Sessions with a machine that is killed and started again."""
+    machine = trial.fleet({"A": trial.masters(3)}, poll="100ms")["A"]
+    probes_tried = list(session_probes(trial.shared))
+    for probe in probes_tried:
+        try_restarts(trial, *probe, machine)
+    trial.note(f"{len(probes_tried)} kinds of sessions, {2 * len(probes_tried)} restarts of a machine, {len(trial.result.wrong)} wrong")
 
 
 WAYS = ("pwrite", "pieces", "stores", "bytes", "killed")

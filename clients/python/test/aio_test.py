@@ -1,0 +1,238 @@
+"""Tests of what truetime.aio.Session has beyond the blocking session: cancellation, tasks that take turns, and closing.
+
+The conversations of both are in tools/suites/clients.py. Run by `python aio_test.py`.
+"""
+import asyncio
+import contextlib
+import pathlib
+import sys
+import unittest
+
+sys.path.insert(0, str(pathlib.Path(__file__).resolve().parent.parent))
+
+from truetime import Interval, Refused, aio  # noqa: E402
+
+LIMIT_S = 60
+
+
+class StandIn:
+    """Plays the service: each connection has lines, and a reply to each. None as a reply waits for `say`."""
+
+    def __init__(self, *connections):
+        self.connections, self.wrong = list(connections), []
+        self.heard, self.said = asyncio.Event(), asyncio.Event()
+
+    async def __aenter__(self):
+        self.server = await asyncio.start_server(self.play, "127.0.0.1", 0)
+        self.session = aio.Session(self.server.sockets[0].getsockname(), LIMIT_S)
+        await self.session.__aenter__()
+        return self, self.session
+
+    async def __aexit__(self, kind, *_):
+        await self.session.close()
+        self.server.close()
+        await self.server.wait_closed()
+        if kind is None and (self.wrong or self.connections):
+            raise AssertionError(f"{self.wrong}; connections that did not come: {self.connections}")
+
+    def say(self, reply):
+        """Gives the reply for which a line waits."""
+        self.late = reply
+        self.said.set()
+
+    async def play(self, reader, writer):
+        exchanges = self.connections.pop(0) if self.connections else []
+        for line, reply in exchanges:
+            came = (await reader.readline()).decode()
+            if came != f"{line}\n":
+                self.wrong.append(f"{came!r} came in place of {line!r}")
+                break
+            if reply is None:
+                self.heard.set()
+                await self.said.wait()
+                self.said.clear()
+                reply = self.late
+            writer.write(reply.encode())
+        else:
+            with contextlib.suppress(ConnectionError):  # of a client that left
+                if rest := await reader.read():
+                    self.wrong.append(f"{rest!r} came behind the last line")
+        writer.close()
+
+
+class Cancellation(unittest.IsolatedAsyncioTestCase):
+    async def cancelled(self, stand_in, call):
+        """Makes a call, and cancels it once its line was heard."""
+        task = asyncio.ensure_future(call)
+        await asyncio.wait_for(stand_in.heard.wait(), LIMIT_S)
+        stand_in.heard.clear()
+        task.cancel()
+        with self.assertRaises(asyncio.CancelledError):
+            await task
+
+    async def test_wait(self):
+        for late in ("waiting 1 200\n", "committed 1 200\n", "refused 803\n"):
+            again = [] if late.startswith("committed") else [("commit 1 0", "committed 1 200\n")]
+            lines = [("commit 1 0", "waiting 1 200\n"), ("commit 1 0", None), *again, ("commit 2 7", "committed 2 300\n")]
+            async with StandIn(lines) as (stand_in, session):
+                self.assertEqual(await session.begin(), 200)
+                await self.cancelled(stand_in, session.wait())
+                stand_in.say(late)
+                if again:
+                    with self.assertRaises(Refused) as caught:
+                        await session.begin()
+                    self.assertEqual(caught.exception.number, 1104)
+                self.assertEqual(await session.wait(), 200)
+                self.assertEqual(await session.commit(7), 300)
+
+    async def test_wait_for(self):
+        """The reply is late for two calls, of which the second one sends nothing."""
+        lines = [("commit 1 0", "waiting 1 200\n"), ("commit 1 0", None), ("now", "now 5 15\n"), ("commit 1 0", "committed 1 200\n")]
+        async with StandIn(lines) as (stand_in, session):
+            await session.begin()
+            for call in session.wait(), session.after(1):
+                with self.assertRaises(asyncio.TimeoutError):
+                    await asyncio.wait_for(call, 0.05)
+            stand_in.say("waiting 1 200\n")
+            self.assertEqual(await session.now(), Interval(5, 15))
+            self.assertEqual(await session.wait(), 200)
+
+    async def test_between_lines(self):
+        """The wait ends while no reply is to come."""
+        lines = [("commit 1 0", "waiting 1 200\n"), ("commit 1 0", None), ("now", "now 5 15\n"), ("commit 1 0", "committed 1 200\n")]
+        async with StandIn(lines) as (stand_in, session):
+            await session.begin()
+            pausing, sleep = asyncio.Event(), asyncio.sleep
+
+            async def pause(_):
+                pausing.set()
+                await sleep(LIMIT_S)
+
+            asyncio.sleep = pause
+            try:
+                task = asyncio.ensure_future(session.wait())
+                stand_in.say("waiting 1 200\n")
+                await pausing.wait()
+                task.cancel()
+                with self.assertRaises(asyncio.CancelledError):
+                    await task
+            finally:
+                asyncio.sleep = sleep
+            self.assertEqual(await session.now(), Interval(5, 15))
+            self.assertEqual(await session.wait(), 200)
+
+    async def test_begin(self):
+        """A commit that comes later gets no timestamp that was given before it came."""
+        lines = [("commit 1 0", None), ("commit 1 0", "waiting 1 200\n"), ("commit 1 0", "committed 1 200\n"), ("commit 2 9", "waiting 2 300\n"),
+                 ("commit 2 0", "committed 2 300\n")]
+        async with StandIn(lines) as (stand_in, session):
+            await self.cancelled(stand_in, session.begin())
+            stand_in.say("waiting 1 200\n")
+            with self.assertRaises(RuntimeError):
+                await session.wait()
+            self.assertEqual(await session.commit(9), 300)
+
+    async def test_begin_is_released(self):
+        async with StandIn([("commit 1 0", None), ("commit 2 9", "committed 2 300\n")]) as (stand_in, session):
+            await self.cancelled(stand_in, session.commit())
+            stand_in.say("committed 1 200\n")
+            with self.assertRaises(RuntimeError):
+                await session.wait()
+            self.assertEqual(await session.commit(9), 300)
+
+    async def test_begin_is_refused(self):
+        """Nobody knows whether it has begun, so the connection is given up."""
+        async with StandIn([("commit 1 0", None)], [("commit 1 9", "committed 1 300\n")]) as (stand_in, session):
+            await self.cancelled(stand_in, session.begin())
+            stand_in.say("refused 803\n")
+            with self.assertRaises(ConnectionError):
+                await session.now()
+            self.assertEqual(await session.commit(9), 300)
+
+    async def test_lease(self):
+        """What the late reply says holds."""
+        lines = [("lease 9 5", None), ("lease 5 9", None), ("commit 1 0", "committed 1 7\n")]
+        async with StandIn(lines) as (stand_in, session):
+            await self.cancelled(stand_in, session.lease(9, 5))
+            stand_in.say("refused 101\n")
+            with self.assertRaises(Refused) as caught:
+                await session.begin()
+            self.assertEqual(caught.exception.number, 903)
+            await self.cancelled(stand_in, session.lease(5, 9))
+            stand_in.say("leased 5 9\n")
+            self.assertEqual(await session.commit(), 7)
+
+    async def test_late_reply_is_none(self):
+        async with StandIn([("after 5", None)], [("now", "now 5 15\n")]) as (stand_in, session):
+            await self.cancelled(stand_in, session.after(5))
+            stand_in.say("now 1 2\n")
+            with self.assertRaises(ConnectionError):
+                await session.now()
+            self.assertEqual(await session.now(), Interval(5, 15))
+
+    async def test_no_late_reply(self):
+        """The reply that is owed does not come in time."""
+        async with StandIn([("now", None)], [("now", "now 5 15\n")]) as (stand_in, session):
+            session._timeout_s = 0.2
+            await self.cancelled(stand_in, session.now())
+            with self.assertRaises(TimeoutError):
+                await session.now()
+            session._timeout_s = LIMIT_S
+            self.assertEqual(await session.now(), Interval(5, 15))
+            stand_in.say("now 1 2\n")
+
+
+class Tasks(unittest.IsolatedAsyncioTestCase):
+    async def test_turns(self):
+        """Calls of several tasks take turns, in their order; one that is cancelled before its turn sends nothing."""
+        async with StandIn([("after 1", None), ("before 1", "no\n"), ("ask 3", "4\n")]) as (stand_in, session):
+            tasks = [asyncio.ensure_future(call) for call in (session.after(1), session.before(1), session.now(), session.ask("ask 3"))]
+            await asyncio.wait_for(stand_in.heard.wait(), LIMIT_S)
+            tasks[2].cancel()
+            stand_in.say("yes\n")
+            said = await asyncio.gather(*tasks, return_exceptions=True)
+            self.assertEqual([*said[:2], said[3]], [True, False, "4"])
+            self.assertIsInstance(said[2], asyncio.CancelledError)
+
+    async def test_unasked(self):
+        """What nobody asked for is the reply to no later line."""
+        async with StandIn([("now", "now 5 15\n")], [("now", "now 7 9\n")]) as (_, session):
+            self.assertEqual(await session.now(), Interval(5, 15))
+            session._connection.data_received(b"now 1 2\n")
+            with self.assertRaises(ConnectionError):
+                await session.now()
+            self.assertEqual(await session.now(), Interval(7, 9))
+
+    async def test_close(self):
+        """Closing ends a call that waits for its reply, and one that waits for its turn; it stays closed."""
+        async with StandIn([("now", None)]) as (stand_in, session):
+            tasks = [asyncio.ensure_future(session.now()) for _ in range(2)]
+            await asyncio.wait_for(stand_in.heard.wait(), LIMIT_S)
+            await session.close()
+            stand_in.say("now 5 15\n")
+            for said in await asyncio.gather(*tasks, return_exceptions=True):
+                self.assertIsInstance(said, ConnectionError)
+            for call in session.now(), session.wait(), session.begin(), session.lease(1, 2):
+                with self.assertRaises(ConnectionError):
+                    await call
+            await session.close()
+
+    async def test_connecting(self):
+        """A session connects by `async with`, by `connect`, and by its first call; nobody may listen."""
+        async with StandIn([], [("now", "now 5 15\n")], [("now", "now 7 9\n")]) as (stand_in, _):
+            address = stand_in.server.sockets[0].getsockname()
+            session = await aio.Session.connect(address, LIMIT_S)
+            self.assertEqual(await session.now(), Interval(5, 15))
+            await session.close()
+            session = aio.Session(address, LIMIT_S)
+            self.assertEqual(await session.now(), Interval(7, 9))
+            await session.close()
+        for where in address, "/nobody":
+            with self.assertRaises(OSError):
+                await aio.Session.connect(where, 5)
+            with self.assertRaises(OSError):
+                await aio.Session(where, 5).now()
+
+
+if __name__ == "__main__":
+    unittest.main()
