@@ -1,8 +1,7 @@
 """Tests the clients of clients/ as their users get them, without a network: the wheel and the source package of Python in a virtual
 environment, the crate that cargo packages, a jar of what java/pom.xml names, the headers that CMake installs, found by pkg-config and by
 find_package, and the module of Go by `replace`. Each example of clients/README.md, and that of README.md, is compiled against what was
-installed, and run beside a stand-in: a file of one publication, and a service that releases each commit at its second line. One with a
-stamper is compiled only.
+installed, and run beside a stand-in: a file of one publication, and a service that releases each commit at its second line.
 
 What is not installed here is left out, with a line that says so. All of it is made in temporary folders, from a copy of clients/.
 """
@@ -71,7 +70,7 @@ class Example(typing.NamedTuple):
     @property
     def is_run(self):
         """Whether there is a stand-in for all that it asks for, and the file has the owner that it names."""
-        return "stamper" not in self.text.lower() and os.geteuid() == 0
+        return os.geteuid() == 0
 
     def beside(self, stand_in):
         """Its text with the file and the port of the stand-in."""
@@ -80,7 +79,7 @@ class Example(typing.NamedTuple):
 
 def examples_in(document, heading):
     """The examples of a part of a document that are indented, whole ones: a blank line within one belongs to it."""
-    part = read_text(document).split(f"\n## {heading}\n")[1].split("\n## ")[0]
+    part = re.split(rf"\n##+ {re.escape(heading)}\n", read_text(document))[1].split("\n##")[0]
     return [Example(re.sub("^    ", "", block, flags=re.MULTILINE)) for block in re.findall(r"(?:^    .*\n(?:\n+(?=    ))?)+", part, re.MULTILINE)]
 
 
@@ -118,7 +117,7 @@ class StandIn(socketserver.ThreadingTCPServer):
 
 
 def try_example(trial, what, example, stand_in, words, **how):
-    """Runs an example: a reading has to be that of the file, and a commit released. What could not be built is not run."""
+    """Runs an example: a reading has to be that of the file, a stamp one by it, and a commit released. What could not be built is not run."""
     if not example.is_run:
         trial.note(f"{what}: compiled only")
     if not example.is_run or shutil.which(words[0]) is None:
@@ -130,6 +129,9 @@ def try_example(trial, what, example, stand_in, words, **how):
         passed = time.clock_gettime_ns(time.CLOCK_MONOTONIC) - stand_in.clock
         is_right = len(readings) == 1 and LO <= readings[0][0] == readings[0][1] - WIDTH <= LO + passed
         trial.check(f"{what}: the reading", is_right, f"{ran.said!r}")
+        stamps = [int(stamp) for stamp in re.findall(r"^(\d+)$", ran.said, re.MULTILINE)]
+        is_right = len(stamps) == 1 and readings and readings[0][1] <= stamps[0] <= LO + WIDTH + passed
+        trial.check(f"{what}: the stamp", is_right, f"{ran.said!r}")
     if PORT in example.text:
         trial.check(f"{what}: the commit", stand_in.came.count("commit 1 0") == 2, f"these lines came: {stand_in.came}")
 
@@ -255,7 +257,7 @@ def user_of_rust(examples, stand_in):
                          f'truetime = {{ path = "../unpacked/truetime-{VERSION}" }}\n')
     for number, example in enumerate(examples):
         yield f"src/bin/example_{number}.rs", (
-            "#![allow(unused_variables, unused_imports)]\nuse std::time::Duration;\n\nfn main() -> Result<(), Box<dyn std::error::Error>> {\n"
+            "#![allow(unused_variables, unused_imports)]\nuse std::time::{Duration, Instant};\n\nfn main() -> Result<(), Box<dyn std::error::Error>> {\n"
             f"{example.beside(stand_in)}    Ok(())\n}}\n")
 
 
@@ -404,7 +406,7 @@ def c(trial):
         prefix, sources = installed(trial, clients), {}
         examples = examples_in("clients/README.md", "C and C++")
         for number, example in enumerate(examples):
-            text = f"#include <truetime.h>\n#include <truetime_session.h>\n\nint main(void) {{\n{example.beside(stand_in)}    return 0;\n}}\n"
+            text = f"#include <truetime.h>\n#include <truetime_session.h>\n#include <truetime_stamper.h>\n\nint main(void) {{\n{example.beside(stand_in)}    return 0;\n}}\n"
             for ending in ("c", "cpp"):
                 sources[f"{trial.room}/example_{number}.{ending}"] = example
                 write(f"{trial.room}/example_{number}.{ending}", text.encode())
