@@ -13,20 +13,25 @@ import (
 )
 
 // startStandIn gives the address of a stand-in for the service, which gives these replies on its one connection.
-func startStandIn(replies ...string) string {
+func startStandIn(replies ...string) string { return startStandIns(replies) }
+
+// startStandIns has replies for each connection, which it closes at a line that has none.
+func startStandIns(connections ...[]string) string {
 	listener, err := net.Listen("tcp", "127.0.0.1:0")
 	if err != nil {
 		log.Fatal(err)
 	}
 	go func() {
 		defer listener.Close()
-		conn, err := listener.Accept()
-		if err != nil {
-			log.Fatal(err)
-		}
-		defer conn.Close()
-		for lines := bufio.NewScanner(conn); lines.Scan() && len(replies) > 0; replies = replies[1:] {
-			fmt.Fprintln(conn, replies[0])
+		for _, replies := range connections {
+			conn, err := listener.Accept()
+			if err != nil {
+				log.Fatal(err)
+			}
+			for lines := bufio.NewScanner(conn); lines.Scan() && len(replies) > 0; replies = replies[1:] {
+				fmt.Fprintln(conn, replies[0])
+			}
+			conn.Close()
 		}
 	}()
 	return listener.Addr().String()
@@ -96,18 +101,29 @@ func ExampleSession_Wait() {
 	// 200 <nil>
 }
 
-// The time from the shared file, as a program has it that runs beside a machine.
-func ExampleOpen() {
-	client, err := truetime.Open("/run/truetime/time", 0)
+// The service is started again: the call fails, and the next one connects anew. No commit begins before the lease is set again.
+func ExampleSession_Lease() {
+	ctx := context.Background()
+	session, err := truetime.Dial(ctx, "tcp", startStandIns([]string{"leased 0 900"}, []string{"leased 0 900", "waiting 1 200"}))
 	if err != nil {
 		log.Fatal(err)
 	}
-	defer client.Close()
-	now, err := client.Now()
-	if err != nil {
+	defer session.Close()
+	if err := session.Lease(ctx, 0, 900); err != nil {
 		log.Fatal(err)
 	}
-	fmt.Println(now.Earliest, now.Latest, now.Fresh)
+	_, _, err = session.Begin(ctx, 0)
+	var broken *truetime.BrokenError
+	fmt.Println("failed:", errors.As(err, &broken))
+	_, _, err = session.Begin(ctx, 0)
+	fmt.Println("without a lease:", errors.Is(err, truetime.LeaseOver))
+	fmt.Println(session.Lease(ctx, 0, 900))
+	fmt.Println(session.Begin(ctx, 0))
+	// Output:
+	// failed: true
+	// without a lease: true
+	// <nil>
+	// 200 false <nil>
 }
 
 func ExamplePublication_At() {

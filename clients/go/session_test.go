@@ -9,6 +9,7 @@ import (
 	"net"
 	"os"
 	"strings"
+	"syscall"
 	"testing"
 	"time"
 )
@@ -325,6 +326,93 @@ func TestTimeout(t *testing.T) {
 	_, err := session.Now(always) // the reply that is owed does not come in time
 	wantBroken(t, err, os.ErrDeadlineExceeded)
 	if _, err = session.Wait(always); err != ErrNoCommit {
+		t.Fatal(err)
+	}
+}
+
+// TestConnectsAnew has the connection fail while a reply is owed. Nothing of the first connection comes on the second one.
+func TestConnectsAnew(t *testing.T) {
+	listener, err := net.Listen("tcp", "127.0.0.1:0")
+	if err != nil {
+		t.Fatal(err)
+	}
+	defer listener.Close()
+	heard, isOver, played := make(chan struct{}), make(chan struct{}), make(chan struct{})
+	go func() {
+		defer close(played)
+		for turn := 0; turn < 2; turn++ {
+			conn, err := listener.Accept()
+			if err != nil {
+				t.Error(err)
+				return
+			}
+			conn.SetDeadline(time.Now().Add(30 * time.Second))
+			s := &standIn{t, conn, bufio.NewScanner(conn)}
+			if turn == 0 {
+				s.answer("commit 1 0", "waiting 1 200")
+				s.hear("commit 1 0")
+				close(heard)
+				<-isOver
+			} else {
+				s.answer("now", "now 5 15", "commit 1 9", "committed 1 300")
+			}
+			conn.Close()
+		}
+	}()
+	session, err := Dial(always, "tcp", listener.Addr().String())
+	if err != nil {
+		t.Fatal(err)
+	}
+	stamp, _, err := session.Begin(always, 0)
+	wantStamp(t, 200, stamp, err)
+	cancelled(t, heard, func(ctx context.Context) error {
+		_, err := session.Wait(ctx)
+		return err
+	})
+	close(isOver)
+	_, err = session.Wait(always)
+	wantBroken(t, err, io.ErrUnexpectedEOF)
+	if now, err := session.Now(always); now != (Interval{5, 15}) || err != nil {
+		t.Fatal(now, err)
+	}
+	if _, err := session.Wait(always); err != ErrNoCommit {
+		t.Fatal(err)
+	}
+	stamp, err = session.Commit(always, 9)
+	wantStamp(t, 300, stamp, err)
+	session.Close()
+	<-played
+	_, err = session.Now(always)
+	wantBroken(t, err, net.ErrClosed)
+}
+
+// TestNobodyListens has a context that has ended, and nobody to connect to anew.
+func TestNobodyListens(t *testing.T) {
+	listener, err := net.Listen("tcp", "127.0.0.1:0")
+	if err != nil {
+		t.Fatal(err)
+	}
+	session, err := Dial(always, "tcp", listener.Addr().String())
+	if err != nil {
+		t.Fatal(err)
+	}
+	defer session.Close()
+	conn, err := listener.Accept()
+	if err != nil {
+		t.Fatal(err)
+	}
+	listener.Close()
+	conn.Close()
+	for len(session.link.Load().replies) == 0 {
+		time.Sleep(time.Millisecond)
+	}
+	_, err = session.Now(always)
+	wantBroken(t, err, io.ErrUnexpectedEOF)
+	_, err = session.Now(always)
+	wantBroken(t, err, syscall.ECONNREFUSED)
+	ctx, cancel := context.WithCancel(always)
+	cancel()
+	if _, err := session.Now(ctx); err != context.Canceled {
 		t.Fatal(err)
 	}
 }

@@ -1,7 +1,8 @@
 """Tests the readers and sessions of clients/: each is compiled without a warning, gives the answers that are wanted for the same
 vectors, the same files, mapped and not, a file that becomes shorter, and the same conversations with a stand-in for the service, and the C
 reader is put beside a writer that never pauses, also with the compiler's checks of addresses, undefined behaviour and threads. The cases
-of stampers are in clients_of_stampers.py. Go has tests of its own, too, which are run in each way in which it is built, with checks of races, and beside a machine.
+of stampers are in clients_of_stampers.py. Sessions are put beside a machine that is killed and started again, too. Go has tests of its own,
+which are run in each way in which it is built, with checks of races, and beside a machine, and Python has some for asyncio.
 
 The readers run beside writers for 10 seconds, or as many as --seconds says. A language whose compiler is not here is left out, with a line
 that says so. Everything is built in a temporary folder.
@@ -519,6 +520,8 @@ def go(room, seconds, *words, **more):
     return started.returncode, said
 
 
+# There a reader fails with an error of its own, as the test with the tag truetime_nofile shows.
+OTHER_SYSTEMS = ("darwin", "windows")
 # The ways in which Go's tests are run. What is built for checks of races is not optimized, which takes less time.
 GO_TESTS = [
     ("its tests", ["-vet=all", "./..."]),
@@ -537,15 +540,15 @@ def machine_for_go(trial):
 
 @suite.case(programs=("go",))
 def tests_of_go(trial):
-    """The tests of Go. All of it takes a minute at most; checks of races that take longer are left out."""
+    """The tests of Go. All of it takes two minutes at most; checks of races and builds that take longer are left out."""
     if not any(name == "Go" for name, _ in trial.shared):
         return
-    room, named, end = trial.room, machine_for_go(trial), time.monotonic() + 60
+    room, named, end = trial.room, machine_for_go(trial), time.monotonic() + 120
     if shutil.which("gofmt"):
         for name in run(["gofmt", "-l", GO], seconds=60).said.split():
             yield f"Go: gofmt writes {name} otherwise"
     _, here = go(room, 60, "list", "-tags=truetime_nofile", "-f={{.GoFiles}}", ".")
-    for system in ("darwin", "windows"):
+    for system in OTHER_SYSTEMS:
         _, there = go(room, 60, "list", "-f={{.GoFiles}}", ".", GOOS=system)
         if there != here or "shared_other.go" not in there:
             yield f"Go: on {system} other files are built than are tested here: {there}"
@@ -558,6 +561,10 @@ def tests_of_go(trial):
         passed = said.count("\n--- PASS: ") + said.startswith("--- PASS: ")
         trial.holds(status == 0, f"Go: {what}:\n{said}")
         trial.note(f"Go: {what}: {passed} passed, {int(status != 0)} wrong, {time.monotonic() - began:.1f} seconds")
+    for system in OTHER_SYSTEMS:
+        status, said = go(room, end - time.monotonic(), "build", ".", GOOS=system, CGO_ENABLED="0")
+        trial.holds(status in (0, None), f"Go: for {system}:\n{said}")
+        trial.note(f"Go: for {system}: {'left out: no time is left' if status is None else f'built, {int(status != 0)} wrong'}")
 
 
 @suite.case()
