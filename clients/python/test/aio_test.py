@@ -227,6 +227,11 @@ class Tasks(unittest.IsolatedAsyncioTestCase):
             session = aio.Session(address, LIMIT_S)
             self.assertEqual(await session.now(), Interval(7, 9))
             await session.close()
+            task = asyncio.ensure_future(aio.Session.connect(address, LIMIT_S))
+            await asyncio.sleep(0)
+            task.cancel()
+            with self.assertRaises(asyncio.CancelledError):
+                await task
         for where in address, "/nobody":
             with self.assertRaises(OSError):
                 await aio.Session.connect(where, 5)

@@ -202,13 +202,13 @@ class Session:
             connecting = loop.create_task(loop.create_connection(lambda: connection, *self._address))
         try:
             await asyncio.wait({connecting}, timeout=self._timeout_s)
-        finally:
             if not connecting.done():
-                connecting.cancel()
-                connection.end(ConnectionError("the connection was given up"))
-        if connecting.cancelled() or not connecting.done():
-            raise TimeoutError("no connection in time")
-        connecting.result()
+                raise TimeoutError("no connection in time")
+            connecting.result()
+        except BaseException:
+            connecting.cancel()
+            connection.end(ConnectionError("the connection was given up"))
+            raise
         self._connection = connection
         if self._is_closed:  # meanwhile
             self._drop()

@@ -113,27 +113,20 @@ class Client:
     def read(self) -> Publication:
         """The last publication. Refuses with 801, 1704 and 1703, then with 801 where nothing is published any more, and with 1701 where it
         is not mapped and has become shorter."""
-        copied = self._copied_unmapped if self._mapped is None else self._copied
+        mapped = self._mapped
         for _ in range(_TRIES):
-            index, word, again = copied()
+            index, word, again = self._copied_unmapped() if mapped is None else _copied(mapped)
             if again != index:
                 continue
             if index == 0:
                 raise Refused(801)
-            published = Publication(*word[1:5], word[8], *word[5:8])
+            published = Publication(word[1], word[2], word[3], word[4], word[8], word[5], word[6], word[7])
             if word[0] != index or not _is_in_range(published) or any(word[_USED_WORDS:]):
                 raise Refused(1703)
             if published.usable_until_ns == 0:
                 raise Refused(801)
             return published
         raise Refused(1704)
-
-    def _copied(self) -> "tuple[int, tuple[int, ...], int]":
-        """The index, the slot that is current at it, and the index again."""
-        mapped = self._mapped
-        (index,) = _WORD.unpack_from(mapped, _INDEX_AT)
-        slot = _SLOT.unpack_from(mapped, _slot_at(index))
-        return index, slot, _WORD.unpack_from(mapped, _INDEX_AT)[0]
 
     def _copied_unmapped(self) -> "tuple[int, tuple[int, ...], int]":
         try:
@@ -157,6 +150,13 @@ class Client:
         except OSError:
             raise Refused(803) from None
         return published.read_at(clock_ns)
+
+
+def _copied(mapped: mmap.mmap) -> "tuple[int, tuple[int, ...], int]":
+    """The index, the slot that is current at it, and the index again."""
+    (index,) = _WORD.unpack_from(mapped, _INDEX_AT)
+    slot = _SLOT.unpack_from(mapped, _slot_at(index))
+    return index, slot, _WORD.unpack_from(mapped, _INDEX_AT)[0]
 
 
 def _is_in_range(published: Publication) -> bool:
