@@ -12,7 +12,7 @@ sys.path.insert(0, str(pathlib.Path(__file__).resolve().parent.parent))
 
 from truetime import Interval, Refused, aio  # noqa: E402
 
-LIMIT_S = 60
+LIMIT_S = 8
 
 
 class StandIn:
@@ -49,7 +49,7 @@ class StandIn:
                 break
             if reply is None:
                 self.heard.set()
-                await self.said.wait()
+                await asyncio.wait_for(self.said.wait(), LIMIT_S)
                 self.said.clear()
                 reply = self.late
             writer.write(reply.encode())
@@ -112,7 +112,7 @@ class Cancellation(unittest.IsolatedAsyncioTestCase):
             try:
                 task = asyncio.ensure_future(session.wait())
                 stand_in.say("waiting 1 200\n")
-                await pausing.wait()
+                await asyncio.wait_for(pausing.wait(), LIMIT_S)
                 task.cancel()
                 with self.assertRaises(asyncio.CancelledError):
                     await task
