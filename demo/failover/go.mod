@@ -1,0 +1,7 @@
+module example.org/truetime/demo/failover
+
+go 1.19
+
+require example.org/truetime/clients/go v0.0.0
+
+replace example.org/truetime/clients/go => ../../clients/go

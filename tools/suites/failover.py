@@ -1,0 +1,56 @@
+"""Tries the shard whose leader moves, of demo/failover: its tests in Go, with --long also with checks of races, and demo/failover/run
+for 30 seconds, or as many as --seconds says, by seed 1 where no other --seed is given.
+"""
+import subprocess
+
+from harness.program import in_top, run
+from harness.suite import Suite
+from suites.clients import go_in, has_go
+
+suite = Suite(__name__)
+FOLDER = in_top("demo/failover")
+# What is built for checks of races is not optimized, which takes less time.
+RACES = ["-race", "-vet=off", "-gcflags=all=-N -l -dwarf=false", "-ldflags=-w"]
+
+
+@suite.shares
+def environment(trial):
+    """The environment of Go, which keeps what it has built for the next case."""
+    yield go_in(trial.room)
+
+
+def go(trial, *words):
+    return run(["go", *words], seconds=120, cwd=FOLDER, env=trial.shared, stderr=subprocess.STDOUT)
+
+
+@suite.case(programs=("go", "gofmt"))
+def tests(trial):
+    if has_go():
+        trial.equal("gofmt", run(["gofmt", "-l", FOLDER], seconds=60).said, "")
+        ran = go(trial, "test", "-vet=all", ".")
+        trial.check("tests", ran.status == 0, f"status {ran.status}: {ran.said}")
+
+
+@suite.case(programs=("go", "gcc"), long=True)
+def races(trial):
+    if has_go():
+        ran = go(trial, "test", *RACES, ".")
+        trial.check("tests with checks of races", ran.status == 0, f"status {ran.status}: {ran.said}")
+
+
+@suite.case(programs=("go", "etcd"))
+def shards(trial):
+    if not has_go():
+        return
+    seconds, seed = trial.options.seconds or 30, 1 if trial.options.seed is None else trial.options.seed
+    go(trial, "build", "-o", "/dev/null", ".")
+    words = [in_top("demo/failover/run"), "--seconds", str(seconds), "--seed", str(seed), trial.program]
+    ran = run(words, seconds=seconds + 120, env=trial.shared, stderr=subprocess.STDOUT)
+    *table, trial.result.last = ran.said.splitlines() or [""]
+    print("\n".join(table))
+    trial.holds(ran.status == 0, f"status {ran.status}: {trial.result.last}")
+
+
+@suite.last_line
+def last_line(results):
+    return "; ".join(result.last.removeprefix("failover: ") for result in results if result.last) or f"{sum(len(result.wrong) for result in results)} wrong"
