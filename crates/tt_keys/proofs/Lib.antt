@@ -1,0 +1,3 @@
+pub mod Cutting
+pub mod Parting
+pub mod Adding
