@@ -28,6 +28,7 @@ pub fn keys_at<R: Files<File = File>>(
     path: &str,
     user: u32,
 ) -> Result<Vec<Key>, KeysFault>
+    // No two of the keys have one number.
     ensures numbers { IfOk result (λ keys. HaveOwnNumbers keys.items) }
 {
     let mut how = OpenOptions::new();

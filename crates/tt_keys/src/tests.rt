@@ -3,7 +3,6 @@
 use crate::{KeysFault, key_of_line, keys_at, keys_of_text, line_of};
 use std::fs;
 use std::io::Write;
-use std::process::Abort;
 use std::test::Fail;
 use tt_files::{create_new, facts_of};
 use tt_seal::{Key, open, seal};
@@ -13,10 +12,11 @@ const TEXT: &str = "# keys of host a
 7 000102030405060708090a0b0c0d0e0f101112131415161718191a1b1c1d1e1f master-0
 4294967295 0b0b0b0b0b0b0b0b0b0b0b0b0b0b0b0b0b0b0b0b0b0b0b0b0b0b0b0b0b0b0b0b";
 
-/// A key, and what may not stand for it: a leading zero, 2^32, an odd digit, an upper case one, a blank at the end, a name
-/// of two words.
+/// The line of a key.
 const LINE: &str = "7 0b0b0b0b0b0b0b0b0b0b0b0b0b0b0b0b0b0b0b0b0b0b0b0b0b0b0b0b0b0b0b0b";
 
+/// What may not stand for it: a leading zero, 2^32, 63 digits, a digit in upper case, a blank at the end, a name of two
+/// words.
 const BAD_LINES: [&str; 6] = [
     "07 0b0b0b0b0b0b0b0b0b0b0b0b0b0b0b0b0b0b0b0b0b0b0b0b0b0b0b0b0b0b0b0b",
     "4294967296 0b0b0b0b0b0b0b0b0b0b0b0b0b0b0b0b0b0b0b0b0b0b0b0b0b0b0b0b0b0b0b0b",
@@ -29,7 +29,7 @@ const BAD_LINES: [&str; 6] = [
 /// Where the test makes its file.
 const PATH: &str = "tt_keys_test.keys";
 
-/// Whether these keys open what the key of `LINE` seals under its number 4294967295, and have the first one's number 7.
+/// Whether these are the two keys of `TEXT`: the first has its number, and what the second seals opens under them.
 fn are_keys(keys: &[Key]) -> bool {
     let sealed = seal(b"poll", &Key::new(4294967295, [11; 32]));
     match (keys, open(&sealed, keys)) {

@@ -44,7 +44,7 @@ pub(crate) fn padded(key: &[u8], byte: u8) -> [u8; BLOCK_LEN]
 
 /// HMAC-SHA256 of the text under the key (RFC 2104, FIPS 198-1), each of any length.
 pub fn hmac_sha256(key: &[u8], text: &[u8]) -> [u8; DIGEST_LEN]
-    ensures { result ≡ hmac_of key.now text.now }
+    ensures value { result ≡ hmac_of key.now text.now }
 {
     let mut inner = Sha256::new();
     inner.update(padded(key, INNER_PAD));

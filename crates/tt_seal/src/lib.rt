@@ -1,5 +1,4 @@
-//! Sealed messages: an envelope has a message, the number of a key, and a tag that only who has the key can make, if
-//! HMAC-SHA256 cannot be forged.
+//! Sealed messages: an envelope has a message, the number of a key, and a tag under this key.
 //!
 //! | bytes | content |
 //! |---|---|
@@ -17,8 +16,8 @@
 //! - `sealing`: `seal`, `open`, and what is known of both.
 //! - `faults`: why bytes do not open.
 //!
-//! Nothing here takes memory. Nothing is claimed of how long a comparison takes, or that a key leaves memory when it is
-//! dropped.
+//! Nothing here takes memory. Nothing is claimed of who can make a tag, of how long a comparison takes, or that a key
+//! leaves memory when it is dropped.
 #![tactic(auto)]
 
 mod faults;
