@@ -104,7 +104,11 @@ func (c *cluster) read(key []byte) object {
 func (c *cluster) txn(asked request) object {
 	for _, compare := range asked.Compare {
 		found := c.pairs[string(compare.Key)]
-		if compare.Target == "CREATE" && found.CreateRevision != compare.CreateRevision || compare.Target == "MOD" && found.ModRevision != compare.ModRevision {
+		isSo := found.CreateRevision == compare.CreateRevision
+		if compare.Target == "MOD" {
+			isSo = found.ModRevision == compare.ModRevision
+		}
+		if !isSo {
 			reads := []object{}
 			for _, read := range asked.Failure {
 				reads = append(reads, object{"response_range": c.read(read.Range.Key)})

@@ -92,12 +92,18 @@ func TestALeaderThatWasReplacedGetsAndWritesNothing(t *testing.T) {
 	ctx := context.Background()
 	c, e := newCluster(t)
 	a, one, lease := begun(t, e, "A", &stoppedClock{now: 5000})
+	if number, err := a.win(ctx, lease+1); err != errDeposed {
+		t.Error("the key is another one's:", number, err)
+	}
 	if err := e.revoke(ctx, lease); err != nil {
 		t.Fatal(err)
 	}
+	if err := a.extend(ctx, one, 9000); !errors.Is(err, errDeposed) {
+		t.Error("before another one leads:", err)
+	}
 	b, two, _ := begun(t, e, "B", &stoppedClock{now: 7000})
 	if err := a.extend(ctx, one, 9000); !errors.Is(err, errDeposed) {
-		t.Error(err)
+		t.Error("while another one leads:", err)
 	}
 	if stamp, _, err := a.commit(ctx, "k", "v"); !errors.Is(err, errDeposed) || stamp != 0 || !errors.Is(<-one.failed, errDeposed) {
 		t.Error(stamp, err)

@@ -39,7 +39,8 @@ func runAgent(words []string) error {
 	listen := flags.String("listen", "127.0.0.1:7001", "where users ask")
 	shard := flags.Int("shard", 1, "the number of the shard")
 	members := flags.String("etcd", "http://127.0.0.1:2379", "the members of etcd")
-	machine := flags.String("machine", "127.0.0.1:5601", "the address of this host's machine, for stamps by sessions, or the file that it shares, for a stamper")
+	machine := flags.String("machine", "127.0.0.1:5601",
+		"this host's machine: its address, for stamps by sessions, or the file that it shares, for a stamper")
 	sessions := flags.Int("sessions", 6, "sessions that commit; the machine's workers have to be enough for twice as many and two")
 	ttl := flags.Duration("ttl", time.Second, "etcd's lease, in whole seconds")
 	span := flags.Duration("span", 800*time.Millisecond, "how far a span reaches ahead, at most the machine's floor_ahead")

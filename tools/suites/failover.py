@@ -4,7 +4,7 @@ for 30 seconds, or as many as --seconds says, by seed 1 where no other --seed is
 import subprocess
 
 from harness.program import in_top, run
-from harness.suite import Suite
+from harness.suite import Suite, wrong_in
 from suites.clients import go_in, has_go
 
 suite = Suite(__name__)
@@ -53,4 +53,5 @@ def shards(trial):
 
 @suite.last_line
 def last_line(results):
-    return "; ".join(result.last.removeprefix("failover: ") for result in results if result.last) or f"{sum(len(result.wrong) for result in results)} wrong"
+    said = [result.last.removeprefix("failover: ") for result in results if result.last]
+    return "; ".join([*said, f"{wrong_in(results)} wrong"])
