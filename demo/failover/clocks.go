@@ -23,7 +23,7 @@ type clock interface {
 	close()
 }
 
-// Stamps by sessions of the machine, within leases of the sessions.
+// A sessionClock stamps by sessions of the machine, within the leases of these.
 type sessionClock struct {
 	asking *truetime.Session
 	idle   chan *leased // those that have no commit
@@ -128,8 +128,8 @@ func (c *sessionClock) close() {
 	}
 }
 
-// Stamps in this process, by the file that the machine shares. A stamper has one lease for good, so each part of the span has a
-// stamper of its own. A part is used once the one before it is over.
+// A stamperClock stamps in this process, by the file that the machine shares. A stamper has one lease for good, so each part of
+// the span has a stamper of its own. A part is used once the one before it is over.
 type stamperClock struct {
 	client *truetime.Client
 

@@ -83,6 +83,7 @@ func TestAMachineThatIsLateIsNoClock(t *testing.T) {
 type machine struct {
 	net.Listener
 	mutex sync.Mutex
+	conns []net.Conn
 	lines []string // all but `now`
 }
 
@@ -99,6 +100,9 @@ func newMachine(t *testing.T) *machine {
 			if err != nil {
 				return
 			}
+			m.mutex.Lock()
+			m.conns = append(m.conns, conn)
+			m.mutex.Unlock()
 			go m.serve(conn)
 		}
 	}()
@@ -167,5 +171,29 @@ func TestASessionIsToldOfTheSpanBeforeACommitThatNeedsIt(t *testing.T) {
 	if clock, err := openSessions(ctx, m.Addr().String(), 1, time.Second); err == nil {
 		t.Error("a machine that is gone was opened")
 		clock.close()
+	}
+}
+
+// All stamps of a term are of one life of the machine, so no session may come back by itself.
+func TestASessionThatFailsDoesNotComeBack(t *testing.T) {
+	ctx, m := context.Background(), newMachine(t)
+	clock, err := openSessions(ctx, m.Addr().String(), 1, 5*time.Second)
+	if err != nil {
+		t.Fatal(err)
+	}
+	defer clock.close()
+	m.mutex.Lock()
+	for _, conn := range m.conns {
+		conn.Close()
+	}
+	m.mutex.Unlock()
+	for range [3]int{} { // the machine listens still
+		var broken *truetime.BrokenError
+		if _, _, err := clock.begin(ctx); !errors.As(err, &broken) {
+			t.Error(err)
+		}
+	}
+	if _, err := clock.latest(ctx); err == nil || len(m.conns) != 2 {
+		t.Error(err, len(m.conns))
 	}
 }
