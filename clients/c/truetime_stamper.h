@@ -13,7 +13,7 @@
  *
  * One lease, one stamper. A stamper knows of no other one: two stampers, also two copies of one and the two that a fork
  * leaves, or a stamper and the sessions of the machine, give equal stamps and stamps out of order, unless their leases have
- * no time in common. The settings lease_lo and lease_hi of the machine keep its sessions out of a stamper's lease.
+ * no time in common. The setting stampers of the machine keeps its sessions out of an interval.
  *
  * A stamper keeps nothing on disk. After a restart open it with a new lease, or with the old one and, until the first stamp
  * is given, a floor above the greatest stamp in the log; where that is refused with 902, the log or the time is wrong.

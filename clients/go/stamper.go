@@ -56,8 +56,8 @@ type Stamp struct {
 // less than the reading's latest, and above all timestamps that it gave before. Any number of goroutines may use it.
 //
 // One lease, one stamper: a stamper knows its own timestamps alone. Two stampers whose leases meet, in one process or in two,
-// on one machine or on two, may give the same timestamp, and so may a stamper and the sessions of a machine, whose lease is
-// that of its settings lease_lo and lease_hi. So give each stamper a lease that meets no other, and share one among the
+// on one machine or on two, may give the same timestamp, and so may a stamper and the sessions of a machine, unless its
+// setting stampers holds the stamper's lease. So give each stamper a lease that meets no other, and share one among the
 // goroutines.
 //
 // After a restart a new stamper knows nothing of the timestamps given before, and a floor may have put some of them ahead of

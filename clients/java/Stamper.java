@@ -21,9 +21,9 @@ import java.util.concurrent.locks.LockSupport;
  * may use it. Times are nanoseconds, and unsigned, so a negative one is past the greatest time.
  *
  * <p><b>One lease, one stamper.</b> A stamper knows its own stamps alone. Two stampers whose leases meet, in one process or
- * in two, on one machine or on two, may give the same stamp, and so may a stamper and the sessions of a machine, whose lease
- * is that of its settings {@code lease_lo} and {@code lease_hi}. So give each stamper a lease that meets no other, and share
- * one among the threads.
+ * in two, on one machine or on two, may give the same stamp, and so may a stamper and the sessions of a machine, unless its
+ * setting {@code stampers} holds the stamper's lease. So give each stamper a lease that meets no other, and share one among
+ * the threads.
  *
  * <p><b>After a restart</b> a new stamper knows nothing of the stamps given before, and a floor may have put some of them
  * ahead of the time. Stamp the first commit with a floor above the greatest stamp of the log (902 says that this is still

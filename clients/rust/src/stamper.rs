@@ -17,8 +17,8 @@
 //! stamp that is no less than the reading's latest, and above all stamps that it gave before.
 //!
 //! **One lease, one stamper.** A stamper knows its own stamps alone. Two stampers whose leases meet, in one process or in two,
-//! on one machine or on two, may give the same stamp, and so may a stamper and the sessions of a machine, whose lease is that of
-//! its settings `lease_lo` and `lease_hi`. So give each stamper a lease that meets no other, and share one among the threads.
+//! on one machine or on two, may give the same stamp, and so may a stamper and the sessions of a machine, unless its setting
+//! `stampers` holds the stamper's lease. So give each stamper a lease that meets no other, and share one among the threads.
 //! A process that was forked has a second stamper.
 //!
 //! **After a restart** a new stamper knows nothing of the stamps given before, and a floor may have put some of them ahead of
