@@ -1,6 +1,7 @@
 """Tries the shard whose leader moves, of demo/failover: its tests in Go, with --long also with checks of races, and demo/failover/run
 for 30 seconds, or as many as --seconds says, by seed 1 where no other --seed is given.
 """
+import re
 import subprocess
 
 from harness.program import in_top, run
@@ -9,6 +10,8 @@ from suites.clients import go_in, has_go
 
 suite = Suite(__name__)
 FOLDER = in_top("demo/failover")
+# On a machine that is slow for a while etcd may elect nobody in time, or the control show nothing: then the run is made anew.
+TRIES = 3
 # What is built for checks of races is not optimized, which takes less time.
 RACES = ["-race", "-vet=off", "-gcflags=all=-N -l -dwarf=false", "-ldflags=-w"]
 
@@ -45,9 +48,13 @@ def shards(trial):
     seconds, seed = trial.options.seconds or 30, 1 if trial.options.seed is None else trial.options.seed
     go(trial, "build", "-o", "/dev/null", ".")
     words = [in_top("demo/failover/run"), "--seconds", str(seconds), "--seed", str(seed), trial.program]
-    ran = run(words, seconds=seconds + 120, env=trial.shared, stderr=subprocess.STDOUT)
-    *table, trial.result.last = ran.said.splitlines() or [""]
-    print("\n".join(table))
+    for _ in range(TRIES):
+        ran = run(words, seconds=seconds + 120, env=trial.shared, stderr=subprocess.STDOUT)
+        *table, trial.result.last = ran.said.splitlines() or [""]
+        print("\n".join(table))
+        if ran.status == 0 or re.search("not as expected: .*(by|and)", trial.result.last):
+            break
+        trial.note(f"status {ran.status}: {trial.result.last}")
     trial.holds(ran.status == 0, f"status {ran.status}: {trial.result.last}")
 
 

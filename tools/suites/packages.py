@@ -30,6 +30,7 @@ BUILDS = ("dpkg-buildpackage", "dh", "cmake", "git")
 TRIES = (*BUILDS, "unshare", "nsenter", "ip", "setpriv", "systemd-sysusers", "systemd-tmpfiles")
 UNITS = "lib/systemd/system"
 MODULE, SHARED = "usr/lib/python3/dist-packages/truetime", "usr/share/truetime"
+PYTHON_CLIENT = "clients/python/truetime"
 # Where each file of a package is from. What has no place in the repository is made; of the program only the symbols are missing.
 FILES = {
     "libtruetime-dev": {
@@ -38,7 +39,7 @@ FILES = {
         "usr/share/cmake/truetime/truetime-config.cmake": None, "usr/share/cmake/truetime/truetime-config-version.cmake": None,
     },
     "python3-truetime": {
-        **{f"{MODULE}/{name}": f"clients/python/{name}" for name in ("__init__.py", "truetime.py", "py.typed")},
+        **{f"{MODULE}/{name}": f"{PYTHON_CLIENT}/{name}" for name in files_below(in_top(PYTHON_CLIENT)) if "__pycache__" not in name},
         f"{MODULE}-{VERSION}.dist-info/METADATA": None, f"{MODULE}-{VERSION}.dist-info/INSTALLER": None,
     },
     "truetime": {
