@@ -1,27 +1,54 @@
 //! Files of keys.
 
-ghost use Rattle.std.specs.Prelude.{IfOk};
+ghost use Rattle.std.specs.Prelude.{◌≡◌, ◌<◌, length, IfOk, OnOk, IfSome, IsErrOf, Ok};
+ghost use Rattle.tt_stream.specs.Counts.{HasFailed};
 ghost use Rattle.tt_seal.specs.Sealing.{HaveOwnNumbers};
+ghost use Rattle.tt_keys.specs.Access.{access_at};
+ghost use Rattle.tt_keys.specs.Text.{IsKeysText};
 
 use crate::access::access_of;
 use crate::faults::KeysFault;
 use crate::texts::keys_of_text;
 use std::alloc::Global;
 use std::fs::{File, Files, OpenOptions};
-use tt_files::{facts_of, open_regular};
+use tt_files::{Facts, facts_of, open_regular};
 use tt_seal::Key;
-use tt_stream::{Counted, ReadFault, read_to_end};
+use tt_stream::{ByteReader, Counted, ReadFault, read_to_end};
 
 /// The most bytes of a file of keys: 64 KiB.
 const MAX_LEN: usize = 65_536;
 
+/// The keys that a device gives, for this user, where these are the facts of its file. Refuses with 2212 `Mode` and 2213
+/// `Owner` as [`access_of`], then with 2211 `CannotRead` where the device failed, 2214 `TooLong` where it gives more than
+/// 64 KiB, and as [`keys_of_text`].
+pub fn keys_from<R: ByteReader>(
+    alloc: Global,
+    reader: &mut R,
+    facts: &Facts,
+    user: u32,
+) -> Result<Vec<Key>, KeysFault>
+    ensures read { IfOk result (λ keys. IfSome (R.left reader.old) (λ text. IsKeysText text keys.items)) }
+    ensures numbers { IfOk result (λ keys. HaveOwnNumbers keys.items) }
+    ensures good { OnOk result (access_at facts.now.mode facts.now.owner user ≡ Ok tt) }
+    ensures failed { IsErrOf result KeysFault.CannotRead → HasFailed (R.failed reader.old) (R.failed reader.new) }
+    ensures too_long { IsErrOf result KeysFault.TooLong → IfSome (R.left reader.old) (λ text. 65536 < length text) }
+{
+    match access_of(facts.mode, facts.owner, user) {
+        Ok(()) => {}
+        Err(fault) => return Err(fault),
+    }
+    match read_to_end(alloc, reader, MAX_LEN, MAX_LEN as u32 + 2) {
+        Ok(text) => keys_of_text(alloc, text.as_slice()),
+        Err(ReadFault::Failed) => Err(KeysFault::CannotRead),
+        Err(ReadFault::Memory) => Err(KeysFault::Memory),
+        Err(_) => Err(KeysFault::TooLong),
+    }
+}
+
 /// The keys of the file at this path, for this user. The mode and the owner are those of the file that is open, so no other
 /// file can take its place between the look and the reading. Nothing is claimed of what the file holds.
 ///
-/// Refuses, in this order: 2211 `CannotRead` where the path is not a regular file's, or it can't be opened; 2212 `Mode`
-/// and 2213 `Owner` as [`access_of`]; 2211 `CannotRead` where it can't be read; 2214 `TooLong` where it has more than 64
-/// KiB; 2215 `BadLine`, 2216 `SameNumber` and 1 `Memory` as [`keys_of_text`], and 1 `Memory` where it is out of memory for
-/// the text.
+/// Refuses with 2211 `CannotRead` where the path is not a regular file's, or it can't be opened, and as [`keys_from`].
 pub fn keys_at<R: Files<File = File>>(
     rt: &R,
     alloc: Global,
@@ -39,12 +66,5 @@ pub fn keys_at<R: Files<File = File>>(
     let Ok(facts) = facts_of(&file) else {
         return Err(KeysFault::CannotRead);
     };
-    access_of(facts.mode, facts.owner, user)?;
-    let mut reader = Counted::new(file);
-    match read_to_end(alloc, &mut reader, MAX_LEN, MAX_LEN as u32 + 2) {
-        Ok(text) => keys_of_text(alloc, text.as_slice()),
-        Err(ReadFault::Memory) => Err(KeysFault::Memory),
-        Err(ReadFault::TooLong) => Err(KeysFault::TooLong),
-        Err(_) => Err(KeysFault::CannotRead),
-    }
+    keys_from(alloc, &mut Counted::new(file), &facts, user)
 }
