@@ -1,8 +1,9 @@
 //! A text and a file of keys, worked out by hand.
 
 use crate::{KeysFault, key_of_line, keys_at, keys_of_text, line_of};
-use std::fs;
+use std::fs::{self, Permissions};
 use std::io::Write;
+use std::os::unix::fs::PermissionsExt;
 use std::test::Fail;
 use tt_files::{create_new, facts_of};
 use tt_seal::{Key, open, seal};
@@ -68,7 +69,7 @@ fn keys(rt: HostRuntime) -> Result<(), Fail> {
     assert!(rt; are_keys(&keys_at(&rt, rt.alloc(), PATH, user)?));
     let read = keys_at(&rt, rt.alloc(), PATH, user ^ 1);
     assert!(rt; are_refused(&read, KeysFault::Owner));
-    let _public = create_new(&rt, PATH, 0o640)?;
+    file.set_permissions(Permissions::from_mode(0o640))?;
     let read = keys_at(&rt, rt.alloc(), PATH, user);
     assert!(rt; are_refused(&read, KeysFault::Mode));
     fs::remove_file(&rt, PATH)?;
