@@ -40,8 +40,8 @@ type leased struct {
 }
 
 // openSessions connects to a machine, which has to give the time. A machine that is started anew does not know the stamps that
-// it gave before, so one life gives all stamps of a term: all sessions are opened before one of them is used, and a session
-// that fails ends the term.
+// it gave before, so one life gives all stamps of a term: all sessions are opened before one of them is used, and where one
+// fails all are closed, since it would connect anew.
 func openSessions(ctx context.Context, address string, number int, timeout time.Duration) (clock, error) {
 	c := &sessionClock{idle: make(chan *leased, number), span: truetime.Lease{Lo: 0, Hi: truetime.MaxTime}}
 	for len(c.all) <= number {
@@ -66,11 +66,22 @@ func openSessions(ctx context.Context, address string, number int, timeout time.
 	return c, nil
 }
 
+// check passes on what a call of a session gave. A session that failed connects anew with its next call, perhaps to another
+// life of the machine; one that is closed does not.
+func (c *sessionClock) check(err error) error {
+	var broken *truetime.BrokenError
+	if errors.As(err, &broken) {
+		c.close()
+	}
+	return err
+}
+
 // latest also asks by one idle session after the other, so that the machine closes none for being silent.
 func (c *sessionClock) latest(ctx context.Context) (uint64, error) {
 	select {
 	case session := <-c.idle:
 		_, err := session.Now(ctx)
+		err = c.check(err)
 		c.idle <- session
 		if err != nil {
 			return 0, err
@@ -78,7 +89,7 @@ func (c *sessionClock) latest(ctx context.Context) (uint64, error) {
 	default:
 	}
 	now, err := c.asking.Now(ctx)
-	return now.Latest, err
+	return now.Latest, c.check(err)
 }
 
 func (c *sessionClock) grant(span truetime.Lease) error {
@@ -100,13 +111,14 @@ func (c *sessionClock) begin(ctx context.Context) (uint64, func(context.Context)
 	c.mutex.Unlock()
 	stamp, err := session.begin(ctx, span)
 	if err != nil {
+		err = c.check(err)
 		c.idle <- session
 		return 0, nil, err
 	}
 	wait := func(ctx context.Context) error {
 		defer func() { c.idle <- session }()
 		_, err := session.Wait(ctx)
-		return err
+		return c.check(err)
 	}
 	return stamp, wait, nil
 }
