@@ -38,6 +38,9 @@ UNCERTAINTY = 1_000_000
 IDLE_S, LONGEST_STOP_S = 5, 5
 # A commit may wait for a stop, then as long again, since an answer that came across the stop is as wide, and then for one more stop.
 TIMEOUT_S = 5 * LONGEST_STOP_S
+# A new life that has heard of liars, and not yet of each honest source, may have a reading that is right and a minute wide: a stamp by it
+# would have all later ones wait as long. So a wider reading than one across a stop is refused.
+MAX_WIDTH = f"{LONGEST_STOP_S + 1}s"
 
 
 def plan_of(chance, seconds, liars):
@@ -225,7 +228,8 @@ def start_all(trial, relay, liars, chance):
     disk, masters, machines = mount_small_disk(trial), [trial.master(source, 0, UNCERTAINTY) for source in range(SOURCES)], []
     for place, (name, state) in enumerate({"A": {"state": disk} if disk else {}, "B": {}}.items()):
         channels = [relay.channel(master.address, source in liars, chance.random()) for source, master in enumerate(masters)]
-        machines.append(trial.machine(name, place, [channel.address for channel in channels], poll="100ms", idle=f"{IDLE_S}s", **state))
+        machines.append(trial.machine(name, place, [channel.address for channel in channels], poll="100ms", idle=f"{IDLE_S}s", max_width=MAX_WIDTH,
+                                      **state))
         machines[-1].channels = channels
     for machine in machines:
         machine.use_all_workers()
