@@ -5,6 +5,7 @@ import socket
 import statistics
 import subprocess
 import time
+from concurrent.futures import ThreadPoolExecutor
 
 from harness.processes import SECOND, free_port, truetime
 from harness.program import read, write
@@ -45,6 +46,54 @@ def stampers(trial):
     node = trial.running_node(trial.scripts(honest), "B", stampers=[0, 4 * 10**18])
     with truetime.Session(node.address, 10) as session:
         trial.equal("setting stampers", reply_to(session, "commit 1 0"), "refused 903")
+
+
+def commits_until(end_ns, commit):
+    """What is committed until then: when each commit began and ended, and its stamp. Where the lease is over it is tried again."""
+    seen = []
+    while time.time_ns() < end_ns:
+        began = time.monotonic_ns()
+        try:
+            stamp = commit()
+        except truetime.Refused as refused:
+            if refused.number != 903:
+                raise
+            time.sleep(0.01)
+        else:
+            seen.append((began, time.monotonic_ns(), stamp))
+    return seen
+
+
+def commits_by_session(end_ns, machine):
+    with truetime.Session(machine.address, 10) as session:
+        return commits_until(end_ns, session.commit)
+
+
+def commits_by_stamper(end_ns, stamper):
+    def commit():
+        stamp = stamper.stamp().stamp_ns
+        stamper.wait_past(stamp)
+        return stamp
+    return commits_until(end_ns, commit)
+
+
+@suite.case()
+def stampers_beside_sessions(trial):
+    """Threads commit by a stamper with the interval as its lease, by sessions of its machine, and by sessions of another one."""
+    lo = time.time_ns() + SECOND
+    hi, end = lo + SECOND, lo + 2 * SECOND
+    node = trial.running_node(trial.scripts(honest), stampers=[lo, hi])
+    other = trial.running_node(trial.scripts(honest), "B")
+    with node.client() as client, ThreadPoolExecutor(8) as pool:
+        stamper = truetime.Stamper(client, lo, hi)
+        stamped = [pool.submit(commits_by_stamper, end, stamper) for _ in range(4)]
+        served, elsewhere = ([pool.submit(commits_by_session, end, machine) for _ in range(2)] for machine in (node, other))
+    stamped, served, elsewhere = ([commit for thread in threads for commit in thread.result()] for threads in (stamped, served, elsewhere))
+    sides = [sum(stamp < lo for *_, stamp in served), sum(stamp > hi for *_, stamp in served)]
+    trial.check("setting stampers", stamped and all(lo <= stamp <= hi for *_, stamp in stamped), "a stamper's stamp lies outside its lease")
+    trial.check("setting stampers", all(sides) and sum(sides) == len(served), f"{sides} of {len(served)} stamps lie before and behind it")
+    trial.equal("setting stampers: different stamps", len({stamp for *_, stamp in stamped + served}), len(stamped + served))
+    trial.equal("setting stampers: out of order", trial.judge(stamped + served + elsewhere), 0)
 
 
 @suite.case()
