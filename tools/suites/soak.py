@@ -38,9 +38,9 @@ UNCERTAINTY = 1_000_000
 IDLE_S, LONGEST_STOP_S = 5, 5
 # A commit may wait for a stop, then as long again, since an answer that came across the stop is as wide, and then for one more stop.
 TIMEOUT_S = 5 * LONGEST_STOP_S
-# A new life that has heard of liars, and not yet of each honest source, may have a reading that is right and a minute wide: a stamp by it
-# would have all later ones wait as long. So a wider reading than one across a stop is refused.
-MAX_WIDTH = f"{LONGEST_STOP_S + 1}s"
+# A life that has heard of a liar whose packet was spoiled, and not yet of each honest source, may have a right reading that is years wide:
+# a stamp by it would have all later ones wait as long. So no wider reading is used.
+MAX_WIDTH = "1s"
 
 
 def plan_of(chance, seconds, liars):
