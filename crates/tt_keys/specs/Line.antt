@@ -1,7 +1,7 @@
 -- The line of a key.
-use Rattle.std.specs.Prelude.{◌≡◌, ◌≢◌, ℕ, ◌<◌, List, [], ◌∷◌, ◌++◌, length}
+use Rattle.std.specs.Prelude.{◌≡◌, ◌≢◌, ℕ, ◌<◌, ◌&&◌, Bool, nat_lt, List, [], ◌∷◌, ◌++◌, length}
 use Rattle.std.specs.Fmt.{decimal}
-use Rattle.std.specs.List.{AllByRecursion}
+use Rattle.std.specs.List.{AllByRecursion, list_all}
 use Rattle.hex.specs.Hex.{encode_lower}
 use Rattle.tt_seal.specs.Sealing.{SealKey, IsKey, IsBytes}
 
@@ -16,6 +16,13 @@ IsNameByte byte = (32 < byte) × (byte < 127)
 -- a name: not empty, and each byte is such a character
 abbrev pub IsName : List ℕ → Type 0
 IsName name = (0 < length name) × AllByRecursion IsNameByte name
+
+-- the same as tests
+abbrev pub is_name_byte : ℕ → Bool
+is_name_byte byte = nat_lt 32 byte && nat_lt byte 127
+
+abbrev pub is_name : List ℕ → Bool
+is_name name = nat_lt 0 (length name) && list_all is_name_byte name
 
 -- what may follow the digits: nothing, or a blank and a name
 abbrev pub IsEnding : List ℕ → Type 0

@@ -27,5 +27,5 @@ mod texts;
 pub use access::access_of;
 pub use faults::KeysFault;
 pub use files::{keys_at, keys_from};
-pub use lines::{MAX_LINE, key_of_line, line_of};
+pub use lines::{MAX_LINE, is_name, key_of_line, line_of};
 pub use texts::{keys_laws, keys_of_text};

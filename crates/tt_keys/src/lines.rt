@@ -4,7 +4,7 @@ ghost use Rattle.std.specs.Prelude.{◌≡◌, ◌↔◌, ◌<◌, ◌^◌, ℕ,
 ghost use Rattle.std.specs.Fmt.{decimal};
 ghost use Rattle.hex.specs.Hex.{encode_lower};
 ghost use Rattle.tt_seal.specs.Sealing.{SealKey, IsBytes};
-ghost use Rattle.tt_keys.specs.Line.{line_of as line_with, IsName, IsEnding, IsKeyLine, IsNoKeyLine, IsSkipped, Lacks};
+ghost use Rattle.tt_keys.specs.Line.{line_of as line_with, is_name as is_name_of, IsName, IsEnding, IsKeyLine, IsNoKeyLine, IsSkipped, Lacks};
 
 use arrayvec::ArrayVec;
 use itoa::Buffer;
@@ -73,8 +73,9 @@ fn bytes_of(digits: &[u8]) -> Option<[u8; KEY_LEN]>
 }
 
 /// Whether this is a name: not empty, and each byte a printable character of ASCII that is no blank.
-fn is_name(name: &[u8]) -> bool
-    ensures { IsTrue result ↔ IsName name.now }
+pub fn is_name(name: &[u8]) -> bool
+    ensures named { IsTrue result ↔ IsName name.now }
+    ensures value { result ≡ is_name_of name.now }
 {
     'bytes: for i in 0..name.len() {
         if name[i] <= b' ' || 127 <= name[i] {

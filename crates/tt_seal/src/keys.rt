@@ -52,6 +52,13 @@ impl Key {
         }
     }
 
+    /// The same key once more.
+    pub fn copy(&self) -> Key
+        ensures value { result ≡ self.now }
+    {
+        Key::new(self.number, self.bytes)
+    }
+
     /// The number of the key.
     pub fn number(&self) -> u32
         ensures value { result ≡ self.now.number }
