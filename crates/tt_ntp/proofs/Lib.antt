@@ -1,0 +1,4 @@
+pub mod Refusing
+pub mod Ageing
+pub mod Comparing
+pub mod Opening
