@@ -1,5 +1,5 @@
 -- How many packets of a peer are handed up, and which.
-use Rattle.std.proofs.Common.{◌≡◌, ℕ, zero, suc, ◌+◌, ◌-◌, ◌≤◌, ◌<◌, nat_lt, Bool, true, false, ◌||◌, if◌then◌else◌, List, [], ◌∷◌, All, is_some, Option, Some, None, Result, Ok, Err, IsOk, ◌↔◌, arith, refl, sym, subst}
+use Rattle.std.proofs.Common.{◌≡◌, ℕ, zero, suc, ◌+◌, ◌-◌, ◌≤◌, nat_lt, Bool, true, false, ◌||◌, if◌then◌else◌, List, [], ◌∷◌, is_some, Option, Some, None, Result, Ok, Err, IsOk, ◌↔◌, arith, refl, sym, subst}
 use Rattle.std.proofs.lemmas.Bool.Decides.{nat_tests}
 use Rattle.tt_poll.specs.Message.{PollRequest2}
 use Rattle.tt_poll.specs.Reading.{read_of2}

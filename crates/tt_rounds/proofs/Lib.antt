@@ -6,3 +6,7 @@ pub mod Fusings
 pub mod Scheduling
 pub mod Turns
 pub mod Items
+pub mod Hearing
+pub mod Delaying
+pub mod Answering
+pub mod Addressing

@@ -1,5 +1,5 @@
 -- What a link keeps of its peers in a round: which poll each of them is to answer, and how many other packets of it are still handed up.
-use Rattle.std.specs.Prelude.{◌≡◌, ℕ, ◌+◌, ◌-◌, min, nat_lt, ◌==◌, ℤ, pos, negsuc, Bool, true, false, ◌&&◌, ◌||◌, if◌then◌else◌, List, [], ◌∷◌, is_some, slice_index_or, slice_set, Option, Some, None, Result, Ok, Err}
+use Rattle.std.specs.Prelude.{◌≡◌, ℕ, ◌+◌, ◌-◌, nat_lt, ◌==◌, ℤ, pos, negsuc, Bool, true, false, ◌&&◌, ◌||◌, if◌then◌else◌, List, [], ◌∷◌, is_some, slice_index_or, slice_set, Option, Some, None, Result, Ok, Err}
 use Rattle.tt_poll.specs.Message.{PollRequest2}
 use Rattle.tt_poll.specs.Reading.{read_of2}
 use Rattle.tt_poll.specs.declared.messages.Message2.{Message2}
@@ -59,21 +59,15 @@ unsent_after Broke unsent = unsent
 abbrev pub is_handed : List ℕ → PeerSlot → Bool
 is_handed bytes slot = answers slot.poll (read_of2 bytes) || nat_lt 0 slot.spare
 
--- the peer whose packet is handed up: a stranger's is not
-abbrev pub handed_to : List PeerSlot → Option ℕ → List ℕ → Option ℕ
-handed_to slots None bytes = None
-handed_to slots (Some peer) bytes = if is_handed bytes (slot_at slots peer) then Some peer else None
-
 -- the peer after a packet from it: its answer ends the wait, and any other packet costs a turn where one is to spare
 abbrev pub slot_after : List ℕ → PeerSlot → PeerSlot
 slot_after bytes slot =
     if answers slot.poll (read_of2 bytes) then record slot { poll = None }
     else record slot { spare = slot.spare - 1 }
 
--- a packet was judged so: where it is handed up to this peer's account, the peer is the one after it, and where it is dropped nothing has changed
-abbrev pub IsJudged : List PeerSlot → List ℕ → Option ℕ → List PeerSlot → Type 0
-IsJudged before bytes (Some peer) after = after ≡ slice_set before peer (slot_after bytes (slot_at before peer))
-IsJudged before bytes None after = after ≡ before
+-- what is kept of the peers after a packet from this one: where it is handed up, its peer is the one after it, and where it is dropped nothing has changed
+abbrev pub slots_after : List PeerSlot → ℕ → List ℕ → List PeerSlot
+slots_after slots peer bytes = if is_handed bytes (slot_at slots peer) then slice_set slots peer (slot_after bytes (slot_at slots peer)) else slots
 
 -- one, where it is so
 abbrev pub one_where : Bool → ℕ

@@ -1,9 +1,13 @@
 pub mod Fault
 pub mod Link
+pub mod Addresses
 pub mod Datagrams
 pub mod Awaiting
+pub mod Hearing
 pub mod RoundLinks
+pub mod Answering
 pub mod Counting
+pub mod Delaying
 pub mod Fusing
 pub mod Course
 pub mod Making

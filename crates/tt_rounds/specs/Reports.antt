@@ -8,7 +8,7 @@ use Rattle.tt_daemon.specs.declared.faults.DaemonFault.{DaemonFault}
 use Rattle.tt_publish.specs.Known.{last_of}
 use Rattle.tt_rounds.specs.Link.{Packet, Call, Gift, Exchange, gifts_in, ClockGives, LinkDoes}
 use Rattle.tt_rounds.specs.Fusing.{Fusion, fusion_in, fusion_at}
-use Rattle.tt_rounds.specs.Course.{Given, Stand, Outcome, GoesOn, Ends, Lacks, Part, each_below, next_reading, poll_at, poll_all, receive, turn, fuse_at, round_of}
+use Rattle.tt_rounds.specs.Course.{Given, Stand, Outcome, GoesOn, Ends, Lacks, Part, each_below, next_reading, poll_at, poll_all, receive, turn, round_of}
 use Rattle.tt_rounds.specs.Making.{before_rest, Leads}
 use Rattle.tt_rounds.specs.declared.faults.NodeFault.{NodeFault}
 use Rattle.tt_rounds.specs.declared.reports.SourceOutcome.{SourceOutcome}

@@ -1,12 +1,17 @@
-//! What a link keeps of its peers in a round: which of them are awaited, and how many of their packets are handed up.
+//! What a link keeps of its peers: which of them are awaited in a round, how many of their packets are handed up, and how
+//! many did not open.
 
-ghost use Rattle.std.specs.Prelude.{◌≡◌, ◌≤◌, ◌↔◌, ℕ, true, is_some, count_by, replicate, List, slice_set, Option, Some, None, IsOk};
+ghost use Rattle.std.specs.Prelude.{◌≡◌, ◌≤◌, ◌↔◌, ℕ, true, is_some, count_by, replicate, length, List, slice_set, Option, Some, None, IsOk, IfSome, MatchOption};
 ghost use Rattle.tt_poll.specs.Reading.{read_of2};
 ghost use Rattle.tt_source.specs.Table.{TableState, Sending, CanBeCalled, source_at, take_of};
-ghost use Rattle.tt_rounds.specs.Awaiting.{full_slot, slot_at, answers, poll_in, fate_of, is_handed, handed_to, IsJudged, slot_sent, unsent_at, unsent_after, handed_in, slot_after_all, NoneAnswers, poll_waiting};
+ghost use Rattle.tt_rounds.specs.Awaiting.{full_slot, slot_at, answers, poll_in, fate_of, is_handed, slots_after, slot_sent, unsent_at, unsent_after, handed_in, slot_after_all, NoneAnswers, poll_waiting};
+ghost use Rattle.tt_rounds.specs.Hearing.{no_opening, opening_at, heard_from};
 ghost use Rattle.tt_rounds.specs.declared.awaiting.PeerSlot.{PeerSlot};
 
+use crate::openings::{Opening, REASONS};
+use arrayvec::ArrayVec;
 use tt_poll::{Message2, Request2, decode2};
+use tt_wire::{MAX_PACKET, Wire};
 
 /// The most packets of one peer that a round of a [`RoundLink`] hands up: the answer to its poll, and up to three that
 /// are no answer to it.
@@ -123,24 +128,26 @@ fn is_answer(poll: &Request2, bytes: &[u8]) -> bool
 pub(crate) struct PeerTable {
     slots: [PeerSlot; 256],
     unsent: [u64; 256],
+    openings: [Opening; 256],
 }
 
 impl PeerTable {
-    /// A table of peers of which none is awaited, and to which no packet was lost.
+    /// A table of peers of which none is awaited, to which no packet was lost, and from which none came.
     pub(crate) fn new() -> PeerTable
         ensures slots { result.slots ≡ replicate 256 full_slot }
         ensures unsent { result.unsent ≡ replicate 256 0 }
+        ensures openings { result.openings ≡ replicate 256 no_opening }
     {
         PeerTable {
             slots: [PeerSlot::full(); 256],
             unsent: [0; 256],
+            openings: [Opening::none(); 256],
         }
     }
 
     /// Begins a round: no peer is awaited, and each of them has all its turns.
     pub(crate) fn begin(&mut self)
-        ensures slots { self.new.slots ≡ replicate 256 full_slot }
-        ensures unsent { self.new.unsent ≡ self.old.unsent }
+        ensures { self.new ≡ record self.old { slots = replicate 256 full_slot } }
     {
         let slots = [PeerSlot::full(); 256];
         self.slots = slots;
@@ -151,6 +158,7 @@ impl PeerTable {
     pub(crate) fn sent(&mut self, peer: u8, bytes: &[u8], fate: Fate)
         ensures slots { self.new.slots ≡ slice_set self.old.slots peer (slot_sent fate bytes.now (slot_at self.old.slots peer)) }
         ensures unsent { self.new.unsent ≡ slice_set self.old.unsent peer (unsent_after fate (unsent_at self.old.unsent peer)) }
+        ensures openings { self.new.openings ≡ self.old.openings }
         ensures others { (other : ℕ) → ¬ (other ≡ peer) → slot_at self.new.slots other ≡ slot_at self.old.slots other }
     {
         let place = usize::from(peer);
@@ -160,27 +168,57 @@ impl PeerTable {
         }
     }
 
-    /// Judges a packet, from this peer or from a stranger, and notes it. Answers the peer whose packet is handed up, if
-    /// it is. An answer to the poll that is awaited is always handed up, and ends the wait for its peer. Another packet
-    /// of a peer is handed up while the peer has turns to spare, and costs one of them. A packet of a stranger is not.
-    pub(crate) fn came(&mut self, from: Option<u8>, bytes: &[u8]) -> Option<u8>
-        ensures handed { result ≡ handed_to self.old.slots from bytes.now }
-        // A packet that is handed up changes what is kept of its peer, and of no other. One that is dropped changes nothing.
-        ensures judged { IsJudged self.old.slots bytes.now result self.new.slots }
-        ensures others { (other : ℕ) → ¬ (result ≡ Some other) → slot_at self.new.slots other ≡ slot_at self.old.slots other }
-        ensures unsent { self.new.unsent ≡ self.old.unsent }
+    /// Judges a message from this peer, and notes it. Answers whether it is handed up. An answer to the poll that is
+    /// awaited always is, and ends the wait for its peer. Another message of a peer is handed up while the peer has turns
+    /// to spare, and costs one of them.
+    fn came(&mut self, peer: u8, message: &[u8]) -> bool
+        ensures handed { result ≡ is_handed message.now (slot_at self.old.slots peer) }
+        ensures after { self.new ≡ record self.old { slots = slots_after self.old.slots peer message.now } }
+    {
+        let place = usize::from(peer);
+        if self.slots[place].answered(message) {
+            self.slots[place].poll = None;
+            return true;
+        }
+        if self.slots[place].spare == 0 {
+            return false;
+        }
+        self.slots[place].spare -= 1;
+        true
+    }
+
+    /// Opens a packet of at most 64 bytes, from this peer or from a stranger, and judges its message. Answers the peer
+    /// and the message, where it is handed up. A packet that does not open under a key of its peer is counted, changes
+    /// nothing else, and is not handed up. Nor is a packet of a stranger.
+    pub(crate) fn hear(
+        &mut self,
+        wire: &Wire,
+        from: Option<u8>,
+        bytes: &[u8],
+    ) -> Option<(u8, ArrayVec<u8, MAX_PACKET>)>
+        requires short { length bytes.now ≤ 64 }
+        ensures handed { MatchOption result ((heard_from wire.now self.old from bytes.now).handed ≡ None)
+            (λ came. (heard_from wire.now self.old from bytes.now).handed ≡ Some (record { peer = came.0; bytes = came.1.items })) }
+        ensures sender { IfSome result (λ came. from ≡ Some came.0) }
+        ensures after { self.new ≡ (heard_from wire.now self.old from bytes.now).table }
     {
         let peer = from?;
         let place = usize::from(peer);
-        if self.slots[place].answered(bytes) {
-            self.slots[place].poll = None;
-            return Some(peer);
+        match wire.incoming(peer, bytes) {
+            Ok(incoming) => {
+                self.openings[place] = self.openings[place].opened(incoming.number);
+                let message = incoming.message;
+                if self.came(peer, &message) {
+                    Some((peer, message))
+                } else {
+                    None
+                }
+            }
+            Err(fault) => {
+                self.openings[place] = self.openings[place].refused(fault);
+                None
+            }
         }
-        if self.slots[place].spare == 0 {
-            return None;
-        }
-        self.slots[place].spare -= 1;
-        Some(peer)
     }
 
     /// How many peers are awaited.
@@ -195,6 +233,20 @@ impl PeerTable {
         ensures { result ≡ unsent_at self.now.unsent peer }
     {
         self.unsent[usize::from(peer)]
+    }
+
+    /// How many packets of this peer did not open so far, by the reasons in their order.
+    pub(crate) fn unopened(&self, peer: u8) -> [u64; REASONS]
+        ensures { result ≡ (opening_at self.now.openings peer).unopened }
+    {
+        self.openings[usize::from(peer)].unopened
+    }
+
+    /// The number of the key of the last packet of this peer that opened.
+    pub(crate) fn opened(&self, peer: u8) -> Option<u32>
+        ensures { result ≡ (opening_at self.now.openings peer).number }
+    {
+        self.openings[usize::from(peer)].number
     }
 }
 

@@ -1,4 +1,4 @@
-//! A socket for packets, and a link over it for a master.
+//! What a socket for packets gives, and a link over one for a master.
 
 ghost use Rattle.std.specs.Prelude.{◌≡◌, ◌≤◌, length};
 ghost use Rattle.tt_stream.specs.Counts.{HasFailed};
@@ -29,7 +29,7 @@ pub(crate) enum Arrival {
 /// (it would block) and 110 (the wait ended). Something may be there after a signal, 4, and after an error that tells of
 /// a packet that was sent before: not permitted, 1 and 13, or an answer of the network to it, 64, 71, 90, 92, 95, 100,
 /// 101, 104, 111, 112 and 113. After any other error the socket is useless.
-fn look_of(code: Option<i32>) -> Arrival
+pub(crate) fn look_of(code: Option<i32>) -> Arrival
     ensures value { result ≡ look_of_code code }
     ensures fits { FitsPacket result }
 {
@@ -44,29 +44,19 @@ fn look_of(code: Option<i32>) -> Arrival
 
 /// A socket, and the addresses of its peers. Peer `i` has the address at place `i`.
 #[derive(Drop)]
-pub(crate) struct Peers {
+struct Peers {
     socket: UdpSocket,
     addresses: Vec<SocketAddr>,
 }
 
 impl Peers {
     /// The peers with these addresses. Only the first 256 of them have a number.
-    pub(crate) fn new(socket: UdpSocket, addresses: Vec<SocketAddr>) -> Peers {
+    fn new(socket: UdpSocket, addresses: Vec<SocketAddr>) -> Peers {
         Peers { socket, addresses }
     }
 
-    /// The socket.
-    pub(crate) fn socket(&self) -> &UdpSocket {
-        &self.socket
-    }
-
-    /// The same peers are reached over this socket from now on. Answers the socket before.
-    pub(crate) fn replace(&mut self, socket: UdpSocket) -> UdpSocket {
-        std::mem::replace(&mut self.socket, socket)
-    }
-
     /// The address of the peer, if it has one.
-    pub(crate) fn address(&self, peer: u8) -> Option<SocketAddr> {
+    fn address(&self, peer: u8) -> Option<SocketAddr> {
         self.addresses.get(usize::from(peer)).copied()
     }
 
@@ -81,7 +71,7 @@ impl Peers {
     }
 
     /// Sends the bytes to the address.
-    pub(crate) fn send(&self, address: SocketAddr, bytes: &[u8]) -> Fate {
+    fn send(&self, address: SocketAddr, bytes: &[u8]) -> Fate {
         match self.socket.send_to(bytes, address) {
             Ok(_) => Fate::Went,
             Err(error) => Fate::of(error.raw_os_error()),
@@ -89,7 +79,7 @@ impl Peers {
     }
 
     /// Reads the next packet.
-    pub(crate) fn look(&self, buffer: &mut [u8; PACKET_LEN]) -> Arrival
+    fn look(&self, buffer: &mut [u8; PACKET_LEN]) -> Arrival
         ensures whole { length buffer.new ≡ 64 }
         ensures fits { FitsPacket result }
     {

@@ -1,6 +1,6 @@
 //! Links: how packets are sent and received.
 
-ghost use Rattle.std.specs.Prelude.{◌≡◌, ◌≤◌, ℕ, length, IfOk, IfSome, OnOk, OnErr};
+ghost use Rattle.std.specs.Prelude.{◌≡◌, ◌≤◌, ℕ, length, take, IfOk, IfSome, OnOk, OnErr};
 ghost use Rattle.tt_stream.specs.Counts.{HasFailed};
 ghost use Rattle.tt_rounds.specs.Link.{Call, Gift, Send, Receive, sent_as, came_as};
 
@@ -38,4 +38,17 @@ pub trait Link {
     /// Its failures so far, at most 2^64 - 1.
     fn failures(&self) -> u64
         ensures { result ≡ failed self.now };
+}
+
+/// Puts the bytes at the front of the buffer, with zeros behind them. Answers their count.
+pub(crate) fn put(bytes: &[u8], buffer: &mut [u8; PACKET_LEN]) -> usize
+    requires short { length bytes.now ≤ 64 }
+    ensures front { take result buffer.new ≡ bytes.now }
+    ensures whole { length buffer.new ≡ 64 }
+    ensures fits { result ≤ 64 }
+{
+    let mut packet = [0; PACKET_LEN];
+    packet[..bytes.len()].copy_from_slice(bytes);
+    *buffer = packet;
+    bytes.len()
 }

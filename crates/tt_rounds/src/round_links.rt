@@ -4,12 +4,14 @@ ghost use Rattle.std.specs.Prelude.{◌≡◌, ◌↔◌, ◌≤◌, true, false
 ghost use Rattle.std.specs.Duration.{as_nanos};
 ghost use Rattle.tt_stream.specs.Counts.{HasFailed};
 ghost use Rattle.tt_rounds.specs.Awaiting.{full_slot, slot_at, slot_sent, unsent_at, unsent_after};
-ghost use Rattle.tt_rounds.specs.RoundLinks.{FitsDrained, Reads, nanos_left};
+ghost use Rattle.tt_rounds.specs.Hearing.{opening_at};
+ghost use Rattle.tt_rounds.specs.RoundLinks.{FitsDrained, Reads, goes_on as goes_on_after, nanos_left};
 
 use crate::awaiting::{Fate, PeerTable};
-use crate::datagrams::{Arrival, Peers};
+use crate::datagrams::Arrival;
 use crate::faults::LinkFault;
-use crate::links::{Link, PACKET_LEN};
+use crate::hosts::{Hosts, is_six};
+use crate::links::{Link, PACKET_LEN, put};
 use mio::unix::SourceFd;
 use mio::{Events, Interest, Poll, Token, Waker};
 use std::alloc::Global;
@@ -17,6 +19,7 @@ use std::io::{self, ErrorKind};
 use std::net::{Net, SocketAddr, UdpSocket};
 use std::os::fd::AsRawFd;
 use std::time::{Clock as SystemClock, Duration};
+use tt_wire::Wire;
 
 /// The most packets that a [`RoundLink`] drops when a round begins.
 pub const MAX_DROPPED: u32 = 1024;
@@ -45,18 +48,35 @@ enum Drained {
     Failed,
 }
 
-/// Reads packets until one is handed up, or none is there. Reads at most [`MAX_READ`].
-fn drain(peers: &Peers, table: &mut PeerTable, buffer: &mut [u8; PACKET_LEN]) -> Drained
+/// Whether the link goes on after this reading: it handed up nothing, and the socket did not fail.
+fn goes_on(drained: Drained) -> bool
+    ensures { result ≡ goes_on_after drained }
+{
+    match drained {
+        Drained::Handed(_, _) | Drained::Failed => false,
+        Drained::Empty | Drained::More => true,
+    }
+}
+
+/// Reads packets until one is handed up, or none is there. Reads at most [`MAX_READ`]. What is handed up is the message of
+/// a packet that opened.
+fn drain(
+    hosts: &mut Hosts,
+    wire: &Wire,
+    table: &mut PeerTable,
+    buffer: &mut [u8; PACKET_LEN],
+) -> Drained
     ensures whole { length buffer.new ≡ 64 }
     ensures fits { FitsDrained result }
-    ensures reads { Reads table.old.slots result buffer.new table.new.slots }
-    ensures unsent { table.new.unsent ≡ table.old.unsent }
+    ensures reads { Reads wire.now table.old result buffer.new table.new }
 {
+    let mut bytes = [0; PACKET_LEN];
+    *buffer = [0; PACKET_LEN];
     for _ in 0..MAX_READ {
-        match peers.look(buffer) {
+        match hosts.look(&mut bytes) {
             Arrival::Came(from, length) => {
-                if let Some(peer) = table.came(from, &buffer[..length]) {
-                    return Drained::Handed(peer, length);
+                if let Some((peer, message)) = table.hear(wire, from, &bytes[..length]) {
+                    return Drained::Handed(peer, put(&message, buffer));
                 }
             }
             Arrival::Again => {}
@@ -64,7 +84,6 @@ fn drain(peers: &Peers, table: &mut PeerTable, buffer: &mut [u8; PACKET_LEN]) ->
             Arrival::Failed => return Drained::Failed,
         }
     }
-    *buffer = [0; PACKET_LEN];
     Drained::More
 }
 
@@ -82,7 +101,8 @@ fn time_left(end: Option<Duration>, now: io::Result<Duration>) -> Option<Duratio
 #[derive(Drop)]
 struct Hearing<'a, R> {
     rt: &'a R,
-    peers: Peers,
+    hosts: Hosts,
+    wire: Wire,
     table: PeerTable,
     poll: Poll,
     events: Events,
@@ -99,13 +119,12 @@ struct Hearing<'a, R> {
 impl<'a, R: SystemClock> Hearing<'a, R> {
     /// Begins a round: drops the packets that are there, and sets the time.
     fn begin(&mut self)
-        ensures slots { self.new.table.slots ≡ replicate 256 full_slot }
-        ensures unsent { self.new.table.unsent ≡ self.old.table.unsent }
+        ensures table { self.new.table ≡ record self.old.table { slots = replicate 256 full_slot } }
         ensures begun { self.new.sending ≡ true }
     {
         let mut bytes = [0; PACKET_LEN];
         for _ in 0..MAX_DROPPED {
-            match self.peers.look(&mut bytes) {
+            match self.hosts.look(&mut bytes) {
                 Arrival::Came(_, _) | Arrival::Again => {}
                 Arrival::Nothing | Arrival::Failed => break,
             }
@@ -118,19 +137,21 @@ impl<'a, R: SystemClock> Hearing<'a, R> {
         self.sending = true;
     }
 
-    /// Sends the bytes to the peer, in a round that began. A peer without an address is sent nothing: the packet is
-    /// lost.
+    /// Sends a message to the peer, in a round that began: its nonce moved, and sealed where the peer has keys. A message
+    /// that does not fit is lost, and so is one to a peer without an address.
     fn send(&mut self, peer: u8, bytes: &[u8]) -> Fate
-        ensures begins { self.old.sending ≡ false → self.new.table.slots ≡ replicate 256 full_slot }
-        ensures goes_on { self.old.sending ≡ true → self.new.table.slots ≡ self.old.table.slots }
-        ensures unsent { self.new.table.unsent ≡ self.old.table.unsent }
+        ensures begins { self.old.sending ≡ false → self.new.table ≡ record self.old.table { slots = replicate 256 full_slot } }
+        ensures goes_on { self.old.sending ≡ true → self.new.table ≡ self.old.table }
         ensures begun { self.new.sending ≡ true }
     {
         if !self.sending {
             self.begin();
         }
-        match self.peers.address(peer) {
-            Some(address) => self.peers.send(address, bytes),
+        let Some(packet) = self.wire.outgoing(peer, bytes) else {
+            return Fate::Lost;
+        };
+        match self.hosts.address(peer) {
+            Some(address) => self.hosts.send(address, &packet),
             None => Fate::Lost,
         }
     }
@@ -138,6 +159,7 @@ impl<'a, R: SystemClock> Hearing<'a, R> {
     /// Waits until a packet may be there, but not longer than this. Answers whether the wait went well.
     fn pause(&mut self, left: Duration) -> bool
         ensures table { self.new.table ≡ self.old.table }
+        ensures wire { self.new.wire ≡ self.old.wire }
         ensures woken { self.old.woken ≡ true → self.new.woken ≡ true }
     {
         if self.poll.poll(&mut self.events, Some(left)).is_err() {
@@ -153,8 +175,7 @@ impl<'a, R: SystemClock> Hearing<'a, R> {
     fn next(&mut self, buffer: &mut [u8; PACKET_LEN]) -> Drained
         ensures whole { length buffer.new ≡ 64 }
         ensures fits { FitsDrained result }
-        ensures reads { Reads self.old.table.slots result buffer.new self.new.table.slots }
-        ensures unsent { self.new.table.unsent ≡ self.old.table.unsent }
+        ensures reads { Reads self.old.wire self.old.table result buffer.new self.new.table }
         ensures none_awaited { count_by (λ slot. is_some slot.poll) self.old.table.slots ≡ 0 → result ≡ Drained.Empty }
         ensures woken { self.old.woken ≡ true → result ≡ Drained.Empty }
     {
@@ -162,8 +183,8 @@ impl<'a, R: SystemClock> Hearing<'a, R> {
             if self.woken || self.table.awaited() == 0 {
                 return Drained::Empty;
             }
-            let drained = drain(&self.peers, &mut self.table, buffer);
-            if matches!(drained, Drained::Handed(_, _) | Drained::Failed) {
+            let drained = drain(&mut self.hosts, &self.wire, &mut self.table, buffer);
+            if !goes_on(drained) {
                 return drained;
             }
             let Some(left) = time_left(self.end, self.rt.monotonic()) else {
@@ -178,7 +199,13 @@ impl<'a, R: SystemClock> Hearing<'a, R> {
 }
 
 /// A link over UDP for the rounds of a daemon. It knows its peers by their addresses: peer `i` has the address at place
-/// `i`.
+/// `i`, where it is known. An IPv4 address is the same whether it stands in IPv6 or not, so one socket of IPv6 serves
+/// peers of both.
+///
+/// Messages go over its [`Wire`]: their nonces are moved, and they are sealed under the first key of a peer that has keys.
+/// A packet from a peer is opened first. If it does not open under a key of this peer, it is counted
+/// ([`RoundLink::unopened`]) and changes nothing else: it ends no wait, takes no turn, and is not handed up. What follows
+/// speaks of the messages of the packets that open.
 ///
 /// A round begins with the first packet that is sent after a `receive` or after a fault. Then the link drops the packets
 /// that still wait in the socket, at most [`MAX_DROPPED`]. So an answer that came too late takes no turn of a later
@@ -190,8 +217,9 @@ impl<'a, R: SystemClock> Hearing<'a, R> {
 /// the round by the clock of the system. If the clock cannot be read, the link does not wait.
 ///
 /// In a round, `receive` hands up at most [`TURNS_PER_PEER`] packets of each peer: the answer to its poll, and up to
-/// three others. It drops the others beyond these, and all packets of other addresses. So what is sent from one address
-/// takes no turn of another peer, and what others send takes none of the answer's.
+/// three others. It drops the others beyond these, and all packets of other addresses, of which it keeps the last one's
+/// ([`RoundLink::stranger`]). So what is sent from one address takes no turn of another peer, and what others send takes
+/// none of the answer's.
 ///
 /// A packet that cannot be sent to a peer, whatever the reason, is lost: `send` answers that all is well, the peer is
 /// not awaited, and [`RoundLink::unsent`] counts the packet. So is a packet to a peer that has no address. A fault says
@@ -208,12 +236,7 @@ pub struct RoundLink<'a, R> {
 }
 
 impl<'a, R: SystemClock> RoundLink<'a, R> {
-    /// The link over this socket to these peers, and a waker: once it was woken, the link waits no more. The waker may
-    /// be dropped. Only the first 256 peers have a number. All waits of a round together are as long as `wait`, rounded
-    /// up to milliseconds.
-    ///
-    /// The call makes the socket non-blocking. Refuses with the error of the system if this fails, or if the socket and
-    /// the waker cannot be waited for, and with `OutOfMemory` if an allocation fails.
+    /// The link over this socket to these peers, of which none has keys, as [`RoundLink::over`] with an open wire.
     pub fn new(
         rt: &'a R,
         alloc: Global,
@@ -224,17 +247,46 @@ impl<'a, R: SystemClock> RoundLink<'a, R> {
     where
         R: Net,
     {
+        let mut addresses = Vec::new(alloc);
+        for peer in &peers {
+            if addresses.push(Some(*peer)).is_err() {
+                return Err(io::Error::from(ErrorKind::OutOfMemory));
+            }
+        }
+        RoundLink::over(rt, alloc, socket, addresses, wait, Wire::open(alloc))
+    }
+
+    /// The link over this socket and this wire to these peers, and a waker: once it was woken, the link waits no more. The
+    /// waker may be dropped. A peer without an address is sent nothing until it gets one ([`RoundLink::set_address`]). Only
+    /// the first 256 peers have a number. All waits of a round together are as long as `wait`, rounded up to milliseconds.
+    ///
+    /// The call makes the socket non-blocking. Refuses with the error of the system if this fails, if the socket has no
+    /// address of its own, or if the socket and the waker cannot be waited for, and with `OutOfMemory` if an allocation
+    /// fails.
+    pub fn over(
+        rt: &'a R,
+        alloc: Global,
+        socket: UdpSocket,
+        peers: Vec<Option<SocketAddr>>,
+        wait: Duration,
+        wire: Wire,
+    ) -> io::Result<(RoundLink<'a, R>, Waker)>
+    where
+        R: Net,
+    {
         let events = match Events::with_capacity(alloc, MAX_EVENTS) {
             Ok(events) => events,
             Err(_) => return Err(io::Error::from(ErrorKind::OutOfMemory)),
         };
         let poll = Poll::new(rt)?;
         let waker = Waker::new(poll.registry(), WAKER)?;
+        let is_six = is_six(&socket)?;
         listen(&poll, &socket)?;
         let link = RoundLink {
             hearing: Hearing {
                 rt,
-                peers: Peers::new(socket, peers),
+                hosts: Hosts::new(socket, is_six, peers),
+                wire,
                 table: PeerTable::new(),
                 poll,
                 events,
@@ -249,16 +301,56 @@ impl<'a, R: SystemClock> RoundLink<'a, R> {
     }
 
     /// Goes on over this socket, to the same peers, with a new round. The call makes the socket non-blocking. Refuses
-    /// with the error of the system if this fails, or if the socket cannot be waited for; then nothing has changed.
+    /// with the error of the system if this fails, if the socket has no address of its own, or if it cannot be waited for;
+    /// then nothing has changed.
     pub fn renew(&mut self, socket: UdpSocket) -> io::Result<()>
         ensures same { self.new.failures ≡ self.old.failures }
     {
+        let is_six = is_six(&socket)?;
         listen(&self.hearing.poll, &socket)?;
         // The old socket is closed here, which ends the waits for it.
-        let _old = self.hearing.peers.replace(socket);
+        self.hearing.hosts.replace(socket, is_six);
         self.hearing.table.begin();
         self.hearing.sending = false;
         Ok(())
+    }
+
+    /// The peer has this address from now on, or none. Nothing changes for a number that no peer of [`RoundLink::over`]
+    /// has.
+    pub fn set_address(&mut self, peer: u8, address: Option<SocketAddr>)
+        ensures addresses { self.new.hearing.hosts.addresses.items ≡ slice_set self.old.hearing.hosts.addresses.items peer address }
+        ensures table { self.new.hearing.table ≡ self.old.hearing.table }
+        ensures same { self.new.failures ≡ self.old.failures }
+    {
+        self.hearing.hosts.set_address(peer, address);
+    }
+
+    /// How many packets from this peer did not open so far, each at most 2^64 - 1: for 2201 `Length`, 2202 `UnknownKey`
+    /// and 2203 `WrongTag`, in this order. Those that are dropped when a round begins are not counted.
+    pub fn unopened(&self, peer: u8) -> [u64; 3]
+        ensures { result ≡ (opening_at self.now.hearing.table.openings peer).unopened }
+    {
+        self.hearing.table.unopened(peer)
+    }
+
+    /// The number of the key under which the last packet from this peer opened. None where none opened so far, or the peer
+    /// has no keys.
+    pub fn opened(&self, peer: u8) -> Option<u32>
+        ensures { result ≡ (opening_at self.now.hearing.table.openings peer).number }
+    {
+        self.hearing.table.opened(peer)
+    }
+
+    /// The last sender that is no peer, if there was one since the last call, by its plain address ([`plain_of`]).
+    ///
+    /// [`plain_of`]: crate::plain_of
+    pub fn stranger(&mut self) -> Option<SocketAddr>
+        ensures taken { result ≡ self.old.hearing.hosts.stranger }
+        ensures after { self.new.hearing.hosts.stranger ≡ None }
+        ensures table { self.new.hearing.table ≡ self.old.hearing.table }
+        ensures same { self.new.failures ≡ self.old.failures }
+    {
+        self.hearing.hosts.stranger()
     }
 
     /// How many packets to this peer could not be sent so far, at most 2^64 - 1.

@@ -1,10 +1,11 @@
--- All that was read so far was dropped, and changed nothing.
-use Rattle.std.proofs.Common.{◌≡◌}
+-- All that was read so far was dropped.
+use Rattle.std.proofs.Common.{◌≡◌, List, length}
+use Rattle.tt_rounds.specs.Hearing.{Arrived, Drops}
 use Rattle.tt_rounds.proofs.round_links.drain.Given as goal
 
 abbrev pub invariant-loop : goal.invariant-loop
 invariant-loop l =
     record {
-      slots : l.table.slots ≡ l.initial.table.slots;
-      unsent : l.table.unsent ≡ l.initial.table.unsent;
+      whole : length l.buffer ≡ 64;
+      drops : (dropped : List Arrived) × Drops l.wire dropped l.initial.table l.table;
     }

@@ -1,12 +1,14 @@
--- Nothing was handed up so far, and the waker stays woken.
-use Rattle.std.proofs.Common.{◌≡◌, true, length}
+-- All that was read so far was dropped, the wire is the same, and the waker stays woken.
+use Rattle.std.proofs.Common.{◌≡◌, true, List, length}
+use Rattle.tt_rounds.specs.Hearing.{Arrived, Drops}
 use Rattle.tt_rounds.proofs.round_links.Hearing.next.Given as goal
 
 abbrev pub invariant-loop : goal.invariant-loop
 invariant-loop g l =
     record {
       whole : length l.buffer ≡ 64;
+      wire : l.self.wire ≡ l.initial.self.wire;
+      drops : (dropped : List Arrived) × Drops l.initial.self.wire dropped l.initial.self.table l.self.table;
       slots : l.self.table.slots ≡ l.initial.self.table.slots;
-      unsent : l.self.table.unsent ≡ l.initial.self.table.unsent;
       woken : l.initial.self.woken ≡ true → l.self.woken ≡ true;
     }
