@@ -1,7 +1,7 @@
 -- Which lines of the log are of one kind.
 use Rattle.std.specs.Prelude.{ℕ, ◌+◌, min}
 use Rattle.tt_status.specs.declared.lines.LogEvent.{LogEvent}
-use Rattle.tt_status.specs.declared.lines.LogEvent.TheVariants.{Started, FirstPublication, SourceSilent, SourceSuspect, FusionRefused, ClockBack, AnswersRefused, RoundFailed, SharingEnded, SharingResumed, StatusUnwritten, NotAccepted, StateLoose, EpochLoose, SharedLoose, Ended, MasterStarted, MasterFailed, SocketRenewed, PublicationSlow, SourceUnsent, AssumptionBroken, HostSlept, GuestDisrupted, SleepUnseen, SourcesStale, StartPaused, EvidenceUnwritten}
+use Rattle.tt_status.specs.declared.lines.LogEvent.TheVariants.{Started, FirstPublication, SourceSilent, SourceSuspect, FusionRefused, ClockBack, AnswersRefused, RoundFailed, SharingEnded, SharingResumed, StatusUnwritten, NotAccepted, StateLoose, EpochLoose, SharedLoose, Ended, MasterStarted, MasterFailed, SocketRenewed, PublicationSlow, SourceUnsent, AssumptionBroken, HostSlept, GuestDisrupted, SleepUnseen, SourcesStale, StartPaused, EvidenceUnwritten, Stranger, SourceUnresolved, SourceResolved, KeysRead, KeysRefused, AddressAwaited}
 use Rattle.tt_status.specs.declared.lines.RefusedFusion.TheVariants.{NoPoint, TooFewKnown}
 
 -- the kind of an event, of which one line is said in ten seconds: each reason of a refused fusion is a kind of its own, and so is each source
@@ -32,6 +32,12 @@ kind_of SleepUnseen = 22
 kind_of (SourcesStale answered needed) = 23
 kind_of (StartPaused pause breaks) = 24
 kind_of EvidenceUnwritten = 25
+kind_of (Stranger address) = 26
+kind_of (KeysRead keys) = 27
+kind_of (KeysRefused number line) = 28
+kind_of (AddressAwaited pause) = 29
 kind_of (SourceSilent source) = 32 + min source 15
 kind_of (SourceSuspect source) = 48 + min source 15
 kind_of (SourceUnsent source) = 64 + min source 15
+kind_of (SourceUnresolved source) = 80 + min source 15
+kind_of (SourceResolved source address) = 96 + min source 15

@@ -3,7 +3,7 @@
 use std::alloc::{AllocError, Global};
 use std::fs::{File, Files};
 use std::io;
-use tt_status::{Status, push_status};
+use tt_status::{MasterStatus, Status, push_master_status, push_status};
 
 /// The permissions of a file: all may read it.
 const MODE: u32 = 0o644;
@@ -20,6 +20,25 @@ pub trait Disk {
 impl<R: Files<File = File>> Disk for R {
     fn replace(&self, path: &str, draft: &str, bytes: &[u8]) -> io::Result<()> {
         tt_files::replace(self, path, draft, bytes, MODE, false)
+    }
+}
+
+/// The status that a status file shows.
+#[derive(Drop)]
+pub(crate) enum Shown {
+    /// That of a machine.
+    Machine(Status),
+    /// That of a master.
+    Master(MasterStatus),
+}
+
+impl Shown {
+    /// Adds its text to a text.
+    fn push(&self, text: &mut String) -> Result<(), AllocError> {
+        match self {
+            Shown::Machine(status) => push_status(text, status),
+            Shown::Master(status) => push_master_status(text, status),
+        }
     }
 }
 
@@ -60,10 +79,10 @@ impl WholeFile {
         &self,
         disk: &D,
         alloc: Global,
-        status: &Status,
+        status: &Shown,
     ) -> io::Result<()> {
         let mut text = String::new(alloc);
-        push_status(&mut text, status)?;
+        status.push(&mut text)?;
         self.write(disk, text.as_str())
     }
 }

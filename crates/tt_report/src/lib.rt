@@ -8,7 +8,7 @@
 //! let reporter = Reporter::start(rt, alloc, LogFormat::Text, Some("/run/truetime/status"), Some("/run/truetime/evidence"))?;
 //! reporter.watch_for(1_000_000_000);
 //! reporter.log(rt, event);             // a line of the log
-//! reporter.show(rt, status);           // the newest status
+//! reporter.show(rt, status);           // the newest status; show_master that of a master
 //! reporter.prove(rt, text);            // the newest evidence
 //! reporter.keep_break(rt, text, text); // the evidence before a break, and that of it
 //! reporter.busy(clock);                // a round begins to publish at this clock reading ..

@@ -8,7 +8,7 @@ ghost use Rattle.tt_report.specs.Left.Happened.{asked, settled};
 use tt_status::{Limit, LogEvent, RefusedFusion};
 
 /// The number of kinds of lines.
-const KINDS: usize = 80;
+const KINDS: usize = 112;
 
 /// The kind of the lines that say that source 0 is silent. The kinds of the other sources follow.
 const SILENT: usize = 32;
@@ -19,11 +19,17 @@ const SUSPECT: usize = 48;
 /// The kind of the lines that say that a packet to source 0 could not be sent. The kinds of the other sources follow.
 const UNSENT: usize = 64;
 
+/// The kind of the lines that say that the name of source 0 has no address. The kinds of the other sources follow.
+const UNRESOLVED: usize = 80;
+
+/// The kind of the lines that say that the name of source 0 has an address. The kinds of the other sources follow.
+const RESOLVED: usize = 96;
+
 /// The kind of an event. At most one line of each kind is logged in ten seconds. Each
 /// reason for which a fusion is refused has a kind of its own, and each source has kinds of its own.
 fn kind_of(event: LogEvent) -> usize
     ensures value { result ≡ kind_of event }
-    ensures in_range { result < 80 }
+    ensures in_range { result < 112 }
 {
     match event {
         LogEvent::Started { .. } => 0,
@@ -56,9 +62,15 @@ fn kind_of(event: LogEvent) -> usize
         LogEvent::SourcesStale { .. } => 23,
         LogEvent::StartPaused { .. } => 24,
         LogEvent::EvidenceUnwritten => 25,
+        LogEvent::Stranger { .. } => 26,
+        LogEvent::KeysRead { .. } => 27,
+        LogEvent::KeysRefused { .. } => 28,
+        LogEvent::AddressAwaited { .. } => 29,
         LogEvent::SourceSilent { source } => SILENT + source.min(15) as usize,
         LogEvent::SourceSuspect { source } => SUSPECT + source.min(15) as usize,
         LogEvent::SourceUnsent { source } => UNSENT + source.min(15) as usize,
+        LogEvent::SourceUnresolved { source } => UNRESOLVED + source.min(15) as usize,
+        LogEvent::SourceResolved { source, .. } => RESOLVED + source.min(15) as usize,
     }
 }
 

@@ -1,14 +1,14 @@
 //! What the reporter's threads share with the threads that log.
 
 use crate::clocks::{clock_of, time_of};
-use crate::files::Break;
+use crate::files::{Break, Shown};
 use crate::lanes::Lane;
 use crate::limits::LogLimits;
 use std::alloc::{AllocError, Global};
 use std::sync::atomic::{AtomicU64, Ordering};
 use std::sync::{Mutex, Wait};
 use std::time::Clock as SystemClock;
-use tt_status::{LogEvent, Status};
+use tt_status::LogEvent;
 
 /// How many lines may wait to be written.
 pub const CAPACITY: usize = 256;
@@ -45,7 +45,7 @@ impl EvidenceLanes {
 pub(crate) struct Records {
     pub(crate) lines: Lane<Line>,
     /// One place, for the newest status.
-    pub(crate) statuses: Lane<Status>,
+    pub(crate) statuses: Lane<Shown>,
     pub(crate) evidence: Box<EvidenceLanes, Global>,
     /// The clock reading at which the publication began that is made now, in nanoseconds; 0 for none.
     pub(crate) since: AtomicU64,
@@ -98,7 +98,7 @@ impl Records {
     }
 
     /// Hands over a status. One that still waits gives its place to it, and is left out. It writes nothing itself.
-    pub(crate) fn show<R: Wait>(&self, rt: &R, status: Status) {
+    pub(crate) fn show<R: Wait>(&self, rt: &R, status: Shown) {
         self.unwritten.fetch_add(1, Ordering::SeqCst);
         if !self.statuses.push_newest(rt, status) {
             self.leave_out();

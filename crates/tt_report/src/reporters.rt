@@ -2,7 +2,7 @@
 
 use crate::clocks::clock_of;
 use crate::faults::ReporterFault;
-use crate::files::{Break, Disk, EvidenceFiles, WholeFile};
+use crate::files::{Break, Disk, EvidenceFiles, Shown, WholeFile};
 use crate::records::Records;
 use crate::writers::{write_evidence, write_lines, write_statuses};
 use std::alloc::{AllocError, Global};
@@ -11,7 +11,7 @@ use std::sync::atomic::Ordering;
 use std::sync::{Arc, Wait};
 use std::thread::{self, Threads};
 use std::time::{Clock as SystemClock, Duration};
-use tt_status::{LogEvent, LogFormat, Status};
+use tt_status::{LogEvent, LogFormat, MasterStatus, Status};
 
 /// For how long [`Reporter::end`] waits at most, in nanoseconds: 190 ms, so that with its last sleep it is at most
 /// 200 ms.
@@ -94,7 +94,14 @@ impl Reporter {
     /// writes nothing itself and never waits for the file.
     pub fn show<R: Wait>(&self, rt: &R, status: Status) {
         if self.has_file {
-            self.records.show(rt, status)
+            self.records.show(rt, Shown::Machine(status))
+        }
+    }
+
+    /// Hands over the newest status of a master, if there is a status file, as [`Reporter::show`] does that of a machine.
+    pub fn show_master<R: Wait>(&self, rt: &R, status: MasterStatus) {
+        if self.has_file {
+            self.records.show(rt, Shown::Master(status))
         }
     }
 

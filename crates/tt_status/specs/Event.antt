@@ -1,6 +1,8 @@
 -- The lines of a log, as text or as JSON.
 use Rattle.std.specs.Prelude.{codes, ℕ, nat_lt, if◌then◌else◌, List, [], ◌++◌}
 use Rattle.std.specs.Fmt.{decimal}
+use Rattle.std.specs.Net.Text.{socket_text}
+use Rattle.std.specs.declared.net.socket_addr.SocketAddr.{SocketAddr}
 use Rattle.jiff_core.specs.declared.civil.date.Date.{Date}
 use Rattle.tt_daemon.specs.Fault.{number_of as daemon_number_of}
 use Rattle.tt_daemon.specs.declared.faults.DaemonFault.TheVariants as daemon
@@ -8,7 +10,7 @@ use Rattle.tt_status.specs.Moment.{moment_text}
 use Rattle.tt_status.specs.declared.lines.LogFormat.{LogFormat}
 use Rattle.tt_status.specs.declared.lines.LogFormat.TheVariants.{Text, Json}
 use Rattle.tt_status.specs.declared.lines.LogEvent.{LogEvent}
-use Rattle.tt_status.specs.declared.lines.LogEvent.TheVariants.{Started, FirstPublication, SourceSilent, SourceSuspect, FusionRefused, ClockBack, AnswersRefused, RoundFailed, SharingEnded, SharingResumed, StatusUnwritten, NotAccepted, StateLoose, EpochLoose, SharedLoose, Ended, MasterStarted, MasterFailed, SocketRenewed, PublicationSlow, SourceUnsent, AssumptionBroken, HostSlept, GuestDisrupted, SleepUnseen, SourcesStale, StartPaused, EvidenceUnwritten}
+use Rattle.tt_status.specs.declared.lines.LogEvent.TheVariants.{Started, FirstPublication, SourceSilent, SourceSuspect, FusionRefused, ClockBack, AnswersRefused, RoundFailed, SharingEnded, SharingResumed, StatusUnwritten, NotAccepted, StateLoose, EpochLoose, SharedLoose, Ended, MasterStarted, MasterFailed, SocketRenewed, PublicationSlow, SourceUnsent, AssumptionBroken, HostSlept, GuestDisrupted, SleepUnseen, SourcesStale, StartPaused, EvidenceUnwritten, Stranger, SourceUnresolved, SourceResolved, KeysRead, KeysRefused, AddressAwaited}
 use Rattle.tt_status.specs.declared.lines.RefusedFusion.{RefusedFusion}
 use Rattle.tt_status.specs.declared.lines.RefusedFusion.TheVariants.{NoPoint, TooFewKnown}
 
@@ -22,6 +24,11 @@ abbrev pub field : LogFormat → List ℕ → ℕ → List ℕ
 field Text name value = codes " " ++ name ++ codes "=" ++ decimal value
 field Json name value = codes ",\"" ++ name ++ codes "\":" ++ decimal value
 
+-- the name `address`, and the address as the standard library prints it
+abbrev pub address_field : LogFormat → SocketAddr → List ℕ
+address_field Text address = codes " address=" ++ socket_text address
+address_field Json address = codes ",\"address\":\"" ++ socket_text address ++ codes "\""
+
 -- how grave an event is
 abbrev pub level_of : LogEvent → List ℕ
 level_of (Started machine epoch port) = codes "info"
@@ -29,6 +36,8 @@ level_of (FirstPublication width) = codes "info"
 level_of SharingResumed = codes "info"
 level_of Ended = codes "info"
 level_of (MasterStarted source port) = codes "info"
+level_of (SourceResolved source address) = codes "info"
+level_of (KeysRead keys) = codes "info"
 level_of _ = codes "warn"
 
 -- how an event is called
@@ -61,29 +70,41 @@ name_of SleepUnseen = codes "sleep_unseen"
 name_of (SourcesStale answered needed) = codes "sources_stale"
 name_of (StartPaused pause breaks) = codes "start_paused"
 name_of EvidenceUnwritten = codes "evidence_unwritten"
+name_of (Stranger address) = codes "stranger"
+name_of (SourceUnresolved source) = codes "source_unresolved"
+name_of (SourceResolved source address) = codes "source_resolved"
+name_of (KeysRead keys) = codes "keys_read"
+name_of (KeysRefused number line) = codes "keys_refused"
+name_of (AddressAwaited pause) = codes "address_awaited"
 
--- its numbers, each behind its name; the name of a time in nanoseconds ends in `_ns`
-abbrev pub numbers_of : LogFormat → LogEvent → List ℕ
-numbers_of f (Started machine epoch port) = field f (codes "machine") machine ++ field f (codes "epoch") epoch ++ field f (codes "port") port
-numbers_of f (FirstPublication width) = field f (codes "width_ns") width
-numbers_of f (SourceSilent source) = field f (codes "source") source
-numbers_of f (SourceSuspect source) = field f (codes "source") source
-numbers_of f (FusionRefused reason) = field f (codes "number") (refusal_number_of reason)
-numbers_of f (AnswersRefused count) = field f (codes "count") count
-numbers_of f (RoundFailed number) = field f (codes "number") number
-numbers_of f (SharingEnded number) = field f (codes "number") number
-numbers_of f (MasterStarted source port) = field f (codes "source") source ++ field f (codes "port") port
-numbers_of f (MasterFailed number) = field f (codes "number") number
-numbers_of f (SocketRenewed number pause) = field f (codes "number") number ++ field f (codes "pause_ns") pause
-numbers_of f (PublicationSlow lasted) = field f (codes "lasted_ns") lasted
-numbers_of f (SourceUnsent source) = field f (codes "source") source
-numbers_of f (AssumptionBroken clock lower upper last_lower last_upper) =
+-- its numbers, each behind its name, and its address; the name of a time in nanoseconds ends in `_ns`
+abbrev pub fields_of : LogFormat → LogEvent → List ℕ
+fields_of f (Started machine epoch port) = field f (codes "machine") machine ++ field f (codes "epoch") epoch ++ field f (codes "port") port
+fields_of f (FirstPublication width) = field f (codes "width_ns") width
+fields_of f (SourceSilent source) = field f (codes "source") source
+fields_of f (SourceSuspect source) = field f (codes "source") source
+fields_of f (FusionRefused reason) = field f (codes "number") (refusal_number_of reason)
+fields_of f (AnswersRefused count) = field f (codes "count") count
+fields_of f (RoundFailed number) = field f (codes "number") number
+fields_of f (SharingEnded number) = field f (codes "number") number
+fields_of f (MasterStarted source port) = field f (codes "source") source ++ field f (codes "port") port
+fields_of f (MasterFailed number) = field f (codes "number") number
+fields_of f (SocketRenewed number pause) = field f (codes "number") number ++ field f (codes "pause_ns") pause
+fields_of f (PublicationSlow lasted) = field f (codes "lasted_ns") lasted
+fields_of f (SourceUnsent source) = field f (codes "source") source
+fields_of f (AssumptionBroken clock lower upper last_lower last_upper) =
     field f (codes "clock_ns") clock ++ field f (codes "lower_ns") lower ++ field f (codes "upper_ns") upper
     ++ field f (codes "last_lower_ns") last_lower ++ field f (codes "last_upper_ns") last_upper
-numbers_of f (HostSlept slept) = field f (codes "slept_ns") slept
-numbers_of f (SourcesStale answered needed) = field f (codes "answered") answered ++ field f (codes "needed") needed
-numbers_of f (StartPaused pause breaks) = field f (codes "pause_ns") pause ++ field f (codes "breaks") breaks
-numbers_of f _ = []
+fields_of f (HostSlept slept) = field f (codes "slept_ns") slept
+fields_of f (SourcesStale answered needed) = field f (codes "answered") answered ++ field f (codes "needed") needed
+fields_of f (StartPaused pause breaks) = field f (codes "pause_ns") pause ++ field f (codes "breaks") breaks
+fields_of f (Stranger address) = address_field f address
+fields_of f (SourceUnresolved source) = field f (codes "source") source
+fields_of f (SourceResolved source address) = field f (codes "source") source ++ address_field f address
+fields_of f (KeysRead keys) = field f (codes "keys") keys
+fields_of f (KeysRefused number line) = field f (codes "number") number ++ field f (codes "line") line
+fields_of f (AddressAwaited pause) = field f (codes "pause_ns") pause
+fields_of f _ = []
 
 -- the time, the level and the name of an event
 abbrev pub head_text : LogFormat → Date → ℕ → LogEvent → List ℕ
@@ -103,4 +124,4 @@ end_text Json = codes "}\n"
 
 -- the line of an event at a time, the date of which is given
 abbrev pub event_line : LogFormat → Date → ℕ → LogEvent → ℕ → List ℕ
-event_line f date time event left_out = head_text f date time event ++ numbers_of f event ++ left_out_text f left_out ++ end_text f
+event_line f date time event left_out = head_text f date time event ++ fields_of f event ++ left_out_text f left_out ++ end_text f

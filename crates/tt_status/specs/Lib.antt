@@ -1,4 +1,5 @@
 pub mod Limit
+pub mod Master
 pub mod Digits
 pub mod Moment
 pub mod Event

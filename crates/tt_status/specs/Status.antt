@@ -1,6 +1,8 @@
 -- The text of a status: its metrics in order.
 use Rattle.std.specs.Prelude.{codes, ℕ, false, min, map, slice_index_or, Some, None, List, [], ◌∷◌, ◌++◌}
 use Rattle.std.specs.List.{flat_map, range_with_len}
+use Rattle.tt_seal.specs.declared.faults.SealFault.{SealFault}
+use Rattle.tt_seal.specs.declared.faults.SealFault.TheVariants.{Length, UnknownKey, WrongTag}
 use Rattle.tt_source.specs.declared.faults.SourceFault.{SourceFault}
 use Rattle.tt_source.specs.declared.faults.SourceFault.TheVariants.{NoSource, ClockBack, NoncesUsedUp, BadMessage, NotMine, OtherEpoch, NotOutstanding}
 use Rattle.tt_status.specs.Metric.{Sample, Metric, single, metric_text}
@@ -10,11 +12,12 @@ use Rattle.tt_status.specs.declared.metrics.Kind.{Kind}
 use Rattle.tt_status.specs.declared.metrics.Kind.TheVariants.{Gauge, Counter}
 use Rattle.tt_status.specs.declared.metrics.Value.{Value}
 use Rattle.tt_status.specs.declared.metrics.Value.TheVariants.{Whole, Flag, Nanos, Signed}
+use Rattle.tt_status.specs.declared.metrics.Value.TheVariants as Number
 use Rattle.tt_status.specs.declared.metrics.Outcome.TheVariants.{Accepted, Refused, Silent}
 use Rattle.tt_status.specs.declared.metrics.Subject.{Subject}
-use Rattle.tt_status.specs.declared.metrics.Subject.TheVariants.{Version, Refusal, Source, OutcomeOf, RefusedOf}
+use Rattle.tt_status.specs.declared.metrics.Subject.TheVariants.{Version, Refusal, Source, OutcomeOf, RefusedOf, UnopenedOf}
 use Rattle.tt_status.specs.declared.statuses.Aspect.{Aspect}
-use Rattle.tt_status.specs.declared.statuses.Aspect.TheVariants.{Suspicion, Rounds, Refusals, Unsent, Answered, RoundTrip, Lower, Upper, Rate, RateError}
+use Rattle.tt_status.specs.declared.statuses.Aspect.TheVariants.{Suspicion, Rounds, Refusals, Unsent, Answered, RoundTrip, Lower, Upper, Rate, RateError, Unopened, Key}
 use Rattle.tt_status.specs.declared.statuses.SourceStatus.{SourceStatus}
 use Rattle.tt_status.specs.declared.statuses.Status.{Status}
 
@@ -63,6 +66,8 @@ no_source = record {
   refusals = [];
   rate = None;
   rate_error = None;
+  unopened = [];
+  key = None;
 }
 
 -- where the refusals of a source for each reason are counted
@@ -75,10 +80,17 @@ refusal_place NotMine = 4
 refusal_place OtherEpoch = 5
 refusal_place NotOutstanding = 6
 
+-- where the packets that did not open for each reason are counted
+abbrev pub unopened_place : SealFault → ℕ
+unopened_place Length = 0
+unopened_place UnknownKey = 1
+unopened_place WrongTag = 2
+
 -- what a number of a source is of
 abbrev pub subject_of : Aspect → ℕ → Subject
 subject_of (Rounds outcome) i = OutcomeOf i outcome
 subject_of (Refusals reason) i = RefusedOf i reason
+subject_of (Unopened reason) i = UnopenedOf i reason
 subject_of _ i = Source i
 
 -- a number of a source
@@ -95,6 +107,8 @@ value_of Lower s = Signed s.lower
 value_of Upper s = Signed s.upper
 value_of Rate s = Signed s.rate
 value_of RateError s = Nanos s.rate_error
+value_of (Unopened reason) s = Whole (slice_index_or s.unopened (unopened_place reason) 0)
+value_of Key s = Number.Key s.key
 
 -- a number of a source, and what it is of
 abbrev pub sample_of : ℕ → SourceStatus → Aspect → Sample
@@ -135,9 +149,16 @@ source_rate_metrics s =
     source_metric (RateError ∷ []) (codes "truetime_source_clock_rate_error_ratio") (codes "By how much that part may be wrong; NaN where it is not known.") Gauge s ∷
     []
 
+-- which packets of the sources did not open, and under which keys the others did
+abbrev pub source_seal_metrics : Status → List Metric
+source_seal_metrics s =
+    source_metric (Unopened Length ∷ Unopened UnknownKey ∷ Unopened WrongTag ∷ []) (codes "truetime_source_packets_unopened_total") (codes "Packets from the source that did not open, by the number of the reason.") Counter s ∷
+    source_metric (Key ∷ []) (codes "truetime_source_key") (codes "The number of the key under which the last packet of the source opened; NaN where there is none.") Gauge s ∷
+    []
+
 -- the numbers of the sources
 abbrev pub source_metrics : Status → List Metric
-source_metrics s = source_round_metrics s ++ source_answer_metrics s ++ source_rate_metrics s
+source_metrics s = source_round_metrics s ++ source_answer_metrics s ++ source_rate_metrics s ++ source_seal_metrics s
 
 -- what became of the rounds
 abbrev pub round_metrics : Status → List Metric
@@ -157,9 +178,10 @@ refusals_metric s = record {
   samples = count (Refusal NoPoint) s.no_point ∷ count (Refusal TooFewKnown) s.too_few ∷ [];
 }
 
--- what was seen of broken assumptions
+-- what came of strangers, and what was seen of broken assumptions
 abbrev pub break_metrics : Status → List Metric
 break_metrics s =
+    single (codes "truetime_strangers_total") (codes "Packets from addresses that are no source's.") Counter (Whole s.strangers) ∷
     single (codes "truetime_assumption_breaks_total") (codes "Signs that an assumption of the service is broken.") Counter (Whole s.breaks) ∷
     single (codes "truetime_slept_seconds_total") (codes "For how long the host has slept in this life.") Counter (Nanos (Some s.slept)) ∷
     []

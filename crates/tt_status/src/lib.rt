@@ -1,8 +1,8 @@
-//! What a running machine tells its operators: the text of its status file, and the lines of its log.
+//! What a running machine or master tells its operators: the text of its status file, and the lines of its log.
 //!
 //! All of it is functions over values: no file is written here.
 //!
-//! - `statuses`: [`Status`], and its text in the format that Prometheus collects.
+//! - `statuses`: [`Status`], and its text in the format that Prometheus collects. `master_statuses`: [`MasterStatus`], and its text.
 //! - `metrics`, `histograms`: the text of a metric. `digits`, `moments`: numbers with a fixed count of digits, seconds, and UTC.
 //! - `lines`: [`LogEvent`], and the line of a log that says it.
 //! - `limits`: [`Limit`], which lets one line of a kind pass in ten seconds and counts the others.
@@ -12,6 +12,7 @@ mod digits;
 mod histograms;
 mod limits;
 mod lines;
+mod master_statuses;
 mod metrics;
 mod moments;
 mod statuses;
@@ -20,5 +21,9 @@ pub use digits::Difference;
 pub use histograms::{BOUNDS, Histogram};
 pub use limits::{Limit, QUIET};
 pub use lines::{LogEvent, LogFormat, RefusedFusion, push_event};
+pub use master_statuses::{KeyAnswers, MasterStatus, push_master_status};
 pub use metrics::VERSION;
-pub use statuses::{MAX_SOURCES, REASONS, SourceStatus, Status, push_status, refusal_place};
+pub use statuses::{
+    MAX_SOURCES, REASONS, SourceStatus, Status, UNOPENED, push_status, refusal_place,
+    unopened_place,
+};

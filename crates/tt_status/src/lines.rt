@@ -3,11 +3,12 @@
 ghost use Rattle.std.specs.Prelude.{◌≡◌, ◌++◌, OnOk, string_bytes};
 ghost use Rattle.jiff_core.specs.declared.civil.date.Date.{Date as Day};
 ghost use Rattle.tt_status.specs.Moment.{IsDateOf};
-ghost use Rattle.tt_status.specs.Event.{event_line, head_text, left_out_text, end_text, field, level_of, name_of, numbers_of, refusal_number_of};
+ghost use Rattle.tt_status.specs.Event.{event_line, head_text, left_out_text, end_text, field, address_field, level_of, name_of, fields_of, refusal_number_of};
 
 use crate::moments::{date_of, push_moment};
 use jiff_core::civil::Date;
 use std::alloc::AllocError;
+use std::net::SocketAddr;
 use tt_daemon::DaemonFault;
 
 /// Why a fusion is refused.
@@ -145,6 +146,33 @@ pub enum LogEvent {
     },
     /// The evidence was not written.
     EvidenceUnwritten,
+    /// A packet came from this address, which is no source's.
+    Stranger {
+        address: SocketAddr,
+    },
+    /// The name of this source has no address, or none that could be found.
+    SourceUnresolved {
+        source: u64,
+    },
+    /// The name of this source has this address from now on.
+    SourceResolved {
+        source: u64,
+        address: SocketAddr,
+    },
+    /// The file of keys was read, and has this many.
+    KeysRead {
+        keys: u64,
+    },
+    /// The file of keys was refused with this number, because of this line; 0 where no line is at fault. The keys before
+    /// stay.
+    KeysRefused {
+        number: u64,
+        line: u64,
+    },
+    /// The address to listen at is not up. It is tried again after this pause in nanoseconds.
+    AddressAwaited {
+        pause: u64,
+    },
 }
 
 impl LogEvent {
@@ -157,7 +185,9 @@ impl LogEvent {
             | LogEvent::FirstPublication { .. }
             | LogEvent::SharingResumed
             | LogEvent::Ended
-            | LogEvent::MasterStarted { .. } => "info",
+            | LogEvent::MasterStarted { .. }
+            | LogEvent::SourceResolved { .. }
+            | LogEvent::KeysRead { .. } => "info",
             _ => "warn",
         }
     }
@@ -195,12 +225,18 @@ impl LogEvent {
             LogEvent::SourcesStale { .. } => "sources_stale",
             LogEvent::StartPaused { .. } => "start_paused",
             LogEvent::EvidenceUnwritten => "evidence_unwritten",
+            LogEvent::Stranger { .. } => "stranger",
+            LogEvent::SourceUnresolved { .. } => "source_unresolved",
+            LogEvent::SourceResolved { .. } => "source_resolved",
+            LogEvent::KeysRead { .. } => "keys_read",
+            LogEvent::KeysRefused { .. } => "keys_refused",
+            LogEvent::AddressAwaited { .. } => "address_awaited",
         }
     }
 }
 
 /// Adds the line of an event to a text: its time, given in nanoseconds since 1970 and written in UTC, its level and its
-/// name, its numbers, how many of its kind were left out before it if any were, and a line feed. As text it is like
+/// name, its numbers and addresses, how many of its kind were left out before it if any were, and a line feed. As text it is like
 /// `time=2026-11-26T23:41:51.123456789Z level=warn event=fusion_refused number=504`, and as JSON like
 /// `{"time":"2026-11-26T23:41:51.123456789Z","level":"warn","event":"fusion_refused","number":504}`. Numbers of
 /// nanoseconds have names that end in `_ns`. Refuses only if it is out of memory; then the text may have a part of the
@@ -230,7 +266,7 @@ fn push_dated(
     ensures { OnOk result (string_bytes text.new ≡ string_bytes text.old ++ event_line format date time event left_out) }
 {
     push_head(text, format, date, time, event)?;
-    push_numbers(text, format, event)?;
+    push_fields(text, format, event)?;
     push_left_out(text, format, left_out)?;
     push_end(text, format)
 }
@@ -301,9 +337,19 @@ fn push_field(
     }
 }
 
-/// Adds the numbers of an event.
-fn push_numbers(text: &mut String, format: LogFormat, event: LogEvent) -> Result<(), AllocError>
-    ensures { OnOk result (string_bytes text.new ≡ string_bytes text.old ++ numbers_of format event) }
+/// Adds the address of an event.
+fn push_address(text: &mut String, format: LogFormat, address: SocketAddr) -> Result<(), AllocError>
+    ensures { OnOk result (string_bytes text.new ≡ string_bytes text.old ++ address_field format address) }
+{
+    match format {
+        LogFormat::Text => write!(text, " address={address}"),
+        LogFormat::Json => write!(text, ",\"address\":\"{address}\""),
+    }
+}
+
+/// Adds the numbers and the address of an event.
+fn push_fields(text: &mut String, format: LogFormat, event: LogEvent) -> Result<(), AllocError>
+    ensures { OnOk result (string_bytes text.new ≡ string_bytes text.old ++ fields_of format event) }
 {
     match event {
         LogEvent::Started {
@@ -355,6 +401,18 @@ fn push_numbers(text: &mut String, format: LogFormat, event: LogEvent) -> Result
             push_field(text, format, "pause_ns", pause)?;
             push_field(text, format, "breaks", breaks)
         }
+        LogEvent::Stranger { address } => push_address(text, format, address),
+        LogEvent::SourceUnresolved { source } => push_field(text, format, "source", source),
+        LogEvent::SourceResolved { source, address } => {
+            push_field(text, format, "source", source)?;
+            push_address(text, format, address)
+        }
+        LogEvent::KeysRead { keys } => push_field(text, format, "keys", keys),
+        LogEvent::KeysRefused { number, line } => {
+            push_field(text, format, "number", number)?;
+            push_field(text, format, "line", line)
+        }
+        LogEvent::AddressAwaited { pause } => push_field(text, format, "pause_ns", pause),
         _ => Ok(()),
     }
 }

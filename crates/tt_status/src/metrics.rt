@@ -4,11 +4,12 @@ ghost use Rattle.std.specs.Prelude.{◌≡◌, ◌++◌, OnOk, codes, string_byt
 ghost use Rattle.std.specs.List.{flat_map};
 ghost use Rattle.std.specs.Fmt.{decimal};
 ghost use Rattle.tt_status.specs.Digits.{seconds_text};
-ghost use Rattle.tt_status.specs.Metric.{kind_word, outcome_word, suffix_of, label_text, labels_text, value_text, head_text, sample_text, metric_text, single};
+ghost use Rattle.tt_status.specs.Metric.{kind_word, outcome_word, suffix_of, label_text, labels_text, value_text, head_text, labelled_text, sample_text, metric_text, single};
 
 use crate::digits::{Difference, push_difference, push_seconds};
 use crate::lines::RefusedFusion;
 use std::alloc::AllocError;
+use tt_seal::SealFault;
 use tt_source::SourceFault;
 
 /// The version of the program.
@@ -49,6 +50,8 @@ pub(crate) enum Value {
     Nanos(Option<u64>),
     /// The same of a number that may be below 0.
     Signed(Option<Difference>),
+    /// The number of a key, if there is one.
+    Key(Option<u32>),
 }
 
 /// What became of a source in a round.
@@ -87,6 +90,12 @@ pub(crate) enum Subject {
     OutcomeOf(u64, Outcome),
     /// The rounds in which answers of this source came and all were refused, the last one for this reason.
     RefusedOf(u64, SourceFault),
+    /// The packets from this source that did not open for this reason.
+    UnopenedOf(u64, SealFault),
+    /// The packets that did not open for this reason.
+    Unopened(SealFault),
+    /// What is sealed under the key of this number; what is not sealed where there is none.
+    Key(Option<u32>),
     /// The values of a histogram that are at most this bound, in nanoseconds; all of them where there is none.
     AtMost(Option<u64>),
     /// The sum of the values of a histogram.
@@ -151,7 +160,7 @@ pub(crate) fn push_head(
     write!(text, "# HELP {name} {help}\n# TYPE {name} {word}\n")
 }
 
-/// Adds the line of a sample.
+/// Adds the line of a sample of a machine.
 pub(crate) fn push_sample(
     text: &mut String,
     name: &str,
@@ -162,15 +171,30 @@ pub(crate) fn push_sample(
     ensures { OnOk result (string_bytes text.new ≡ string_bytes text.old
         ++ sample_text name.now machine (record { subject = subject; value = value })) }
 {
+    push_labelled(text, name, "machine", machine, subject, value)
+}
+
+/// Adds the line of a sample, whose first label is this one.
+pub(crate) fn push_labelled(
+    text: &mut String,
+    name: &str,
+    label: &str,
+    number: u64,
+    subject: Subject,
+    value: Value,
+) -> Result<(), AllocError>
+    ensures { OnOk result (string_bytes text.new ≡ string_bytes text.old
+        ++ labelled_text label.now name.now number (record { subject = subject; value = value })) }
+{
     let suffix = subject.suffix();
-    write!(text, "{name}{suffix}{{machine=\"{machine}\"")?;
+    write!(text, "{name}{suffix}{{{label}=\"{number}\"")?;
     push_labels(text, subject)?;
     text.push_str("} ")?;
     push_value(text, value)?;
     text.push_str("\n")
 }
 
-/// Adds the labels of a sample behind that of its machine.
+/// Adds the labels of a sample behind its first one.
 fn push_labels(text: &mut String, subject: Subject) -> Result<(), AllocError>
     ensures { OnOk result (string_bytes text.new ≡ string_bytes text.old ++ labels_text subject) }
 {
@@ -187,6 +211,13 @@ fn push_labels(text: &mut String, subject: Subject) -> Result<(), AllocError>
             push_number(text, "source", source)?;
             push_number(text, "number", u64::from(fault.number()))
         }
+        Subject::UnopenedOf(source, fault) => {
+            push_number(text, "source", source)?;
+            push_number(text, "number", u64::from(fault.number()))
+        }
+        Subject::Unopened(fault) => push_number(text, "number", u64::from(fault.number())),
+        Subject::Key(Some(key)) => push_number(text, "key", u64::from(key)),
+        Subject::Key(None) => push_word(text, "key", "none"),
         Subject::AtMost(Some(bound)) => push_bound(text, bound),
         Subject::AtMost(None) => push_word(text, "le", "+Inf"),
     }
@@ -225,6 +256,7 @@ fn push_value(text: &mut String, value: Value) -> Result<(), AllocError>
         Value::Flag(false) => text.push_str("0"),
         Value::Nanos(Some(number)) => push_seconds(text, number),
         Value::Signed(Some(difference)) => push_difference(text, difference),
-        Value::Nanos(None) | Value::Signed(None) => text.push_str("NaN"),
+        Value::Key(Some(key)) => write!(text, "{key}"),
+        Value::Nanos(None) | Value::Signed(None) | Value::Key(None) => text.push_str("NaN"),
     }
 }

@@ -3,13 +3,14 @@
 ghost use Rattle.std.specs.Prelude.{◌≡◌, ◌<◌, ◌++◌, OnOk, string_bytes};
 ghost use Rattle.std.specs.List.{flat_map};
 ghost use Rattle.tt_status.specs.Metric.{metric_text, sample_text};
-ghost use Rattle.tt_status.specs.Status.{build_metric, publication_metrics, known_metrics, refusal_place, subject_of, value_of, sample_of, source_metric, source_metrics, source_round_metrics, source_answer_metrics, source_rate_metrics, round_metrics, refusals_metric, break_metrics, client_metrics, worker_metrics, histogram_metrics, written_metrics, status_text};
+ghost use Rattle.tt_status.specs.Status.{build_metric, publication_metrics, known_metrics, refusal_place, unopened_place, subject_of, value_of, sample_of, source_metric, source_metrics, source_round_metrics, source_answer_metrics, source_rate_metrics, source_seal_metrics, round_metrics, refusals_metric, break_metrics, client_metrics, worker_metrics, histogram_metrics, written_metrics, status_text};
 
 use crate::digits::Difference;
 use crate::histograms::{Histogram, push_histogram};
 use crate::lines::RefusedFusion;
 use crate::metrics::{Kind, Outcome, Row, Subject, Value, push_head, push_rows, push_sample};
 use std::alloc::AllocError;
+use tt_seal::SealFault;
 use tt_source::SourceFault;
 
 /// The greatest number of sources of a status.
@@ -17,6 +18,9 @@ pub const MAX_SOURCES: usize = 16;
 
 /// How many reasons there are for which an answer of a source is refused.
 pub const REASONS: usize = 7;
+
+/// How many reasons there are for which a packet does not open.
+pub const UNOPENED: usize = 3;
 
 /// The rounds of a source, by outcome.
 const OUTCOMES: [Aspect; 3] = [
@@ -33,6 +37,13 @@ const REFUSALS: [Aspect; 6] = [
     Aspect::Refusals(SourceFault::NotMine),
     Aspect::Refusals(SourceFault::OtherEpoch),
     Aspect::Refusals(SourceFault::NotOutstanding),
+];
+
+/// The packets from a source that did not open, by the reason.
+const UNOPENED_PACKETS: [Aspect; 3] = [
+    Aspect::Unopened(SealFault::Length),
+    Aspect::Unopened(SealFault::UnknownKey),
+    Aspect::Unopened(SealFault::WrongTag),
 ];
 
 /// What became of one source, at one moment.
@@ -64,6 +75,10 @@ pub struct SourceStatus {
     pub rate: Option<Difference>,
     /// By how much that may be wrong, in parts per billion.
     pub rate_error: Option<u64>,
+    /// How many packets from it did not open, for the reason of each place, which [`unopened_place`] gives.
+    pub unopened: [u64; UNOPENED],
+    /// The number of the key under which its last packet opened; none before the first, and where it has no keys.
+    pub key: Option<u32>,
 }
 
 /// The place of the refusals for a reason among those of a [`SourceStatus`].
@@ -79,6 +94,18 @@ pub fn refusal_place(reason: SourceFault) -> usize
         SourceFault::NotMine => 4,
         SourceFault::OtherEpoch => 5,
         SourceFault::NotOutstanding => 6,
+    }
+}
+
+/// The place of the packets that did not open for a reason among those of a [`SourceStatus`].
+pub fn unopened_place(reason: SealFault) -> usize
+    ensures value { result ≡ unopened_place reason }
+    ensures in_range { result < 3 }
+{
+    match reason {
+        SealFault::Length => 0,
+        SealFault::UnknownKey => 1,
+        SealFault::WrongTag => 2,
     }
 }
 
@@ -116,6 +143,8 @@ pub struct Status {
     pub too_few: u64,
     /// How many rounds there were after which fewer than n - f sources had answered within three periods.
     pub stale_rounds: u64,
+    /// How many packets came from addresses that are no source's.
+    pub strangers: u64,
     /// How many signs of a broken assumption there were.
     pub breaks: u64,
     /// For how long the host has slept in this life, in nanoseconds.
@@ -167,6 +196,10 @@ enum Aspect {
     Rate,
     /// The error of that.
     RateError,
+    /// The packets from it that did not open for this reason.
+    Unopened(SealFault),
+    /// The key under which its last packet opened.
+    Key,
 }
 
 impl Aspect {
@@ -177,6 +210,7 @@ impl Aspect {
         match self {
             Aspect::Rounds(outcome) => Subject::OutcomeOf(source, outcome),
             Aspect::Refusals(reason) => Subject::RefusedOf(source, reason),
+            Aspect::Unopened(reason) => Subject::UnopenedOf(source, reason),
             _ => Subject::Source(source),
         }
     }
@@ -198,6 +232,8 @@ impl Aspect {
             Aspect::Upper => Value::Signed(source.upper),
             Aspect::Rate => Value::Signed(source.rate),
             Aspect::RateError => Value::Nanos(source.rate_error),
+            Aspect::Unopened(reason) => Value::Whole(source.unopened[unopened_place(reason)]),
+            Aspect::Key => Value::Key(source.key),
         }
     }
 }
@@ -321,7 +357,8 @@ fn push_sources(text: &mut String, status: &Status) -> Result<(), AllocError>
 {
     push_source_rounds(text, status)?;
     push_source_answers(text, status)?;
-    push_source_rates(text, status)
+    push_source_rates(text, status)?;
+    push_source_seals(text, status)
 }
 
 /// Adds what became of the sources in the rounds.
@@ -418,6 +455,31 @@ fn push_source_rates(text: &mut String, status: &Status) -> Result<(), AllocErro
                 help: "By how much that part may be wrong; NaN where it is not known.",
                 kind: Kind::Gauge,
                 aspects: &[Aspect::RateError],
+            },
+        ],
+    )
+}
+
+/// Adds which packets of the sources did not open, and under which keys the others did.
+fn push_source_seals(text: &mut String, status: &Status) -> Result<(), AllocError>
+    ensures { OnOk result (string_bytes text.new ≡ string_bytes text.old
+        ++ flat_map (metric_text status.now.machine) (source_seal_metrics status.now)) }
+{
+    push_source_rows(
+        text,
+        status,
+        &[
+            SourceRow {
+                name: "truetime_source_packets_unopened_total",
+                help: "Packets from the source that did not open, by the number of the reason.",
+                kind: Kind::Counter,
+                aspects: &UNOPENED_PACKETS,
+            },
+            SourceRow {
+                name: "truetime_source_key",
+                help: "The number of the key under which the last packet of the source opened; NaN where there is none.",
+                kind: Kind::Gauge,
+                aspects: &[Aspect::Key],
             },
         ],
     )
@@ -542,7 +604,7 @@ fn push_refusals(text: &mut String, status: &Status) -> Result<(), AllocError>
     push_sample(text, name, machine, too_few, Value::Whole(status.too_few))
 }
 
-/// Adds what was seen of broken assumptions.
+/// Adds what came of strangers, and what was seen of broken assumptions.
 fn push_breaks(text: &mut String, status: &Status) -> Result<(), AllocError>
     ensures { OnOk result (string_bytes text.new ≡ string_bytes text.old
         ++ flat_map (metric_text status.now.machine) (break_metrics status.now)) }
@@ -551,6 +613,12 @@ fn push_breaks(text: &mut String, status: &Status) -> Result<(), AllocError>
         text,
         status.machine,
         &[
+            Row {
+                name: "truetime_strangers_total",
+                help: "Packets from addresses that are no source's.",
+                kind: Kind::Counter,
+                value: Value::Whole(status.strangers),
+            },
             Row {
                 name: "truetime_assumption_breaks_total",
                 help: "Signs that an assumption of the service is broken.",
