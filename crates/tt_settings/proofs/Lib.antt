@@ -1,2 +1,6 @@
+mod Asking
+mod Behind
 mod Decimals
 mod Items
+mod Labels
+mod Spellings

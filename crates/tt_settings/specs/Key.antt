@@ -7,7 +7,7 @@ use Rattle.tt_span.specs.Time.{max_time}
 use Rattle.tt_poll.specs.Message.{max_machine}
 use Rattle.tt_daemon.specs.Config.{max_workers}
 use Rattle.tt_settings.specs.declared.keys.Key.{Key}
-use Rattle.tt_settings.specs.declared.keys.Key.TheVariants.{Machine, Masters, Faulty, Workers, Drift, Poll, Wait, FloorAhead, Idle, LeaseLo, LeaseHi, Stampers, Listen, Log, OnBreak, MaxWidth, Socket, State, Shared, Status, Evidence, Vmclock}
+use Rattle.tt_settings.specs.declared.keys.Key.TheVariants.{Machine, Masters, Faulty, Workers, Drift, Poll, Wait, FloorAhead, Idle, LeaseLo, LeaseHi, Stampers, Listen, Log, OnBreak, MaxWidth, Socket, State, Shared, Status, Evidence, Vmclock, Keys, Master, MasterAddress, MasterKey}
 use Rattle.tt_settings.specs.declared.keys.ValueKind.{ValueKind}
 use Rattle.tt_settings.specs.declared.keys.ValueKind.TheVariants as kind
 
@@ -42,6 +42,10 @@ entry_of Shared = (codes "shared", kind.Path)
 entry_of Status = (codes "status", kind.Path)
 entry_of Evidence = (codes "evidence", kind.Path)
 entry_of Vmclock = (codes "vmclock", kind.Path)
+entry_of Keys = (codes "keys", kind.Path)
+entry_of Master = (codes "master", kind.Tables)
+entry_of MasterAddress = (codes "address", kind.Place)
+entry_of MasterKey = (codes "key", kind.KeyNumbers)
 
 abbrev pub text_of : Key → List ℕ
 text_of key = (entry_of key).0
@@ -49,27 +53,31 @@ text_of key = (entry_of key).0
 abbrev pub kind_of : Key → ValueKind
 kind_of key = (entry_of key).1
 
--- all keys
+-- all keys of a document
 abbrev pub all_keys : List Key
 all_keys =
     Machine ∷ Masters ∷ Faulty ∷ Workers ∷ Drift ∷ Poll ∷ Wait ∷ FloorAhead ∷ Idle ∷ LeaseLo ∷ LeaseHi ∷ Stampers ∷ Listen ∷ Log ∷ OnBreak
-    ∷ MaxWidth ∷ Socket ∷ State ∷ Shared ∷ Status ∷ Evidence ∷ Vmclock ∷ []
+    ∷ MaxWidth ∷ Socket ∷ State ∷ Shared ∷ Status ∷ Evidence ∷ Vmclock ∷ Keys ∷ Master ∷ []
+
+-- all keys of the table of a master
+abbrev pub master_keys : List Key
+master_keys = MasterAddress ∷ MasterKey ∷ []
 
 -- the first of these keys that a text is
 abbrev pub key_among : List ℕ → List Key → Option Key
 key_among text [] = None
 key_among text (key ∷ rest) = if pointwise nat_eq (text_of key) text then Some key else key_among text rest
 
--- the key that a text is
-abbrev pub key_of : List ℕ → Option Key
-key_of text = key_among text all_keys
-
 -- this name, where it is no key, or else the other
 abbrev pub unknown_or : Option Key → List ℕ → Option (List ℕ) → Option (List ℕ)
 unknown_or (Some key) name other = other
 unknown_or None name other = Some name
 
--- the first name of a table that is no key
+-- the first name of a table that is none of these keys
+abbrev pub unknown_among : List Key → Members → Option (List ℕ)
+unknown_among keys no_members = None
+unknown_among keys (member name d rest) = unknown_or (key_among name keys) name (unknown_among keys rest)
+
+-- the first name of a document that is no key
 abbrev pub first_unknown : Members → Option (List ℕ)
-first_unknown no_members = None
-first_unknown (member name d rest) = unknown_or (key_of name) name (first_unknown rest)
+first_unknown t = unknown_among all_keys t

@@ -4,6 +4,9 @@ pub mod Numeral
 pub mod Duration
 pub mod Lookup
 pub mod Address
+pub mod Socket
+pub mod Print
+pub mod Master
 pub mod Form
 pub mod Text
 pub mod Plan

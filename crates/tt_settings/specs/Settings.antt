@@ -9,19 +9,20 @@ use Rattle.tt_settings.specs.declared.forms.Conduct.{Conduct}
 use Rattle.tt_settings.specs.declared.forms.OnBreak.{OnBreak}
 use Rattle.tt_settings.specs.declared.keys.Key.TheVariants.{Machine, Listen}
 use Rattle.tt_settings.specs.declared.faults.SettingsFault.{SettingsFault}
-use Rattle.tt_settings.specs.declared.faults.SettingsFault.TheVariants.{NotToml, UnknownKey}
+use Rattle.tt_settings.specs.declared.faults.SettingsFault.TheVariants.{NotToml}
 use Rattle.tt_settings.specs.declared.plans.Pauses.{Pauses}
 use Rattle.tt_settings.specs.declared.texts.Paths.{Paths}
 use Rattle.tt_settings.specs.Fault.{◌>>=◌}
 use Rattle.tt_settings.specs.Key.{first_unknown}
-use Rattle.tt_settings.specs.Lookup.{amount_at, count_of, each}
-use Rattle.tt_settings.specs.Address.{address_at, master_items_in, master_in}
+use Rattle.tt_settings.specs.Lookup.{amount_at, count_of}
+use Rattle.tt_settings.specs.Address.{address_at}
+use Rattle.tt_settings.specs.Master.{Master, keys_if, listed_in, masters_of}
 use Rattle.tt_settings.specs.Plan.{configuration_in, pauses_in, lease_in, stampers_in}
 use Rattle.tt_settings.specs.Form.{conduct_in}
 use Rattle.tt_settings.specs.Text.{paths_in}
 use Rattle.tt_settings.specs.Check.{all_fit}
 
--- what a machine is set up with; addresses are the ports of this host
+-- what a machine is set up with; its own address is a port of this host
 pub record Meaning : Type 0 where
   pub machine : ℕ
   pub config : Configuration
@@ -32,16 +33,17 @@ pub record Meaning : Type 0 where
   pub log : LogFormat
   pub on_break : OnBreak
   pub max_width : Option ℕ
-  pub masters : List ℕ
+  pub masters : List Master
   pub state : List ℕ
   pub socket : Option (List ℕ)
   pub shared : Option (List ℕ)
   pub status : Option (List ℕ)
   pub evidence : Option (List ℕ)
   pub vmclock : Option (List ℕ)
+  pub keys : Option (List ℕ)
 
 -- what the parts of a document mean
-abbrev pub meaning_of : ℕ → Configuration → Pauses → Interval → Option Interval → ℕ → Conduct → List ℕ → Paths → Meaning
+abbrev pub meaning_of : ℕ → Configuration → Pauses → Interval → Option Interval → ℕ → Conduct → List Master → Paths → Meaning
 meaning_of machine config pauses lease stampers listen conduct masters paths = record {
   machine = machine;
   config = config;
@@ -59,34 +61,42 @@ meaning_of machine config pauses lease stampers listen conduct masters paths = r
   status = paths.status;
   evidence = paths.evidence;
   vmclock = paths.vmclock;
+  keys = paths.keys;
 }
-
--- a table without a name that is no key
-abbrev pub keys_if : Option (List ℕ) → Result (Unit {0}) SettingsFault
-keys_if None = Ok tt
-keys_if (Some name) = Err UnknownKey
 
 -- what the keys of a document mean, each by itself
 unfoldable pub keys_of : Members → Result Meaning SettingsFault
 keys_of t = do
   all_known ← keys_if (first_unknown t)
   machine ← amount_at Machine t
-  items ← master_items_in t
-  config ← configuration_in (count_of items) t
+  listed ← listed_in t
+  config ← configuration_in (count_of listed.1) t
   pauses ← pauses_in t
   lease ← lease_in t
   stampers ← stampers_in t
   listen ← address_at Listen t
   conduct ← conduct_in t
-  masters ← each master_in items
+  masters ← masters_of listed
   paths ← paths_in t
   Ok (meaning_of machine config pauses lease stampers listen conduct masters paths)
+
+-- the paths of a machine
+abbrev pub paths_of : Meaning → Paths
+paths_of s = record {
+  state = s.state;
+  socket = s.socket;
+  shared = s.shared;
+  status = s.status;
+  evidence = s.evidence;
+  vmclock = s.vmclock;
+  keys = s.keys;
+}
 
 -- what a document means
 abbrev pub settings_of : Members → Result Meaning SettingsFault
 settings_of t = do
   s ← keys_of t
-  fits ← all_fit s.masters s.config.workers s.state s.socket s.shared s.status s.evidence s.vmclock
+  fits ← all_fit s.masters s.config.workers (paths_of s)
   Ok s
 
 -- a text that is no document is refused first

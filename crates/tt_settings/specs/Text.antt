@@ -2,7 +2,7 @@
 use Rattle.std.specs.Prelude.{ℕ, List, Option, Result, Ok}
 use Rattle.toml.specs.Data.{Data, Members, get_member, as_str}
 use Rattle.tt_settings.specs.declared.keys.Key.{Key}
-use Rattle.tt_settings.specs.declared.keys.Key.TheVariants.{State, Socket, Shared, Status, Evidence, Vmclock}
+use Rattle.tt_settings.specs.declared.keys.Key.TheVariants.{State, Socket, Shared, Status, Evidence, Vmclock, Keys}
 use Rattle.tt_settings.specs.declared.faults.SettingsFault.{SettingsFault}
 use Rattle.tt_settings.specs.declared.texts.Paths.{Paths}
 use Rattle.tt_settings.specs.Fault.{◌>>=◌}
@@ -32,4 +32,5 @@ paths_in t = do
   status ← optional_text Status t
   evidence ← optional_text Evidence t
   vmclock ← optional_text Vmclock t
-  Ok (record { state = state; socket = socket; shared = shared; status = status; evidence = evidence; vmclock = vmclock })
+  keys ← optional_text Keys t
+  Ok (record { state = state; socket = socket; shared = shared; status = status; evidence = evidence; vmclock = vmclock; keys = keys })

@@ -1,39 +1,107 @@
 //! What is refused of settings that can be read.
 
 ghost use Rattle.std.specs.Prelude.{◌≡◌, ◌≤◌, ◌++◌, None, Ok, Err, IfOk, MatchResult, option_copied};
+ghost use Rattle.std.specs.List.{list_any};
 ghost use Rattle.tt_settings.specs.declared.keys.Key.TheVariants.{Evidence};
 ghost use Rattle.tt_settings.specs.Fault.{IsRefusal};
-ghost use Rattle.tt_settings.specs.Check.{evidence_fits, evidence_is_free, has_twice, is_free, is_given, masters_fit, meets_any, path_fits, paths_fit, vmclock_fits, workers_fit};
+ghost use Rattle.tt_settings.specs.Check.{evidence_fits, evidence_is_free, has_address, has_keys, has_same_address, has_same_key, is_free, is_given, masters_fit, meets_any, path_fits, paths_fit, shares_key, vmclock_fits, workers_fit};
 
 use crate::faults::SettingsFault;
 use crate::keys::Key;
+use crate::masters::MasterSettings;
 use crate::paths::{ended, meets_some, meets_state};
-use crate::texts::FilePath;
+use crate::texts::{FilePath, Paths};
 use std::alloc::{AllocError, Global};
 
-/// Whether a port is among these twice.
-fn has_twice(ports: &[u16]) -> bool
-    ensures { result ≡ has_twice ports.now }
+/// Whether two of these masters have one address.
+fn has_same_address(masters: &[MasterSettings]) -> bool
+    ensures { result ≡ has_same_address masters.now }
 {
-    for place in 0..ports.len() {
-        if ports[place + 1..].contains(&ports[place]) {
+    for place in 0..masters.len() {
+        if has_address(masters[place].address().as_str(), &masters[place + 1..]) {
             return true;
         }
     }
     false
 }
 
-/// Refuses masters that can't be asked, or of which one is named twice.
-pub(crate) fn check_masters(ports: &[u16]) -> Result<(), SettingsFault>
-    ensures { result ≡ masters_fit ports.now }
+/// Whether a master with this address is among these.
+fn has_address(address: &str, masters: &[MasterSettings]) -> bool
+    ensures { result ≡ has_address address.now masters.now }
 {
-    if ports.contains(&0) {
-        return Err(SettingsFault::WrongValue(Key::Masters));
+    for master in masters {
+        if master.address().as_str() == address {
+            return true;
+        }
     }
-    if has_twice(ports) {
+    false
+}
+
+/// Whether two masters share the number of a key.
+fn shares_key(one: &MasterSettings, other: &MasterSettings) -> bool
+    ensures { result ≡ shares_key one.now other.now }
+{
+    for number in one.keys() {
+        if other.keys().contains(number) {
+            return true;
+        }
+    }
+    false
+}
+
+/// Whether a master shares the number of a key with one of these.
+fn shares_with_any(one: &MasterSettings, others: &[MasterSettings]) -> bool
+    ensures { result ≡ list_any (λ other. shares_key one.now other) others.now }
+{
+    for other in others {
+        if shares_key(one, other) {
+            return true;
+        }
+    }
+    false
+}
+
+/// Whether two of these masters share the number of a key.
+fn has_same_key(masters: &[MasterSettings]) -> bool
+    ensures { result ≡ has_same_key masters.now }
+{
+    for place in 0..masters.len() {
+        if shares_with_any(&masters[place], &masters[place + 1..]) {
+            return true;
+        }
+    }
+    false
+}
+
+/// Whether some of these masters have a key.
+fn has_keys(masters: &[MasterSettings]) -> bool
+    ensures { result ≡ has_keys masters.now }
+{
+    for master in masters {
+        if !master.keys().is_empty() {
+            return true;
+        }
+    }
+    false
+}
+
+/// Refuses masters of which one is there twice, or two have a key in common, and keys without a file.
+pub(crate) fn check_masters(
+    masters: &[MasterSettings],
+    keys: Option<&FilePath>,
+) -> Result<(), SettingsFault>
+    ensures { result ≡ masters_fit masters.now (option_copied keys.entry) }
+{
+    if has_same_address(masters) {
         return Err(SettingsFault::SameMaster);
     }
-    Ok(())
+    if has_same_key(masters) {
+        return Err(SettingsFault::SameKey);
+    }
+    match keys {
+        None if has_keys(masters) => Err(SettingsFault::MissingKey(Key::Keys)),
+        _ => Ok(()),
+    }
 }
 
 /// Refuses a Unix socket where there is one worker, who serves the clients of the address.
@@ -56,7 +124,7 @@ fn check_given(key: Key, path: &str) -> Result<(), SettingsFault>
     Ok(())
 }
 
-/// Whether a path has a file in common with the state, or with one of three others.
+/// Whether a path has a file in common with the state, or with one of four others.
 fn meets_any(
     alloc: Global,
     path: &str,
@@ -64,17 +132,19 @@ fn meets_any(
     first: Option<&FilePath>,
     second: Option<&FilePath>,
     third: Option<&FilePath>,
+    fourth: Option<&FilePath>,
 ) -> Result<bool, AllocError>
-    ensures { IfOk result (λ met. met ≡ meets_any path.now state.now (option_copied first.entry) (option_copied second.entry) (option_copied third.entry)) }
+    ensures { IfOk result (λ met. met ≡ meets_any path.now state.now (option_copied first.entry) (option_copied second.entry) (option_copied third.entry) (option_copied fourth.entry)) }
 {
     let with_state = meets_state(alloc, path, state)?;
     let with_first = meets_some(alloc, path, first)?;
     let with_second = meets_some(alloc, path, second)?;
     let with_third = meets_some(alloc, path, third)?;
-    Ok(with_state || with_first || with_second || with_third)
+    let with_fourth = meets_some(alloc, path, fourth)?;
+    Ok(with_state || with_first || with_second || with_third || with_fourth)
 }
 
-/// Refuses a path that is empty, or has a file in common with the state, or with one of three others.
+/// Refuses a path that is empty, or has a file in common with the state, or with one of four others.
 #[tactic(auto, unfolding(crate::specs::Check::is_free))]
 fn check_free(
     alloc: Global,
@@ -83,32 +153,36 @@ fn check_free(
     first: Option<&FilePath>,
     second: Option<&FilePath>,
     third: Option<&FilePath>,
+    fourth: Option<&FilePath>,
     path: &str,
 ) -> Result<(), SettingsFault>
-    ensures { let defined = is_free key state.now (option_copied first.entry) (option_copied second.entry) (option_copied third.entry) path.now in
+    ensures { let defined = is_free key state.now (option_copied first.entry) (option_copied second.entry) (option_copied third.entry)
+        (option_copied fourth.entry) path.now in
         MatchResult result (λ done. defined ≡ Ok done) (IsRefusal defined) }
 {
     check_given(key, path)?;
-    if meets_any(alloc, path, state, first, second, third)? {
+    if meets_any(alloc, path, state, first, second, third, fourth)? {
         return Err(SettingsFault::SamePath(key));
     }
     Ok(())
 }
 
-/// The same of a path that may be absent.
+/// The same of a path that may be absent, with three others.
 fn check_path(
     alloc: Global,
     key: Key,
     state: &str,
     first: Option<&FilePath>,
     second: Option<&FilePath>,
+    third: Option<&FilePath>,
     path: Option<&FilePath>,
 ) -> Result<(), SettingsFault>
-    ensures { let defined = path_fits key state.now (option_copied first.entry) (option_copied second.entry) None (option_copied path.entry) in
+    ensures { let defined = path_fits key state.now (option_copied first.entry) (option_copied second.entry) (option_copied third.entry)
+        (option_copied path.entry) in
         MatchResult result (λ done. defined ≡ Ok done) (IsRefusal defined) }
 {
     match path {
-        Some(path) => check_free(alloc, key, state, first, second, None, path.as_str()),
+        Some(path) => check_free(alloc, key, state, first, second, third, None, path.as_str()),
         None => Ok(()),
     }
 }
@@ -120,11 +194,12 @@ fn check_beside(
     socket: Option<&FilePath>,
     shared: Option<&FilePath>,
     status: Option<&FilePath>,
+    keys: Option<&FilePath>,
     evidence: &str,
     end: &str,
 ) -> Result<(), SettingsFault>
     ensures { let defined = is_free Evidence state.now (option_copied socket.entry) (option_copied shared.entry) (option_copied status.entry)
-        (evidence.now ++ end.now) in
+        (option_copied keys.entry) (evidence.now ++ end.now) in
         MatchResult result (λ done. defined ≡ Ok done) (IsRefusal defined) }
 {
     let path = ended(alloc, evidence, end)?;
@@ -135,6 +210,7 @@ fn check_beside(
         socket,
         shared,
         status,
+        keys,
         path.as_str(),
     )
 }
@@ -147,14 +223,25 @@ fn check_kept(
     socket: Option<&FilePath>,
     shared: Option<&FilePath>,
     status: Option<&FilePath>,
+    keys: Option<&FilePath>,
     path: &str,
 ) -> Result<(), SettingsFault>
-    ensures { let defined = evidence_is_free state.now (option_copied socket.entry) (option_copied shared.entry) (option_copied status.entry) path.now in
+    ensures { let defined = evidence_is_free state.now (option_copied socket.entry) (option_copied shared.entry) (option_copied status.entry)
+        (option_copied keys.entry) path.now in
         MatchResult result (λ done. defined ≡ Ok done) (IsRefusal defined) }
 {
-    check_free(alloc, Key::Evidence, state, socket, shared, status, path)?;
-    check_beside(alloc, state, socket, shared, status, path, ".break-1")?;
-    check_beside(alloc, state, socket, shared, status, path, ".break-2")
+    check_free(
+        alloc,
+        Key::Evidence,
+        state,
+        socket,
+        shared,
+        status,
+        keys,
+        path,
+    )?;
+    check_beside(alloc, state, socket, shared, status, keys, path, ".break-1")?;
+    check_beside(alloc, state, socket, shared, status, keys, path, ".break-2")
 }
 
 /// The same of evidence that may be absent.
@@ -164,18 +251,20 @@ fn check_evidence(
     socket: Option<&FilePath>,
     shared: Option<&FilePath>,
     status: Option<&FilePath>,
+    keys: Option<&FilePath>,
     evidence: Option<&FilePath>,
 ) -> Result<(), SettingsFault>
-    ensures { let defined = evidence_fits state.now (option_copied socket.entry) (option_copied shared.entry) (option_copied status.entry) (option_copied evidence.entry) in
+    ensures { let defined = evidence_fits state.now (option_copied socket.entry) (option_copied shared.entry) (option_copied status.entry)
+        (option_copied keys.entry) (option_copied evidence.entry) in
         MatchResult result (λ done. defined ≡ Ok done) (IsRefusal defined) }
 {
     match evidence {
-        Some(path) => check_kept(alloc, state, socket, shared, status, path.as_str()),
+        Some(path) => check_kept(alloc, state, socket, shared, status, keys, path.as_str()),
         None => Ok(()),
     }
 }
 
-/// Refuses a path without a name that is only read.
+/// Refuses the path of a device without a name.
 fn check_vmclock(vmclock: Option<&FilePath>) -> Result<(), SettingsFault>
     ensures { result ≡ vmclock_fits (option_copied vmclock.entry) }
 {
@@ -186,23 +275,28 @@ fn check_vmclock(vmclock: Option<&FilePath>) -> Result<(), SettingsFault>
 }
 
 /// Refuses a path without a name, and one that has two purposes.
-pub(crate) fn check_paths(
-    alloc: Global,
-    state: &str,
-    socket: Option<&FilePath>,
-    shared: Option<&FilePath>,
-    status: Option<&FilePath>,
-    evidence: Option<&FilePath>,
-    vmclock: Option<&FilePath>,
-) -> Result<(), SettingsFault>
-    ensures { let defined = paths_fit state.now (option_copied socket.entry) (option_copied shared.entry) (option_copied status.entry)
-        (option_copied evidence.entry) (option_copied vmclock.entry) in
+pub(crate) fn check_paths(alloc: Global, paths: &Paths) -> Result<(), SettingsFault>
+    ensures { let defined = paths_fit paths.now in
         MatchResult result (λ done. defined ≡ Ok done) (IsRefusal defined) }
 {
+    let state = paths.state.as_str();
+    let socket = paths.socket.as_ref();
+    let shared = paths.shared.as_ref();
+    let status = paths.status.as_ref();
+    let keys = paths.keys.as_ref();
     check_given(Key::State, state)?;
-    check_path(alloc, Key::Socket, state, None, None, socket)?;
-    check_path(alloc, Key::Shared, state, socket, None, shared)?;
-    check_path(alloc, Key::Status, state, socket, shared, status)?;
-    check_evidence(alloc, state, socket, shared, status, evidence)?;
-    check_vmclock(vmclock)
+    check_path(alloc, Key::Socket, state, None, None, None, socket)?;
+    check_path(alloc, Key::Shared, state, socket, None, None, shared)?;
+    check_path(alloc, Key::Status, state, socket, shared, None, status)?;
+    check_path(alloc, Key::Keys, state, socket, shared, status, keys)?;
+    check_evidence(
+        alloc,
+        state,
+        socket,
+        shared,
+        status,
+        keys,
+        paths.evidence.as_ref(),
+    )?;
+    check_vmclock(paths.vmclock.as_ref())
 }

@@ -25,7 +25,7 @@ pub enum SettingsFault {
     MissingKey(Key),
     #[error("{0}: the value has another type, or is out of range")]
     WrongValue(Key),
-    #[error("{0}: not an address of this host, as 127.0.0.1:7001")]
+    #[error("{0}: not an address of this host, as 127.0.0.1:7001; a master outside it needs a key")]
     NotLocal(Key),
     #[error("faulty: {faulty} of {masters} masters may be faulty at most {most}")]
     TooManyFaulty {
@@ -39,13 +39,18 @@ pub enum SettingsFault {
     SamePath(Key),
     #[error("masters: one is named twice")]
     SameMaster,
+    #[error("masters: there is also [[master]], and one of the two is enough")]
+    BothForms,
+    #[error("master: two have a key in common")]
+    SameKey,
     #[error("out of memory")]
     Memory,
 }
 
 impl SettingsFault {
     /// The fault's number: 1801 `NotToml`, 1802 `UnknownKey`, 1803 `MissingKey`, 1804 `WrongValue`, 1805 `NotLocal`,
-    /// 1806 `TooManyFaulty`, 1810 `TooFewWorkers`, 1817 `SamePath`, 1818 `SameMaster`, 1 `Memory`.
+    /// 1806 `TooManyFaulty`, 1810 `TooFewWorkers`, 1817 `SamePath`, 1818 `SameMaster`, 1825 `BothForms`,
+    /// 1826 `SameKey`, 1 `Memory`.
     pub fn number(&self) -> u16
         ensures { result ≡ number_of self.now }
     {
@@ -59,6 +64,8 @@ impl SettingsFault {
             SettingsFault::TooFewWorkers => 1810,
             SettingsFault::SamePath(_) => 1817,
             SettingsFault::SameMaster => 1818,
+            SettingsFault::BothForms => 1825,
+            SettingsFault::SameKey => 1826,
             SettingsFault::Memory => 1,
         }
     }
@@ -74,7 +81,8 @@ impl SettingsFault {
             | SettingsFault::SamePath(key) => Some(*key),
             SettingsFault::TooManyFaulty { .. } => Some(Key::Faulty),
             SettingsFault::TooFewWorkers => Some(Key::Workers),
-            SettingsFault::SameMaster => Some(Key::Masters),
+            SettingsFault::SameMaster | SettingsFault::BothForms => Some(Key::Masters),
+            SettingsFault::SameKey => Some(Key::Master),
             SettingsFault::NotToml | SettingsFault::UnknownKey | SettingsFault::Memory => None,
         }
     }

@@ -1,7 +1,7 @@
 //! The keys of a configuration file.
 
 ghost use Rattle.std.specs.Prelude.{◌≡◌};
-ghost use Rattle.tt_settings.specs.Key.{text_of, kind_of, key_among, key_of};
+ghost use Rattle.tt_settings.specs.Key.{text_of, kind_of, key_among};
 
 use std::marker::Model;
 use tt_daemon::MAX_WORKERS;
@@ -20,7 +20,7 @@ const HOUR: u64 = 3600 * SECOND;
 /// A day, in nanoseconds.
 const DAY: u64 = 24 * HOUR;
 
-/// A key of a configuration file.
+/// A key of a configuration file. The last two stand in the table of a master.
 #[derive(Clone, Copy, Debug, PartialEq, Eq)]
 pub enum Key {
     Machine,
@@ -45,10 +45,14 @@ pub enum Key {
     Status,
     Evidence,
     Vmclock,
+    Keys,
+    Master,
+    MasterAddress,
+    MasterKey,
 }
 
-/// All keys.
-pub(crate) const KEYS: [Key; 22] = [
+/// All keys of a document.
+pub(crate) const KEYS: [Key; 24] = [
     Key::Machine,
     Key::Masters,
     Key::Faulty,
@@ -71,7 +75,12 @@ pub(crate) const KEYS: [Key; 22] = [
     Key::Status,
     Key::Evidence,
     Key::Vmclock,
+    Key::Keys,
+    Key::Master,
 ];
+
+/// All keys of the table of a master.
+pub(crate) const MASTER_KEYS: [Key; 2] = [Key::MasterAddress, Key::MasterKey];
 
 /// The two words of which the value of a key is one. In contracts they are their bytes.
 #[derive(Drop)]
@@ -117,6 +126,12 @@ pub(crate) enum ValueKind {
     Address,
     /// Addresses of this host.
     Addresses,
+    /// Tables of masters.
+    Tables,
+    /// The text of an address of any host.
+    Place,
+    /// The number of a key, or several.
+    KeyNumbers,
     /// One of two words.
     Form(Words),
     /// A path.
@@ -192,6 +207,10 @@ impl Key {
             Key::Status => plain("status", ValueKind::Path),
             Key::Evidence => plain("evidence", ValueKind::Path),
             Key::Vmclock => plain("vmclock", ValueKind::Path),
+            Key::Keys => plain("keys", ValueKind::Path),
+            Key::Master => plain("master", ValueKind::Tables),
+            Key::MasterAddress => plain("address", ValueKind::Place),
+            Key::MasterKey => plain("key", ValueKind::KeyNumbers),
         }
     }
 
@@ -211,7 +230,7 @@ impl Key {
 }
 
 /// The first of these keys that a text is.
-fn key_among(text: &str, keys: &[Key]) -> Option<Key>
+pub(crate) fn key_among(text: &str, keys: &[Key]) -> Option<Key>
     ensures { result ≡ key_among text.now keys.now }
 {
     for key in keys {
@@ -220,11 +239,4 @@ fn key_among(text: &str, keys: &[Key]) -> Option<Key>
         }
     }
     None
-}
-
-/// The key that a text is, if it is one.
-pub(crate) fn key_of(text: &str) -> Option<Key>
-    ensures { result ≡ key_of text.now }
-{
-    key_among(text, &KEYS)
 }

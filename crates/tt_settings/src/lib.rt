@@ -10,12 +10,23 @@
 //! state = "state"
 //! ```
 //!
+//! Masters on other hosts stand in tables, each with the number of a key, which the file `keys` has:
+//!
+//! ```text
+//! keys = "/etc/truetime/keys"
+//!
+//! [[master]]
+//! address = "10.1.0.1:5701"
+//! key = 1
+//! ```
+//!
 //! - `settings`: [`Settings`], and [`read`].
+//! - `masters`: [`MasterSettings`]. `sockets`: socket addresses as texts. `prints`: what is printed of one. `names`: names of hosts with a port.
 //! - `plans`: the settings that are numbers. `texts`: the settings that are paths.
 //! - `forms`: the settings that are one of two words. `addresses`: addresses of this host. `durations`: lengths of time with a unit. `numerals`: decimal numbers.
 //! - `checks`: what is refused of settings that can be read. `paths`: which files paths name.
 //! - `keys`: the keys of the file. `lookups`: values of a table by their keys.
-//! - `faults`: why a text is refused. `refusals`: the same for a person, in the words of `wordings`. `places`: where a text has a key.
+//! - `faults`: why a text is refused. `refusals`: the same for a person, in the words of `wordings` and `master_words`. `places`: where a text has a key.
 #![tactic(auto)]
 
 mod addresses;
@@ -25,12 +36,17 @@ mod faults;
 mod forms;
 mod keys;
 mod lookups;
+mod master_words;
+mod masters;
+mod names;
 mod numerals;
 mod paths;
 mod places;
 mod plans;
+mod prints;
 mod refusals;
 mod settings;
+mod sockets;
 mod texts;
 mod wordings;
 
@@ -39,8 +55,11 @@ pub use durations::duration_of;
 pub use faults::SettingsFault;
 pub use forms::{OnBreak, log_format_of};
 pub use keys::Key;
+pub use masters::{MasterAddress, MasterSettings};
+pub use names::host_of;
 pub use numerals::number_of;
 pub use plans::Pauses;
 pub use refusals::Refusal;
 pub use settings::{Settings, read};
+pub use sockets::{address_of, is_loopback};
 pub use texts::FilePath;

@@ -3,12 +3,12 @@
 ghost use Rattle.std.specs.Prelude.{◌≡◌, Ok, Err, MatchResult, nat_le, option_map, option_copied};
 ghost use Rattle.toml.specs.Data.{get_member, as_array, as_str};
 ghost use Rattle.toml.specs.View.{view, table_view, array_view};
-ghost use Rattle.tt_settings.specs.Key.{text_of, first_unknown};
+ghost use Rattle.tt_settings.specs.Key.{text_of, first_unknown, unknown_among};
 ghost use Rattle.tt_settings.specs.Lookup.{value_at, whole_in, within, amount_in, amount_at, amount_or, optional_amount, count_of, typed_value};
 
 use crate::durations::duration_of;
 use crate::faults::SettingsFault;
-use crate::keys::{Key, ValueKind, key_of};
+use crate::keys::{KEYS, Key, ValueKind, key_among};
 use toml::value::Array;
 use toml::{Table, Value};
 
@@ -151,14 +151,21 @@ pub(crate) fn count_of(items: &Array) -> u64
     items.len() as u64
 }
 
-/// The first name of a table that is no key.
-pub(crate) fn first_unknown(table: &Table) -> Option<&str>
-    ensures { option_copied result ≡ first_unknown (table_view table.now) }
+/// The first name of a table that is none of these keys.
+pub(crate) fn unknown_among<'a>(table: &'a Table, keys: &[Key]) -> Option<&'a str>
+    ensures { option_copied result ≡ unknown_among keys.now (table_view table.now) }
 {
     for (name, _value) in table.iter() {
-        if key_of(name.as_str()).is_none() {
+        if key_among(name.as_str(), keys).is_none() {
             return Some(name.as_str());
         }
     }
     None
+}
+
+/// The first name of a document that is no key.
+pub(crate) fn first_unknown(table: &Table) -> Option<&str>
+    ensures { option_copied result ≡ first_unknown (table_view table.now) }
+{
+    unknown_among(table, &KEYS)
 }

@@ -1,6 +1,6 @@
 //! Where a text has a key, and which key a name may stand for.
 
-use crate::keys::{KEYS, Key};
+use crate::keys::Key;
 
 /// The line, counted from 1, in which this place of a text lies.
 pub(crate) fn line_at(text: &str, place: usize) -> usize {
@@ -21,6 +21,33 @@ pub(crate) fn line_of(text: &str, name: &str) -> Option<usize> {
         }
     }
     None
+}
+
+/// The line, counted from 1, that begins with a key of this name in a table. The table is the one at this place, counted
+/// from 0, of those with this header. If the key is not found, it is the line of the header, and if that is not found
+/// either, the line of a key with the header's name.
+pub(crate) fn line_in(text: &str, header: &str, place: usize, name: &str) -> Option<usize> {
+    let mut before = 0usize;
+    let mut at = None;
+    for (index, line) in text.lines().enumerate() {
+        if line.trim_start().starts_with('[') {
+            if at.is_some() {
+                return at;
+            }
+            if begins_with(line, header) {
+                if before == place {
+                    at = Some(index.saturating_add(1));
+                }
+                before = before.saturating_add(1);
+            }
+        } else if at.is_some() && begins_with(line, name) {
+            return Some(index.saturating_add(1));
+        }
+    }
+    match at {
+        Some(line) => Some(line),
+        None => line_of(text, header),
+    }
 }
 
 /// Whether a line begins with a key of this name, plain or in quotes.
@@ -49,15 +76,15 @@ pub(crate) fn is_plain(byte: u8) -> bool {
     byte.is_ascii_alphanumeric() || byte == b'_' || byte == b'-'
 }
 
-/// The key that this name may stand for: that from which it differs least, in at most two fifths of it.
-pub(crate) fn nearest_to(name: &str) -> Option<Key> {
+/// The key of these that a name may stand for: that from which it differs least, in at most two fifths of it.
+pub(crate) fn nearest_among(name: &str, keys: &[Key]) -> Option<Key> {
     let mut nearest = None;
     let mut least = usize::MAX;
-    for key in KEYS {
+    for key in keys {
         let longer = name.len().max(key.text().len());
         let gap = gap_of(name, key.text(), longer);
         if gap < least && gap.saturating_mul(5) <= longer.saturating_mul(2) {
-            nearest = Some(key);
+            nearest = Some(*key);
             least = gap;
         }
     }

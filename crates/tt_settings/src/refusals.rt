@@ -5,9 +5,11 @@ ghost use Rattle.tt_settings.specs.declared.faults.SettingsFault.TheVariants.{No
 ghost use Rattle.tt_settings.specs.Fault.{number_of};
 
 use crate::faults::SettingsFault;
+use crate::keys::{KEYS, Key};
 use crate::lookups::first_unknown;
-use crate::places::{line_at, line_of, nearest_to};
-use crate::wordings::{push_name, words_of};
+use crate::master_words::{Said, push_unknown, said_of_table};
+use crate::places::{line_at, line_of};
+use crate::wordings::words_of;
 use std::alloc::{AllocError, Global};
 use std::fmt::{self, Display, Formatter, Write};
 use std::marker::Model;
@@ -20,6 +22,7 @@ use toml::Table;
 #[derive(Debug, Drop)]
 pub struct Refusal {
     fault: SettingsFault,
+    key: Option<Key>,
     line: Option<usize>,
     words: String,
 }
@@ -58,6 +61,7 @@ impl Refusal {
     {
         Refusal {
             fault: SettingsFault::Memory,
+            key: None,
             line: None,
             words: String::new(alloc),
         }
@@ -74,6 +78,7 @@ impl Refusal {
         match String::from_str(alloc, error.message()) {
             Ok(words) => Refusal {
                 fault: SettingsFault::NotToml,
+                key: None,
                 line,
                 words,
             },
@@ -90,41 +95,96 @@ impl Refusal {
     ) -> Refusal
         ensures { (result ≡ Memory) ⊎ (result ≡ fault) }
     {
-        let said = match fault.key() {
-            Some(key) => match words_of(alloc, table, key, fault) {
-                Ok(words) => Ok((line_of(text, key.text()), words)),
-                Err(error) => Err(error),
+        match said_of(alloc, text, table, fault) {
+            Ok(said) => Refusal {
+                fault,
+                key: said.key,
+                line: said.line,
+                words: said.words,
             },
-            None => said_of_unknown(alloc, text, table),
-        };
-        match said {
-            Ok((line, words)) => Refusal { fault, line, words },
             Err(_) => Refusal::of_memory(alloc),
         }
     }
 }
 
-/// Where a document has a name that is no key, and what is to be said of it.
-fn said_of_unknown(
+/// What is to be said of a document with this fault.
+fn said_of(
     alloc: Global,
     text: &str,
     table: &Table,
-) -> Result<(Option<usize>, String), AllocError> {
-    let Some(name) = first_unknown(table) else {
-        return Ok((None, String::new(alloc)));
-    };
-    let mut words = String::new(alloc);
-    push_name(&mut words, alloc, name)?;
-    words.push_str(": unknown key")?;
-    if let Some(key) = nearest_to(name) {
-        write!(words, "; did you mean {key}?")?;
+    fault: SettingsFault,
+) -> Result<Said, AllocError> {
+    match fault.key() {
+        Some(Key::MasterAddress | Key::MasterKey) => {
+            if let Some(said) = said_of_table(alloc, text, table, fault)? {
+                return Ok(said);
+            }
+        }
+        Some(Key::Masters | Key::Master) => {
+            if let SettingsFault::SameMaster | SettingsFault::SameKey = fault {
+                if let Some(said) = said_of_table(alloc, text, table, fault)? {
+                    return Ok(said);
+                }
+            }
+        }
+        Some(_) => {}
+        None => return said_of_unknown(alloc, text, table),
     }
-    Ok((line_of(text, name), words))
+    said_of_key(alloc, text, table, fault)
+}
+
+/// What is to be said of the key of a fault.
+fn said_of_key(
+    alloc: Global,
+    text: &str,
+    table: &Table,
+    fault: SettingsFault,
+) -> Result<Said, AllocError> {
+    match fault.key() {
+        Some(key) => {
+            let words = words_of(alloc, table, key, fault)?;
+            let line = line_of(text, key.text());
+            Ok(Said {
+                key: Some(key),
+                line,
+                words,
+            })
+        }
+        None => Ok(Said {
+            key: None,
+            line: None,
+            words: String::new(alloc),
+        }),
+    }
+}
+
+/// Where a document has a name that is no key, and what is to be said of it.
+fn said_of_unknown(alloc: Global, text: &str, table: &Table) -> Result<Said, AllocError> {
+    let mut words = String::new(alloc);
+    match first_unknown(table) {
+        Some(name) => {
+            push_unknown(&mut words, alloc, name, &KEYS)?;
+            let line = line_of(text, name);
+            Ok(Said {
+                key: None,
+                line,
+                words,
+            })
+        }
+        None => match said_of_table(alloc, text, table, SettingsFault::UnknownKey)? {
+            Some(said) => Ok(said),
+            None => Ok(Said {
+                key: None,
+                line: None,
+                words,
+            }),
+        },
+    }
 }
 
 impl Display for Refusal {
     fn fmt<W: Write>(&self, f: &mut Formatter<W>) -> fmt::Result {
-        if let Some(key) = self.fault.key() {
+        if let Some(key) = self.key {
             f.write_str(key.text())?;
             f.write_str(": ")?;
         }

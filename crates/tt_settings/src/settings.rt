@@ -5,14 +5,15 @@ ghost use Rattle.toml.specs.View.{table_view};
 ghost use Rattle.tt_poll.specs.Message.{max_machine};
 ghost use Rattle.tt_settings.specs.Fault.{IsRefusal};
 ghost use Rattle.tt_settings.specs.Check.{all_fit};
-ghost use Rattle.tt_settings.specs.Settings.{keys_of, settings_of, settings_in};
+ghost use Rattle.tt_settings.specs.Settings.{keys_of, paths_of, settings_of, settings_in};
 
-use crate::addresses::{address_at, master_items_in, masters_of};
+use crate::addresses::address_at;
 use crate::checks::{check_masters, check_paths, check_workers};
 use crate::faults::SettingsFault;
 use crate::forms::{Conduct, OnBreak, conduct_in};
 use crate::keys::Key;
 use crate::lookups::{amount_at, count_of, first_unknown};
+use crate::masters::{MasterSettings, listed_in, masters_of};
 use crate::plans::{Pauses, configuration_in, lease_in, pauses_in, stampers_in};
 use crate::refusals::Refusal;
 use crate::texts::{FilePath, Paths, paths_in};
@@ -33,7 +34,7 @@ pub struct Settings {
     stampers: Option<Span>,
     listen: u16,
     conduct: Conduct,
-    masters: Vec<u16>,
+    masters: Vec<MasterSettings>,
     paths: Paths,
 }
 
@@ -115,8 +116,8 @@ impl Settings {
         self.conduct.max_width
     }
 
-    /// The ports of 127.0.0.1 at which its masters answer, in the order of the sources.
-    pub fn masters(&self) -> &[u16]
+    /// Its masters, in the order of the sources.
+    pub fn masters(&self) -> &[MasterSettings]
         ensures value { result.now ≡ self.now.masters }
     {
         self.masters.as_slice()
@@ -165,35 +166,52 @@ impl Settings {
     {
         self.paths.vmclock.as_ref()
     }
+
+    /// The file of the keys that are shared with its masters, if there is one. It is only read.
+    pub fn keys(&self) -> Option<&FilePath>
+        ensures value { option_copied result ≡ self.now.keys }
+    {
+        self.paths.keys.as_ref()
+    }
 }
 
 /// The settings of this text.
 ///
-/// The keys `machine` (0 to 7), `masters` (from one to 16 addresses), `listen` (an address) and `state` (a folder) have to
-/// be there. The others may be absent: `faulty` (default: as many as the number of masters allows), `workers` (1 to 32;
+/// The keys `machine` (0 to 7), `masters` or `master` (from one to 16), `listen` (an address) and `state` (a folder) have
+/// to be there. The others may be absent: `faulty` (default: as many as the number of masters allows), `workers` (1 to 32;
 /// default 32), `drift` (parts per million; default 200), `poll` (default `"1s"`), `wait` (default `"250ms"`), `floor_ahead`
 /// (default `"1s"`), `idle` (default `"60s"`), `lease_lo` and `lease_hi` (nanoseconds; default: the whole of time),
 /// `stampers` (the two ends of an interval, as `[5, 6]`, in nanoseconds; default: none), `log` (`"text"` or `"json"`;
 /// default `"text"`), `on_break` (`"end"` or `"warn"`; default `"end"`), `max_width` (from 0 to an hour, as `"10ms"`;
-/// default: no limit), `socket`, `shared`, `status`, `evidence` and `vmclock` (paths; default: none). An address is
+/// default: no limit), `socket`, `shared`, `status`, `evidence`, `vmclock` and `keys` (paths; default: none). `listen` is
 /// `127.0.0.1:` and a port; a length of time is as [`duration_of`](crate::duration_of) reads it.
+///
+/// In the short form `masters` lists addresses. In the long form there is a table `[[master]]` for each, with `address` and,
+/// for polls that are sealed, `key`: a number from 0 to 4294967295, or from one to four different ones in an array. An
+/// address is as [`address_of`](crate::address_of) reads it, of one host: its port is not 0, and it is not unspecified, not
+/// multicast, no IPv4 address that is mapped to IPv6, and has no scope. Without a key it is in 127.0.0.0/8 or is ::1. With
+/// a key it may also be a name and a port, as [`host_of`](crate::host_of) reads them.
 ///
 /// Refuses with the first that applies, in this order:
 ///
 /// - 1801 `NotToml`: the text is not TOML.
 /// - 1802 `UnknownKey`: a key has another name.
-/// - Of the keys, in the order `machine`, `masters` (their number), `faulty`, `workers`, `drift`, `poll`, `wait`,
-///   `floor_ahead`, `idle`, `lease_lo`, `lease_hi`, `stampers`, `listen`, `log`, `on_break`, `max_width`, `masters` (each
-///   of them), `state`, `socket`, `shared`, `status`, `evidence`, `vmclock`: 1803 `MissingKey` where the key is absent,
-///   1804 `WrongValue` where its value has another type or is out of range, 1805 `NotLocal` where a text is not an
-///   address of this host; and behind `drift`, 1806 `TooManyFaulty` where fewer than `2 * faulty + 1` masters are listed.
-///   A lease that ends before it begins is refused with 1804 at `lease_hi`. `stampers` is refused with 1804 where it has
-///   not two items, or one that is no whole number from 0 to [`MAX_TIME`](tt_span::MAX_TIME), or the first is above the
-///   second.
-/// - 1804 `WrongValue` of `masters`, where the port of one is 0; 1818 `SameMaster`, where one is named twice.
+/// - Of the keys, in the order `machine`, `masters` or `master` (their number), `faulty`, `workers`, `drift`, `poll`, `wait`,
+///   `floor_ahead`, `idle`, `lease_lo`, `lease_hi`, `stampers`, `listen`, `log`, `on_break`, `max_width`, `masters` or
+///   `master` (each of them), `state`, `socket`, `shared`, `status`, `evidence`, `vmclock`, `keys`: 1803 `MissingKey` where
+///   the key is absent, 1804 `WrongValue` where its value has another type or is out of range, 1805 `NotLocal` where a text
+///   is not an address of this host and has to be; before their number, 1825 `BothForms` where there are `masters` and
+///   `master`, and 1803 of `masters` where there is neither; and behind `drift`, 1806 `TooManyFaulty` where fewer than
+///   `2 * faulty + 1` masters are listed. A lease that ends before it begins is refused with 1804 at `lease_hi`. `stampers`
+///   is refused with 1804 where it has not two items, or one that is no whole number from 0 to
+///   [`MAX_TIME`](tt_span::MAX_TIME), or the first is above the second.
+/// - Of each master of the long form, in this order: 1804 of `master` where it is no table; 1802 where a key has another
+///   name; 1803 or 1804 of `address` where it is absent or no text; 1804 of `key`; and 1804 or 1805 of `address`.
+/// - 1818 `SameMaster`, where two masters have the same text as their address; 1826 `SameKey`, where two have a key in
+///   common; 1803 `MissingKey` of `keys`, where a master has a key and `keys` is absent.
 /// - 1810 `TooFewWorkers`: there is a Unix socket, and one worker.
-/// - Of `state`, `socket`, `shared`, `status` and `evidence`, in this order: 1804 `WrongValue` where the path is empty,
-///   and 1817 `SamePath` where it has a file in common with one before it. The files of a path are itself, its draft
+/// - Of `state`, `socket`, `shared`, `status`, `keys` and `evidence`, in this order: 1804 `WrongValue` where the path is
+///   empty, and 1817 `SamePath` where it has a file in common with one before it. The files of a path are itself, its draft
 ///   `.new` and its lock `.lock`; those of `state` are the folder, and `epoch`, `epoch.new`, `break`, `break.new` and
 ///   `lock` in it; those of `evidence` are also the files of the paths with `.break-1` and `.break-2` behind it. Paths
 ///   are compared by their texts, without doubled slashes, slashes at the end, and names that are a dot alone; a `..` or
@@ -229,21 +247,12 @@ fn settings_of(alloc: Global, table: &Table) -> Result<Settings, SettingsFault>
 /// Refuses settings of which the masters, the workers or the paths do not fit.
 #[tactic(auto, unfolding(crate::specs::Check::all_fit))]
 fn check(alloc: Global, settings: &Settings) -> Result<(), SettingsFault>
-    ensures { let defined = all_fit settings.now.masters settings.now.config.workers settings.now.state settings.now.socket settings.now.shared
-        settings.now.status settings.now.evidence settings.now.vmclock in
+    ensures { let defined = all_fit settings.now.masters settings.now.config.workers (paths_of settings.now) in
         MatchResult result (λ done. defined ≡ Ok done) (IsRefusal defined) }
 {
-    check_masters(settings.masters())?;
+    check_masters(settings.masters(), settings.keys())?;
     check_workers(settings.config().workers(), settings.socket())?;
-    check_paths(
-        alloc,
-        settings.state(),
-        settings.socket(),
-        settings.shared(),
-        settings.status(),
-        settings.evidence(),
-        settings.vmclock(),
-    )
+    check_paths(alloc, &settings.paths)
 }
 
 /// The settings that the keys of a document give, each by itself.
@@ -256,14 +265,14 @@ fn keys_of(alloc: Global, table: &Table) -> Result<Settings, SettingsFault>
         return Err(SettingsFault::UnknownKey);
     }
     let machine = amount_at(table, Key::Machine)? as u8;
-    let items = master_items_in(table)?;
+    let (key, items) = listed_in(table)?;
     let config = configuration_in(table, count_of(items))?;
     let pauses = pauses_in(table)?;
     let lease = lease_in(table)?;
     let stampers = stampers_in(table)?;
     let listen = address_at(table, Key::Listen)?;
     let conduct = conduct_in(table)?;
-    let masters = masters_of(alloc, items)?;
+    let masters = masters_of(alloc, key, items)?;
     let paths = paths_in(alloc, table)?;
     Ok(Settings {
         machine,

@@ -50,6 +50,8 @@ pub(crate) struct Paths {
     pub(crate) evidence: Option<FilePath>,
     /// What counts the disruptions of its clock.
     pub(crate) vmclock: Option<FilePath>,
+    /// The file of the keys that are shared with its masters.
+    pub(crate) keys: Option<FilePath>,
 }
 
 /// The path in this value.
@@ -94,6 +96,7 @@ pub(crate) fn paths_in(alloc: Global, table: &Table) -> Result<Paths, SettingsFa
     let status = optional_path(alloc, table, Key::Status)?;
     let evidence = optional_path(alloc, table, Key::Evidence)?;
     let vmclock = optional_path(alloc, table, Key::Vmclock)?;
+    let keys = optional_path(alloc, table, Key::Keys)?;
     Ok(Paths {
         state,
         socket,
@@ -101,5 +104,6 @@ pub(crate) fn paths_in(alloc: Global, table: &Table) -> Result<Paths, SettingsFa
         status,
         evidence,
         vmclock,
+        keys,
     })
 }

@@ -1,10 +1,10 @@
 //! What is wrong with the value of a key, in words for a person.
 
-use crate::addresses::port_of;
 use crate::durations::duration_of;
 use crate::faults::SettingsFault;
 use crate::keys::{Key, MILLISECOND, SECOND, ValueKind};
 use crate::lookups::found_at;
+use crate::master_words::{push_masters, push_tables};
 use crate::places::is_plain;
 use std::alloc::{AllocError, Global};
 use toml::value::Array;
@@ -47,6 +47,17 @@ pub(crate) fn words_of(
             push_shown(&mut words, alloc, value)?;
             words.push_str(" is below 2, since socket takes one of its own")?;
         }
+        (Some(_), SettingsFault::BothForms) => {
+            words.push_str("there is [[master]] as well, and one of the two is enough")?;
+        }
+        (None, SettingsFault::MissingKey(Key::Masters)) => {
+            words.push_str("missing: ")?;
+            push_wanted(&mut words, &key.kind())?;
+            words.push_str(", or [[master]]")?;
+        }
+        (None, SettingsFault::MissingKey(Key::Keys)) => {
+            words.push_str("missing: a path, since a master has a key")?;
+        }
         (Some(value), _) => push_wrong(&mut words, alloc, key, value)?,
         (None, _) => {
             words.push_str("missing: ")?;
@@ -71,38 +82,51 @@ fn push_wrong(
             push_time(words, alloc, text.as_str(), least, most)
         }
         (ValueKind::Addresses, Value::Array(items)) => push_masters(words, alloc, items),
+        (ValueKind::Tables, Value::Array(items)) => push_tables(words, alloc, items),
         (kind, value) => push_value(words, alloc, &kind, value),
     }
 }
 
 /// Adds a value, and what would be right in its place.
-fn push_value(
+pub(crate) fn push_value(
     words: &mut String,
     alloc: Global,
     kind: &ValueKind,
     value: &Value,
 ) -> Result<(), AllocError> {
     match (kind, value) {
-        (ValueKind::Ends, Value::Array(items)) => push_items(words, alloc, items)?,
+        (ValueKind::Ends | ValueKind::KeyNumbers, Value::Array(items)) => {
+            push_items(words, alloc, items)?;
+        }
         _ => push_shown(words, alloc, value)?,
     }
     words.push_str(": ")?;
     push_wanted(words, kind)?;
     match (kind, value) {
         (ValueKind::Addresses, _) => words.push_str(", in brackets"),
-        (ValueKind::Number { .. } | ValueKind::Ends, _) | (_, Value::String(_)) => Ok(()),
+        (ValueKind::Number { .. } | ValueKind::Ends | ValueKind::KeyNumbers | ValueKind::Tables, _)
+        | (_, Value::String(_)) => Ok(()),
         _ => words.push_str(", in quotes"),
     }
 }
 
 /// Adds what the value of a key has to be.
-fn push_wanted(words: &mut String, kind: &ValueKind) -> Result<(), AllocError> {
+pub(crate) fn push_wanted(words: &mut String, kind: &ValueKind) -> Result<(), AllocError> {
     match kind {
         ValueKind::Number { least, most } => write!(words, "a whole number from {least} to {most}"),
         ValueKind::Duration { .. } => words.push_str("a whole number and ns, us, ms or s"),
         ValueKind::Ends => write!(
             words,
             "two whole numbers from 0 to {MAX_TIME} in brackets, the first at most the second"
+        ),
+        ValueKind::Tables => write!(words, "from 1 to {MAX_SOURCES} tables, each as [[master]]"),
+        ValueKind::Place => words.push_str(
+            "an address and a port, as 10.1.0.1:5701, or a name and a port",
+        ),
+        ValueKind::KeyNumbers => write!(
+            words,
+            "a whole number from 0 to {}, or from 1 to 4 different ones in brackets",
+            u32::MAX
         ),
         ValueKind::Address => words.push_str("an address of this host, as 127.0.0.1:7001"),
         ValueKind::Addresses => write!(words, "from 1 to {MAX_SOURCES} addresses of this host"),
@@ -112,7 +136,12 @@ fn push_wanted(words: &mut String, kind: &ValueKind) -> Result<(), AllocError> {
 }
 
 /// Adds which end of its range a number is beyond. A number in its range is the end of a lease before its beginning.
-fn push_number(words: &mut String, number: i64, least: u64, most: u64) -> Result<(), AllocError> {
+pub(crate) fn push_number(
+    words: &mut String,
+    number: i64,
+    least: u64,
+    most: u64,
+) -> Result<(), AllocError> {
     match u64::try_from(number) {
         Ok(amount) if amount > most => write!(words, "{number} is above {most}"),
         Ok(amount) if amount >= least => write!(words, "{number} is below lease_lo"),
@@ -150,50 +179,12 @@ fn push_time(
     }
 }
 
-/// Adds what is wrong with the masters: how many there are, one that can't be asked, or one that is named twice.
-fn push_masters(words: &mut String, alloc: Global, items: &Array) -> Result<(), AllocError> {
-    if items.is_empty() || items.len() > MAX_SOURCES {
-        write!(words, "{} addresses: ", items.len())?;
-        return push_wanted(words, &ValueKind::Addresses);
-    }
-    for item in items {
-        if port_in(item).is_none() {
-            return push_value(words, alloc, &ValueKind::Address, item);
-        }
-    }
-    for item in items {
-        if port_in(item) == Some(0) {
-            push_shown(words, alloc, item)?;
-            return words.push_str(": no master answers at port 0");
-        }
-    }
-    push_twice(words, alloc, items)
-}
-
-/// Adds that a master is named twice.
-fn push_twice(words: &mut String, alloc: Global, items: &Array) -> Result<(), AllocError> {
-    let mut before = Vec::new(alloc);
-    for item in items {
-        let port = port_in(item);
-        if before.contains(&port) {
-            push_shown(words, alloc, item)?;
-            return words.push_str(" is named twice");
-        }
-        before.push(port)?;
-    }
-    Ok(())
-}
-
-/// The port of the address that a value is.
-fn port_in(value: &Value) -> Option<u16> {
-    match value.as_str() {
-        Some(text) => port_of(text),
-        None => None,
-    }
-}
-
 /// Adds a value as the file may write it.
-fn push_shown(words: &mut String, alloc: Global, value: &Value) -> Result<(), AllocError> {
+pub(crate) fn push_shown(
+    words: &mut String,
+    alloc: Global,
+    value: &Value,
+) -> Result<(), AllocError> {
     match value {
         Value::String(text) => push_text(words, alloc, text.as_str()),
         Value::Array(_) => words.push_str("a list"),

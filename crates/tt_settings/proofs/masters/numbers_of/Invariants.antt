@@ -1,11 +1,11 @@
 use Rattle.std.proofs.Common.{◌≡◌, drop}
 use Rattle.toml.specs.View.{items_view}
 use Rattle.tt_settings.specs.Lookup.{each}
-use Rattle.tt_settings.specs.Address.{master_in}
+use Rattle.tt_settings.specs.Master.{number_in}
 use Rattle.tt_settings.proofs.Items.{after}
-use Rattle.tt_settings.proofs.addresses.masters_of.Given as goal
+use Rattle.tt_settings.proofs.masters.numbers_of.Given as goal
 
 abbrev pub invariant-loop-item : goal.invariant-loop-item
 invariant-loop-item l =
-    each master_in (items_view l.item-items)
-    ≡ after l.ports.items (each master_in (items_view (drop l.item-index l.item-items)))
+    each number_in (items_view l.item-items)
+    ≡ after l.numbers.items (each number_in (items_view (drop l.item-index l.item-items)))
