@@ -76,6 +76,13 @@ MakesCall-wider before after shown shown' first last from to made =
       rises = (low, high, omega (arith, least, from), rise, omega (arith, most, to));
     }
 
+-- the daemon before the call and after it may be told by others that are the same
+pub MakesCall-same : (before after daemon daemon' : DaemonState) (items items' : List Publication) (shown shown' : ℕ) → before ≡ daemon → daemon' ≡ after
+    → MakesCall (kept_with before items) (kept_with after items') shown shown' → MakesCall (kept_with daemon items) (kept_with daemon' items') shown shown'
+MakesCall-same before after daemon daemon' items items' shown shown' from to made =
+    subst (λ (d : DaemonState). MakesCall (kept_with d items) (kept_with daemon' items') shown shown') from
+    (subst (λ (d : DaemonState). MakesCall (kept_with before items) (kept_with d items') shown shown') (sym to) made)
+
 -- ---- all calls
 
 -- no call was made

@@ -4,3 +4,4 @@ pub mod Calls
 pub mod Numbers
 pub mod Living
 pub mod Breaking
+mod Ringing

@@ -1,11 +1,12 @@
 -- The numbers of the refusals.
 use Rattle.std.specs.Prelude.{ℕ}
 use Rattle.tt_epoch.specs.Fault.{number_of as epoch_number_of}
+use Rattle.tt_keys.specs.Fault.{number_of as keys_number_of}
 use Rattle.tt_publish.specs.Fault.{publish_number_of}
 use Rattle.tt_report.specs.Fault.{number_of as reporter_number_of}
 use Rattle.tt_report.specs.declared.faults.ReporterFault.TheVariants as reporter
 use Rattle.tt_server.specs.declared.faults.ServerFault.{ServerFault}
-use Rattle.tt_server.specs.declared.faults.ServerFault.TheVariants.{CannotListen, CannotPoll, CannotListenSocket, NotSocket, Epoch, Publish, NoThread, Memory}
+use Rattle.tt_server.specs.declared.faults.ServerFault.TheVariants.{CannotListen, CannotPoll, CannotListenSocket, NotSocket, Epoch, Publish, NoThread, Keys, NoKey, MixedFamilies, NoRandom, Memory}
 
 -- the number of each refusal
 abbrev pub number_of : ServerFault → ℕ
@@ -16,4 +17,8 @@ number_of NotSocket = 1819
 number_of (Epoch fault) = epoch_number_of fault
 number_of (Publish fault) = publish_number_of fault
 number_of NoThread = reporter_number_of reporter.NoThread
+number_of (Keys fault) = keys_number_of fault
+number_of (NoKey number) = 1827
+number_of MixedFamilies = 1828
+number_of NoRandom = 1829
 number_of Memory = 1

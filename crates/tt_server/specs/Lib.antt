@@ -1,4 +1,7 @@
 pub mod Fault
+pub mod Ring
+pub mod Own
+pub mod Name
 pub mod Records
 pub mod Share
 pub mod Mode

@@ -10,6 +10,8 @@ use Rattle.tt_settings.specs.declared.plans.Pauses.{Pauses}
 use Rattle.tt_settings.specs.declared.forms.OnBreak.{OnBreak}
 use Rattle.tt_settings.specs.declared.forms.OnBreak.TheVariants.{End, Warn}
 use Rattle.tt_settings.specs.Settings.{Meaning}
+use Rattle.tt_settings.specs.Master.{Master}
+use Rattle.tt_server.specs.Name.{has_names}
 use Rattle.tt_server.specs.Share.{period_of}
 
 -- a word, a space, a text and a line feed
@@ -20,9 +22,18 @@ word_line word value = word ++ codes " " ++ value ++ codes "\n"
 unfoldable pub address_text : List ℕ → ℕ → List ℕ
 address_text word port = word ++ codes " 127.0.0.1:" ++ decimal port ++ codes "\n"
 
--- the line of a master
-abbrev pub master_line : ℕ → List ℕ
-master_line port = address_text (codes "master") port
+-- the number of a key
+abbrev pub number_text : ℕ → List ℕ
+number_text number = codes " " ++ decimal number
+
+-- the numbers of the keys of a master, where it has some
+abbrev pub keys_text : List ℕ → List ℕ
+keys_text [] = []
+keys_text (first ∷ others) = codes " key" ++ flat_map number_text (first ∷ others)
+
+-- the line of a master: its address, and the numbers of the keys that are shared with it
+abbrev pub master_line : Master → List ℕ
+master_line master = codes "master " ++ master.address ++ keys_text master.keys ++ codes "\n"
 
 -- the line of a path, where there is one
 abbrev pub path_line : List ℕ → Option (List ℕ) → List ℕ
@@ -33,17 +44,18 @@ path_line word None = []
 abbrev pub growth_of : Pauses → ℕ → ℕ
 growth_of pauses drift = 2 * widening drift (period_of pauses)
 
--- the threads that write the status and the evidence: one for each that has a file
+-- one thread, where there is something to do
 abbrev pub one_if : Bool → ℕ
 one_if true = 1
 one_if false = 0
 
-abbrev pub writers_of : Bool → Bool → ℕ
-writers_of has_status has_evidence = one_if has_status + one_if has_evidence
+-- the threads for what only some settings have: one for the file of the status, one for that of the evidence, and one for the names of masters
+abbrev pub helpers_of : Bool → Bool → Bool → ℕ
+helpers_of has_status has_evidence has_names = one_if has_status + one_if has_evidence + one_if has_names
 
--- the threads of so many workers and writers, and of the daemon, the acceptor, the log, and the end of standard input
+-- the threads of so many workers and helpers, and of the daemon, the acceptor, the log, and the end of standard input
 abbrev pub threads_of : ℕ → ℕ → ℕ
-threads_of workers writers = workers + writers + 4
+threads_of workers helpers = workers + helpers + 4
 
 -- an estimate of the memory, in bytes
 abbrev pub memory_of : ℕ → ℕ
@@ -66,9 +78,9 @@ config_text c =
 
 -- how its readings grow, its threads, and its memory
 unfoldable pub sums_text : Pauses → Configuration → ℕ → List ℕ
-sums_text p c writers =
+sums_text p c helpers =
     line_of (codes "growth") (growth_of p c.drift ∷ [])
-    ++ line_of (codes "threads") (threads_of c.workers writers ∷ [])
+    ++ line_of (codes "threads") (threads_of c.workers helpers ∷ [])
     ++ line_of (codes "memory") (memory_of c.workers ∷ [])
 
 -- the lease
@@ -99,7 +111,7 @@ numbers_text s =
     ++ stampers_text s.stampers
     ++ word_line (codes "on_break") (break_word s.on_break)
     ++ width_text s.max_width
-    ++ sums_text s.pauses s.config (writers_of (is_some s.status) (is_some s.evidence))
+    ++ sums_text s.pauses s.config (helpers_of (is_some s.status) (is_some s.evidence) (has_names s.masters))
 
 -- its files
 unfoldable pub files_text : Meaning → List ℕ
@@ -110,6 +122,7 @@ files_text s =
     ++ path_line (codes "status") s.status
     ++ path_line (codes "evidence") s.evidence
     ++ path_line (codes "vmclock") s.vmclock
+    ++ path_line (codes "keys") s.keys
 
 -- all of it
 abbrev pub outline_text : Meaning → List ℕ

@@ -8,6 +8,9 @@ use Rattle.tt_health.specs.Answers.{nth_newest}
 use Rattle.tt_health.specs.Rate.{new_track, rate_of}
 use Rattle.tt_health.specs.declared.answers.Answer.{Answer}
 use Rattle.tt_health.specs.declared.rates.Rate.{Rate}
+use Rattle.tt_rounds.specs.Awaiting.{unsent_at}
+use Rattle.tt_rounds.specs.Hearing.{opening_at}
+use Rattle.tt_rounds.specs.declared.openings.Opening.{Opening}
 use Rattle.tt_status.specs.declared.digits.Difference.{Difference}
 use Rattle.tt_status.specs.declared.statuses.SourceStatus.{SourceStatus}
 use Rattle.tt_status.specs.declared.statuses.Status.{Status}
@@ -20,6 +23,7 @@ use Rattle.tt_server.specs.declared.records.SourceTally.{SourceTally}
 use Rattle.tt_server.specs.declared.records.Totals.{Totals}
 use Rattle.tt_server.specs.declared.statuses.Machine.{Machine}
 use Rattle.tt_server.specs.declared.statuses.SourceNotice.{SourceNotice}
+use Rattle.tt_server.specs.declared.statuses.SourceSeals.{SourceSeals}
 use Rattle.tt_server.specs.declared.statuses.Work.{Work}
 
 -- a number is among these
@@ -82,9 +86,25 @@ abbrev pub age_in : Option Shown → ℕ → Option ℕ
 age_in (Some shown) now = Some (now - shown.fused.clock)
 age_in None now = None
 
+-- nothing came from a source
+abbrev pub no_seals : SourceSeals
+no_seals = record { unopened = replicate 3 0; key = None }
+
+-- how many packets to each source a link could not send
+unfoldable pub unsent_of : List ℕ → List ℕ
+unsent_of unsent = map (unsent_at unsent) (range_with_len 0 16)
+
+-- what a link keeps of the packets from source k
+abbrev pub seals_at : List Opening → ℕ → SourceSeals
+seals_at openings k = record { unopened = (opening_at openings k).unopened; key = (opening_at openings k).number }
+
+-- what it keeps of those from each source
+unfoldable pub seals_of : List Opening → List SourceSeals
+seals_of openings = map (seals_at openings) (range_with_len 0 16)
+
 -- what is known of the answers of source k
-abbrev pub notice_at : Notices → List ℕ → ℕ → SourceNotice
-notice_at notices unsent k = record { answer = slice_index_or notices.answers k None; rate = rate_of (slice_index_or notices.tracks k new_track); unsent = slice_index_or unsent k 0 }
+abbrev pub notice_at : Notices → List ℕ → List SourceSeals → ℕ → SourceNotice
+notice_at notices unsent seals k = record { answer = slice_index_or notices.answers k None; rate = rate_of (slice_index_or notices.tracks k new_track); unsent = slice_index_or unsent k 0; seals = slice_index_or seals k no_seals }
 
 -- what became of source k
 abbrev pub source_status : Option Shown → SourceTally → SourceNotice → ℕ → ℕ → SourceStatus
@@ -101,6 +121,8 @@ source_status shown t notice k now = record {
   refusals = t.refusals;
   rate = difference_in notice.rate;
   rate_error = error_in notice.rate;
+  unopened = notice.seals.unopened;
+  key = notice.seals.key;
 }
 
 -- nothing became of a source
@@ -118,15 +140,17 @@ no_source_status = record {
   refusals = replicate 7 0;
   rate = None;
   rate_error = None;
+  unopened = replicate 3 0;
+  key = None;
 }
 
 -- what became of each source
-unfoldable pub each_status : Option Shown → List SourceTally → Notices → List ℕ → ℕ → List SourceStatus
-each_status shown each notices unsent now = map (λ k. source_status shown (tally_at each k) (notice_at notices unsent k) k now) (range_with_len 0 16)
+unfoldable pub each_status : Option Shown → List SourceTally → Notices → List ℕ → List SourceSeals → ℕ → List SourceStatus
+each_status shown each notices unsent seals now = map (λ k. source_status shown (tally_at each k) (notice_at notices unsent seals k) k now) (range_with_len 0 16)
 
 -- the status of a machine when its clock shows this
-abbrev pub status_of : Machine → Totals → Option Shown → Notices → List ℕ → Work → ℕ → Status
-status_of machine t shown notices unsent work now = record {
+abbrev pub status_of : Machine → Totals → Option Shown → Notices → List ℕ → List SourceSeals → ℕ → Work → ℕ → Status
+status_of machine t shown notices unsent seals strangers work now = record {
   machine = machine.number;
   epoch = machine.epoch;
   width = width_in shown machine.config.drift now;
@@ -135,7 +159,7 @@ status_of machine t shown notices unsent work now = record {
   needed = age_from (needed_by notices.answers machine.config) now;
   known = machine.known;
   sources = machine.config.sources;
-  each = each_status shown t.each notices unsent now;
+  each = each_status shown t.each notices unsent seals now;
   rounds = t.rounds;
   stale_rounds = notices.stale_rounds;
   published = t.published;
@@ -143,6 +167,7 @@ status_of machine t shown notices unsent work now = record {
   no_point = t.no_point;
   too_few = t.too_few;
   round_trips = notices.trips;
+  strangers = strangers;
   breaks = notices.breaks;
   slept = notices.slept;
   sharing = machine.sharing;

@@ -5,6 +5,7 @@ ghost use Rattle.tt_server.specs.Fault.{number_of};
 
 use thiserror::Error;
 use tt_epoch::EpochFault;
+use tt_keys::KeysFault;
 use tt_publish::PublishFault;
 use tt_report::ReporterFault;
 
@@ -25,13 +26,22 @@ pub enum ServerFault {
     Publish(PublishFault),
     #[error("a thread could not be started")]
     NoThread,
+    #[error("{0}")]
+    Keys(KeysFault),
+    #[error("the file of keys has no key with the number {0}")]
+    NoKey(u32),
+    #[error("masters of IPv4 and of IPv6, and a socket of IPv6 is for IPv6 alone")]
+    MixedFamilies,
+    #[error("no random bytes")]
+    NoRandom,
     #[error("out of memory")]
     Memory,
 }
 
 impl ServerFault {
     /// The number of the fault: 1807 `CannotListen`, 1808 `CannotPoll`, 1809 `CannotListenSocket`, 1819 `NotSocket`, the
-    /// number of the inner fault for `Epoch` (1811 to 1815, 1) and `Publish`, 1816 `NoThread`, 1 `Memory`.
+    /// number of the inner fault for `Epoch` (1811 to 1815, 1), `Publish` and `Keys` (2211 to 2216), 1816 `NoThread`, 1827
+    /// `NoKey`, 1828 `MixedFamilies`, 1829 `NoRandom`, 1 `Memory`.
     pub fn number(&self) -> u16
         ensures value { result ≡ number_of self.now }
     {
@@ -43,6 +53,10 @@ impl ServerFault {
             ServerFault::Epoch(fault) => fault.number(),
             ServerFault::Publish(fault) => fault.number(),
             ServerFault::NoThread => ReporterFault::NoThread.number(),
+            ServerFault::Keys(fault) => fault.number(),
+            ServerFault::NoKey(_) => 1827,
+            ServerFault::MixedFamilies => 1828,
+            ServerFault::NoRandom => 1829,
             ServerFault::Memory => 1,
         }
     }

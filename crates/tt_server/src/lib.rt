@@ -22,7 +22,8 @@
 //! round.
 //!
 //! - `servers`: [`serve`], which starts the threads and ends them. `lives`: [`LifeEnd`], how a life of a machine ended.
-//!   `starts`: the parts of a machine. `states`: what the threads share.
+//!   `starts`: the parts of a machine. `links`: the link to the masters. `rings`: the keys that are shared with them.
+//!   `owns`: the address of its own of the socket for polls. `names`: the thread that looks up names. `states`: what the threads share.
 //! - `rounds`: the thread of the daemon. `paces`: the pauses between rounds.
 //! - `records`: what is counted, logged, shown and shared of a round. `notices`: what is noticed of it. `statuses`: the status.
 //! - `signs`: whether the host slept. `breaks`: what is recorded of a break, and [`break_laws`]. `evidence`: the evidence of a
@@ -45,12 +46,16 @@
 mod breaks;
 mod evidence;
 mod faults;
+mod links;
 mod lives;
 mod modes;
+mod names;
 mod notices;
 mod outlines;
+mod owns;
 mod paces;
 mod records;
+mod rings;
 mod rounds;
 mod servers;
 mod shares;
@@ -64,6 +69,7 @@ mod workers;
 pub use breaks::break_laws;
 pub use faults::ServerFault;
 pub use lives::{LifeEnd, WorkerEnd};
+pub use names::{HostNames, MAX_FOUND};
 pub use outlines::outline;
 pub use servers::{EndOfInput, serve};
 pub use shares::shared_laws;

@@ -2,12 +2,13 @@
 
 ghost use Rattle.std.specs.Prelude.{◌≡◌, ◌++◌, OnOk, IfOk, string_bytes, option_copied, ◌≤◌};
 ghost use Rattle.std.specs.List.{flat_map};
-ghost use Rattle.tt_server.specs.Outline.{outline_text, word_line, path_line, master_line, address_text, numbers_text, files_text, growth_of, threads_of, memory_of, pauses_text, config_text, sums_text, lease_text, stampers_text, width_text, break_word, writers_of};
+ghost use Rattle.tt_server.specs.Outline.{outline_text, word_line, path_line, master_line, address_text, keys_text, numbers_text, files_text, growth_of, threads_of, memory_of, pauses_text, config_text, sums_text, lease_text, stampers_text, width_text, break_word, helpers_of};
 
+use crate::names::has_names;
 use crate::shares::period_of;
 use std::alloc::{AllocError, Global};
 use tt_daemon::Config;
-use tt_settings::{FilePath, OnBreak, Pauses, Settings};
+use tt_settings::{FilePath, MasterSettings, OnBreak, Pauses, Settings};
 use tt_span::{Drift, Span};
 use tt_text::push_line;
 
@@ -38,12 +39,36 @@ fn push_address(text: &mut String, word: &str, port: u16) -> Result<(), AllocErr
     text.push_str("\n")
 }
 
+/// Adds the numbers of the keys of a master, if it has some.
+fn push_keys(text: &mut String, numbers: &[u32]) -> Result<(), AllocError>
+    ensures { OnOk result (string_bytes text.new ≡ string_bytes text.old ++ keys_text numbers.now) }
+{
+    if numbers.is_empty() {
+        return Ok(());
+    }
+    text.push_str(" key")?;
+    for number in numbers {
+        write!(text, " {number}")?;
+    }
+    Ok(())
+}
+
+/// Adds the line of a master: its address, and the numbers of the keys that are shared with it, if there are some.
+fn push_master(text: &mut String, master: &MasterSettings) -> Result<(), AllocError>
+    ensures { OnOk result (string_bytes text.new ≡ string_bytes text.old ++ master_line master.now) }
+{
+    text.push_str("master ")?;
+    text.push_str(master.address().as_str())?;
+    push_keys(text, master.keys())?;
+    text.push_str("\n")
+}
+
 /// Adds a line for each master.
-fn push_masters(text: &mut String, masters: &[u16]) -> Result<(), AllocError>
+fn push_masters(text: &mut String, masters: &[MasterSettings]) -> Result<(), AllocError>
     ensures { OnOk result (string_bytes text.new ≡ string_bytes text.old ++ flat_map master_line masters.now) }
 {
-    for port in masters {
-        push_address(text, "master", *port)?;
+    for master in masters {
+        push_master(text, master)?;
     }
     Ok(())
 }
@@ -65,23 +90,24 @@ fn growth_of(pauses: &Pauses, drift: Drift) -> u64
     2 * drift.widen(period_of(pauses))
 }
 
-/// How many threads write the status and the evidence: one for each that has a file.
-fn writers_of(has_status: bool, has_evidence: bool) -> u64
-    ensures value { result ≡ writers_of has_status has_evidence }
-    ensures few { result ≤ 2 }
+/// How many threads there are for what only some settings have: one for the file of the status, one for that of the
+/// evidence, and one for the names of masters.
+fn helpers_of(has_status: bool, has_evidence: bool, has_names: bool) -> u64
+    ensures value { result ≡ helpers_of has_status has_evidence has_names }
+    ensures few { result ≤ 3 }
 {
-    u64::from(has_status) + u64::from(has_evidence)
+    u64::from(has_status) + u64::from(has_evidence) + u64::from(has_names)
 }
 
 /// The most threads of a machine with `workers` workers: those of the workers, the thread of the daemon, the one that
-/// accepts connections, the one that writes the log, those that write the status and the evidence, and one that waits
-/// for the end of standard input.
-fn threads_of(workers: u64, writers: u64) -> u64
+/// accepts connections, the one that writes the log, those that write the status and the evidence and look up names, and
+/// one that waits for the end of standard input.
+fn threads_of(workers: u64, helpers: u64) -> u64
     requires few { workers ≤ 32 }
-    requires few_writers { writers ≤ 2 }
-    ensures { result ≡ threads_of workers writers }
+    requires few_helpers { helpers ≤ 3 }
+    ensures { result ≡ threads_of workers helpers }
 {
-    workers + writers + 4
+    workers + helpers + 4
 }
 
 /// The most memory that a machine with `workers` workers takes, in bytes, as far as was observed.
@@ -119,15 +145,15 @@ fn push_sums(
     text: &mut String,
     pauses: &Pauses,
     config: &Config,
-    writers: u64,
+    helpers: u64,
 ) -> Result<(), AllocError>
-    requires few { writers ≤ 2 }
-    ensures { OnOk result (string_bytes text.new ≡ string_bytes text.old ++ sums_text pauses.now config.now writers) }
+    requires few { helpers ≤ 3 }
+    ensures { OnOk result (string_bytes text.new ≡ string_bytes text.old ++ sums_text pauses.now config.now helpers) }
 {
     let growth = growth_of(pauses, config.drift());
     let workers = config.workers() as u64;
     push_line(text, "growth", &[growth])?;
-    push_line(text, "threads", &[threads_of(workers, writers)])?;
+    push_line(text, "threads", &[threads_of(workers, helpers)])?;
     push_line(text, "memory", &[memory_of(workers)])
 }
 
@@ -182,8 +208,12 @@ fn push_numbers(text: &mut String, settings: &Settings) -> Result<(), AllocError
     push_stampers(text, settings.stampers())?;
     push_words(text, "on_break", break_word(settings.on_break()))?;
     push_width(text, settings.max_width())?;
-    let writers = writers_of(settings.status().is_some(), settings.evidence().is_some());
-    push_sums(text, &pauses, &config, writers)
+    let helpers = helpers_of(
+        settings.status().is_some(),
+        settings.evidence().is_some(),
+        has_names(settings.masters()),
+    );
+    push_sums(text, &pauses, &config, helpers)
 }
 
 /// Adds the lines of the files of a machine.
@@ -196,13 +226,15 @@ fn push_files(text: &mut String, settings: &Settings) -> Result<(), AllocError>
     push_path(text, "shared", settings.shared())?;
     push_path(text, "status", settings.status())?;
     push_path(text, "evidence", settings.evidence())?;
-    push_path(text, "vmclock", settings.vmclock())
+    push_path(text, "vmclock", settings.vmclock())?;
+    push_path(text, "keys", settings.keys())
 }
 
 /// What a machine with these settings would do, as text. There is one line for each of `machine`, `listen`, `master`
-/// (one for each master, in the order of the sources), `faulty`, `workers`, `drift`, `poll`, `wait`, `floor_ahead`,
+/// (one for each master, in the order of the sources: its address, and behind the word `key` the numbers of its keys, if it
+/// has some), `faulty`, `workers`, `drift`, `poll`, `wait`, `floor_ahead`,
 /// `idle`, `lease`, `stampers` (if there are some), `on_break`, `max_width` (if there is a limit), `growth`, `threads`,
-/// `memory`, `state`, and for each of `socket`, `shared`, `status`, `evidence` and `vmclock` that the settings have. Times are in nanoseconds.
+/// `memory`, `state`, and for each of `socket`, `shared`, `status`, `evidence`, `vmclock` and `keys` that the settings have. Times are in nanoseconds.
 ///
 /// A reading is as wide as what the masters state, plus the time that the poll took. Until the next publication it
 /// grows wider by at most `growth`, if no master fails. `memory` is an estimate, in bytes. Refuses if it is out of

@@ -3,21 +3,27 @@
 ghost use Rattle.std.specs.Prelude.{◌≡◌, ◌≤◌, List, [], map};
 ghost use Rattle.tt_publish.specs.Reading.{fused_span_of};
 ghost use Rattle.tt_consistency.specs.Calls.{AreInTurn, RiseIn, RoundsCall, kept_after};
+ghost use Rattle.tt_server.specs.Name.{IsNews};
 ghost use Rattle.tt_server.specs.Notice.{event_of_unmet};
 ghost use Rattle.tt_server.specs.Round.{MakesCall, kept_with, renewal_after};
+ghost use Rattle.tt_server.specs.Status.{seals_of, unsent_of};
 
 use crate::evidence::{keep_break, published_in, show_evidence};
+use crate::links::socket_again;
+use crate::names::{Lookups, NO_LOOKUPS, NameTable, has_missed, news_of};
 use crate::notices::{Notices, Unmet, fresh_answers, is_stale, needed_by, unmet_of};
+use crate::owns::Reach;
 use crate::paces::{pause_of, renewal_after, turns_of, waits_on};
 use crate::records::{RoundRecords, RoundTerms, Shown, Totals, UnsentPackets, records_of};
 use crate::shares::{ended_at, period_of, withdrawn};
 use crate::sharing::Share;
 use crate::signs::{GuestWatch, Sleep, SleepWatch};
 use crate::states::{ThreadContext, say};
-use crate::statuses::{Account, Machine, status_of};
+use crate::statuses::{Account, Machine, NO_SEALS, SourceSeals, status_of};
+use std::alloc::Global;
 use std::fs::{File, Files};
-use std::net::{Ipv4Addr, Net, UdpSocket};
-use std::sync::Wait;
+use std::net::{Net, SocketAddr};
+use std::sync::{Arc, Wait};
 use std::time::Clock as SystemClock;
 use tt_connections::MachineClock;
 use tt_daemon::{Daemon, Fused, MAX_SOURCES};
@@ -26,11 +32,23 @@ use tt_rounds::{NodeFault, RoundLink, RoundReport, Rounds, RoundsPlan, report_ro
 use tt_settings::OnBreak;
 use tt_status::LogEvent;
 
+/// The link to the masters, as the daemon's thread has it.
+#[derive(Drop)]
+pub(crate) struct Polled<'a, R> {
+    pub(crate) link: RoundLink<'a, R>,
+    pub(crate) reach: Reach,
+    /// What is found of the names of masters, if one has a name.
+    pub(crate) table: Option<Arc<NameTable, Global>>,
+}
+
 /// The state of the daemon's thread.
 #[derive(Drop)]
 pub(crate) struct Poller<'a, R> {
     daemon: Daemon,
-    link: RoundLink<'a, R>,
+    polled: Polled<'a, R>,
+    /// How many lookups of names were made when it last looked, and what they had found.
+    changes: u64,
+    lookups: [Lookups; MAX_SOURCES],
     /// What the last round did.
     report: RoundReport,
     totals: Totals,
@@ -41,6 +59,10 @@ pub(crate) struct Poller<'a, R> {
     renewal: u64,
     /// For each source, how many packets to it could not be sent so far.
     unsent: [u64; MAX_SOURCES],
+    /// What is known of the seals of the packets from each source.
+    seals: [SourceSeals; MAX_SOURCES],
+    /// After how many rounds it found that a packet of a stranger had come.
+    strangers: u64,
     /// What it has noticed so far.
     notices: Notices,
     sleep: SleepWatch,
@@ -57,7 +79,7 @@ impl<'a, R> Poller<'a, R> {
     /// The state of the daemon's thread at its start.
     pub(crate) fn new(
         daemon: Daemon,
-        link: RoundLink<'a, R>,
+        polled: Polled<'a, R>,
         share: Share<'a, R>,
         vmclock: Option<&'a str>,
     ) -> Poller<'a, R>
@@ -65,19 +87,30 @@ impl<'a, R> Poller<'a, R> {
     {
         Poller {
             daemon,
-            link,
+            polled,
+            changes: 0,
+            lookups: [NO_LOOKUPS; MAX_SOURCES],
             report: RoundReport::new(),
             totals: Totals::new(),
             shown: None,
             share,
             renewal: 0,
             unsent: [0; MAX_SOURCES],
+            seals: [NO_SEALS; MAX_SOURCES],
+            strangers: 0,
             notices: Notices::new(),
             sleep: SleepWatch::new(),
             guest: GuestWatch::new(),
             vmclock,
             last: None,
             broken: false,
+        }
+    }
+
+    /// Ends the thread that looks up names, if there is one. It is not waited for.
+    pub(crate) fn end_names(&self) {
+        if let Some(table) = &self.polled.table {
+            table.end();
         }
     }
 
@@ -115,7 +148,7 @@ fn round<R: Wait + SystemClock>(
     report_rounds(
         context.rt,
         &mut poller.daemon,
-        &mut poller.link,
+        &mut poller.polled.link,
         clock,
         teller,
         plan,
@@ -124,12 +157,92 @@ fn round<R: Wait + SystemClock>(
 }
 
 /// For each source, how many packets to it could not be sent so far.
-fn unsent_by<R: SystemClock>(link: &RoundLink<'_, R>) -> [u64; MAX_SOURCES] {
+fn unsent_by<R: SystemClock>(link: &RoundLink<'_, R>) -> [u64; MAX_SOURCES]
+    ensures value { result ≡ unsent_of link.now.hearing.table.unsent }
+{
     let mut unsent = [0; MAX_SOURCES];
     for source in 0..MAX_SOURCES {
         unsent[source] = link.unsent(source as u8);
     }
     unsent
+}
+
+/// What is known of the seals of the packets from each source so far.
+fn seals_by<R: SystemClock>(link: &RoundLink<'_, R>) -> [SourceSeals; MAX_SOURCES]
+    ensures value { result ≡ seals_of link.now.hearing.table.openings }
+{
+    let mut seals = [NO_SEALS; MAX_SOURCES];
+    for source in 0..MAX_SOURCES {
+        seals[source] = SourceSeals {
+            unopened: link.unopened(source as u8),
+            key: link.opened(source as u8),
+        };
+    }
+    seals
+}
+
+/// Logs what is new of the name of a source. Answers its address, if that is new.
+fn say_lookups<R: Wait + SystemClock>(
+    context: ThreadContext<'_, R>,
+    source: u64,
+    before: &Lookups,
+    after: &Lookups,
+) -> Option<SocketAddr>
+    ensures value { IsNews before.now.address after.now.address result }
+{
+    if has_missed(before, after) {
+        say(context, LogEvent::SourceUnresolved { source });
+    }
+    let news = news_of(before, after);
+    if let Some(address) = news {
+        say(context, LogEvent::SourceResolved { source, address });
+    }
+    news
+}
+
+/// Takes the addresses that were found of names meanwhile, and logs what is new of them. What looks up names is told when
+/// the last answers came.
+fn hear_names<R: Wait + SystemClock>(context: ThreadContext<'_, R>, poller: &mut Poller<'_, R>)
+    ensures same { poller.new.daemon ≡ poller.old.daemon }
+{
+    let Some(table) = &poller.polled.table else {
+        return;
+    };
+    table.hear(&poller.notices.answers);
+    let changes = table.changes();
+    if changes == poller.changes {
+        return;
+    }
+    let found = table.found(context.rt);
+    poller.changes = changes;
+    for source in 0..MAX_SOURCES {
+        let (before, after) = (poller.lookups[source], found[source]);
+        let news = say_lookups(context, source as u64, &before, &after);
+        if news.is_some() {
+            poller.polled.link.set_address(source as u8, news);
+        }
+    }
+    poller.lookups = found;
+}
+
+/// Counts and logs the last packet of a stranger, if one has come since the last round, and takes what is known of the
+/// seals of packets.
+fn hear_packets<R: Wait + SystemClock>(context: ThreadContext<'_, R>, poller: &mut Poller<'_, R>)
+    ensures same { poller.new.daemon ≡ poller.old.daemon }
+{
+    poller.seals = seals_by(&poller.polled.link);
+    if let Some(address) = poller.polled.link.stranger() {
+        poller.strangers = poller.strangers.saturating_add(1);
+        say(context, LogEvent::Stranger { address });
+    }
+}
+
+/// Takes what a round has shown of packets, and what was found of names meanwhile.
+fn hear_all<R: Wait + SystemClock>(context: ThreadContext<'_, R>, poller: &mut Poller<'_, R>)
+    ensures same { poller.new.daemon ≡ poller.old.daemon }
+{
+    hear_packets(context, poller);
+    hear_names(context, poller);
 }
 
 /// All records of the round that was made.
@@ -322,7 +435,7 @@ fn settle<R: Wait + SystemClock + Files<File = File>>(
     ensures same { poller.new.daemon ≡ poller.old.daemon }
 {
     poller.notices.hear(&poller.report.sources);
-    let unsent = unsent_by(&poller.link);
+    let unsent = unsent_by(&poller.polled.link);
     let records = records(context, poller, did, unsent);
     let published = published_in(did, &poller.report);
     compare(context, poller, &records.shown, &published, now);
@@ -359,6 +472,8 @@ fn show<R: Wait + SystemClock + Files<File = File>>(
         shown: &poller.shown,
         notices: &poller.notices,
         unsent: &poller.unsent,
+        seals: &poller.seals,
+        strangers: poller.strangers,
     };
     let status = status_of(&machine, &account, &server.work(), now);
     server.reporter.show(context.rt, status);
@@ -375,10 +490,12 @@ fn go_round<R: Wait + SystemClock + Files<File = File>>(
     ensures source { teller.new.source ≡ teller.old.source }
 {
     let server = context.server;
+    hear_names(context, poller);
     server.reporter.busy(now_of(clock).max(1));
     let did = round(context, poller, clock, teller);
     server.reporter.idle();
     settle(context, poller, &did, clock.last());
+    hear_all(context, poller);
     show(context, poller, clock);
 }
 
@@ -390,10 +507,10 @@ fn renew<R: Wait + SystemClock + Net>(context: ThreadContext<'_, R>, poller: &mu
     if poller.renewal == 0 {
         return;
     }
-    let Ok(socket) = UdpSocket::bind(context.rt, (Ipv4Addr::LOCALHOST, 0)) else {
+    let Ok(socket) = socket_again(context.rt, poller.polled.reach) else {
         return;
     };
-    if poller.link.renew(socket).is_ok() {
+    if poller.polled.link.renew(socket).is_ok() {
         say(
             context,
             LogEvent::SocketRenewed {

@@ -10,12 +10,13 @@ ghost use Rattle.tt_server.specs.Thread.{AreReady, HasSettings, IsServing, terms
 
 use crate::breaks::{pause_after_breaks, record_break};
 use crate::faults::ServerFault;
+use crate::links::{Polling, link_to};
 use crate::lives::{LifeEnd, WorkerEnd};
 use crate::modes::Loose;
-use crate::rounds::{Poller, run_daemon};
+use crate::names::{HostNames, Names, start_names};
+use crate::rounds::{Polled, Poller, run_daemon};
 use crate::starts::{
-    acceptor_of, front_of, link_to, poller_of, publications_of, reporter_of, side_of, sights_of,
-    watch_all,
+    acceptor_of, front_of, poller_of, publications_of, reporter_of, side_of, sights_of, watch_all,
 };
 use crate::states::{Ending, Life, ServerState, ThreadContext, say};
 use crate::workers::{WorkerHandle, WorkerSeat, start_worker, worker_seats_of};
@@ -24,6 +25,7 @@ use std::alloc::Global;
 use std::fs::{File, Files};
 use std::io::{Eprint, Input, Read};
 use std::net::{Net, TcpListener, TcpStream};
+use std::random::RandomSource;
 use std::sync::{Arc, Wait};
 use std::thread;
 use std::thread::{JoinHandle, Scope, Threads};
@@ -32,7 +34,6 @@ use tt_connections::{Acceptor, Listeners, MachineClock, Sight, reading_of};
 use tt_epoch::{FolderStore, Store, next_epoch};
 use tt_publish::{Teller, Told, Watch};
 use tt_report::Disk;
-use tt_rounds::RoundLink;
 use tt_settings::Settings;
 use tt_stamp::Sequencer;
 use tt_status::LogEvent;
@@ -243,13 +244,18 @@ fn start_end<R: Threads + EndOfInput + Copy + Send + 'static>(
 
 /// Starts all threads except the daemon's. Answers whether all were started. Each watch is a new one of the teller that
 /// told `opened`.
-fn start_all<'s, E, R: Threads + Wait + SystemClock + EndOfInput + Sync + Copy + Send + 'static>(
+fn start_all<
+    's,
+    E,
+    R: Threads + Wait + SystemClock + EndOfInput + HostNames + Sync + Copy + Send + 'static,
+>(
     scope: &Scope<'s, E>,
     context: ThreadContext<'s, R>,
     acceptor: Acceptor,
     posts: Posts<'s>,
     handles: &mut Vec<WorkerHandle>,
     opened: &Told,
+    names: Option<Names>,
     until_eof: bool,
 ) -> bool
     requires none { vec_len handles.old ≡ 0 }
@@ -265,17 +271,20 @@ fn start_all<'s, E, R: Threads + Wait + SystemClock + EndOfInput + Sync + Copy +
     if start_acceptor(scope, context, acceptor).is_none() {
         return false;
     }
-    if !until_eof {
-        return true;
+    if until_eof && !start_end(context) {
+        return false;
     }
-    start_end(context)
+    match names {
+        Some(names) => start_names(context.rt, names),
+        None => true,
+    }
 }
 
 /// What the threads of a machine own.
 #[derive(Drop)]
 struct Parts<'a, R> {
     acceptor: Acceptor,
-    link: RoundLink<'a, R>,
+    polling: Polling<'a, R>,
     posts: Posts<'a>,
     joins: Joins,
 }
@@ -288,6 +297,7 @@ fn run_threads<
         + Wait
         + SystemClock
         + EndOfInput
+        + HostNames
         + Sync
         + Files<File = File>
         + Net<Listener = TcpListener, Stream = TcpStream>
@@ -311,7 +321,7 @@ fn run_threads<
     let (rt, server) = (context.rt, context.server);
     let Parts {
         acceptor,
-        link,
+        polling,
         posts,
         joins,
     } = parts;
@@ -321,7 +331,14 @@ fn run_threads<
         ..
     } = joins;
     let opened = teller.tell();
-    let mut poller = poller_of(rt, context, settings, link);
+    let Polling {
+        link,
+        reach,
+        table,
+        names,
+    } = polling;
+    let polled = Polled { link, reach, table };
+    let mut poller = poller_of(rt, context, settings, polled);
     if !start_all(
         scope,
         context,
@@ -329,6 +346,7 @@ fn run_threads<
         posts,
         &mut handles,
         &opened,
+        names,
         until_eof,
     ) {
         server.end(rt);
@@ -339,6 +357,7 @@ fn run_threads<
     let mut clock = MachineClock::new(rt);
     run_daemon(context, &mut poller, &mut clock, teller);
     server.end(rt);
+    poller.end_names();
     let workers = join_workers(rt, handles, ends, &opened, &server.life);
     let published = teller.tell();
     // The answer is always yes: a watch sees only what its teller shows, and the daemon has ended. But of a watch the
@@ -361,6 +380,7 @@ fn run<
         + Wait
         + SystemClock
         + EndOfInput
+        + HostNames
         + Sync
         + Files<File = File>
         + Net<Listener = TcpListener, Stream = TcpStream>
@@ -427,6 +447,7 @@ fn run_life<
         + SystemClock
         + Eprint
         + EndOfInput
+        + HostNames
         + Sync
         + Files<File = File>
         + Net<Listener = TcpListener, Stream = TcpStream>
@@ -494,6 +515,7 @@ fn run_behind<
         + SystemClock
         + Eprint
         + EndOfInput
+        + HostNames
         + Sync
         + Files<File = File>
         + Net<Listener = TcpListener, Stream = TcpStream>
@@ -506,7 +528,7 @@ fn run_behind<
     alloc: Global,
     start: Start<'n>,
     acceptor: Acceptor,
-    link: RoundLink<'n, R>,
+    polling: Polling<'n, R>,
     store: &mut FolderStore<'e, R>,
 ) -> Result<LifeEnd, ServerFault>
     ensures life { IfOk result (λ end. (life : ServerLife) × TellsOf start.entry.settings.now end life) }
@@ -527,7 +549,7 @@ fn run_behind<
     let (mut teller, watches) = publications_of(rt, alloc, settings)?;
     let parts = Parts {
         acceptor,
-        link,
+        polling,
         posts: Posts {
             worker_seats,
             watches,
@@ -544,14 +566,16 @@ fn run_behind<
 /// `until_eof` it ends the machine in order after the end of standard input, and returns. Otherwise it goes on until
 /// the process is ended.
 ///
-/// The start, in this order: it listens at the TCP address, opens the socket for polls, locks the folder of the epoch for
-/// as long as it runs, listens at the Unix socket if the settings name one, takes the memory, opens the publications,
+/// The start, in this order: it listens at the TCP address, reads the file of keys if the settings name one, draws how far
+/// the nonces of this life are ahead on the wire, opens the socket for polls, locks the folder of the epoch for as long as
+/// it runs, listens at the Unix socket if the settings name one, takes the memory, opens the publications,
 /// starts the reporter's threads, pauses where a break is recorded that is less than a minute old, and takes the next epoch. Then it opens the shared file and starts the other threads:
-/// those of the workers, of the acceptor, and of the end. Then the daemon makes its rounds. Clients are served after the
+/// those of the workers, of the acceptor, of the end, and of the names if a master has one. Then the daemon makes its rounds. Clients are served after the
 /// first publication, or two seconds after the start. If there is a Unix socket, half of the workers serve its clients,
 /// and the other workers serve the clients of the TCP address.
 ///
-/// Refuses, in this order: 1807 `CannotListen`, 1808 `CannotPoll`, `Epoch` (1815 where another process holds the folder,
+/// Refuses, in this order: 1807 `CannotListen`, `Keys` (2211 to 2216), 1827 `NoKey`, 1828 `MixedFamilies`, 1829 `NoRandom`,
+/// 1808 `CannotPoll`, `Epoch` (1815 where another process holds the folder,
 /// 1812), 1819 `NotSocket`, 1809 `CannotListenSocket`, `Publish`, 1816 `NoThread` for the reporter, `Epoch` (1811 to 1814),
 /// 1816 `NoThread`, and 1 `Memory` in place of each. No epoch is taken before all of them but the last `NoThread` have
 /// passed. What is at the path of the Unix socket and is not a socket that was left is left alone.
@@ -574,11 +598,13 @@ pub fn serve<
         + SystemClock
         + Eprint
         + EndOfInput
+        + HostNames
         + Sync
         + AllocGlobal
         + Files<File = File>
         + Net<Listener = TcpListener, Stream = TcpStream>
         + Disk
+        + RandomSource
         + Copy
         + Send
         + 'static,
@@ -588,7 +614,7 @@ pub fn serve<
     let alloc = rt.alloc();
     let front = front_of(rt, alloc, settings)?;
     let (acceptor, waker) = acceptor_of(rt, alloc)?;
-    let (link, link_waker) = link_to(rt, alloc, settings)?;
+    let (polling, link_waker) = link_to(rt, alloc, settings)?;
     let mut store = match FolderStore::open(rt, alloc, settings.state()) {
         Ok(store) => store,
         Err(fault) => return Err(ServerFault::Epoch(fault)),
@@ -601,7 +627,7 @@ pub fn serve<
         waker: link_waker,
         until_eof,
     };
-    let ended = run_behind(rt, alloc, start, acceptor, link, &mut store);
+    let ended = run_behind(rt, alloc, start, acceptor, polling, &mut store);
     if let (Some(side), Some(path)) = (&listeners.side, settings.socket()) {
         side.listener.remove(rt, path.as_str());
     }

@@ -18,7 +18,7 @@ const OF_KERNEL: &str = "/proc/self";
 const LOOKS: u32 = 3;
 
 /// The most bytes that are read of a file.
-const MOST: usize = 64;
+pub(crate) const MOST: usize = 64;
 
 /// The bits of a mode that say what a file is, and what they are for a FIFO.
 const KIND: u32 = 0o170000;
@@ -26,7 +26,11 @@ const KIND: u32 = 0o170000;
 const FIFO: u32 = 0o010000;
 
 /// Reads the first bytes of a file that is no FIFO, which could have it wait. Answers how many.
-fn read_at<R: Files<File = File>>(rt: &R, path: &str, bytes: &mut [u8; MOST]) -> io::Result<usize> {
+pub(crate) fn read_at<R: Files<File = File>>(
+    rt: &R,
+    path: &str,
+    bytes: &mut [u8; MOST],
+) -> io::Result<usize> {
     if rt.metadata(path)?.mode() & KIND == FIFO {
         return Err(Error::from(ErrorKind::InvalidInput));
     }

@@ -8,7 +8,7 @@ ghost use Rattle.tt_publish.specs.Known.{new_watch};
 ghost use Rattle.tt_server.specs.declared.faults.ServerFault.TheVariants.{Memory};
 
 use crate::faults::ServerFault;
-use crate::rounds::Poller;
+use crate::rounds::{Polled, Poller};
 use crate::shares::folder_and_name;
 use crate::sharing::{Share, SharePath};
 use crate::states::ThreadContext;
@@ -16,17 +16,16 @@ use mio::Waker;
 use std::alloc::Global;
 use std::fs::{File, Files};
 use std::io::{Eprint, ErrorKind};
-use std::net::{IpAddr, Ipv4Addr, Net, SocketAddr, TcpListener, TcpStream, UdpSocket};
+use std::net::{Net, TcpListener, TcpStream};
 use std::sync::Wait;
 use std::thread::Threads;
-use std::time::{Clock as SystemClock, Duration};
+use std::time::Clock as SystemClock;
 use tt_connections::{
     Acceptor, Backlog, Listener, ListenerFault, Listeners, MachineClock, Queue, Sight,
 };
 use tt_daemon::Daemon;
 use tt_publish::{Clock, Teller, Watch, open};
 use tt_report::{Disk, Reporter, ReporterFault};
-use tt_rounds::RoundLink;
 use tt_settings::Settings;
 
 /// The acceptor of connections, and what ends its waits.
@@ -38,37 +37,13 @@ pub(crate) fn acceptor_of<R: Net>(rt: &R, alloc: Global) -> Result<(Acceptor, Wa
 }
 
 /// Why a part is not made where a call of the system failed with an error of this kind: out of memory, or else `fault`.
-fn fault_of(kind: ErrorKind, fault: ServerFault) -> ServerFault
+pub(crate) fn fault_of(kind: ErrorKind, fault: ServerFault) -> ServerFault
     ensures memory { kind ≡ OutOfMemory → result ≡ Memory }
     ensures other { kind ≢ OutOfMemory → result ≡ fault }
 {
     match kind {
         ErrorKind::OutOfMemory => ServerFault::Memory,
         _ => fault,
-    }
-}
-
-/// The link to the masters at the ports of the settings, and what ends its waits.
-pub(crate) fn link_to<'a, R: SystemClock + Net>(
-    rt: &'a R,
-    alloc: Global,
-    settings: &Settings,
-) -> Result<(RoundLink<'a, R>, Waker), ServerFault> {
-    let socket = match UdpSocket::bind(rt, (Ipv4Addr::LOCALHOST, 0)) {
-        Ok(socket) => socket,
-        Err(error) => return Err(fault_of(error.kind(), ServerFault::CannotPoll)),
-    };
-    let mut masters = Vec::new(alloc);
-    for port in settings.masters() {
-        let address = SocketAddr::new(IpAddr::V4(Ipv4Addr::LOCALHOST), *port);
-        if masters.push(address).is_err() {
-            return Err(ServerFault::Memory);
-        }
-    }
-    let wait = Duration::from_nanos(settings.pauses().wait);
-    match RoundLink::new(rt, alloc, socket, masters, wait) {
-        Ok(link) => Ok(link),
-        Err(error) => Err(fault_of(error.kind(), ServerFault::CannotPoll)),
     }
 }
 
@@ -186,7 +161,7 @@ pub(crate) fn poller_of<'a, R: Wait + SystemClock + Files<File = File>>(
     rt: &'a R,
     context: ThreadContext<'_, R>,
     settings: &'a Settings,
-    link: RoundLink<'a, R>,
+    polled: Polled<'a, R>,
 ) -> Poller<'a, R>
     requires first { 0 < context.server.now.life.epoch }
     ensures daemon { result.daemon ≡ new_daemon settings.now.machine context.entry.server.now.life.config context.entry.server.now.life.epoch }
@@ -208,5 +183,5 @@ pub(crate) fn poller_of<'a, R: Wait + SystemClock + Files<File = File>>(
         Some(path) => Some(path.as_str()),
         None => None,
     };
-    Poller::new(daemon, link, share, vmclock)
+    Poller::new(daemon, polled, share, vmclock)
 }

@@ -10,7 +10,7 @@ use tt_daemon::{Config, MAX_SOURCES};
 use tt_health::{Answer, Rate, nth_newest};
 use tt_publish::FusedSpan;
 use tt_span::Drift;
-use tt_status::{Difference, Histogram, REASONS, SourceStatus, Status};
+use tt_status::{Difference, Histogram, REASONS, SourceStatus, Status, UNOPENED};
 
 /// Counts of what the sessions and the log have done so far, and of what waits.
 #[derive(Clone, Copy, Debug, PartialEq, Eq)]
@@ -144,6 +144,21 @@ fn error_in(rate: &Option<Rate>) -> Option<u64>
     }
 }
 
+/// What is known of the seals of the packets from a source.
+#[derive(Clone, Copy)]
+pub(crate) struct SourceSeals {
+    /// How many did not open, by the reasons in their order.
+    pub(crate) unopened: [u64; UNOPENED],
+    /// The number of the key under which the last opened that did.
+    pub(crate) key: Option<u32>,
+}
+
+/// Nothing came from it.
+pub(crate) const NO_SEALS: SourceSeals = SourceSeals {
+    unopened: [0; UNOPENED],
+    key: None,
+};
+
 /// What is known of the answers of a source.
 #[derive(Clone, Copy)]
 pub(crate) struct SourceNotice {
@@ -151,6 +166,7 @@ pub(crate) struct SourceNotice {
     pub(crate) rate: Option<Rate>,
     /// How many packets to it could not be sent.
     pub(crate) unsent: u64,
+    pub(crate) seals: SourceSeals,
 }
 
 /// What became of one source when the clock shows `now`.
@@ -178,6 +194,8 @@ fn source_status(
         refusals: counts.refusals,
         rate: difference_in(&notice.rate),
         rate_error: error_in(&notice.rate),
+        unopened: notice.seals.unopened,
+        key: notice.seals.key,
     }
 }
 
@@ -195,17 +213,21 @@ const NO_STATUS: SourceStatus = SourceStatus {
     refusals: [0; REASONS],
     rate: None,
     rate_error: None,
+    unopened: [0; UNOPENED],
+    key: None,
 };
 
-/// What became of each source when the clock shows `now`. `unsent` packets to each could not be sent.
+/// What became of each source when the clock shows `now`. `unsent` packets to each could not be sent, and `seals` is what is
+/// known of the seals of those from it.
 fn each_status(
     shown: &Option<Shown>,
     each: &[SourceTally; MAX_SOURCES],
     notices: &Notices,
     unsent: &[u64; MAX_SOURCES],
+    seals: &[SourceSeals; MAX_SOURCES],
     now: u64,
 ) -> [SourceStatus; MAX_SOURCES]
-    ensures value { result ≡ each_status shown.now each.now notices.now unsent.now now }
+    ensures value { result ≡ each_status shown.now each.now notices.now unsent.now seals.now now }
 {
     let mut statuses = [NO_STATUS; MAX_SOURCES];
     for source in 0..MAX_SOURCES {
@@ -213,6 +235,7 @@ fn each_status(
             answer: notices.answers[source],
             rate: notices.tracks[source].rate(),
             unsent: unsent[source],
+            seals: seals[source],
         };
         statuses[source] = source_status(shown, &each[source], &notice, source as u8, now);
     }
@@ -243,20 +266,23 @@ fn width_and_age(shown: &Option<Shown>, drift: Drift, now: u64) -> (Option<u64>,
     }
 }
 
-/// What a status is made of: the counts of the rounds, the last publication, what was noticed, and the packets to each
-/// source that could not be sent.
+/// What a status is made of: the counts of the rounds, the last publication, what was noticed, the packets to each source
+/// that could not be sent, the seals of those from it, and the rounds in which a stranger was found.
 #[derive(Drop)]
 pub(crate) struct Account<'a> {
     pub(crate) totals: &'a Totals,
     pub(crate) shown: &'a Option<Shown>,
     pub(crate) notices: &'a Notices,
     pub(crate) unsent: &'a [u64; MAX_SOURCES],
+    pub(crate) seals: &'a [SourceSeals; MAX_SOURCES],
+    pub(crate) strangers: u64,
 }
 
 /// The status of a machine when its clock shows `now`, in nanoseconds: of what its rounds have counted and noticed, of its
-/// last publication, of the packets to each source that could not be sent, and of its sessions.
+/// last publication, of the packets to each source that could not be sent, of the seals of those from it, of strangers, and
+/// of its sessions.
 pub(crate) fn status_of(machine: &Machine, account: &Account<'_>, work: &Work, now: u64) -> Status
-    ensures value { result ≡ status_of machine.now account.now.totals.now account.now.shown.now account.now.notices.now account.now.unsent.now work.now now }
+    ensures value { result ≡ status_of machine.now account.now.totals.now account.now.shown.now account.now.notices.now account.now.unsent.now account.now.seals.now account.now.strangers work.now now }
 {
     let (totals, notices) = (account.totals, account.notices);
     let config = &machine.config;
@@ -272,7 +298,14 @@ pub(crate) fn status_of(machine: &Machine, account: &Account<'_>, work: &Work, n
         needed: age_from(needed, now),
         known: machine.known,
         sources: config.sources() as u64,
-        each: each_status(account.shown, &totals.each, notices, account.unsent, now),
+        each: each_status(
+            account.shown,
+            &totals.each,
+            notices,
+            account.unsent,
+            account.seals,
+            now,
+        ),
         rounds: totals.rounds,
         stale_rounds: notices.stale_rounds,
         published: totals.published,
@@ -280,6 +313,7 @@ pub(crate) fn status_of(machine: &Machine, account: &Account<'_>, work: &Work, n
         no_point: totals.no_point,
         too_few: totals.too_few,
         round_trips: notices.trips,
+        strangers: account.strangers,
         breaks: notices.breaks,
         slept: notices.slept,
         sharing: machine.sharing,

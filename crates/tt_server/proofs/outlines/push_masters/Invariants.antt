@@ -5,5 +5,5 @@ use Rattle.std.specs.List.{flat_map}
 use Rattle.tt_server.specs.Outline.{master_line}
 use Rattle.tt_server.proofs.outlines.push_masters.Given as goal
 
-abbrev pub invariant-loop-port : goal.invariant-loop-port
-invariant-loop-port l = string_bytes l.text ≡ string_bytes l.fn.text ++ flat_map master_line (take l.port-index l.masters)
+abbrev pub invariant-loop-master : goal.invariant-loop-master
+invariant-loop-master l = string_bytes l.text ≡ string_bytes l.fn.text ++ flat_map master_line (take l.master-index l.masters)

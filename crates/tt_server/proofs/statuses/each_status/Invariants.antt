@@ -7,6 +7,6 @@ use Rattle.tt_server.proofs.statuses.each_status.Given as goal
 abbrev pub invariant-loop-source : goal.invariant-loop-source
 invariant-loop-source l =
     record {
-      made : (k : ℕ) → k < l.source → get_or l.statuses k no_source_status ≡ source_status l.shown (tally_at l.each k) (notice_at l.notices l.unsent k) k l.now;
+      made : (k : ℕ) → k < l.source → get_or l.statuses k no_source_status ≡ source_status l.shown (tally_at l.each k) (notice_at l.notices l.unsent l.seals k) k l.now;
       long : length l.statuses ≡ 16;
     }
