@@ -16,14 +16,25 @@ use tt_stamp::Sequencer;
 use tt_status::{LogEvent, LogFormat, RefusedFusion, push_event};
 use tt_stream::MemoryReader;
 
-/// The settings of a machine with three masters, one of which may be faulty, and four paths.
+/// The settings of a machine with three masters, one of which may be faulty, and five paths.
 const SETTINGS: &str = "machine = 3
-masters = [\"127.0.0.1:5701\", \"127.0.0.1:5702\", \"127.0.0.1:5703\"]
 listen = \"127.0.0.1:5601\"
 state = \"state\"
 socket = \"socket\"
 shared = \"run/time\"
 status = \"run/status\"
+keys = \"keys\"
+
+[[master]]
+address = \"10.1.0.1:5701\"
+key = [1, 2]
+
+[[master]]
+address = \"clock.example:5701\"
+key = 3
+
+[[master]]
+address = \"[::1]:5701\"
 ";
 
 /// The line of a log.
@@ -62,10 +73,19 @@ fn read_settings(alloc: Global) -> Result<bool, u16> {
         Some(path) => path.as_str() == "run/time",
         None => false,
     };
-    let masters: &[u16] = &[5701, 5702, 5703];
+    let keys: &[u32] = &[1, 2];
+    let are_masters = match settings.masters() {
+        [first, second, third] => {
+            first.address().as_str() == "10.1.0.1:5701"
+                && first.keys() == keys
+                && second.address().host() == Some(("clock.example", 5701))
+                && third.address().socket().is_some()
+        }
+        _ => false,
+    };
     Ok(
         settings.machine() == 3
-            && settings.masters() == masters
+            && are_masters
             && settings.config().faulty() == 1
             && settings.state() == "state"
             && is_shared,

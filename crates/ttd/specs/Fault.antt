@@ -5,6 +5,9 @@ use Rattle.tt_rounds.specs.declared.faults.LinkFault.TheVariants as links
 use Rattle.tt_settings.specs.Fault.{number_of as settings_number}
 use Rattle.tt_shared.specs.Fault.{shared_number_of}
 use Rattle.tt_server.specs.Fault.{number_of as server_number}
+use Rattle.tt_keys.specs.Fault.{number_of as keys_number}
+use Rattle.tt_keys.specs.declared.faults.KeysFault.{KeysFault}
+use Rattle.tt_keys.specs.declared.faults.KeysFault.TheVariants as keys
 use Rattle.tt_epoch.specs.declared.faults.EpochFault.{EpochFault}
 use Rattle.tt_epoch.specs.declared.faults.EpochFault.TheVariants as epoch
 use Rattle.tt_publish.specs.declared.faults.PublishFault.{PublishFault}
@@ -16,7 +19,7 @@ use Rattle.tt_shared.specs.declared.faults.SharedFault.TheVariants as shared
 use Rattle.tt_settings.specs.declared.faults.SettingsFault.{SettingsFault}
 use Rattle.tt_settings.specs.declared.faults.SettingsFault.TheVariants as settings
 use Rattle.ttd.specs.declared.faults.ServiceFault.{ServiceFault}
-use Rattle.ttd.specs.declared.faults.ServiceFault.TheVariants.{Words, BadFile, ReadFailed, LinkFailed, Settings, Shared, Server, Memory}
+use Rattle.ttd.specs.declared.faults.ServiceFault.TheVariants.{Words, BadFile, ReadFailed, LinkFailed, CannotListen, Keys, NoRandom, Settings, Shared, Server, Memory}
 use Rattle.ttd_commands.specs.Fault.{number_of as command_number}
 use Rattle.ttd_commands.specs.declared.faults.Fault.TheVariants as command
 use Rattle.ttd_words.specs.Fault.{number_of as words_number}
@@ -31,6 +34,9 @@ number_of (Words fault) = words_number fault
 number_of BadFile = command_number command.BadInput
 number_of ReadFailed = command_number command.ReadFailed
 number_of LinkFailed = link_number_of links.Failed
+number_of (CannotListen address) = link_number_of links.Failed
+number_of (Keys fault) = keys_number fault
+number_of NoRandom = 1829
 number_of (Settings fault) = settings_number fault
 number_of (Shared fault) = shared_number_of fault
 number_of (Server fault) = server_number fault
@@ -41,6 +47,12 @@ abbrev pub status_of_shared : SharedFault → Status
 status_of_shared shared.CannotOpen = Device
 status_of_shared shared.ClockFailed = Device
 status_of_shared _ = Bad
+
+-- How the program ends where a file of keys gives none: as at a failed device where it can't be read.
+abbrev pub status_of_keys : KeysFault → Status
+status_of_keys keys.CannotRead = Device
+status_of_keys keys.Memory = NoMemory
+status_of_keys _ = Bad
 
 -- How the program ends where a configuration is refused.
 abbrev pub status_of_settings : SettingsFault → Status
@@ -59,12 +71,14 @@ abbrev pub status_of_publish : PublishFault → Status
 status_of_publish publish.Memory = NoMemory
 status_of_publish _ = Bad
 
--- How the program ends where a machine does not serve: as at a failed device where it has not its sockets (1807 to 1809), and by what is wrong with
--- its epoch and its publications.
+-- How the program ends where a machine does not serve: as at a failed device where it has not its sockets (1807 to 1809) or no random
+-- bytes (1829), and by what is wrong with its keys, its epoch and its publications.
 abbrev pub status_of_server : ServerFault → Status
 status_of_server server.CannotListen = Device
 status_of_server server.CannotPoll = Device
 status_of_server server.CannotListenSocket = Device
+status_of_server server.NoRandom = Device
+status_of_server (server.Keys fault) = status_of_keys fault
 status_of_server (server.Epoch fault) = status_of_epoch fault
 status_of_server (server.Publish fault) = status_of_publish fault
 status_of_server server.Memory = NoMemory
@@ -80,6 +94,9 @@ abbrev pub status_of : ServiceFault → Status
 status_of (Words fault) = status_of_words fault
 status_of ReadFailed = Device
 status_of LinkFailed = Device
+status_of (CannotListen address) = Device
+status_of (Keys fault) = status_of_keys fault
+status_of NoRandom = Device
 status_of (Settings fault) = status_of_settings fault
 status_of (Shared fault) = status_of_shared fault
 status_of (Server fault) = status_of_server fault

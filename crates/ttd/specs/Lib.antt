@@ -4,3 +4,6 @@ pub mod Clocks
 pub mod Standard
 pub mod Packets
 pub mod Asking
+pub mod Keys
+pub mod Pauses
+pub mod Standing

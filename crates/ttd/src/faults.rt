@@ -1,12 +1,14 @@
 //! Why a service refuses, and how the program ends after it.
 
 ghost use Rattle.std.specs.Prelude.{◌≡◌};
-ghost use Rattle.ttd.specs.Fault.{number_of, status_of, status_of_epoch, status_of_publish, status_of_server, status_of_settings, status_of_shared, status_of_words};
+ghost use Rattle.ttd.specs.Fault.{number_of, status_of, status_of_epoch, status_of_keys, status_of_publish, status_of_server, status_of_settings, status_of_shared, status_of_words};
 ghost use Rattle.ttd.specs.declared.faults.ServiceFault.TheVariants.{Memory};
 
 use std::alloc::{AllocError, AllocFailed};
+use std::net::SocketAddr;
 use thiserror::Error;
 use tt_epoch::EpochFault;
+use tt_keys::KeysFault;
 use tt_publish::PublishFault;
 use tt_rounds::LinkFault;
 use tt_server::ServerFault;
@@ -27,9 +29,18 @@ pub enum ServiceFault {
     /// The configuration file or standard input can't be read.
     #[error("reading failed")]
     ReadFailed,
-    /// A socket can't be opened, or the connection failed.
+    /// A connection can't be had, or failed.
     #[error("the link failed")]
     LinkFailed,
+    /// A master has no socket at its address.
+    #[error("no socket can be had at {0}")]
+    CannotListen(SocketAddr),
+    /// The file of keys gives no keys.
+    #[error("{0}")]
+    Keys(KeysFault),
+    /// The system gives no random bytes.
+    #[error("no random bytes")]
+    NoRandom,
     /// The configuration is refused.
     #[error("not a configuration")]
     Settings(SettingsFault),
@@ -45,8 +56,8 @@ pub enum ServiceFault {
 }
 
 impl ServiceFault {
-    /// The number of the refusal: 1603 `BadFile`, 1604 `ReadFailed`, 1501 `LinkFailed`, the number of the inner fault for
-    /// `Words`, `Settings`, `Shared` and `Server`, and 1 `Memory`.
+    /// The number of the refusal: 1603 `BadFile`, 1604 `ReadFailed`, 1501 `LinkFailed` and `CannotListen`, 1829
+    /// `NoRandom`, the number of the inner fault for `Words`, `Keys`, `Settings`, `Shared` and `Server`, and 1 `Memory`.
     pub fn number(&self) -> u16
         ensures { result ≡ number_of self.now }
     {
@@ -54,7 +65,9 @@ impl ServiceFault {
             ServiceFault::Words(fault) => fault.number(),
             ServiceFault::BadFile => Fault::BadInput.number(),
             ServiceFault::ReadFailed => Fault::ReadFailed.number(),
-            ServiceFault::LinkFailed => LinkFault::Failed.number(),
+            ServiceFault::LinkFailed | ServiceFault::CannotListen(_) => LinkFault::Failed.number(),
+            ServiceFault::Keys(fault) => fault.number(),
+            ServiceFault::NoRandom => 1829,
             ServiceFault::Settings(fault) => fault.number(),
             ServiceFault::Shared(fault) => fault.number(),
             ServiceFault::Server(fault) => fault.number(),
@@ -68,7 +81,11 @@ impl ServiceFault {
     {
         match self {
             ServiceFault::Words(fault) => status_of_words(*fault),
-            ServiceFault::ReadFailed | ServiceFault::LinkFailed => Status::Device,
+            ServiceFault::ReadFailed
+            | ServiceFault::LinkFailed
+            | ServiceFault::CannotListen(_)
+            | ServiceFault::NoRandom => Status::Device,
+            ServiceFault::Keys(fault) => status_of_keys(*fault),
             ServiceFault::Settings(fault) => status_of_settings(*fault),
             ServiceFault::Shared(fault) => status_of_shared(*fault),
             ServiceFault::Server(fault) => status_of_server(*fault),
@@ -84,6 +101,17 @@ fn status_of_words(fault: WordsFault) -> Status
 {
     match fault {
         WordsFault::Memory => Status::Memory,
+        _ => Status::Bad,
+    }
+}
+
+/// How the program ends if a file of keys gives none: as after a failed device where it can't be read.
+fn status_of_keys(fault: KeysFault) -> Status
+    ensures { result ≡ status_of_keys fault }
+{
+    match fault {
+        KeysFault::CannotRead => Status::Device,
+        KeysFault::Memory => Status::Memory,
         _ => Status::Bad,
     }
 }
@@ -135,9 +163,11 @@ fn status_of_server(fault: ServerFault) -> Status
     ensures { result ≡ status_of_server fault }
 {
     match fault {
-        ServerFault::CannotListen | ServerFault::CannotPoll | ServerFault::CannotListenSocket => {
-            Status::Device
-        }
+        ServerFault::CannotListen
+        | ServerFault::CannotPoll
+        | ServerFault::CannotListenSocket
+        | ServerFault::NoRandom => Status::Device,
+        ServerFault::Keys(fault) => status_of_keys(fault),
         ServerFault::Epoch(fault) => status_of_epoch(fault),
         ServerFault::Publish(fault) => status_of_publish(fault),
         ServerFault::Memory => Status::Memory,

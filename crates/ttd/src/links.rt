@@ -26,26 +26,37 @@ fn is_passing(kind: ErrorKind) -> bool
 }
 
 /// A link over a UDP socket. It sends to the sender of the last packet, which is peer 0. It ignores a packet from
-/// outside this host, as if nothing had come. A wait for a packet ends only with a packet or a failure. A packet that
-/// can't be sent is a lost packet.
+/// outside this host, as if nothing had come, unless it is made for senders of any host. A wait for a packet ends with a
+/// packet, a failure, or the read timeout of the socket. A packet that can't be sent is a lost packet.
 ///
 /// Nothing is claimed of what the socket delivers. If it answers a fault, it has counted a failure: the socket itself is
 /// useless.
 #[derive(Drop)]
 pub(crate) struct AnsweringLink {
     socket: UdpSocket,
+    is_for_all: bool,
     sender: Option<SocketAddr>,
+    answers: u64,
     failures: u64,
 }
 
 impl AnsweringLink {
-    /// The link over this socket.
-    pub(crate) fn new(socket: UdpSocket) -> AnsweringLink {
+    /// The link over this socket, for senders of any host or of this host alone.
+    pub(crate) fn new(socket: UdpSocket, is_for_all: bool) -> AnsweringLink {
         AnsweringLink {
             socket,
+            is_for_all,
             sender: None,
+            answers: 0,
             failures: 0,
         }
+    }
+
+    /// How many answers it has sent, at most 2^64 - 1.
+    pub(crate) fn answers(&self) -> u64
+        ensures { result ≡ self.now.answers }
+    {
+        self.answers
     }
 
     /// Counts a failure.
@@ -65,6 +76,7 @@ impl Link for AnsweringLink {
     fn send(&mut self, _peer: u8, bytes: &[u8]) -> Result<(), LinkFault> {
         if let Some(address) = self.sender {
             let _ = self.socket.send_to(bytes, address);
+            self.answers = self.answers.saturating_add(1);
         }
         Ok(())
     }
@@ -74,7 +86,7 @@ impl Link for AnsweringLink {
         let came = self.socket.recv_from(&mut bytes);
         *buffer = bytes;
         match came {
-            Ok((length, address)) if address.ip().is_loopback() => {
+            Ok((length, address)) if self.is_for_all || address.ip().is_loopback() => {
                 self.sender = Some(address);
                 Ok(Some((0, length.min(PACKET_LEN))))
             }

@@ -15,6 +15,7 @@ use crate::services::serve;
 use std::fs::{File, Files};
 use std::io::{Eprint, Input, Read};
 use std::net::{Net, TcpListener, TcpStream};
+use std::random::RandomSource;
 use std::sync::Wait;
 use std::thread::Threads;
 use std::time::Clock;
@@ -37,6 +38,7 @@ pub(crate) fn run<
         + Files<File = File>
         + Net<Listener = TcpListener, Stream = TcpStream>
         + Disk
+        + RandomSource
         + Copy
         + Send
         + 'static,
@@ -72,6 +74,7 @@ fn answer<
         + Files<File = File>
         + Net<Listener = TcpListener, Stream = TcpStream>
         + Disk
+        + RandomSource
         + Copy
         + Send
         + 'static,

@@ -5,6 +5,7 @@ ghost use Rattle.ttd.specs.declared.services.Stop.TheVariants.{Refused};
 
 use crate::asking::ask;
 use crate::faults::ServiceFault;
+use crate::making::make_key;
 use crate::masters::{MasterPlan, serve_polls};
 use crate::reading::read;
 use crate::serving::run_server;
@@ -12,6 +13,7 @@ use crate::standard::fill_standard;
 use std::fs::{File, Files};
 use std::io::{Eprint, Input, Read};
 use std::net::{Net, TcpListener, TcpStream};
+use std::random::RandomSource;
 use std::sync::Wait;
 use std::thread::Threads;
 use std::time::Clock;
@@ -51,6 +53,7 @@ pub(crate) fn serve<
         + Files<File = File>
         + Net<Listener = TcpListener, Stream = TcpStream>
         + Disk
+        + RandomSource
         + Copy
         + Send
         + 'static,
@@ -84,6 +87,7 @@ fn run_service<
         + Files<File = File>
         + Net<Listener = TcpListener, Stream = TcpStream>
         + Disk
+        + RandomSource
         + Copy
         + Send
         + 'static,
@@ -94,19 +98,23 @@ fn run_service<
     match service {
         Service::Master {
             source,
-            port,
+            listen,
             uncertainty,
             offset,
             acts,
             log,
+            keys,
+            status,
         } => {
             let plan = MasterPlan {
                 source: *source,
-                port: *port,
+                listen: *listen,
                 uncertainty: *uncertainty,
                 offset: *offset,
                 acts: acts.as_slice(),
                 log: *log,
+                keys: *keys,
+                status: *status,
             };
             serve_polls(rt, plan)?;
             Ok(())
@@ -124,5 +132,6 @@ fn run_service<
             ask(rt, *peer, text, *retry, input, output)
         }
         Service::Read { file } => read(rt, file, output),
+        Service::Key { id, name } => make_key(rt, *id, *name, output),
     }
 }

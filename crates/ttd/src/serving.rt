@@ -1,11 +1,13 @@
 //! The service `serve`.
 
 use crate::faults::ServiceFault;
+use crate::key_files;
 use crate::services::Stop;
 use std::alloc::Global;
 use std::fs::{File, Files, OpenOptions};
 use std::io::{Eprint, Input, Read};
 use std::net::{Net, TcpListener, TcpStream};
+use std::random::RandomSource;
 use std::str;
 use std::sync::Wait;
 use std::thread::Threads;
@@ -70,6 +72,21 @@ fn say_refusal<H: Eprint>(rt: &H, path: &str, refusal: &Refusal) {
     };
 }
 
+/// Says on standard error why a file of keys gives none, behind its path and the line, or that it has no key of a number.
+fn say_keys<H: Eprint>(rt: &H, settings: &Settings, fault: ServerFault) {
+    let Some(path) = settings.keys() else {
+        return;
+    };
+    match fault {
+        ServerFault::Keys(fault) => key_files::say_refusal(rt, path.as_str(), fault),
+        ServerFault::NoKey(_) => {
+            let path = path.as_str();
+            let _ = eprint!(rt; "{path}: {fault}\n");
+        }
+        _ => {}
+    }
+}
+
 /// Runs the machine of a configuration until it is ended. With `check` it only writes what the machine would do. Where the
 /// machine ends because it knows that an assumption is broken, the program ends with status 3.
 ///
@@ -88,6 +105,7 @@ pub(crate) fn run_server<
         + Files<File = File>
         + Net<Listener = TcpListener, Stream = TcpStream>
         + Disk
+        + RandomSource
         + Copy
         + Send
         + 'static,
@@ -104,7 +122,10 @@ pub(crate) fn run_server<
                 }
             }
             Err(ServerFault::Memory) => Err(Stop::Refused(ServiceFault::Memory)),
-            Err(fault) => Err(Stop::Refused(ServiceFault::Server(fault))),
+            Err(fault) => {
+                say_keys(rt, &settings, fault);
+                Err(Stop::Refused(ServiceFault::Server(fault)))
+            }
         };
     }
     match outline(rt.alloc(), &settings) {

@@ -1,6 +1,7 @@
 -- What words ask of a service is never refused for want of memory.
 use Rattle.std.proofs.Common.{◌≡◌, ◌||◌, ℕ, Bool, cond, true, false, List, [], ◌∷◌, length, Option, Some, None, Result, Ok, Err, codes, nat_eq, nat_le}
-use Rattle.std.specs.Prelude.{ok_or}
+use Rattle.std.specs.Prelude.{ok_or, is_some}
+use Rattle.std.specs.declared.net.socket_addr.SocketAddr.{SocketAddr}
 use Rattle.std.specs.Str.{bytes_eq}
 use Rattle.clap.specs.Walk.{Row, Text, all_of, first_of}
 use Rattle.tt_span.specs.Time.{max_time}
@@ -8,10 +9,13 @@ use Rattle.tt_poll.specs.Message.{max_source}
 use Rattle.tt_master.specs.declared.acts.Act.{Act}
 use Rattle.tt_script.specs.Acts.{act_in}
 use Rattle.tt_settings.specs.Address.{port_of}
+use Rattle.tt_settings.specs.Socket.{address_of, is_loopback}
+use Rattle.tt_keys.specs.Line.{is_name}
 use Rattle.tt_settings.specs.Form.{log_format_of}
 use Rattle.tt_settings.specs.Numeral.{number_of as time_of}
+use Rattle.ttd_words.specs.CommandLine.{max_id}
 use Rattle.ttd_words.specs.Fault.{◌>>=◌}
-use Rattle.ttd_words.specs.Reading.{AtPath, act_of, acts_at, acts_in, ask_of, has_byte, log_at, master_of, number_at, number_to, offset_at, offset_by, place_at, place_by, place_in, port_at, read_of, serve_of, service_of, text_at, time_behind, up_to}
+use Rattle.ttd_words.specs.Reading.{AtPath, act_of, acts_at, acts_in, ask_of, has_byte, id_at, id_if, key_of, listen_at, listen_if, log_at, master_of, name_at, name_if, number_at, number_to, offset_at, offset_by, place_at, place_by, place_in, read_of, serve_of, service_of, text_at, time_behind, up_to}
 use Rattle.ttd_words.specs.declared.faults.Given.TheVariants as given
 use Rattle.ttd_words.specs.declared.faults.WordsFault.{WordsFault}
 use Rattle.ttd_words.specs.declared.faults.WordsFault.TheVariants.{BadWords, BadValue, Memory}
@@ -43,6 +47,30 @@ up_to_fair most (Some n) = go (nat_le n most)
 
 text_fair : (id : Text) (rows : List Row) → IsFair (text_at id rows)
 text_fair id rows = some_fair (first_of id rows) BadWords bad_words
+
+listen_fair : (sealed : Bool) (o : Option SocketAddr) → IsFair (listen_if sealed o)
+listen_fair sealed None = λ e. cc
+listen_fair sealed (Some address) = go (sealed || is_loopback address)
+  where
+    go : (b : Bool) → IsFair (cond b (Ok address) (Err (BadValue given.NotLocal)))
+    go true = tt
+    go false = λ e. cc
+
+id_fair : (o : Option ℕ) → IsFair (id_if o)
+id_fair None = tt
+id_fair (Some n) = go (nat_le n max_id)
+  where
+    go : (b : Bool) → IsFair (cond b (Ok (Some n)) (Err BadWords))
+    go true = tt
+    go false = bad_words
+
+name_fair : (o : Option Text) → IsFair (name_if o)
+name_fair None = tt
+name_fair (Some text) = go (is_name text)
+  where
+    go : (b : Bool) → IsFair (cond b (Ok (Some text)) (Err (BadValue given.Name)))
+    go true = tt
+    go false = λ e. cc
 
 place_by_fair : (text : Text) (o : Option ℕ) → IsFair (place_by text o)
 place_by_fair text (Some port) = tt
@@ -82,7 +110,7 @@ master_fair : (rows : List Row) → IsFair (master_of rows)
 unfolding master_of
 master_fair rows =
     then_fair (number_to (codes "source") max_source rows) _ (up_to_fair max_source (number_at (codes "source") rows)) (λ source.
-    then_fair (port_at (codes "listen") rows) _ (then_fair (text_at (codes "listen") rows) _ (text_fair (codes "listen") rows) (λ text. some_fair (port_of text) (BadValue given.Listen) (λ e. cc))) (λ port.
+    then_fair (listen_at (codes "listen") (is_some (first_of (codes "keys") rows)) rows) _ (then_fair (text_at (codes "listen") rows) _ (text_fair (codes "listen") rows) (λ text. listen_fair (is_some (first_of (codes "keys") rows)) (address_of text))) (λ listen.
     then_fair (number_to (codes "uncertainty") max_time rows) _ (up_to_fair max_time (number_at (codes "uncertainty") rows)) (λ uncertainty.
     then_fair (offset_at (codes "offset") rows) _ (then_fair (text_at (codes "offset") rows) _ (text_fair (codes "offset") rows) (λ text. offset_fair (time_behind (codes "-") text) (time_behind (codes "+") text) (time_of max_time text))) (λ offset.
     then_fair (log_at (codes "log") rows) _ (then_fair (text_at (codes "log") rows) _ (text_fair (codes "log") rows) (λ text. some_fair (log_format_of text) (BadValue given.Log) (λ e. cc))) (λ log.
@@ -100,13 +128,19 @@ serve_fair rows = then_fair (text_at (codes "file") rows) _ (text_fair (codes "f
 read_fair : (rows : List Row) → IsFair (read_of rows)
 read_fair rows = then_fair (text_at (codes "file") rows) _ (text_fair (codes "file") rows) (λ file. tt)
 
+key_fair : (rows : List Row) → IsFair (key_of rows)
+key_fair rows =
+    then_fair (id_at (codes "id") rows) _ (id_fair (number_at (codes "id") rows)) (λ id.
+    then_fair (name_at (codes "name") rows) _ (name_fair (first_of (codes "name") rows)) (λ name. tt))
+
 -- what is asked of a service is never refused for want of memory
 pub service_fair : (name : Text) (rows : List Row) → IsFair (service_of name rows)
-service_fair name rows = go (bytes_eq name (codes "master")) (bytes_eq name (codes "serve")) (bytes_eq name (codes "ask")) (bytes_eq name (codes "read"))
+service_fair name rows = go (bytes_eq name (codes "master")) (bytes_eq name (codes "serve")) (bytes_eq name (codes "ask")) (bytes_eq name (codes "read")) (bytes_eq name (codes "key"))
   where
-    go : (a b c d : Bool) → IsFair (cond a (master_of rows) (cond b (serve_of rows) (cond c (ask_of rows) (cond d (read_of rows) (Err BadWords)))))
-    go true b c d = master_fair rows
-    go false true c d = serve_fair rows
-    go false false true d = ask_fair rows
-    go false false false true = read_fair rows
-    go false false false false = bad_words
+    go : (a b c d e : Bool) → IsFair (cond a (master_of rows) (cond b (serve_of rows) (cond c (ask_of rows) (cond d (read_of rows) (cond e (key_of rows) (Err BadWords))))))
+    go true b c d e = master_fair rows
+    go false true c d e = serve_fair rows
+    go false false true d e = ask_fair rows
+    go false false false true e = read_fair rows
+    go false false false false true = key_fair rows
+    go false false false false false = bad_words

@@ -42,6 +42,18 @@ age_app = with_rule (with_rule (with_rule (with_rule (new_app (codes "age")) dri
 abbrev pub text_rule : Text → Rule
 text_rule name = record (new_rule name) { long = Some name; value_names = 1; required = true }
 
+-- An option `--NAME TEXT` with any text, which may be left out.
+abbrev pub free_rule : Text → Rule
+free_rule name = record (new_rule name) { long = Some name; value_names = 1 }
+
+-- The greatest number of a key.
+abbrev pub max_id : ℕ
+max_id = 4294967295
+
+-- The option `--id N`, which may be left out.
+abbrev pub id_rule : Rule
+id_rule = number_rule (codes "id") max_id
+
 -- The command `twin` with its two options.
 abbrev pub twin_app : App
 twin_app = with_rule (with_rule (new_app (codes "twin")) (given_rule (codes "event"))) (text_rule (codes "side"))
@@ -83,9 +95,13 @@ abbrev pub plain_master_app : App
 plain_master_app = with_rule (with_rule (with_rule (new_app (codes "master")) (needed_rule (codes "source") max_source))
     (text_rule (codes "listen"))) (needed_rule (codes "uncertainty") max_time)
 
--- The command `master` with its options.
+-- The command `master` with these and the options of what it answers and says.
+abbrev pub acting_master_app : App
+acting_master_app = with_rule (with_rule (with_rule plain_master_app offset_rule) act_rule) log_rule
+
+-- The command `master` with these and its files.
 abbrev pub master_app : App
-master_app = with_rule (with_rule (with_rule plain_master_app offset_rule) act_rule) log_rule
+master_app = with_rule (with_rule acting_master_app (free_rule (codes "keys"))) (free_rule (codes "status"))
 
 -- The command `serve` with its file and its flags.
 abbrev pub serve_app : App
@@ -98,6 +114,10 @@ ask_app = with_rule (with_rule (with_rule (new_app (codes "ask")) (place_rule (c
 -- The command `read` with its file.
 abbrev pub read_app : App
 read_app = with_rule (new_app (codes "read")) (place_rule (codes "file"))
+
+-- The command `key` with its options.
+abbrev pub key_app : App
+key_app = with_rule (with_rule (new_app (codes "key")) id_rule) (free_rule (codes "name"))
 
 -- The program with no command yet: its words begin with no name of the program, and one command has to be named.
 abbrev pub bare_app : App
@@ -121,7 +141,7 @@ servers_app = with_subcommand (with_subcommand inputs_app master_app.top) serve_
 
 -- The program with all its commands.
 unfoldable pub ttd_app : App
-ttd_app = with_subcommand (with_subcommand servers_app ask_app.top) read_app.top
+ttd_app = with_subcommand (with_subcommand (with_subcommand servers_app ask_app.top) read_app.top) key_app.top
 
 -- What clap finds wrong with the words: nothing where it takes them, and else the kinds of error that it may answer.
 unfoldable pub faults_of : List Text → Kinds
@@ -133,7 +153,8 @@ named_by words = subcommand_of ttd_app words
 
 -- A word names a service.
 abbrev pub is_service : Text → Bool
-is_service word = bytes_eq word (codes "master") || (bytes_eq word (codes "serve") || (bytes_eq word (codes "ask") || bytes_eq word (codes "read")))
+is_service word = bytes_eq word (codes "master") || (bytes_eq word (codes "serve")
+    || (bytes_eq word (codes "ask") || (bytes_eq word (codes "read") || bytes_eq word (codes "key"))))
 
 -- The command that is named is a service.
 abbrev pub names_service : Option (Text × List Row) → Bool

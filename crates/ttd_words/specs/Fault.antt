@@ -1,13 +1,13 @@
 -- The numbers of the refusals.
 use Rattle.std.specs.Prelude.{ℕ, Result, Ok, Err}
 use Rattle.ttd_words.specs.declared.faults.Given.{Given}
-use Rattle.ttd_words.specs.declared.faults.Given.TheVariants.{Listen, Address}
+use Rattle.ttd_words.specs.declared.faults.Given.TheVariants.{NotLocal, Address}
 use Rattle.ttd_words.specs.declared.faults.WordsFault.{WordsFault}
 use Rattle.ttd_words.specs.declared.faults.WordsFault.TheVariants.{BadWords, BadValue, Memory}
 
--- The number of the refusal of a value: 1805 of an address, and else that of bad words.
+-- The number of the refusal of a value: 1805 of an address outside this host, and else that of bad words.
 abbrev pub value_number : Given → ℕ
-value_number Listen = 1805
+value_number NotLocal = 1805
 value_number Address = 1805
 value_number _ = 1601
 

@@ -1,10 +1,11 @@
 -- What words ask for.
-use Rattle.std.specs.Prelude.{◌≡◌, ◌⊎◌, ◌||◌, ◌≤◌, ℕ, Bool, true, false, List, [], ◌∷◌, ◌++◌, length, drop, Option, Some, None, ok_or, Result, Ok, Err, IsOk, IsSome, IfSome, MatchResult, if◌then◌else◌, nat_eq, nat_le, codes, string_bytes, option_and_then, option_map, not}
+use Rattle.std.specs.Prelude.{◌≡◌, ◌⊎◌, ◌||◌, ◌≤◌, ℕ, Bool, true, false, List, [], ◌∷◌, ◌++◌, length, drop, Option, Some, None, ok_or, is_some, Result, Ok, Err, IsOk, IsSome, IfSome, MatchResult, if◌then◌else◌, nat_eq, nat_le, codes, string_bytes, option_and_then, option_map, not}
 use Rattle.std.specs.Cmp.Lexicographic.{pointwise}
 use Rattle.std.specs.List.{join_by, list_all, list_any}
 use Rattle.std.specs.Option.{option_map_or}
 use Rattle.std.specs.Str.{bytes_eq}
 use Rattle.std.specs.Str.Parse.{digits_value, without_leading_plus}
+use Rattle.std.specs.declared.net.socket_addr.SocketAddr.{SocketAddr}
 use Rattle.clap.specs.Walk.{Row, Text, all_of, first_of, one_of}
 use Rattle.clap.specs.ValueTests.{is_unsigned_in}
 use Rattle.clap.specs.Kinds.{Kinds}
@@ -20,7 +21,9 @@ use Rattle.tt_status.specs.declared.lines.LogFormat.{LogFormat}
 use Rattle.tt_settings.specs.Address.{port_of}
 use Rattle.tt_settings.specs.Form.{log_format_of}
 use Rattle.tt_settings.specs.Numeral.{number_of as time_of}
-use Rattle.ttd_words.specs.CommandLine.{faults_of, max_number, named_by, names_service}
+use Rattle.tt_settings.specs.Socket.{address_of, is_loopback}
+use Rattle.tt_keys.specs.Line.{is_name}
+use Rattle.ttd_words.specs.CommandLine.{faults_of, max_id, max_number, named_by, names_service}
 use Rattle.ttd_words.specs.Fault.{◌>>=◌}
 use Rattle.ttd_words.specs.declared.requests.Asked.{Asked}
 use Rattle.ttd_words.specs.declared.requests.Asked.TheVariants as asks
@@ -68,17 +71,20 @@ place_of (peer.Path path) = AtPath path.now
 
 -- What a service is to do, without its memory.
 pub data Meaning : Type 0 where
-  Master : ℕ → ℕ → ℕ → Offset → List Act → LogFormat → Meaning
+  Master : ℕ → SocketAddr → ℕ → Offset → List Act → LogFormat → Option Text → Option Text → Meaning
   Serve : Text → Bool → Bool → Meaning
   Ask : Place → Option Text → ℕ → Meaning
   Read : Text → Meaning
+  Key : Option ℕ → Option Text → Meaning
 
 -- What a service is to do.
 abbrev pub meaning_of : Service → Meaning
-meaning_of (service.Master source port uncertainty offset acts log) = Master source port uncertainty offset acts.items log
+meaning_of (service.Master source listen uncertainty offset acts log keys status) =
+    Master source listen uncertainty offset acts.items log (option_map (λ path. path.now) keys) (option_map (λ path. path.now) status)
 meaning_of (service.Serve file check until_eof) = Serve file.now check until_eof
 meaning_of (service.Ask peer line retry) = Ask (place_of peer) (option_map string_bytes line) retry
 meaning_of (service.Read file) = Read file.now
+meaning_of (service.Key id name) = Key id (option_map (λ text. text.now) name)
 
 -- A number of at most `most`, where there is one.
 abbrev pub up_to : ℕ → Option ℕ → Result ℕ WordsFault
@@ -93,11 +99,34 @@ number_to id most rows = up_to most (number_at id rows)
 abbrev pub text_at : Text → List Row → Result Text WordsFault
 text_at id rows = ok_or (first_of id rows) BadWords
 
--- The port of the address of this host that was given.
-abbrev pub port_at : Text → List Row → Result ℕ WordsFault
-port_at id rows = do
+-- An address that may be listened at: that of any host where there are keys, and else one of this host.
+abbrev pub listen_if : Bool → Option SocketAddr → Result SocketAddr WordsFault
+listen_if sealed (Some address) = if sealed || is_loopback address then Ok address else Err (BadValue given.NotLocal)
+listen_if sealed None = Err (BadValue given.Listen)
+
+-- The address that was given to listen at.
+abbrev pub listen_at : Text → Bool → List Row → Result SocketAddr WordsFault
+listen_at id sealed rows = do
   text ← text_at id rows
-  ok_or (port_of text) (BadValue given.Listen)
+  listen_if sealed (address_of text)
+
+-- The number of a key, where there is one.
+abbrev pub id_if : Option ℕ → Result (Option ℕ) WordsFault
+id_if None = Ok None
+id_if (Some n) = if nat_le n max_id then Ok (Some n) else Err BadWords
+
+-- The number of a key that was given, where one was.
+abbrev pub id_at : Text → List Row → Result (Option ℕ) WordsFault
+id_at id rows = id_if (number_at id rows)
+
+-- The name of a key, where there is one.
+abbrev pub name_if : Option Text → Result (Option Text) WordsFault
+name_if None = Ok None
+name_if (Some text) = if is_name text then Ok (Some text) else Err (BadValue given.Name)
+
+-- The name of a key that was given, where one was.
+abbrev pub name_at : Text → List Row → Result (Option Text) WordsFault
+name_at id rows = name_if (first_of id rows)
 
 -- A byte is in a text.
 abbrev pub has_byte : ℕ → Text → Bool
@@ -177,12 +206,12 @@ line_at words = option_map (join_by (λ text. text) (codes " ")) words
 unfoldable pub master_of : List Row → Result Meaning WordsFault
 master_of rows = do
   source ← number_to (codes "source") max_source rows
-  port ← port_at (codes "listen") rows
+  listen ← listen_at (codes "listen") (is_some (first_of (codes "keys") rows)) rows
   uncertainty ← number_to (codes "uncertainty") max_time rows
   offset ← offset_at (codes "offset") rows
   log ← log_at (codes "log") rows
   acts ← acts_at (all_of (codes "act") rows)
-  Ok (Master source port uncertainty offset acts log)
+  Ok (Master source listen uncertainty offset acts log (first_of (codes "keys") rows) (first_of (codes "status") rows))
 
 -- The command `serve` by what was found.
 abbrev pub serve_of : List Row → Result Meaning WordsFault
@@ -203,12 +232,20 @@ read_of rows = do
   file ← text_at (codes "file") rows
   Ok (Read file)
 
+-- The command `key` by what was found.
+abbrev pub key_of : List Row → Result Meaning WordsFault
+key_of rows = do
+  id ← id_at (codes "id") rows
+  name ← name_at (codes "name") rows
+  Ok (Key id name)
+
 -- A service by its name and what was found.
 abbrev pub service_of : Text → List Row → Result Meaning WordsFault
 service_of name rows = if bytes_eq name (codes "master") then master_of rows
     else (if bytes_eq name (codes "serve") then serve_of rows
     else (if bytes_eq name (codes "ask") then ask_of rows
-    else (if bytes_eq name (codes "read") then read_of rows else Err BadWords)))
+    else (if bytes_eq name (codes "read") then read_of rows
+    else (if bytes_eq name (codes "key") then key_of rows else Err BadWords))))
 
 -- The side that a text names.
 abbrev pub side_in : Text → Result Side WordsFault

@@ -4,14 +4,14 @@ ghost use Rattle.std.specs.Prelude.{◌≡◌, IfOk, false};
 ghost use Rattle.clap.specs.Simple.{new_app};
 ghost use Rattle.clap.specs.Words.{app_of};
 ghost use Rattle.clap.specs.declared.builder.command.Command.TheViews.{out-Command};
-ghost use Rattle.ttd_words.specs.CommandLine.{age_app, ask_app, master_app, plain_master_app, read_app, serve_app, twin_app};
+ghost use Rattle.ttd_words.specs.CommandLine.{acting_master_app, age_app, ask_app, key_app, master_app, plain_master_app, read_app, serve_app, twin_app};
 
 use crate::help::{ABOUT_AGE, ABOUT_TWIN};
 use crate::options::{
-    act_option, drift_option, flag, given_option, line_words, log_option, offset_option, place,
-    retry_option, source_option, text_option, uncertainty_option,
+    act_option, drift_option, flag, free_option, given_option, id_option, line_words, log_option,
+    offset_option, place, retry_option, source_option, text_option, uncertainty_option,
 };
-use crate::service_help::{ABOUT_ASK, ABOUT_MASTER, ABOUT_READ, ABOUT_SERVE};
+use crate::service_help::{ABOUT_ASK, ABOUT_KEY, ABOUT_MASTER, ABOUT_READ, ABOUT_SERVE};
 use clap::Command;
 use std::alloc::{AllocError, Global};
 
@@ -86,10 +86,21 @@ fn plain_master_command<'a>(alloc: Global) -> Result<Command<'a>, AllocError>
         alloc,
         "listen",
         "ADDRESS",
-        "Where it is asked, over UDP: 127.0.0.1:PORT",
+        "Where it is asked, over UDP: 127.0.0.1:PORT, or with --keys any address",
     );
     let with_listen = with_source.arg(listen)?;
     with_listen.arg(uncertainty_option(alloc))
+}
+
+/// The command `master` with these and the options of what it answers and says.
+fn acting_master_command<'a>(alloc: Global) -> Result<Command<'a>, AllocError>
+    ensures app { IfOk result (λ c. app_of c ≡ acting_master_app) }
+    ensures local { IfOk result (λ c. (out-Command c).has_globals ≡ false) }
+{
+    let plain = plain_master_command(alloc)?;
+    let with_offset = plain.arg(offset_option(alloc))?;
+    let with_act = with_offset.arg(act_option(alloc))?;
+    with_act.arg(log_option(alloc))
 }
 
 /// The command `master`.
@@ -97,10 +108,16 @@ pub(crate) fn master_command<'a>(alloc: Global) -> Result<Command<'a>, AllocErro
     ensures app { IfOk result (λ c. app_of c ≡ master_app) }
     ensures local { IfOk result (λ c. (out-Command c).has_globals ≡ false) }
 {
-    let plain = plain_master_command(alloc)?;
-    let with_offset = plain.arg(offset_option(alloc))?;
-    let with_act = with_offset.arg(act_option(alloc))?;
-    with_act.arg(log_option(alloc))
+    let acting = acting_master_command(alloc)?;
+    let keys = free_option(
+        alloc,
+        "keys",
+        "FILE",
+        "Its file of keys: it answers polls that are sealed under one of them, and no others",
+    );
+    let with_keys = acting.arg(keys)?;
+    let status = free_option(alloc, "status", "FILE", "Where it writes its status");
+    with_keys.arg(status)
 }
 
 /// The command `serve`.
@@ -152,4 +169,15 @@ pub(crate) fn read_command<'a>(alloc: Global) -> Result<Command<'a>, AllocError>
         ABOUT_READ,
     );
     bare.arg(place(alloc, "file", "FILE", "The shared file"))
+}
+
+/// The command `key`.
+pub(crate) fn key_command<'a>(alloc: Global) -> Result<Command<'a>, AllocError>
+    ensures app { IfOk result (λ c. app_of c ≡ key_app) }
+    ensures local { IfOk result (λ c. (out-Command c).has_globals ≡ false) }
+{
+    let bare = plain_command(alloc, "key", "Makes a line for a file of keys", ABOUT_KEY);
+    let with_id = bare.arg(id_option(alloc))?;
+    let name = free_option(alloc, "name", "TEXT", "A name for the reader of the file");
+    with_id.arg(name)
 }

@@ -13,9 +13,12 @@ pub enum Given {
     /// `--side` of `twin`.
     #[error("invalid arguments: --side is low or high")]
     Side,
-    /// `--listen` of `master`.
-    #[error("not an address of this host, as 127.0.0.1:7001")]
+    /// `--listen` of `master`, which is no address.
+    #[error("invalid arguments: --listen is an address and a port, as 10.0.0.1:7001 or [fd00::1]:7001")]
     Listen,
+    /// `--listen` of `master`, which is outside this host, where it has no keys.
+    #[error("outside this host a key is needed: --keys FILE, or --listen 127.0.0.1:PORT")]
+    NotLocal,
     /// `--offset` of `master`.
     #[error("invalid arguments: --offset is nanoseconds without leading zeros, and behind a minus as --offset=-NS")]
     Offset,
@@ -25,18 +28,21 @@ pub enum Given {
     /// `--act` of `master`.
     #[error("invalid arguments: --act is honest, silent, garbage, repeat, 'ahead N' or 'behind N'")]
     Act,
+    /// `--name` of `key`.
+    #[error("invalid arguments: --name is printable characters of ASCII without blanks")]
+    Name,
     /// The machine that `ask` asks.
     #[error("not an address of this host, as 127.0.0.1:7101, nor the path of a Unix socket")]
     Address,
 }
 
 impl Given {
-    /// The number of the refusal of such a value: 1805 of an address, else 1601.
+    /// The number of the refusal of such a value: 1805 of one that is outside this host, else 1601.
     fn number(self) -> u16
         ensures { result ≡ value_number self }
     {
         match self {
-            Given::Listen | Given::Address => 1805,
+            Given::NotLocal | Given::Address => 1805,
             _ => 1601,
         }
     }
@@ -57,7 +63,8 @@ pub enum WordsFault {
 }
 
 impl WordsFault {
-    /// The number of the refusal: 1601 `BadWords`, 1805 of an address and 1601 of any other `BadValue`, 1 `Memory`.
+    /// The number of the refusal: 1601 `BadWords`, 1805 of a `BadValue` that is outside this host and 1601
+    /// of any other, 1 `Memory`.
     pub fn number(&self) -> u16
         ensures { result ≡ number_of self.now }
     {

@@ -6,8 +6,9 @@ ghost use Rattle.clap.specs.Words.{rule_of};
 ghost use Rattle.tt_span.specs.Time.{max_time};
 ghost use Rattle.tt_poll.specs.Message.{max_source};
 ghost use Rattle.tt_daemon.specs.Config.{default_drift};
-ghost use Rattle.ttd_words.specs.CommandLine.{act_rule, drift_rule, flag_rule, given_rule, log_rule, needed_rule, offset_rule, place_rule, retry_rule, text_rule, words_rule};
+ghost use Rattle.ttd_words.specs.CommandLine.{act_rule, drift_rule, flag_rule, free_rule, given_rule, id_rule, log_rule, needed_rule, offset_rule, place_rule, retry_rule, text_rule, words_rule};
 
+use crate::values::MOST_ID;
 use crate::words::MOST_RETRY;
 use clap::{Arg, ArgAction, value_parser};
 use std::alloc::Global;
@@ -67,6 +68,34 @@ pub(crate) fn text_option<'a>(
         .value_name(value)
         .required(true)
         .help(help)
+}
+
+/// An option `--NAME TEXT` with any text, which may be left out.
+pub(crate) fn free_option<'a>(
+    alloc: Global,
+    name: &'a str,
+    value: &'a str,
+    help: &'a str,
+) -> Arg<'a>
+    ensures rule { rule_of result ≡ free_rule name.entry.now }
+    ensures local { result.global ≡ false }
+{
+    Arg::new(alloc, name)
+        .long(name)
+        .value_name(value)
+        .help(help)
+}
+
+/// The option `--id N`: at most [`MOST_ID`].
+pub(crate) fn id_option<'a>(alloc: Global) -> Arg<'a>
+    ensures rule { rule_of result ≡ id_rule }
+    ensures local { result.global ≡ false }
+{
+    Arg::new(alloc, "id")
+        .long("id")
+        .value_name("N")
+        .help("The number of the key, up to 4294967295; without it a random one")
+        .value_parser(value_parser!(u64).range(..=MOST_ID as i64))
 }
 
 /// The option `--source I`: at most [`MAX_SOURCE`].

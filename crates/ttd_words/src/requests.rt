@@ -1,5 +1,6 @@
 //! What the arguments can ask for.
 
+use std::net::SocketAddr;
 use tt_master::Act;
 use tt_span::Drift;
 use tt_status::LogFormat;
@@ -75,8 +76,8 @@ pub enum Service<'a> {
     Master {
         /// The number of the source that it is, at most [`MAX_SOURCE`](tt_poll::MAX_SOURCE).
         source: u64,
-        /// The port of 127.0.0.1 at which it is polled.
-        port: u16,
+        /// The address at which it is polled: one of this host if there is no file of keys.
+        listen: SocketAddr,
         /// What its clock may be wrong by, in nanoseconds, at most [`MAX_TIME`](tt_span::MAX_TIME).
         uncertainty: u64,
         /// How far its clock is off on purpose.
@@ -85,6 +86,11 @@ pub enum Service<'a> {
         acts: Vec<Act>,
         /// The form of its log.
         log: LogFormat,
+        /// The path of its file of keys: it answers polls that are sealed under one of them, and no others. None: it
+        /// answers open polls of this host.
+        keys: Option<&'a str>,
+        /// The path of its status file. None: it writes none.
+        status: Option<&'a str>,
     },
     /// `serve`: runs a machine until it is ended.
     Serve {
@@ -108,6 +114,13 @@ pub enum Service<'a> {
     Read {
         /// The path of the file.
         file: &'a str,
+    },
+    /// `key`: makes a line for a file of keys.
+    Key {
+        /// The number of the key. None: it is drawn.
+        id: Option<u32>,
+        /// A name for the reader of the file.
+        name: Option<&'a str>,
     },
 }
 

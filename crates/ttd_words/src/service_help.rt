@@ -3,20 +3,35 @@
 /// What `master` does.
 pub(crate) const ABOUT_MASTER: &str = "\
 Answers polls of TTP1 and TTP2 over UDP with the time of this computer's real-time clock, moved by
---offset, and its uncertainty both ways, until it is ended. Only senders on this host are answered.
-It writes one line to standard error when it begins, and one when its socket or its clock fails, at
-most one in ten seconds. An answer that can't be sent is lost. Nothing is read from standard input.
+--offset, and its uncertainty both ways, until it is ended. It writes one line to standard error
+when it begins, and one when its socket or its clock fails, at most one in ten seconds. An answer
+that can't be sent is lost. Nothing is read from standard input.
+
+Without --keys only senders on this host are answered. With --keys it answers, from any address,
+polls that are sealed under a key of the file, and nothing else; each answer is sealed under the key
+of its poll. A line of the file is ID HEX64 or ID HEX64 NAME, as `ttd key` makes it; the file is the
+user's own, and its mode 0600 or 0400. It is read again when it has changed, within about a second.
+If it is refused then, the keys stay as they were, and the log says why.
+
+--listen takes an IPv4 or IPv6 address in its one spelling. Name the address that machines ask, not
+0.0.0.0 or [::]: an answer that comes from another address is no answer. An address that this host
+does not have yet is waited for. With --status it writes its status once a second: its answers by
+key, and the packets that it dropped.
 
 Acts, for tests: honest (which it is without --act), silent, garbage, repeat, 'ahead N' and
 'behind N', N in nanoseconds.
 
-Example:
+Examples:
   ttd master --source 0 --listen 127.0.0.1:7001 --uncertainty 1000000
+  ttd master --source 0 --listen 10.0.0.1:7001 --uncertainty 1000000 --keys /etc/truetime/keys
 
 Refused:
-  1601  invalid arguments
-  1805  --listen is not 127.0.0.1: and a port
-  1501  the socket can't be had; the status is 4";
+  1601          invalid arguments
+  1805          --listen is outside this host, and there is no --keys
+  2211          the file of keys can't be read; the status is 4
+  2212, 2213    its mode is neither 0600 nor 0400, or its owner is another user
+  2214 to 2216  it is too long; a line is no key, or has the number of an earlier one
+  1501          the socket can't be had; the status is 4";
 
 /// What `serve` does.
 pub(crate) const ABOUT_SERVE: &str = "\
@@ -84,3 +99,17 @@ Refused:
   1703  no machine wrote what it holds
   1704  each try met another publication
   1708  the reading is wider than the machine allows";
+
+/// What `key` does.
+pub(crate) const ABOUT_KEY: &str = "\
+Prints a line for a file of keys: a number, 32 random bytes of the system in hexadecimal digits, and
+the name. A machine and a master share a key, and no other pair has the same: put the line into the
+files of both, which nobody else can read. The number, random without --id, says which key sealed a
+message; the name is for the reader of the file.
+
+Example:
+  ttd key --name host-a.master-0 >> /etc/truetime/keys
+
+Refused:
+  1601  invalid arguments
+  1829  the system gives no random bytes; the status is 4";

@@ -46,7 +46,8 @@ fn value_mistake(
     };
     let (name, id) = match fault {
         WordsFault::BadValue(Given::Side) => ("--side <SIDE>", "side"),
-        WordsFault::BadValue(Given::Listen) => ("--listen <ADDRESS>", "listen"),
+        WordsFault::BadValue(Given::Listen | Given::NotLocal) => ("--listen <ADDRESS>", "listen"),
+        WordsFault::BadValue(Given::Name) => ("--name <TEXT>", "name"),
         WordsFault::BadValue(Given::Offset) => ("--offset <NS>", "offset"),
         WordsFault::BadValue(Given::Log) => ("--log <FORM>", "log"),
         WordsFault::BadValue(Given::Act) => ("--act <ACT>", "act"),

@@ -5,8 +5,8 @@ ghost use Rattle.clap.specs.Words.{app_of};
 ghost use Rattle.ttd_words.specs.CommandLine.{bare_app, inputs_app, runs_app, servers_app, sources_app, ttd_app};
 
 use crate::commands::{
-    age_command, ask_command, master_command, plain_command, read_command, serve_command,
-    twin_command,
+    age_command, ask_command, key_command, master_command, plain_command, read_command,
+    serve_command, twin_command,
 };
 use crate::help::{
     ABOUT_ANSWERS, ABOUT_CHECK, ABOUT_FUSE, ABOUT_JUDGE, ABOUT_LIVE, ABOUT_PICTURE, ABOUT_RUN,
@@ -116,7 +116,7 @@ fn servers_command<'a>(alloc: Global) -> Result<Command<'a>, AllocError>
     with_master.subcommand(serve)
 }
 
-/// The whole command line: these commands, `ask` and `read`.
+/// The whole command line: these commands, `ask`, `read` and `key`.
 pub(crate) fn ttd_command<'a>(alloc: Global) -> Result<Command<'a>, AllocError>
     ensures app { IfOk result (λ c. app_of c ≡ ttd_app) }
 {
@@ -124,5 +124,7 @@ pub(crate) fn ttd_command<'a>(alloc: Global) -> Result<Command<'a>, AllocError>
     let ask = ask_command(alloc)?;
     let with_ask = servers.subcommand(ask)?;
     let read = read_command(alloc)?;
-    with_ask.subcommand(read)
+    let with_read = with_ask.subcommand(read)?;
+    let key = key_command(alloc)?;
+    with_read.subcommand(key)
 }

@@ -1,22 +1,28 @@
 //! The values that were given for options and positional arguments.
 
 ghost use Rattle.std.specs.Prelude.{◌≡◌, ◌⊎◌, codes, map, Ok, Err, MatchResult, option_map, string_bytes};
-ghost use Rattle.clap.specs.Walk.{all_of, texts};
+ghost use Rattle.clap.specs.Walk.{all_of, first_of, texts};
 ghost use Rattle.clap.specs.Words.{found_of, rows_of};
 ghost use Rattle.tt_span.specs.Time.{max_time};
 ghost use Rattle.tt_settings.specs.Numeral.{number_of as number_in};
-ghost use Rattle.ttd_words.specs.Reading.{act_of, acts_at, acts_in, flag_at, line_at, log_at, number_at, number_to, offset_at, offset_by, offset_in, place_at, place_in, place_of, port_at, side_at, side_in, text_at, time_behind};
+ghost use Rattle.tt_settings.specs.Socket.{address_of as address_in};
+ghost use Rattle.ttd_words.specs.Reading.{act_of, acts_at, acts_in, flag_at, id_at, line_at, listen_at, listen_if, log_at, name_at, number_at, number_to, offset_at, offset_by, offset_in, place_at, place_in, place_of, side_at, side_in, text_at, time_behind};
 ghost use Rattle.tt_script.specs.Acts.{act_in as act_in_script};
 
 use crate::faults::{Given, WordsFault};
 use crate::requests::{Offset, Peer, Side};
 use clap::ArgMatches;
 use std::alloc::Global;
+use std::net::SocketAddr;
+use tt_keys::is_name;
 use tt_master::Act;
 use tt_script::act_in;
-use tt_settings::{log_format_of, number_of, port_of};
+use tt_settings::{address_of, is_loopback, log_format_of, number_of, port_of};
 use tt_span::MAX_TIME;
 use tt_status::LogFormat;
+
+/// The greatest number of a key.
+pub(crate) const MOST_ID: u64 = 4_294_967_295;
 
 /// The number that was given for an option, or its default.
 pub(crate) fn number_given(matches: &ArgMatches<'_>, id: &str) -> Option<u64>
@@ -46,13 +52,65 @@ pub(crate) fn text_at<'a>(matches: &ArgMatches<'a>, id: &str) -> Result<&'a str,
     }
 }
 
-/// The port of the address that was given. It has to be an address of this host.
-pub(crate) fn port_at(matches: &ArgMatches<'_>, id: &str) -> Result<u16, WordsFault>
-    ensures { result ≡ port_at id.now (rows_of (found_of matches.now)) }
+/// The path that was given for an option. None if it was left out.
+pub(crate) fn path_at<'a>(matches: &ArgMatches<'a>, id: &str) -> Option<&'a str>
+    ensures { option_map (λ path. path.now) result ≡ first_of id.now (rows_of (found_of matches.now)) }
 {
-    match port_of(text_at(matches, id)?) {
-        Some(port) => Ok(port),
+    matches.get_str(id)
+}
+
+/// The address in this text, if it may be listened at: with keys one of any host, else one of this host.
+fn listen_in(sealed: bool, text: &str) -> Result<SocketAddr, WordsFault>
+    ensures { result ≡ listen_if sealed (address_in text.now) }
+{
+    match address_of(text) {
+        Some(address) => {
+            if sealed || is_loopback(address) {
+                Ok(address)
+            } else {
+                Err(WordsFault::BadValue(Given::NotLocal))
+            }
+        }
         None => Err(WordsFault::BadValue(Given::Listen)),
+    }
+}
+
+/// The address to listen at that was given, with keys or without.
+pub(crate) fn listen_at(
+    matches: &ArgMatches<'_>,
+    id: &str,
+    sealed: bool,
+) -> Result<SocketAddr, WordsFault>
+    ensures { result ≡ listen_at id.now sealed (rows_of (found_of matches.now)) }
+{
+    listen_in(sealed, text_at(matches, id)?)
+}
+
+/// The number of a key that was given for an option. None if it was left out.
+pub(crate) fn id_at(matches: &ArgMatches<'_>, id: &str) -> Result<Option<u32>, WordsFault>
+    ensures { result ≡ id_at id.now (rows_of (found_of matches.now)) }
+{
+    match number_given(matches, id) {
+        Some(number) if number <= MOST_ID => Ok(Some(number as u32)),
+        Some(_) => Err(WordsFault::BadWords),
+        None => Ok(None),
+    }
+}
+
+/// The name of a key that was given for an option. None if it was left out.
+pub(crate) fn name_at<'a>(matches: &ArgMatches<'a>, id: &str) -> Result<Option<&'a str>, WordsFault>
+    ensures { let defined = name_at id.now (rows_of (found_of matches.now)) in
+        MatchResult result (λ name. defined ≡ Ok (option_map (λ text. text.now) name)) (λ fault. defined ≡ Err fault) }
+{
+    match path_at(matches, id) {
+        Some(name) => {
+            if is_name(name.as_bytes()) {
+                Ok(Some(name))
+            } else {
+                Err(WordsFault::BadValue(Given::Name))
+            }
+        }
+        None => Ok(None),
     }
 }
 

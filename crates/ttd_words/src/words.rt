@@ -1,19 +1,19 @@
 //! What the arguments ask for.
 
 ghost use Rattle.std.specs.Prelude.{◌≡◌, ◌≢◌, ◌≤◌, ◌⊎◌, ℕ, List, [], ◌∷◌, codes, Some, Ok, Err, IfErr, IfOk, IfSome, IsSome, IsNone, IsOk, false};
-ghost use Rattle.clap.specs.Walk.{texts};
+ghost use Rattle.clap.specs.Walk.{first_of, texts};
 ghost use Rattle.clap.specs.Words.{FailsBy, found_of, rows_of, subcommand_rows_of};
 ghost use Rattle.tt_span.specs.Drift.{max_drift};
 ghost use Rattle.tt_daemon.specs.Config.{default_drift};
 ghost use Rattle.ttd_words.specs.CommandLine.{faults_of, is_service as names_one, named_by, names_service};
-ghost use Rattle.ttd_words.specs.Reading.{AreForHelp, AreMistaken, AreTaken, HasAge, HasNumbers, IsMeant, IsRefused, IsUnlessMemory, Meaning, Request, age_of, ask_of, asked_of, command_named, master_of, number_at, read_of, request_in, request_named, serve_of, service_named, twin_of};
+ghost use Rattle.ttd_words.specs.Reading.{AreForHelp, AreMistaken, AreTaken, HasAge, HasNumbers, IsMeant, IsRefused, IsUnlessMemory, Meaning, Request, age_of, ask_of, asked_of, command_named, key_of, master_of, number_at, read_of, request_in, request_named, serve_of, service_named, twin_of};
 
 use crate::faults::{Given, WordsFault};
 use crate::requests::{Asked, Command, Service};
 use crate::tree::ttd_command;
 use crate::values::{
-    acts_at, flag_at, line_at, log_at, number_given, number_to, offset_at, peer_at, port_at,
-    side_at, text_at,
+    acts_at, flag_at, id_at, line_at, listen_at, log_at, name_at, number_given, number_to,
+    offset_at, path_at, peer_at, side_at, text_at,
 };
 use clap::error::ErrorKind;
 use clap::{ArgMatches, Error};
@@ -28,7 +28,7 @@ pub(crate) const MOST_RETRY: u64 = 9999;
 pub fn is_service(word: &str) -> bool
     ensures { result ≡ names_one word.now }
 {
-    matches!(word, "master" | "serve" | "ask" | "read")
+    matches!(word, "master" | "serve" | "ask" | "read" | "key")
 }
 
 /// The number that was given for an option, or its default. It is there.
@@ -98,18 +98,21 @@ fn master_asked<'a>(alloc: Global, matches: &ArgMatches<'a>) -> Result<Service<'
     ensures { IsMeant (master_of (rows_of (found_of matches.now))) result }
 {
     let source = number_to(matches, "source", u64::from(MAX_SOURCE))?;
-    let port = port_at(matches, "listen")?;
+    let keys = path_at(matches, "keys");
+    let listen = listen_at(matches, "listen", keys.is_some())?;
     let uncertainty = number_to(matches, "uncertainty", MAX_TIME)?;
     let offset = offset_at(matches, "offset")?;
     let log = log_at(matches, "log")?;
     let acts = acts_at(alloc, matches, "act")?;
     Ok(Service::Master {
         source,
-        port,
+        listen,
         uncertainty,
         offset,
         acts,
         log,
+        keys,
+        status: path_at(matches, "status"),
     })
 }
 
@@ -144,6 +147,15 @@ fn read_asked<'a>(matches: &ArgMatches<'a>) -> Result<Service<'a>, WordsFault>
     Ok(Service::Read { file })
 }
 
+/// The service `key` with these options.
+fn key_asked<'a>(matches: &ArgMatches<'a>) -> Result<Service<'a>, WordsFault>
+    ensures { IsMeant (key_of (rows_of (found_of matches.now))) result }
+{
+    let id = id_at(matches, "id")?;
+    let name = name_at(matches, "name")?;
+    Ok(Service::Key { id, name })
+}
+
 /// The service that clap found, if its options are valid.
 fn service_asked<'a>(alloc: Global, matches: &ArgMatches<'a>) -> Result<Service<'a>, WordsFault>
     ensures { IsMeant (service_named (subcommand_rows_of matches.now)) result }
@@ -153,6 +165,7 @@ fn service_asked<'a>(alloc: Global, matches: &ArgMatches<'a>) -> Result<Service<
         Some(("serve", options)) => serve_asked(options),
         Some(("ask", options)) => ask_asked(alloc, options),
         Some(("read", options)) => read_asked(options),
+        Some(("key", options)) => key_asked(options),
         _ => Err(WordsFault::BadWords),
     }
 }
@@ -199,14 +212,15 @@ pub(crate) fn parsed<'a>(alloc: Global, words: &'a [&'a str]) -> Result<ArgMatch
 /// What the arguments after the program's name ask for.
 ///
 /// A number is read as `u64` reads it: decimal digits, with one `+` in front or none; leading zeros are allowed. An
-/// offset is decimal digits without leading zeros, behind a `+`, a `-` or nothing. An act is as in a script. An address
-/// is `127.0.0.1:` and a port. Where `ask` is given a text with a `/`, or one that has no `:` and is not empty, that is
+/// offset is decimal digits without leading zeros, behind a `+`, a `-` or nothing. An act is as in a script. The address
+/// at which a master listens is one of IPv4 or IPv6 with a port, in the one spelling in which it is printed; without a
+/// file of keys it is on the loopback. The address of a machine that is asked is `127.0.0.1:` and a port. Where `ask` is given a text with a `/`, or one that has no `:` and is not empty, that is
 /// the path of a Unix socket.
 ///
 /// Rejects with [`WordsFault::BadWords`] (1601) arguments that the command line does not take: none at all, an unknown
 /// word, an option that is missing or comes twice, a value that is not a number of 64 bits, or one that is too great, as
 /// a drift above 100000. Rejects the value of one argument with [`WordsFault::BadValue`]: 1805 for an address that is
-/// not one of this host, else 1601. Rejects arguments with [`WordsFault::Memory`] (1) where an allocation failed.
+/// outside this host, else 1601. Rejects arguments with [`WordsFault::Memory`] (1) where an allocation failed.
 /// After `help`, a word that names no command is rejected, or answered with the help of the program.
 pub fn read_words<'a>(alloc: Global, words: &'a [&'a str]) -> Result<Asked<'a>, WordsFault>
     ensures taken { AreTaken (texts words.entry.now) → IsOk (asked_of (texts words.entry.now))

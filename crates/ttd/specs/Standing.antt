@@ -1,0 +1,26 @@
+-- What a master shows of itself.
+use Rattle.std.specs.Prelude.{◌≡◌, ℕ, List, [], ◌∷◌, length, map}
+use Rattle.tt_rounds.specs.Answering.{answers_in}
+use Rattle.tt_rounds.specs.declared.sealed_answers.KeyCount.{KeyCount}
+use Rattle.tt_status.specs.declared.master_statuses.KeyAnswers.{KeyAnswers}
+use Rattle.tt_status.specs.declared.master_statuses.MasterStatus.{MasterStatus}
+
+-- how many answers were sent under each of the keys with these numbers, by what the link has counted
+abbrev pub answers_of : List KeyCount → List ℕ → List KeyAnswers
+answers_of counts numbers = map (λ number. record { key = number; answers = answers_in counts number }) numbers
+
+-- a master that answers sealed polls shows its keys, its answers under each, and what it dropped
+pub record ShowsSealed (source : ℕ) (numbers : List ℕ) (counts : List KeyCount) (dropped : List ℕ) (status : MasterStatus) : Type 0 where
+  pub source_is : status.source ≡ source
+  pub keys_are : status.keys ≡ length numbers
+  pub sealed_are : status.sealed.items ≡ answers_of counts numbers
+  pub unsealed_are : status.unsealed ≡ 0
+  pub dropped_are : status.dropped ≡ dropped
+
+-- a master that answers open polls has no keys
+pub record ShowsOpen (source answers : ℕ) (status : MasterStatus) : Type 0 where
+  pub source_is : status.source ≡ source
+  pub keys_are : status.keys ≡ 0
+  pub sealed_are : status.sealed.items ≡ []
+  pub unsealed_are : status.unsealed ≡ answers
+  pub dropped_are : status.dropped ≡ 0 ∷ 0 ∷ 0 ∷ []
