@@ -19,7 +19,7 @@ from harness.program import in_top
 from harness.trial import Options, Result, Trial
 
 # All suites, in the order of the gate.
-NAMES = "examples cases judge sweep hostile clients clients_as_installed packages alerts service wiring faults breaks epochs fuzz demo failover soak".split()
+NAMES = "examples cases judge sweep hostile clients clients_as_installed packages alerts service wiring faults breaks epochs fuzz demo failover soak fleet".split()
 SUITES: dict[str, "Suite"] = {}
 
 
@@ -33,6 +33,8 @@ class Case:
     words: tuple = ()
     root: bool = False
     programs: tuple[str, ...] = ()
+    #: Why else it cannot run here, or nothing.
+    missing: typing.Callable[[], str] = str
     #: It takes half a minute, and is run where it is asked for.
     long: bool = False
     #: Little else may run beside it.
@@ -48,7 +50,7 @@ class Case:
             return "it wants root"
         if missing := [program for program in self.programs if not shutil.which(program)]:
             return f"it wants {' and '.join(missing)}"
-        return "it takes long" if self.long and not has_time else ""
+        return "it takes long" if self.long and not has_time else self.missing()
 
     def run(self, options: Options, shared: typing.Any = None) -> Result:
         """Runs it in a folder of its own."""

@@ -1,0 +1,89 @@
+"""Runs the fleet of docs/OPERATING.md as it is written there: its commands make the keys, and its files stand on the hosts."""
+import os
+import re
+import typing
+
+from harness.processes import Fault
+from harness.program import in_top, read_text, run, write
+from lab.folders import Folder
+from lab.users import table
+
+HEADING = "## Three data centres, five masters, sixty machines"
+MACHINES = 60
+#: The machine whose file stands in the document, and how far the numbers of the keys of two masters are apart.
+SHOWN, APART = 17, 1000
+#: How long a way takes from one data centre to another, in milliseconds.
+WAYS = "*.dc1 *.dc2 5\n*.dc1 *.dc3 10\n*.dc2 *.dc3 10\n"
+
+
+def section() -> str:
+    text = read_text(in_top("docs/OPERATING.md"))
+    return text.partition(HEADING)[2].partition("\n## ")[0]
+
+
+def blocks_in(text: str) -> list[str]:
+    """The blocks of code: lines behind four spaces."""
+    return [re.sub(r"^    ", "", block, flags=re.MULTILINE).strip("\n") + "\n"
+            for block in re.findall(r"(?:^(?:    .*)?\n)*(?:^    .*\n)(?:^(?:    .*)?\n)*", text, re.MULTILINE)]
+
+
+def make_keys(program: str, commands: str, folder: str) -> None:
+    """Runs the commands with this program as `ttd`."""
+    shim = f'ttd() {{ "{program}" "$@"; }}\n'
+    made = run(["bash", "-euc", f"cd '{folder}'\n{shim}{commands}"], seconds=120)
+    if made.status != 0:
+        raise Fault(f"the commands for the keys end with status {made.status}: {made.error}")
+
+
+def machine_of(shown: str, number: int, addresses: list[str]) -> str:
+    """The file of a machine: that of the document, with its keys, and the tables of all masters."""
+    head, tables = shown.partition("[[master]]")[::2]
+    found = re.findall(r'address = "(.*):(\d+)"\nkey = (\d+)', tables)
+    if found != [(address, "5701", str(SHOWN + APART * place)) for place, address in enumerate(addresses[:len(found)])] or not found:
+        raise Fault(f"the tables of masters in the document are {found}")
+    return head + "".join(f'[[master]]\naddress = "{address}:5701"\nkey = {number + APART * place}\n' for place, address in enumerate(addresses))
+
+
+def fill(program: str, folder: str) -> int:
+    """Fills a folder of hosts, as lab.folders reads it; how many masters there are."""
+    text = section()
+    commands, master, machine = blocks_in(text)
+    addresses = re.findall(r"10\.\d+\.0\.\d+", text.partition("**Keys.**")[0])
+    keys = os.path.join(folder, "keys")
+    os.mkdir(keys)
+    make_keys(program, commands, keys)
+    hosts = ["127.0.0.1 localhost"]
+    for place, address in enumerate(addresses):
+        name = f"master-{place}.dc{address.split('.')[1]}"
+        said = master.replace("SOURCE=0", f"SOURCE={place}").replace(addresses[0], address)
+        put(folder, name, f"{keys}/master-{place}.keys", "time.master", said)
+        hosts.append(f"{address} {name}")
+    for number in range(1, MACHINES + 1):
+        name, centre = f"machine-{number}.dc{number % 3 + 1}", number % 3 + 1
+        put(folder, name, f"{keys}/machine-{number}.keys", "db.toml", machine_of(machine, number, addresses))
+        hosts.append(f"10.{centre}.1.{number} {name}")
+    os.rmdir(keys)
+    write(os.path.join(folder, "hosts"), "".join(f"{line}\n" for line in hosts).encode())
+    write(os.path.join(folder, "delays"), WAYS.encode())
+    return len(addresses)
+
+
+def put(folder: str, host: str, keys: str, name: str, text: str) -> None:
+    """Puts a host's two files into its folder."""
+    os.mkdir(os.path.join(folder, host))
+    os.rename(keys, os.path.join(folder, host, "keys"))
+    os.chmod(os.path.join(folder, host, "keys"), 0o400)
+    write(os.path.join(folder, host, name), text.encode())
+
+
+def tell(program: str, folder: str, say: typing.Callable[[str], None]) -> list[str]:
+    """Runs it until each machine has heard all masters; what was wrong."""
+    masters = fill(program, folder)
+    with Folder(program, folder) as lab:
+        machines = lab.start()
+        rows = lab.rows(machines, 30)
+        heard = lab.rows(machines, 30)
+        say(table([heard[0], *heard[1:4]]) + f"\nand {len(rows) - 4} more")
+        if len(rows) != MACHINES + 1:
+            return [f"{len(rows) - 1} machines"]
+        return [f"{row[0]}: {row[2]}, {row[3]} sources heard" for row in heard[1:] if row[2:] != ("yes", str(masters))]

@@ -1,0 +1,119 @@
+"""A fleet under faults, as long as is wanted, with users and a forger all the while."""
+import collections
+import time
+import typing
+
+from harness.processes import Fault, truetime
+from lab.fleet import PHASES, SHIFTS_S, Fleet
+from lab.users import rows_of, table
+
+#: How often something is done in a phase, how long a phase may be, and how often statuses are looked at.
+LEAST_PAUSE_S, MOST_PAUSE_S, MOST_PHASE_S, LOOK_S, JUDGE_S = 0.3, 1.2, 20.0, 0.25, 20.0
+#: How many commits a second there have to be, and what part of the forger's packets that no machine opens have to be counted as such.
+FEW_COMMITS, FEW_UNOPENED = 20, 0.2
+
+
+class Run:
+    """A run of a fleet: what was wrong, and what was seen."""
+
+    def __init__(self, fleet: Fleet, seconds: float, say: typing.Callable[[str], None]):
+        self.fleet, self.seconds, self.say = fleet, seconds, say
+        self.wrong: list[str] = []
+        self.told: set[str] = set()
+
+    def whole(self) -> list[str]:
+        """The whole run: what was wrong."""
+        fleet = self.fleet
+        fleet.start_masters()
+        fleet.start_machines()
+        for machine in fleet.machines.values():
+            machine.use_all_workers()
+        self.users = fleet.start_users(self.seconds)
+        fleet.start_forger()
+        self.go_on()
+        self.wrong += self.users.wait()
+        self.judge_forger()
+        self.tell()
+        self.judge_memory()
+        return self.wrong
+
+    def go_on(self) -> None:
+        """Phase after phase, each the same number of times, in an order that is drawn."""
+        end = time.monotonic() + self.seconds
+        rounds = max(1, round(self.seconds / (len(PHASES) * MOST_PHASE_S)))
+        for turn in range(rounds):
+            names = list(PHASES)
+            self.fleet.chance.shuffle(names)
+            for place, name in enumerate(names):
+                left = (rounds - turn) * len(names) - place
+                self.phase(name, (end - time.monotonic()) / left)
+
+    def phase(self, name: str, seconds: float) -> None:
+        fleet, acts, phase = self.fleet, PHASES[name], self.users.begin(name)
+        began, forged = time.monotonic(), fleet.forged()
+        due = began
+        while (now := time.monotonic()) < began + seconds:
+            if acts and now >= due:
+                fleet.act(acts)
+                due = time.monotonic() + fleet.chance.uniform(LEAST_PAUSE_S, MOST_PAUSE_S)
+            self.look(phase)
+            time.sleep(LOOK_S)
+        fleet.heal()
+        fleet.be_honest_again()
+        phase.seconds += time.monotonic() - began
+        phase.counts["forged"] += fleet.forged() - forged
+        self.users.history.judge()
+        for what in fleet.ended():
+            if what not in self.told:
+                self.told.add(what)
+                self.wrong.append(f"{name}: {what}")
+
+    def look(self, phase) -> None:
+        for name, more in self.fleet.unopened_more().items():
+            phase.counts["unopened"] += more
+            phase.counts[name] += more
+
+    def judge_forger(self) -> None:
+        """Each machine counts what it hears of the forger while it waits in a round; what comes between rounds is dropped unread."""
+        forged = self.fleet.forged()
+        for name in SHIFTS_S:
+            unopened = sum(phase.counts[name] for phase in self.users.phases.values())
+            if unopened < forged / len(SHIFTS_S) * FEW_UNOPENED:
+                self.wrong.append(f"machine {name} counts {unopened} packets that did not open, of {forged} that were forged for all")
+
+        if answered := self.fleet.forger.answered.value:
+            self.wrong.append(f"masters have answered {answered} polls that were not sealed")
+
+    def tell(self) -> None:
+        users, history = self.users, self.users.history
+        self.say(table(rows_of({name: phase for name, phase in users.phases.items() if name != "start"}, ("forged", "unopened"))))
+        self.say(f"done: {', '.join(f'{name} {count}' for name, count in sorted(self.fleet.did.items()))}")
+        self.say(f"router: {', '.join(f'{count} {name}' for name, count in sorted(self.fleet.router.counts().items()))}")
+        self.say(f"forger: {', '.join(f'{count} {name}' for name, count in self.fleet.forger.counts().items() if count)}")
+        answered, dropped = map(self.fleet.sum_of_masters, ("answers", "dropped"))
+        self.say(f"masters, in their last lives: {answered} polls answered, {dropped} dropped")
+        for machine in self.fleet.machines.values():
+            events = collections.Counter(fields["event"] for fields in machine.said())
+            self.say(f"log of {machine.host.name}: {', '.join(f'{count} {event}' for event, count in sorted(events.items()))}")
+        self.say(f"{history.number:,} commits, {history.wrong['violations']} out of order, {history.wrong['equal_stamps']} stamps twice")
+        for name, what in (("violations", "commits are out of order"), ("equal_stamps", "stamps were given twice")):
+            if history.wrong[name]:
+                self.wrong.append(f"{history.wrong[name]} {what}")
+        self.wrong += users.wrong
+        if history.number < FEW_COMMITS * self.seconds:
+            self.wrong.append(f"{history.number} commits are few")
+
+    def judge_memory(self) -> None:
+        """A machine that was used, against what it has after a new start."""
+        for machine in self.fleet.machines.values():
+            try:
+                used = machine.resources()
+                machine.restart()
+                machine.use_all_workers()
+                said, is_more = machine.keeps_more(machine.resources(), used)
+            except (Fault, OSError, truetime.Refused) as fault:
+                self.wrong.append(f"machine {machine.name} after the run: {fault}")
+                continue
+            self.say(f"{said} before that")
+            if is_more:
+                self.wrong.append(f"machine {machine.name} keeps memory, descriptors or threads")

@@ -1,0 +1,54 @@
+"""Runs the time service across hosts: five masters, three machines, and a host without keys that sees each packet and forges answers.
+
+Hosts are network namespaces that a router joins (tools/lab), and the machines' clocks are shifted and run at rates of their own. It goes on for a
+minute, or as many seconds as --seconds says, by the seed, in phases: nothing is done, up to two masters lie, packets are late, by direction, or are
+lost, come twice, spoilt or in another order, machines are cut from masters, one way or both, machines and masters are killed, clocks change
+their rates, or all of it. Sessions on each machine's host read and commit, and a stamper on the one whose clock is not shifted. Each reading has to
+hold a time between two looks at the real-time clock around it, each stamp to lie between them, no commit may be out of order (`ttd judge`), no
+stamp may come twice, each machine has to count what the forger sent, no master may answer it, no process may end, and memory has to be that of a
+fresh start in the end.
+
+Then a key is rolled over, one is revoked, and a host goes from open to sealed polls; nobody may be without a reading meanwhile but by the
+start of a machine. A master waits for its address, and an answer from another address is told of. The fleet of docs/OPERATING.md, five masters
+and sixty machines, runs as it is written there. With --long the controls of `tools/fleet
+control` are run, too: they have to be wrong.
+"""
+from harness.suite import Suite, seeds, wrong_in
+from lab import addresses, controls, documented, rollover
+from lab.fleet import Fleet
+from lab.hosts import missing
+from lab.runs import Run
+
+suite = Suite(__name__)
+
+
+@suite.case(missing=missing)
+def across_hosts(trial):
+    seconds = trial.options.seconds or 60
+    with Fleet(trial.program, trial.seed(), "mixed") as fleet:
+        yield from Run(fleet, seconds, trial.note).whole()
+
+
+@suite.case(missing=missing)
+def keys_rolled_over(trial):
+    yield from rollover.tell_all(trial.program, trial.note)
+
+
+@suite.case(missing=missing)
+def addresses_of_masters(trial):
+    addresses.tell_all(trial.program, trial.note)
+
+
+@suite.case(missing=missing)
+def as_documented(trial):
+    yield from documented.tell(trial.program, trial.room, trial.note)
+
+
+@suite.case(missing=missing, long=True)
+def faults_that_are_seen(trial):
+    trial.holds(controls.tell_all(trial.program, trial.note), "what is wrong was not seen")
+
+
+@suite.last_line
+def last_line(results):
+    return f"{seeds(results)}{wrong_in(results)} wrong"
