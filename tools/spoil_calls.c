@@ -1,6 +1,7 @@
 /* Spoils calls of the program that it is loaded into, each kind for as long as a file of its name is in the folder that SPOIL names:
  * the monotonic clock shows ten seconds less (`clock`), no packet is received (`receive`), none is sent to port N (`send-N`), sending
- * one lasts until the file is gone (`sending`), and so does a rename (`rename`). It stands before the C library by LD_PRELOAD.
+ * one lasts until the file is gone (`sending`), and so does a rename (`rename`); there are no random bytes (`random`), and no IPv6
+ * (`six`). It stands before the C library by LD_PRELOAD.
  *
  * Others say in their file what is shown. `course` has lines FROM SHOWN RATE, in nanoseconds and parts per million: once the monotonic
  * clock shows FROM it shows SHOWN, and runs by RATE faster; so it stands still by a RATE of -1000000. /proc/uptime goes with that clock, as
@@ -140,6 +141,22 @@ ssize_t sendto(int file, const void *bytes, size_t size, int flags, const struct
         last("sending");
     }
     return syscall(SYS_sendto, file, bytes, size, flags, address, length);
+}
+
+int bind(int file, const struct sockaddr *address, socklen_t length) {
+    if (address->sa_family == AF_INET6 && is_spoiled("six")) {
+        errno = EAFNOSUPPORT;
+        return -1;
+    }
+    return (int)syscall(SYS_bind, file, address, length);
+}
+
+int getentropy(void *place, size_t size) {
+    if (is_spoiled("random")) {
+        errno = EIO;
+        return -1;
+    }
+    return syscall(SYS_getrandom, place, size, 0) == (ssize_t)size ? 0 : -1;
 }
 
 int rename(const char *from, const char *to) {

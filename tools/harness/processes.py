@@ -77,9 +77,9 @@ class Service:
     def __exit__(self, *_):
         self.processes.close()
 
-    def master(self, source, offset=0, uncertainty=1_000_000):
-        """Starts a master, whose time is off by so many nanoseconds."""
-        return self.processes.enter_context(contextlib.closing(Master(self, source, offset, uncertainty)))
+    def master(self, source, offset=0, uncertainty=1_000_000, keys=None):
+        """Starts a master, whose time is off by so many nanoseconds. With a file of keys it answers sealed polls alone."""
+        return self.processes.enter_context(contextlib.closing(Master(self, source, offset, uncertainty, keys)))
 
     def machine(self, name, number, masters, **settings):
         """Starts a machine over the masters at these addresses, in the order of their sources."""
@@ -138,9 +138,10 @@ class Process:
 
 
 class Master(Process):
-    def __init__(self, service, source, offset, uncertainty):
+    def __init__(self, service, source, offset, uncertainty, keys):
         self.address = f"127.0.0.1:{free_port(socket.SOCK_DGRAM)}"
-        self.fixed = ["master", "--source", str(source), "--listen", self.address, "--uncertainty", str(uncertainty)]
+        self.fixed = ["master", "--source", str(source), "--listen", self.address, "--uncertainty", str(uncertainty),
+                      *(["--keys", keys] if keys else [])]
         super().__init__(service, f"master-{self.address[10:]}", [*self.fixed, f"--offset={offset}"])
 
     def restart_with(self, offset):
@@ -150,17 +151,20 @@ class Master(Process):
 
 
 class Machine(Process):
-    """A machine, with all files of its own in one folder. A setting that is None is left out."""
+    """A machine, with all files of its own in one folder. A setting that is None is left out. Masters are addresses, or tables."""
 
     def __init__(self, service, name, number, masters, settings):
         self.folder = os.path.join(service.room, name)
         os.mkdir(self.folder)
         os.mkdir(self.path("state"))
         self.address = ("127.0.0.1", free_port(socket.SOCK_STREAM))
-        settings = {"machine": number, "masters": masters, "listen": f"127.0.0.1:{self.address[1]}",
+        tables = [master for master in masters if isinstance(master, dict)]
+        settings = {"machine": number, "masters": None if tables else masters, "listen": f"127.0.0.1:{self.address[1]}",
                     **{key: self.path(key) for key in ("state", "socket", "shared", "status")}, **settings}
         with open(self.path("node.toml"), "w", encoding="utf-8") as file:
             file.writelines(f"{key} = {json.dumps(value)}\n" for key, value in settings.items() if value is not None)
+            for table in tables:
+                file.writelines(["[[master]]\n", *(f"{key} = {json.dumps(value)}\n" for key, value in table.items())])
         super().__init__(service, name, ["serve", self.path("node.toml"), "--until-eof"])
 
     def path(self, name):

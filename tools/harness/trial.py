@@ -105,7 +105,7 @@ class Trial(Service):
         return [self.keep(Fake(act)) for act in acts]
 
     def node(self, masters, name: str = "A", **settings) -> Node:
-        """A machine that is not started yet; masters are processes, fakes or addresses."""
+        """A machine that is not started yet; masters are processes, fakes, addresses or tables."""
         settings = {"poll": f"{POLL_S * 1000:.0f}ms", "wait": f"{WAIT_S * 1000:.0f}ms", "workers": 4, **settings}
         self.nodes.append(self.keep(Node(self, name, 0, [getattr(master, "address", master) for master in masters], settings)))
         return self.nodes[-1]

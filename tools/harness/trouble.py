@@ -142,17 +142,18 @@ class Node(Machine):
 class Fake(threading.Thread):
     """A master of this script: `act` says what it does with a poll. It keeps when polls came, and from where the last one."""
 
-    def __init__(self, act):
+    def __init__(self, act, host="127.0.0.1"):
         super().__init__(daemon=True)
-        self.door = socket.socket(socket.AF_INET, socket.SOCK_DGRAM)
-        self.door.bind(("127.0.0.1", free_port(socket.SOCK_DGRAM)))
-        self.address, self.act = "127.0.0.1:%d" % self.door.getsockname()[1], act
+        is_six = ":" in host
+        self.door = socket.socket(socket.AF_INET6 if is_six else socket.AF_INET, socket.SOCK_DGRAM)
+        self.door.bind((host, free_port(socket.SOCK_DGRAM)))
+        self.address, self.act = f"{f'[{host}]' if is_six else host}:{self.door.getsockname()[1]}", act
         self.came, self.strange, self.machine, self.ended = [], [], None, False
         self.start()
 
     def close(self):
         self.ended = True
-        with contextlib.suppress(OSError), socket.socket(socket.AF_INET, socket.SOCK_DGRAM) as door:
+        with contextlib.suppress(OSError), socket.socket(self.door.family, socket.SOCK_DGRAM) as door:
             door.sendto(b"", self.door.getsockname())
         self.join(2)
         self.door.close()

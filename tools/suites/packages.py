@@ -373,7 +373,8 @@ def use(trial):
     with contextlib.ExitStack() as processes:
         for source in range(3):
             words = units["truetime-master@"].replace("${SOURCE}", str(source)).replace("${LISTEN}", f"127.0.0.1:570{source + 1}")
-            processes.enter_context(running([*host.inside, *USER, *words.replace("${UNCERTAINTY}", "1000000").split()]))
+            words = words.replace("${UNCERTAINTY}", "1000000").replace("$OPTIONS", "")
+            processes.enter_context(running([*host.inside, *USER, *words.split()]))
         processes.enter_context(running([*host.inside, *USER, *units["truetime@"].replace("%i", "a").split()]))
         eventually(lambda: all(host.exists(f"run/truetime/a/{name}") for name in ("time", "status.prom", "evidence")), 10)
         before = time.time_ns()

@@ -1,5 +1,7 @@
 """What the suite `wiring` checks, by the names of docs/FORMATS.md, and what its scenarios share."""
 import contextlib
+import hmac
+import itertools
 import os
 import re
 import shutil
@@ -16,8 +18,8 @@ from harness.trouble import REQUEST, SPAN, Fake, Spoils, honest
 # The names. One that changes is changed here; that of a setting or of an event also where a scenario gives or awaits it.
 
 SETTINGS = """machine masters faulty workers drift poll wait floor_ahead idle lease_lo lease_hi stampers listen log on_break max_width state socket
-shared status evidence vmclock""".split()
-OPTIONS = "source listen uncertainty offset act log".split()
+shared status evidence vmclock keys master""".split()
+OPTIONS = "source listen uncertainty offset act log keys status id name".split()
 ACTS = "honest ahead behind silent garbage repeat".split()
 
 # The numbers of the status in their order, by the names that the checks use: those before the ones of each source, these, and the others.
@@ -28,6 +30,8 @@ FIRST = {
 }
 # The numbers by which the answers of a source are refused. The first two cannot be provoked from outside.
 UNREACHED, REASONS = ["402", "403"], ["404", "405", "407", "406"]
+# The numbers by which the packets of a source do not open.
+UNOPENED = ["2201", "2202", "2203"]
 OF_SOURCES = {
     "suspect": 'truetime_source_suspect{source="%d"}', "accepted": 'truetime_source_rounds_total{source="%d",outcome="accepted"}',
     "refused": 'truetime_source_rounds_total{source="%d",outcome="refused"}',
@@ -37,11 +41,13 @@ OF_SOURCES = {
     "round_trip": 'truetime_source_round_trip_seconds{source="%d"}', "lower": 'truetime_source_lower_seconds{source="%d"}',
     "upper": 'truetime_source_upper_seconds{source="%d"}', "rate": 'truetime_source_clock_rate_ratio{source="%d"}',
     "rate_error": 'truetime_source_clock_rate_error_ratio{source="%d"}',
+    **{f"unopened_{number}": f'truetime_source_packets_unopened_total{{source="%d",number="{number}"}}' for number in UNOPENED},
+    "key": 'truetime_source_key{source="%d"}',
 }
 LAST = {
     "rounds": "truetime_rounds_total", "publications": "truetime_publications_total", "answers_refused": "truetime_answers_refused_total",
     "rounds_stale": "truetime_rounds_stale_total", "fusions_504": 'truetime_fusions_refused_total{number="504"}',
-    "fusions_701": 'truetime_fusions_refused_total{number="701"}', "breaks": "truetime_assumption_breaks_total",
+    "fusions_701": 'truetime_fusions_refused_total{number="701"}', "strangers": "truetime_strangers_total", "breaks": "truetime_assumption_breaks_total",
     "slept": "truetime_slept_seconds_total", "sessions": "truetime_sessions_total", "lines": "truetime_lines_total",
     "lines_refused": "truetime_lines_refused_total", "waiting": "truetime_connections_waiting", "workers": "truetime_workers",
     "busy": "truetime_workers_busy", "commits_waiting": "truetime_commits_waiting",
@@ -64,14 +70,16 @@ EVENTS = {
     "state_loose": "warn", "epoch_loose": "warn", "shared_loose": "warn", "answers_refused": "warn count", "master_failed": "warn number",
     "assumption_broken": "warn clock_ns lower_ns upper_ns last_lower_ns last_upper_ns", "host_slept": "warn slept_ns",
     "guest_disrupted": "warn", "sleep_unseen": "warn", "sources_stale": "warn answered needed", "start_paused": "warn pause_ns breaks",
-    "evidence_unwritten": "warn",
+    "evidence_unwritten": "warn", "keys_read": "info keys", "keys_refused": "warn number line", "address_awaited": "warn pause_ns",
+    "stranger": "warn address", "source_unresolved": "warn source", "source_resolved": "info source address",
 }
 
-# The forms of a line.
+# The forms of a line. Addresses are the only texts.
+ADDRESS = r"(?:[0-9.]+|\[[0-9a-f:.]+\]):[0-9]+"
 MOMENT = r"[0-9]{4}-[0-9]{2}-[0-9]{2}T[0-9]{2}:[0-9]{2}:[0-9]{2}\.[0-9]{9}Z"
 FORMS = {
-    "text": re.compile(rf"time={MOMENT} level=[a-z]+ event=[a-z_]+( [a-z_]+=[0-9]+)*\n"),
-    "json": re.compile(rf'\{{"time":"{MOMENT}","level":"[a-z]+","event":"[a-z_]+"(,"[a-z_]+":[0-9]+)*\}}\n'),
+    "text": re.compile(rf"time={MOMENT} level=[a-z]+ event=[a-z_]+( [a-z_]+=[0-9]+| address={ADDRESS})*\n"),
+    "json": re.compile(rf'\{{"time":"{MOMENT}","level":"[a-z]+","event":"[a-z_]+"(,"[a-z_]+":[0-9]+|,"address":"{ADDRESS}")*\}}\n'),
 }
 
 # The names of all checks that are to be made.
@@ -171,9 +179,8 @@ def status_of(node):
 
 def names_of(sources, version):
     """The names of the numbers of a status with so many sources, in their order, but for buckets."""
-    together = ["suspect"], ["accepted", "refused", "silent"], [name for name in OF_SOURCES if name.startswith("refused_")]
-    of_sources = [OF_SOURCES[name] % source for names in (*together, *([name] for name in list(OF_SOURCES)[list(OF_SOURCES).index("unsent"):]))
-                  for source in range(sources) for name in names]
+    metrics = [list(names) for _, names in itertools.groupby(OF_SOURCES, lambda name: OF_SOURCES[name].partition("{")[0])]
+    of_sources = [OF_SOURCES[name] % source for names in metrics for source in range(sources) for name in names]
     return [f'truetime_build_info{{version="{version}"}}', *FIRST.values(), *of_sources, *LAST.values()]
 
 
@@ -196,19 +203,61 @@ def published(node, number=1, seconds=6.0):
     return eventually(look, seconds)
 
 
+# Keys.
+
+def sealed(message, number, key):
+    """The envelope of a message."""
+    body = message + number.to_bytes(4, "big")
+    return body + hmac.digest(key, body, "sha256")[:16]
+
+
+def put_keys(path, *lines):
+    """A file of keys, in place of the one before."""
+    with open(f"{path}.new", "w", encoding="ascii", opener=lambda name, flags: os.open(name, flags, 0o600)) as file:
+        file.writelines(f"{line}\n" for line in lines)
+    os.rename(f"{path}.new", path)
+
+
 # Masters.
 
 class Scripted(Fake):
     """A master that keeps each poll with its time since 1970. Its acts are for one poll each, the last one for all further ones."""
 
-    def __init__(self, *acts):
+    def __init__(self, *acts, host="127.0.0.1"):
         self.acts, self.polls, self.times = acts, [], []
-        super().__init__(Scripted.play)
+        super().__init__(Scripted.play, host)
 
     def play(self, poll):
         self.times.append(time.time_ns())
         self.polls.append(Poll(*REQUEST.unpack(poll)))
         self.acts[min(len(self.polls), len(self.acts)) - 1](self, poll)
+
+
+class Sealed(Scripted):
+    """A master with keys by their numbers. It keeps the number of each poll that opens; what does not is strange."""
+
+    def __init__(self, keys, *acts, **where):
+        self.keys, self.numbers = keys, []
+        super().__init__(*acts, **where)
+
+    def run(self):
+        while not self.ended:
+            packet, sender = self.door.recvfrom(2048)
+            number = int.from_bytes(packet[-20:-16], "big")
+            if len(packet) != REQUEST.size + 20 or packet != sealed(packet[:-20], number, self.keys.get(number, b"")):
+                self.strange.append(packet)
+                continue
+            self.machine = sender
+            self.numbers.append(number)
+            self.act(self, packet[:-20])
+
+    def send(self, packet):
+        """Sends it sealed under the key of the last poll."""
+        super().send(sealed(packet, self.numbers[-1], self.keys[self.numbers[-1]]))
+
+    def send_open(self, packet):
+        """Sends it as it is."""
+        super().send(packet)
 
 
 class Poll(typing.NamedTuple):

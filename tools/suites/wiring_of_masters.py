@@ -1,11 +1,16 @@
-"""Scenarios of the suite `wiring`: each option and each act of `master` has its effect, and its log."""
+"""Scenarios of the suite `wiring`: each option and each act of `master` has its effect, and its log; and the lines of `key`."""
 import contextlib
+import os
+import re
 import socket
 import time
 
+from harness.metrics import faults_in
 from harness.processes import SECOND, free_port
 from harness.trouble import REQUEST, SPAN
+from harness.program import read_text
 from suites.wiring import suite
+from suites.wiring_checks import eventually, put_keys, sealed
 
 # The source, the offset and the uncertainty.
 OPTIONS = [(0, 0, 1_000), (3, 5 * SECOND, 123_456_789), (15, -7 * SECOND, 0)]
@@ -103,3 +108,82 @@ def master_without_time(trial):
     trial.logs(asked.process, "master_started")
     trial.equal("option offset", asked.poll(0.3)[0], None)
     trial.logs(asked.process, "master_failed", number=304)
+
+
+def is_answered(asked, number, key, seconds=0.3):
+    """Whether a poll under this key has an answer under it."""
+    asked.nonce += 1
+    poll = REQUEST.pack(b"TTP2", 1, MACHINE, asked.source, 0, asked.nonce, EPOCH)
+    before = time.time_ns()
+    asked.door.settimeout(seconds)
+    with contextlib.suppress(OSError):
+        asked.door.send(sealed(poll, number, key))
+        packet = asked.door.recv(100)
+        return packet == sealed(packet[:40], number, key) and is_span(asked, packet[:40], before, time.time_ns(), 0, 5)
+    return False
+
+
+OLD, NEW, OTHER = bytes(range(32)), bytes(range(100, 132)), bytes(range(200, 232))
+
+
+@suite.case()
+def keys_of_masters(trial):
+    """It answers what is sealed under a key of its file, and takes the keys over as the file changes."""
+    keys, status = os.path.join(trial.room, "keys"), os.path.join(trial.room, "status")
+    put_keys(keys, f"7 {OLD.hex()} host-a", "# no more")
+    asked = Asked(trial, 3, uncertainty=[5], keys=[keys], status=[status])
+    trial.logs(asked.process, "master_started")
+    trial.check("option keys", is_answered(asked, 7, OLD, 5), "no answer under its key")
+    trial.equal("option keys", asked.poll(0.3)[0], None)
+    trial.check("option keys", not is_answered(asked, 7, OTHER), "an answer to a tag of another key")
+    trial.check("option keys", not is_answered(asked, 9, OLD), "an answer to the number of no key")
+    put_keys(keys, f"7 {OLD.hex()} host-a", f"8 {NEW.hex()} host-a")
+    trial.logs(asked.process, "keys_read", keys=2)
+    trial.check("option keys", is_answered(asked, 8, NEW, 5) and is_answered(asked, 7, OLD, 5), "no answer under one of two keys")
+    put_keys(keys, f"8 {NEW.hex()} host-a", "9 00")
+    trial.logs(asked.process, "keys_refused", number=2215, line=2)
+    trial.check("option keys", is_answered(asked, 7, OLD, 5), "no answer under a key that stays")
+    put_keys(keys, f"8 {NEW.hex()} host-a")
+    trial.check("option keys", eventually(lambda: not is_answered(asked, 7, OLD)), "an answer under a key that was dropped")
+    trial.check("option keys", is_answered(asked, 8, NEW, 5), "no answer under the key that is left")
+    wanted = [r'truetime_master_keys\{source="3"\} 1', r'truetime_master_answers_total\{source="3",key="8"\} 2',
+              r'truetime_master_answers_total\{source="3",key="none"\} 0', r'truetime_master_dropped_total\{source="3",number="2201"\} 0',
+              r'truetime_master_dropped_total\{source="3",number="2202"\} [1-9][0-9]*', r'truetime_master_dropped_total\{source="3",number="2203"\} 1']
+    for line in wanted:
+        trial.check("option status", eventually(lambda line=line: re.search(f"^{line}$", read_text(status), re.MULTILINE)), f"no {line}")
+    trial.equal("option status", faults_in(read_text(status)), [])
+
+
+@suite.case()
+def status_of_open_masters(trial):
+    """A master without keys counts its answers as not sealed."""
+    status = os.path.join(trial.room, "status")
+    asked = Asked(trial, 4, uncertainty=[5], status=[status])
+    trial.logs(asked.process, "master_started")
+    for _ in range(3):
+        asked.poll()
+    wanted = r'^truetime_master_answers_total\{source="4",key="none"\} 3$'
+    trial.check("option status", eventually(lambda: re.search(wanted, read_text(status), re.MULTILINE)), "three answers are not shown")
+
+
+@suite.case()
+def address_of_masters(trial):
+    """An address that is not up is awaited, and said."""
+    keys = os.path.join(trial.room, "keys")
+    put_keys(keys, f"7 {OLD.hex()}")
+    waiting = trial.process("master", "--source", "1", "--listen", "198.51.100.1:7001", "--uncertainty", "5", "--keys", keys)
+    trial.logs(waiting, "address_awaited", pause_ns=SECOND)
+    trial.equal("option listen", waiting.running.poll(), None)
+
+
+@suite.case()
+def lines_of_keys(trial):
+    """Each has other bytes, and without `--id` another number."""
+    lines = [trial.command("key", "--id", "7", "--name", "host-a").said for _ in range(2)]
+    for line in lines:
+        trial.check("option id", re.fullmatch(r"7 [0-9a-f]{64} host-a\n", line), line)
+    trial.check("option name", lines[0] != lines[1], "the same bytes twice")
+    drawn = [trial.command("key").said for _ in range(2)]
+    for line in drawn:
+        trial.check("option id", re.fullmatch(r"(0|[1-9][0-9]{0,9}) [0-9a-f]{64}\n", line), line)
+    trial.check("option id", drawn[0].split()[0] != drawn[1].split()[0], "the same number twice")

@@ -359,6 +359,12 @@ NEEDED = {"machine": "0", "masters": '["127.0.0.1:1"]', "listen": '"127.0.0.1:0"
 # What `stampers` has to be.
 ENDS = "two whole numbers from 0 to 4000000000000000000 in brackets, the first at most the second"
 
+# What the address of a master has to be, and its key.
+PLACE = "an address and a port, as 10.1.0.1:5701, or a name and a port"
+NUMBERS = "a whole number from 0 to 4294967295, or from 1 to 4 different ones in brackets"
+# What is said of an address outside this host.
+FOREIGN = "an address of this host, as 127.0.0.1:7001; outside it a key is needed"
+
 # What a file has besides, or (if it is empty) has not, the number that refuses it, and what is said of the first key that is named.
 REFUSED = [
     ({"machine": "8"}, 1804, "machine: 8 is above 7"),
@@ -366,14 +372,24 @@ REFUSED = [
     ({"machine": "1.5"}, 1804, "machine: 1.5: a whole number from 0 to 7"),
     ({"machine": '"8"'}, 1804, 'machine: "8": a whole number from 0 to 7'),
     ({"machine": ""}, 1803, "machine: missing: a whole number from 0 to 7"),
-    ({"masters": ""}, 1803, "masters: missing: from 1 to 16 addresses of this host"),
+    ({"masters": ""}, 1803, "masters: missing: from 1 to 16 addresses of this host, or [[master]]"),
     ({"masters": "3"}, 1804, "masters: 3: from 1 to 16 addresses of this host, in brackets"),
     ({"masters": "[]"}, 1804, "masters: 0 addresses: from 1 to 16 addresses of this host"),
     ({"masters": str([f"127.0.0.1:{port}" for port in range(1, 18)])}, 1804, "masters: 17 addresses: from 1 to 16 addresses of this host"),
     ({"masters": '["127.0.0.1:1", 2]'}, 1804, "masters: 2: an address of this host, as 127.0.0.1:7001, in quotes"),
-    ({"masters": '["127.0.0.1:1", "127.0.0.1:02"]'}, 1805, 'masters: "127.0.0.1:02": an address of this host, as 127.0.0.1:7001'),
+    ({"masters": '["127.0.0.1:1", "127.0.0.1:02"]'}, 1805, f'masters: "127.0.0.1:02": {FOREIGN}, as in [[master]]'),
+    ({"masters": '["127.0.0.1:1", "10.1.0.1:1"]'}, 1805, f'masters: "10.1.0.1:1": {FOREIGN}, as in [[master]]'),
+    ({"masters": '["[::1]:1", "[::]:1"]'}, 1804, 'masters: "[::]:1": not the address of one host'),
+    ({"masters": '["[::ffff:127.0.0.1]:1"]'}, 1804, 'masters: "[::ffff:127.0.0.1]:1": not the address of one host'),
     ({"masters": '["127.0.0.1:1", "127.0.0.1:0"]'}, 1804, 'masters: "127.0.0.1:0": no master answers at port 0'),
     ({"masters": '["127.0.0.1:1", "127.0.0.1:2", "127.0.0.1:1"]'}, 1818, 'masters: "127.0.0.1:1" is named twice'),
+    ({"master": '[{address = "127.0.0.1:2"}]'}, 1825, "masters: there is [[master]] as well, and one of the two is enough"),
+    ({"masters": "", "master": "3"}, 1804, "master: 3: from 1 to 16 tables, each as [[master]]"),
+    ({"masters": "", "master": "[]"}, 1804, "master: 0 tables: from 1 to 16 tables, each as [[master]]"),
+    ({"masters": "", "master": '["127.0.0.1:1"]'}, 1804, 'master: "127.0.0.1:1": a table with address, and key where there is one'),
+    ({"keys": '""'}, 1804, 'keys: "": a path'),
+    ({"keys": "7"}, 1804, "keys: 7: a path, in quotes"),
+    ({"keys": '"a"', "status": '"a.lock"'}, 1817, 'keys: "a": the path, its draft or its lock has another purpose as well'),
     ({"faulty": "1"}, 1806, "faulty: 1 is above 0, the most of 1 masters"),
     ({"workers": "0"}, 1804, "workers: 0 is below 1"),
     ({"workers": "33"}, 1804, "workers: 33 is above 32"),
@@ -416,6 +432,11 @@ REFUSED = [
     ({"evidence": '"a"', "status": '"a.break-2"'}, 1817, 'evidence: "a": the path, its draft or its lock has another purpose as well'),
     ({"vmclock": '""'}, 1804, 'vmclock: "": a path'),
     ({"vmclock": "7"}, 1804, "vmclock: 7: a path, in quotes"),
+    ({"keys": '"state/epoch"'}, 1817, 'keys: "state/epoch": the path, its draft or its lock has another purpose as well'),
+    ({"master": "3", "masters": ""}, 1804, "master: 3: from 1 to 16 tables, each as [[master]]"),
+    ({"master": "[]", "masters": ""}, 1804, "master: 0 tables: from 1 to 16 tables, each as [[master]]"),
+    ({"master": '["127.0.0.1:1"]', "masters": ""}, 1804, 'master: "127.0.0.1:1": a table with address, and key where there is one'),
+    ({"master": '[{address = "127.0.0.1:1"}]'}, 1825, "masters: there is [[master]] as well, and one of the two is enough"),
     ({"lisen": "1"}, 1802, "lisen: unknown key; did you mean listen?"),
     ({"drfit": "1"}, 1802, "drfit: unknown key; did you mean drift?"),
     ({"lease-lo": "1"}, 1802, "lease-lo: unknown key; did you mean lease_lo?"),
@@ -426,17 +447,61 @@ REFUSED = [
 ]
 
 
+# The tables of masters behind the keys that have to be there, the number that refuses them, the line of the tables, counted from 1, and what
+# is said.
+REFUSED_TABLES = [
+    (["[[master]]", "key = 1"], 1803, 1, f"address: missing: {PLACE}"),
+    (["[[master]]", "address = 3"], 1804, 2, f"address: 3: {PLACE}, in quotes"),
+    (["[[master]]", 'address = "10.1.0.1"', "key = 1"], 1804, 2, f'address: "10.1.0.1": {PLACE}'),
+    (["[[master]]", 'address = "clock.9:1"', "key = 1"], 1804, 2, f'address: "clock.9:1": {PLACE}'),
+    (["[[master]]", 'address = "010.1.0.1:1"', "key = 1"], 1804, 2, f'address: "010.1.0.1:1": {PLACE}'),
+    (["[[master]]", 'address = "[FD00::1]:1"', "key = 1"], 1804, 2, f'address: "[FD00::1]:1": {PLACE}'),
+    (["[[master]]", 'address = "a_b.example:1"', "key = 1"], 1804, 2, f'address: "a_b.example:1": {PLACE}'),
+    (["[[master]]", 'address = "0.0.0.0:1"', "key = 1"], 1804, 2, 'address: "0.0.0.0:1": not the address of one host'),
+    (["[[master]]", 'address = "a.b:1"', "key = []"], 1804, 3, f"key: []: {NUMBERS}"),
+    (["[[master]]", 'address = "10.1.0.1:0"', "key = 1"], 1804, 2, 'address: "10.1.0.1:0": no master answers at port 0'),
+    (["[[master]]", "key = 1", 'address = "[ff02::1]:1"'], 1804, 3, 'address: "[ff02::1]:1": not the address of one host'),
+    (["[[master]]", 'address = "10.1.0.1:1"'], 1805, 2, f'address: "10.1.0.1:1": {FOREIGN}'),
+    (["[[master]]", 'address = "127.0.0.1:1"', "[[master]]", 'address = "a.b:1"'], 1805, 4, f'address: "a.b:1": {FOREIGN}'),
+    (["[[master]]", 'address = "a.b:1"', "key = -1"], 1804, 3, "key: -1 is below 0"),
+    (["[[master]]", 'address = "a.b:1"', "key = 4294967296"], 1804, 3, "key: 4294967296 is above 4294967295"),
+    (["[[master]]", 'address = "a.b:1"', 'key = "1"'], 1804, 3, f'key: "1": {NUMBERS}'),
+    (["[[master]]", 'address = "a.b:1"', "key = [1, 1]"], 1804, 3, f"key: [1, 1]: {NUMBERS}"),
+    (["[[master]]", 'address = "a.b:1"', "key = [1, 2, 3, 4, 5]"], 1804, 3, f"key: [1, 2, 3, ..]: {NUMBERS}"),
+    (["[[master]]", 'addres = "a.b:1"'], 1802, 2, "addres: unknown key; did you mean address?"),
+    (["[[master]]", 'address = "127.0.0.1:1"', "[[master]]", "port = 1"], 1802, 4, "port: unknown key"),
+    (["[[master]]", 'address = "[::1]:1"', "[[master]]", 'address = "[::1]:1"'], 1818, 4, 'address: "[::1]:1" is named twice'),
+    (["[[master]]", 'address = "a.b:1"', "key = [7, 8]", "[[master]]", 'address = "a.b:2"', "key = [9, 8]"], 1826, 6,
+     "key: 8 is the key of a master before it as well"),
+    (["[[master]]", 'address = "a.b:1"', "key = 1"], 1803, None, "keys: missing: a path, since a master has a key"),
+    (['master = [{address = "10.1.0.1:1"}]'], 1805, 1, f'address: "10.1.0.1:1": {FOREIGN}'),
+]
+
+
+@suite.case()
+def refused_tables(trial):
+    """What is said of tables of masters that are refused, and at which line."""
+    path = os.path.join(trial.room, "node.toml")
+    head = [f"{key} = {value}" for key, value in NEEDED.items() if key != "masters"]
+    for tables, number, line, message in REFUSED_TABLES:
+        is_refused(trial, path, [*head, *tables], number, None if line is None else len(head) + line - 1, message)
+
+
+def is_refused(trial, path, lines, number, place, message):
+    """`--check` refuses these lines with the number, and says this of the line with this place, or of the file."""
+    write(path, "".join(f"{line}\n" for line in lines).encode())
+    ran = trial.command("serve", "--check", path)
+    trial.equal("--check", ran.answer, (f"refused {number}\n", 2))
+    shown, wanted = ran.error.split("\n")[0], f"{path if place is None else f'{path}:{place + 1}'}: {message}"
+    is_right = shown.startswith(wanted) if number == 1801 else shown == wanted
+    trial.check("--check", is_right, f"{shown!r} is said, and not {wanted!r}")
+
+
 @suite.case()
 def refused(trial):
     """What is said of settings that are refused: the line, the key, the value, and what would be right."""
     path = os.path.join(trial.room, "node.toml")
     for changed, number, message in REFUSED:
         lines = {key: value for key, value in (NEEDED | changed).items() if value}
-        write(path, "".join(f"{key} = {value}\n" for key, value in lines.items()).encode())
         key = "idle" if number == 1801 else message.split(": ")[0]
-        place = f"{path}:{list(lines).index(key) + 1}" if key in lines else path
-        ran = trial.command("serve", "--check", path)
-        trial.equal("--check", ran.answer, (f"refused {number}\n", 2))
-        shown, wanted = ran.error.split("\n")[0], f"{place}: {message}"
-        is_right = shown.startswith(wanted) if number == 1801 else shown == wanted
-        trial.check("--check", is_right, f"{shown!r} is said, and not {wanted!r}")
+        is_refused(trial, path, [f"{name} = {value}" for name, value in lines.items()], number, list(lines).index(key) if key in lines else None, message)
