@@ -45,8 +45,8 @@ def add_options(add) -> None:
     """The options of the suites."""
     add("--rows", metavar="FILE", help="the built tt_memory_sweep, for `sweep`")
     add("--stamps", metavar="FILE", help="the built tt_stamp_rows, for `clients`; that of this repository where it is left out and there")
-    add("--seconds", type=float, metavar="N", help="how long `service`, `clients`, `fuzz`, `demo`, `failover`, `soak` and `fleet` go on")
-    add("--seed", type=int, metavar="N", help="the seed of `judge`, `sweep`, `epochs`, `fuzz`, `failover`, `soak` and `fleet`, which is drawn else")
+    add("--seconds", type=float, metavar="N", help="how long `service`, `clients`, `fuzz`, `demo`, `failover`, `soak`, `fleet` and `masters` go on")
+    add("--seed", type=int, metavar="N", help="the seed of `judge`, `sweep`, `epochs`, `fuzz`, `failover`, `soak`, `fleet` and `masters`, which is drawn else")
     add("--number", type=int, metavar="N", help="how many histories `judge` tries, and clients in Python `soak` has")
     add("--long", action="store_true", help="run the cases that take half a minute, too")
 

@@ -19,7 +19,7 @@ from harness.program import in_top
 from harness.trial import Options, Result, Trial
 
 # All suites, in the order of the gate.
-NAMES = "examples cases judge sweep hostile clients clients_as_installed packages alerts service wiring faults breaks epochs fuzz demo failover soak fleet".split()
+NAMES = "examples cases judge sweep hostile clients clients_as_installed packages alerts service wiring faults breaks epochs fuzz demo failover soak fleet masters".split()
 SUITES: dict[str, "Suite"] = {}
 
 
@@ -144,8 +144,11 @@ class Suite:
     def run(self, cases: list[Case], options: Options, times: int = 1) -> list[Result]:
         """Runs these cases so many times, the quiet ones first, and prints what is wrong and the last line; the results."""
         left_out = [Result(self.name, case.name, left_out=reason) for case in cases if (reason := case.left_out(options.long))]
-        for result in left_out:
-            print(f"{self.name}: {result.case} is left out: {result.left_out}", flush=True)
+        if len(left_out) == len(cases) > 1 and len({result.left_out for result in left_out}) == 1:
+            print(f"{self.name}: all of it is left out: {left_out[0].left_out}", flush=True)
+        else:
+            for result in left_out:
+                print(f"{self.name}: {result.case} is left out: {result.left_out}", flush=True)
         chosen = sorted([case for case in cases if not case.left_out(options.long)] * times, key=lambda case: not case.quiet)
         results = self.run_once(chosen, options, self.at_once)
         if self.again and times == 1 and (wrong := [case for case, result in zip(chosen, results) if result.wrong]):

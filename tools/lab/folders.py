@@ -46,16 +46,17 @@ def rows_in(path: str) -> typing.Iterator[list[str]]:
             yield words
 
 
-def exec_start(unit: str) -> str:
-    """The command of a unit."""
+def lines_of(unit: str, key: str) -> list[str]:
+    """What a unit has for a key, a text for each of its lines."""
     text = read_text(in_top(f"packaging/{unit}")).replace("\\\n", " ")
-    return re.search(r"^ExecStart=(.*)$", text, re.MULTILINE)[1]
+    return re.findall(rf"^{key}=(.*)$", text, re.MULTILINE)
 
 
 def words_of(unit: str, instance: str, variables: dict[str, str]) -> list[str]:
     """The words of the command of a unit's instance, as systemd makes them: `${X}` is a part of a word, `$X` any number of words."""
     words = []
-    for word in exec_start(unit).replace("%i", instance).split():
+    variables = {**dict(line.split("=", 1) for line in lines_of(unit, "Environment")), **variables}
+    for word in lines_of(unit, "ExecStart")[0].replace("%i", instance).split():
         if re.fullmatch(r"\$[A-Z_]+", word):
             words += shlex.split(variables.get(word[1:], ""))
         else:
@@ -99,8 +100,8 @@ class Instance(OnHost):
             variables = dict(line.split("=", 1) for line in read_text(path).splitlines() if "=" in line and not line.startswith("#"))
         else:
             self.settings = tomllib.loads(read_text(path))
-        for folder in ("run", "lib"):
-            os.makedirs(site.path(folder, f"truetime/{name}"), exist_ok=True)
+        for folder, inside in (("run", "truetime"), ("run", "truetime-master"), ("lib", "truetime")):
+            os.makedirs(site.path(folder, f"{inside}/{name}"), exist_ok=True)
         words = words_of(UNITS[end], name, {key: value.strip("\"'") for key, value in variables.items()})
         super().__init__(site, f"{site.name}-{name}{end}", words[1:])
 

@@ -1,7 +1,7 @@
 """Hosts on this computer: network namespaces that a router joins, with clocks of their own.
 
-Their names begin with PREFIX and the number of the process that made them. Nothing is outside of them but a folder of the same prefix; all of
-it goes with the `with` block, and `clean` removes what a process left that was killed.
+Their names begin with the prefix of the lab and the number of the process that made them. Nothing is outside of them but a folder of the same
+prefix; all of it goes with the `with` block, and `clean` removes what a process left that was killed.
 """
 import contextlib
 import ctypes
@@ -40,7 +40,7 @@ def do(*words: str) -> str:
 
 def terminated(*_: object) -> None:
     """Ends this process in order."""
-    print("fleet: terminated", file=sys.stderr, flush=True)
+    print("terminated", file=sys.stderr, flush=True)
     sys.exit(128 + signal.SIGTERM)
 
 
@@ -104,20 +104,20 @@ def is_alive(process: int) -> bool:
         return False
 
 
-def left_behind() -> typing.Iterator[tuple[str, bool]]:
+def left_behind(prefix: str) -> typing.Iterator[tuple[str, bool]]:
     """The namespaces, and the folders, of processes that are gone."""
     spaces = os.listdir(NAMED) if os.path.isdir(NAMED) else []
     for names, is_space in ((spaces, True), (os.listdir(tempfile.gettempdir()), False)):
         for name in names:
             parts = name.split("-")
-            if parts[0] == PREFIX and parts[1:] and parts[1].isdigit() and not is_alive(int(parts[1])):
+            if parts[0] == prefix and parts[1:] and parts[1].isdigit() and not is_alive(int(parts[1])):
                 yield name, is_space
 
 
-def clean() -> list[str]:
+def clean(prefix: str = PREFIX) -> list[str]:
     """Removes what processes left that were killed: what that was."""
     removed = []
-    for name, is_space in left_behind():
+    for name, is_space in left_behind(prefix):
         if is_space:
             do("ip", "netns", "del", name)
         else:
@@ -153,17 +153,21 @@ class Host:
     clock: HostClock | None = None
 
     def __init__(self, lab: "Lab", name: str, addresses: typing.Sequence[str], shift_s: int = 0):
-        self.lab, self.name, self.addresses, self.space = lab, name, list(addresses), f"{PREFIX}-{os.getpid()}-{name}"
+        self.lab, self.name, self.addresses, self.space = lab, name, list(addresses), lab.space_of(name)
         self.shift_s = shift_s if has_time_namespaces() else 0
         self.enter = ["ip", "netns", "exec", self.space]
         if self.shift_s:
             self.enter += ["unshare", "-T", "--monotonic", str(shift_s), "--boottime", str(shift_s)]
         lab.stack.callback(run, ["ip", "netns", "del", self.space])
         do("ip", "netns", "add", self.space)
-        self.door = open_device(self.space)
+        self.plug()
         with inside(self.space):
             write("/proc/sys/net/ipv4/ip_forward", b"0")
         self.set_up()
+
+    def plug(self) -> None:
+        """Makes its device, whose packets the router reads."""
+        self.door = open_device(self.space)
 
     def set_up(self) -> None:
         self.ip("link", "set", "lo", "up")
@@ -193,6 +197,7 @@ class Host:
 
 class Lab:
     """Hosts, the router between them, and what runs on them."""
+    prefix = PREFIX
 
     def __init__(self, program: str, seed: int = 1):
         self.program, self.seed = os.path.realpath(program), seed
@@ -202,7 +207,7 @@ class Lab:
     def __enter__(self) -> "Lab":
         signal.signal(signal.SIGTERM, terminated)
         try:
-            self.room = self.stack.enter_context(tempfile.TemporaryDirectory(prefix=f"{PREFIX}-{os.getpid()}-"))
+            self.room = self.stack.enter_context(tempfile.TemporaryDirectory(prefix=self.space_of("")))
             os.chmod(self.room, 0o755)
             self.build()
         except BaseException:
@@ -219,6 +224,10 @@ class Lab:
         self.stack.close()
         signal.signal(signal.SIGINT, before[0])
         signal.signal(signal.SIGTERM, before[1])
+
+    def space_of(self, name: str) -> str:
+        """The network namespace of a host."""
+        return f"{self.prefix}-{os.getpid()}-{name}"
 
     def build(self) -> None:
         """Makes the hosts; here none."""

@@ -13,10 +13,12 @@ import json
 import os
 import re
 import signal
+import socket
 import time
 import typing
 
 from harness.metrics import read_metrics
+from harness.processes import Process, free_port
 from harness.program import in_top, read_text, run, write
 from harness.suite import Suite, wrong_in
 from suites.wiring_checks import eventually
@@ -25,7 +27,9 @@ suite = Suite(__name__, at_once=4, longest_s=60, again=True)
 RULES, TESTS, DASHBOARD = "packaging/alerts.yml", "packaging/alerts_test.yml", "packaging/dashboard.json"
 FIRING = 'count by (alertname, machine, source) (ALERTS{alertstate="firing"})'
 # Settings that are no defaults, and those by which the machine of this suite runs: a round takes a quarter of a second.
-OTHER = {"truetime:round_seconds": "10", "truetime:drift_ratio": "0.001", "truetime:max_width_seconds": "1"}
+OTHER = {"truetime:round_seconds": "10", "truetime:drift_ratio": "0.001", "truetime:max_width_seconds": "1", "truetime:warn_width_seconds": "0.1"}
+# The alerts that never fire by the defaults: `settings` provokes them.
+UNLIMITED = {"TruetimeWide", "TruetimeMasterWide"}
 POLL, WAIT, ROUND_S = "150ms", "100ms", 0.25
 
 
@@ -84,12 +88,21 @@ def machine(trial):
     return node, masters
 
 
-def labels_of_metrics(trial):
-    """The names in the status of a machine that runs, each with its labels."""
-    node, _ = machine(trial)
-    metrics, wrong = read_metrics(read_text(node.path("status")))
+def labels_in_status(trial, path):
+    """The names in a status, each with its labels."""
+    metrics, wrong = read_metrics(read_text(path))
     trial.equal("status", wrong, [])
     return {name: set(labels) for metric in metrics.values() for name, labels, _ in metric.samples}
+
+
+def labels_of_metrics(trial):
+    """The names in the status of a machine that runs, and in that of a master, each with its labels."""
+    node, _ = machine(trial)
+    path = f"{trial.room}/status-of-master"
+    address = f"127.0.0.1:{free_port(socket.SOCK_DGRAM)}"
+    trial.keep(Process(trial, "master-with-status", ["master", "--source", "0", "--listen", address, "--uncertainty", "5", "--status", path]))
+    trial.check("status of a master", eventually(lambda: os.path.exists(path)), "none is written")
+    return labels_in_status(trial, node.path("status")), labels_in_status(trial, path)
 
 
 @suite.case(programs=("promtool",))
@@ -102,7 +115,7 @@ def rules(trial):
     trial.equal("names", len({alert.name for alert in alerts}), len(alerts))
     promtool(trial, "test rules", "test", "rules", in_top(TESTS))
     for alert in alerts:
-        is_tested = f'exp_samples: [{{labels: \'{{alertname="{alert.name}"' in tests or alert.name == "TruetimeWide"  # which `settings` provokes
+        is_tested = f'exp_samples: [{{labels: \'{{alertname="{alert.name}"' in tests or alert.name in UNLIMITED
         trial.check(alert.name, is_tested, f"{TESTS} never has it fire")
         trial.check(alert.name, re.search(r"severity: (page|ticket)\}", alert.text) and "summary: " in alert.text, "no severity or no summary")
     trial.note(f"{len(alerts)} alerts; {len(trial.result.wrong)} wrong")
@@ -112,18 +125,22 @@ def rules(trial):
 def settings(trial):
     """Other settings at the top of the rules, in which each has its effect. Those that stand there are the defaults."""
     formats = read_text("docs/FORMATS.md")
+    trial.check("default of --warn-width", "--warn-width NS" in formats, "docs/FORMATS.md has no such option")
     for name, default in ("poll", '`"1s"`'), ("wait", '`"250ms"`'), ("drift", "200"), ("max_width", "no limit"):
         found = re.search(rf"^- `{name}`: .*\({re.escape(default)}\)", formats, re.MULTILINE)
         trial.check(f"default of {name}", found, f"it is {default} in {RULES}, and another one in docs/FORMATS.md")
-    defaults = {"truetime:round_seconds": "1.25", "truetime:drift_ratio": "0.0002", "truetime:max_width_seconds": "Inf"}
+    defaults = {"truetime:round_seconds": "1.25", "truetime:drift_ratio": "0.0002", "truetime:max_width_seconds": "Inf",
+                "truetime:warn_width_seconds": "Inf"}
     trial.equal("defaults", settings_in(read_text(RULES)), defaults)
     try_rules(trial, "other settings", OTHER, [{"interval": "15s", "input_series": [
         {"series": 'truetime_width_seconds{machine="0"}', "values": "0.8x40 0.81x40"},
+        {"series": 'truetime_master_width_seconds{source="1"}', "values": "0.1x40 0.11x40"},
         {"series": 'truetime_fusion_age_seconds{machine="0"}', "values": "30x40 30.1x40"},
         {"series": 'truetime_source_clock_rate_ratio{machine="0",source="1"}', "values": "0.0019x40 0.0021x40"},
         {"series": 'truetime_source_clock_rate_error_ratio{machine="0",source="1"}', "values": "0.001x80"},
     ], "promql_expr_test": [fires("10m"), fires("15m", '{alertname="TruetimeWide",machine="0"}', '{alertname="TruetimeFusionOld",machine="0"}',
-                                                '{alertname="TruetimeClockRate",machine="0",source="1"}')]}])
+                                                '{alertname="TruetimeClockRate",machine="0",source="1"}',
+                                                '{alertname="TruetimeMasterWide",source="1"}')]}])
 
 
 def sample(node, series, at_s):
@@ -160,7 +177,8 @@ def cut(trial):
 @suite.case()
 def metrics(trial):
     """What rules and dashboard name is in a status, and each alarm of docs/OPERATING.md in a rule."""
-    known, alerts = labels_of_metrics(trial), list(alerts_in(read_text(RULES)))
+    of_machine, of_master = labels_of_metrics(trial)
+    known, alerts = of_machine | of_master, list(alerts_in(read_text(RULES)))
     for alert in alerts:
         trial.check(alert.name, alert.metrics or "node_textfile_mtime_seconds" in alert.expr, "no metric of the status")
         trial.equal(f"{alert.name}: metrics that no status has", alert.metrics - known.keys(), set())
@@ -171,7 +189,7 @@ def metrics(trial):
     panels = [target["expr"] for panel in json.loads(read_text(DASHBOARD))["panels"] for target in panel.get("targets", ())]
     shown = {name for expr in panels for name in re.findall(r"\btruetime_\w+", expr)}
     trial.equal("metrics of the dashboard that no status has", shown - known.keys(), set())
-    trial.equal("metrics that it does not show", {name for name in known.keys() - shown if not name.endswith(("_sum", "_count"))}, set())
+    trial.equal("metrics that it does not show", {name for name in of_machine.keys() - shown if not name.endswith(("_sum", "_count"))}, set())
     try_operating(trial, known, alerts)
 
 

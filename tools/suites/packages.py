@@ -48,7 +48,7 @@ FILES = {
         "usr/lib/sysusers.d/truetime.conf": "packaging/truetime.sysusers", "usr/lib/tmpfiles.d/truetime.conf": "packaging/truetime.tmpfiles",
         **{f"{SHARED}/{name}": f"packaging/{name}" for name in ("alerts.yml", "dashboard.json")},
         "usr/share/doc/truetime/examples/node.toml": "packaging/node.toml",
-        **{f"usr/share/doc/truetime/{name}.md": f"docs/{name}.md" for name in ("OPERATING", "FORMATS", "THREATS")},
+        **{f"usr/share/doc/truetime/{name}.md": f"docs/{name}.md" for name in ("OPERATING", "MASTERS", "FORMATS", "THREATS")},
     },
 }
 # What packaging/install leaves to the packages.
@@ -373,7 +373,7 @@ def use(trial):
     with contextlib.ExitStack() as processes:
         for source in range(3):
             words = units["truetime-master@"].replace("${SOURCE}", str(source)).replace("${LISTEN}", f"127.0.0.1:570{source + 1}")
-            words = words.replace("${UNCERTAINTY}", "1000000").replace("$OPTIONS", "")
+            words = words.replace("$TIME $UNCERTAINTY $OPTIONS", "--uncertainty 1000000")
             processes.enter_context(running([*host.inside, *USER, *words.split()]))
         processes.enter_context(running([*host.inside, *USER, *units["truetime@"].replace("%i", "a").split()]))
         eventually(lambda: all(host.exists(f"run/truetime/a/{name}") for name in ("time", "status.prom", "evidence")), 10)

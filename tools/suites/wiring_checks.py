@@ -19,7 +19,8 @@ from harness.trouble import REQUEST, SPAN, Fake, Spoils, honest
 
 SETTINGS = """machine masters faulty workers drift poll wait floor_ahead idle lease_lo lease_hi stampers listen log on_break max_width state socket
 shared status evidence vmclock keys master""".split()
-OPTIONS = "source listen uncertainty offset act log keys status id name".split()
+OPTIONS = """source listen uncertainty offset act log keys status id name ntp faulty margin every drift max-age ntp-key ntp-keys local
+warn-width""".split()
 ACTS = "honest ahead behind silent garbage repeat".split()
 
 # The numbers of the status in their order, by the names that the checks use: those before the ones of each source, these, and the others.
@@ -58,6 +59,16 @@ LAST = {
 # The buckets of histograms, which stand before their sums.
 BUCKETS = {"commit_buckets": "truetime_commit_wait_seconds_bucket", "answer_buckets": "truetime_round_trip_seconds_bucket"}
 
+# What the status of a master tells of its turns and of its servers, by the names that the checks use; those by reason have its number.
+UNANSWERED = ["301", "302", "303", "2401", "2402", "2403", "2404", "2405", "2406", "2407", "2408"]
+OF_MASTERS = {
+    "width": "truetime_master_width_seconds", "width_max": "truetime_master_width_max_seconds",
+    **{f"unanswered_{number}": f'truetime_master_unanswered_total{{number="{number}"}}' for number in UNANSWERED},
+    **{f"server_{name}": f'truetime_master_server_{name}{{server="%d"}}' for name in (
+        "silence", "stratum", "root_distance_seconds", "age_seconds", "leap", "requests_total", "replies_total", "refused_total", "kisses_total",
+        "width_seconds")},
+}
+
 # The numbers of a publication in the shared file, as clients/python names them.
 SHARED = truetime.Publication._fields
 
@@ -72,6 +83,8 @@ EVENTS = {
     "guest_disrupted": "warn", "sleep_unseen": "warn", "sources_stale": "warn answered needed", "start_paused": "warn pause_ns breaks",
     "evidence_unwritten": "warn", "keys_read": "info keys", "keys_refused": "warn number line", "address_awaited": "warn pause_ns",
     "stranger": "warn address", "source_unresolved": "warn source", "source_resolved": "info source address",
+    "master_silent": "warn number", "master_answers": "info", "width_above": "warn width_ns limit_ns", "clock_stepped": "error",
+    "server_refused": "warn server number", "server_silent": "warn server",
 }
 
 # The forms of a line. Addresses are the only texts.
@@ -85,6 +98,7 @@ FORMS = {
 # The names of all checks that are to be made.
 NAMES = [*(f"setting {name}" for name in SETTINGS), *(f"option {name}" for name in OPTIONS), *(f"act {name}" for name in ACTS),
          *(f"status {name}" for name in ("build_info", "form", *FIRST, *OF_SOURCES, *LAST, *BUCKETS)), *(f"shared {name}" for name in SHARED),
+         *(f"master {name}" for name in OF_MASTERS),
          *(f"log {name}" for name in EVENTS)]
 for unreached in UNREACHED:
     NAMES.remove(f"status refused_{unreached}")

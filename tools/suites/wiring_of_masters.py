@@ -3,11 +3,12 @@ import contextlib
 import os
 import re
 import socket
+import subprocess
 import time
 
 from harness.metrics import faults_in
-from harness.processes import SECOND, free_port
-from harness.trouble import REQUEST, SPAN
+from harness.processes import SECOND, Process, free_port
+from harness.trouble import REQUEST, SPAN, Spoils
 from harness.program import read_text
 from suites.wiring import suite
 from suites.wiring_checks import eventually, put_keys, sealed
@@ -21,11 +22,11 @@ GARBAGE = b"\xff" * 40
 class Asked:
     """A client of a master, which makes its polls with nonces of its own."""
 
-    def __init__(self, trial, source, **options):
+    def __init__(self, trial, source, *flags, **options):
         self.source, self.nonce = source, 0
         self.address = f"127.0.0.1:{free_port(socket.SOCK_DGRAM)}"
         self.process = trial.process("master", "--source", str(source), "--listen", self.address,
-                                     *(word for name, values in options.items() for value in values for word in [f"--{name}={value}"]))
+                                     *(f"--{name.replace('_', '-')}={value}" for name, values in options.items() for value in values), *flags)
         self.door = trial.keep(socket.socket(socket.AF_INET, socket.SOCK_DGRAM))
         self.door.connect(("127.0.0.1", int(self.address.split(":")[1])))
 
@@ -104,10 +105,38 @@ def logs_of_masters(trial):
 @suite.case()
 def master_without_time(trial):
     """Its clock would show a time before 1970, and nothing is answered."""
-    asked = Asked(trial, 1, uncertainty=[5], offset=[-2_000_000_000 * SECOND])
+    status = os.path.join(trial.room, "status")
+    asked = Asked(trial, 1, uncertainty=[5], offset=[-2_000_000_000 * SECOND], status=[status])
     trial.logs(asked.process, "master_started")
     trial.equal("option offset", asked.poll(0.3)[0], None)
-    trial.logs(asked.process, "master_failed", number=304)
+    trial.logs(asked.process, "master_silent", number=2401)
+    wanted = r'^truetime_master_unanswered_total\{source="1",number="2401"\} 1$'
+    trial.check("master unanswered_2401", eventually(lambda: re.search(wanted, read_text(status), re.MULTILINE)), "the poll is not counted")
+
+
+class Spoiled(Process):
+    """A master whose calls are spoiled."""
+
+    def __init__(self, trial, spoils, words):
+        self.environment = spoils.environment
+        super().__init__(trial, "spoiled", words)
+
+    def start(self):
+        with open(self.log, "ab") as log:
+            self.running = subprocess.Popen([self.program, *self.words], stdin=subprocess.PIPE, stdout=log, stderr=log, env=self.environment)
+
+
+@suite.case()
+def master_without_socket(trial):
+    """No packet can be received for a while; it goes on then."""
+    spoils = Spoils(trial.room)
+    asked = Asked(trial, 1, uncertainty=[5])
+    asked.process.kill()
+    process = trial.keep(Spoiled(trial, spoils, ["master", "--source", "1", "--listen", asked.address, "--uncertainty", "5"]))
+    trial.check("option listen", eventually(lambda: asked.poll(0.3)[0]), "no answer")
+    with spoils.spoiled("receive"):
+        trial.logs(process, "master_failed")
+    trial.check("option listen", eventually(lambda: asked.poll(0.3)[0], 10), "no answer once packets are received again")
 
 
 def is_answered(asked, number, key, seconds=0.3):
@@ -151,7 +180,7 @@ def keys_of_masters(trial):
               r'truetime_master_dropped_total\{source="3",number="2202"\} [1-9][0-9]*', r'truetime_master_dropped_total\{source="3",number="2203"\} 1']
     for line in wanted:
         trial.check("option status", eventually(lambda line=line: re.search(f"^{line}$", read_text(status), re.MULTILINE)), f"no {line}")
-    trial.equal("option status", faults_in(read_text(status)), [])
+    trial.equal("option status", [fault for fault in faults_in(read_text(status)) if not fault.startswith("truetime_master_server_")], [])
 
 
 @suite.case()

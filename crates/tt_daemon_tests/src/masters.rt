@@ -1,6 +1,11 @@
 //! Values worked out by hand.
 
-use tt_master::{Act, Master, MasterFault, MemoryReference};
+use std::test::Fail;
+use tt_master::{
+    Act, Master, MasterFault, MemoryReference, MemorySpanReference, NoAnswer, Silence, SpanMaster,
+    StepWatch, stated_span,
+};
+use tt_span::Span;
 
 /// The request of machine 0 to source 1 under nonce 1.
 const REQUEST: [u8; 16] = [
@@ -47,4 +52,32 @@ fn a_reference_that_fails_once(rt: HostRuntime) {
     assert!(rt; master.answer(&REQUEST) == Err(MasterFault::Reference));
     assert!(rt; master.answer(&REQUEST) == Ok(ANSWER));
     assert!(rt; MasterFault::Reference.number() == 304);
+}
+
+#[test]
+fn answers_the_span_of_the_reference(rt: HostRuntime) -> Result<(), Fail> {
+    let span = Span::new(1_000_000_000, 1_000_001_000)?;
+    let given = [Err(Silence::Leap), Ok(span)];
+    let mut master = SpanMaster::new(1, MemorySpanReference::new(&given));
+    for (bytes, why, number) in [
+        (&TO_OTHER[..], NoAnswer::OtherSource, 302),
+        (&ANSWER[..], NoAnswer::NotRequest, 303),
+        (&REQUEST[..3], NoAnswer::BadMessage, 301),
+        (&REQUEST[..], NoAnswer::Silent(Silence::Leap), 2406),
+    ] {
+        assert!(rt; master.answer(bytes) == Err(why) && why.number() == number);
+    }
+    assert!(rt; master.answer(&REQUEST) == Ok((span, ANSWER)));
+    assert!(rt; stated_span(500, TIME) == span);
+    Ok(())
+}
+
+#[test]
+fn steps(rt: HostRuntime) {
+    let mut watch = StepWatch::new();
+    // A second later by the monotonic clock slewing explains 500,000 ns and 2 more; the looks themselves took 100 ns each.
+    assert!(rt; !watch.look(1_000, 5_000_000_000, 1_100));
+    assert!(rt; !watch.look(1_000_001_000, 6_000_500_000, 1_000_001_100));
+    assert!(rt; watch.look(2_000_001_000, 7_001_000_104, 2_000_001_100));
+    assert!(rt; watch.look(2_000_001_000, 7_000_500_000, 2_000_001_100));
 }

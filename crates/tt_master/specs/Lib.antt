@@ -3,3 +3,7 @@ pub mod Reference
 pub mod Act
 pub mod Packet
 pub mod Master
+pub mod Silence
+pub mod SpanReference
+pub mod SpanMaster
+pub mod Step

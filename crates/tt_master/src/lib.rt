@@ -17,6 +17,15 @@
 //! - `hearing`: what a master reads in the bytes that came, and the packet that it answers. `spans`: the span in this
 //!   packet, and its laws.
 //! - `faults`: why a packet is not answered, and why a reference gave no time.
+//!
+//! Other references state an interval in which the time lies, as one does that asks other servers:
+//!
+//! - `span_references`: [`SpanReference`], what such a master reads its intervals from. `span_memory`:
+//!   [`MemorySpanReference`], one that gives those of a list.
+//! - `span_masters`: [`SpanMaster`], with its calls [`answer`](SpanMaster::answer) and
+//!   [`answer2`](SpanMaster::answer2). [`stated_span`] is the interval of a reading and its uncertainty.
+//! - `silences`: why a reference states no interval, and why a request is then not answered.
+//! - `steps`: [`StepWatch`], which notices that the real-time clock was stepped.
 #![tactic(auto)]
 
 mod acts;
@@ -25,11 +34,21 @@ mod hearing;
 mod masters;
 mod memory;
 mod references;
+mod silences;
+mod span_masters;
+mod span_memory;
+mod span_references;
 mod spans;
+mod steps;
 
 pub use acts::Act;
 pub use faults::{MasterFault, RefFault};
 pub use masters::Master;
 pub use memory::MemoryReference;
 pub use references::Reference;
-pub use spans::act_laws;
+pub use silences::{NoAnswer, Silence};
+pub use span_masters::SpanMaster;
+pub use span_memory::MemorySpanReference;
+pub use span_references::SpanReference;
+pub use spans::{act_laws, stated_span};
+pub use steps::{StepWatch, step_laws};

@@ -32,6 +32,18 @@ pub(crate) fn span_played(uncertainty: u64, act: Act, time: u64) -> Span
     Span::new(lo.min(MAX_TIME), hi.min(MAX_TIME)).unwrap()
 }
 
+/// The interval in which the time lies where a clock shows `time` and is off by at most `uncertainty`, both in
+/// nanoseconds: the span of an honest answer, from the time less the uncertainty to the time and the uncertainty, cut at
+/// 0 and [`MAX_TIME`]. Requires: both are at most `MAX_TIME`.
+pub fn stated_span(uncertainty: u64, time: u64) -> Span
+    requires uncertainty_in { uncertainty ≤ max_time }
+    requires time_in { time ≤ max_time }
+    ensures value { result ≡ span_of_act uncertainty Honest time }
+    ensures holds { Holds result time }
+{
+    span_played(uncertainty, Act::Honest, time)
+}
+
 /// Laws of these spans. The ends always form a span. The span of an honest answer holds exactly the times that differ
 /// from the time of the reference by at most the uncertainty. Apart from 0 and the greatest time, the span of any act
 /// holds exactly the times between its ends before the cut.

@@ -28,8 +28,8 @@ repeated n k x y e =
     ∙ get_or_from_slice_get (replicate n x) k y y e
 
 -- at the beginning nothing has happened to any kind
-pub new-kinds : (x : Kind) → KindStandsFor [] x → (k : ℕ) → (kind : Kind) → slice_get (replicate 112 x) k ≡ Some kind → KindStandsFor [] kind
-new-kinds x stands k kind e = subst (KindStandsFor []) (repeated 112 k x kind e) stands
+pub new-kinds : (x : Kind) → KindStandsFor [] x → (k : ℕ) → (kind : Kind) → slice_get (replicate 160 x) k ≡ Some kind → KindStandsFor [] kind
+new-kinds x stands k kind e = subst (KindStandsFor []) (repeated 160 k x kind e) stands
 
 module _ (past : List (ℕ × Happened)) (i : ℕ) (what : Happened) (kinds : List Kind) (v d : Kind)
     (all : (n : ℕ) → (x : Kind) → slice_get kinds n ≡ Some x → KindStandsFor (of_kind n past) x)

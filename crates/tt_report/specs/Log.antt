@@ -1,10 +1,10 @@
 -- Which lines of the log are of one kind.
 use Rattle.std.specs.Prelude.{ℕ, ◌+◌, min}
 use Rattle.tt_status.specs.declared.lines.LogEvent.{LogEvent}
-use Rattle.tt_status.specs.declared.lines.LogEvent.TheVariants.{Started, FirstPublication, SourceSilent, SourceSuspect, FusionRefused, ClockBack, AnswersRefused, RoundFailed, SharingEnded, SharingResumed, StatusUnwritten, NotAccepted, StateLoose, EpochLoose, SharedLoose, Ended, MasterStarted, MasterFailed, SocketRenewed, PublicationSlow, SourceUnsent, AssumptionBroken, HostSlept, GuestDisrupted, SleepUnseen, SourcesStale, StartPaused, EvidenceUnwritten, Stranger, SourceUnresolved, SourceResolved, KeysRead, KeysRefused, AddressAwaited}
+use Rattle.tt_status.specs.declared.lines.LogEvent.TheVariants.{Started, FirstPublication, SourceSilent, SourceSuspect, FusionRefused, ClockBack, AnswersRefused, RoundFailed, SharingEnded, SharingResumed, StatusUnwritten, NotAccepted, StateLoose, EpochLoose, SharedLoose, Ended, MasterStarted, MasterFailed, SocketRenewed, PublicationSlow, SourceUnsent, AssumptionBroken, HostSlept, GuestDisrupted, SleepUnseen, SourcesStale, StartPaused, EvidenceUnwritten, Stranger, SourceUnresolved, SourceResolved, KeysRead, KeysRefused, AddressAwaited, MasterSilent, MasterAnswers, WidthAbove, ClockStepped, ServerRefused, ServerSilent}
 use Rattle.tt_status.specs.declared.lines.RefusedFusion.TheVariants.{NoPoint, TooFewKnown}
 
--- the kind of an event, of which one line is said in ten seconds: each reason of a refused fusion is a kind of its own, and so is each source
+-- the kind of an event, of which one line is said in ten seconds: each reason of a refused fusion is a kind of its own, and so is each source and each server
 abbrev pub kind_of : LogEvent → ℕ
 kind_of (Started machine epoch port) = 0
 kind_of (FirstPublication width) = 1
@@ -36,8 +36,14 @@ kind_of (Stranger address) = 26
 kind_of (KeysRead keys) = 27
 kind_of (KeysRefused number line) = 28
 kind_of (AddressAwaited pause) = 29
-kind_of (SourceSilent source) = 32 + min source 15
-kind_of (SourceSuspect source) = 48 + min source 15
-kind_of (SourceUnsent source) = 64 + min source 15
-kind_of (SourceUnresolved source) = 80 + min source 15
-kind_of (SourceResolved source address) = 96 + min source 15
+kind_of (MasterSilent number) = 30
+kind_of MasterAnswers = 31
+kind_of (WidthAbove width limit) = 32
+kind_of ClockStepped = 33
+kind_of (SourceSilent source) = 48 + min source 15
+kind_of (SourceSuspect source) = 64 + min source 15
+kind_of (SourceUnsent source) = 80 + min source 15
+kind_of (SourceUnresolved source) = 96 + min source 15
+kind_of (SourceResolved source address) = 112 + min source 15
+kind_of (ServerRefused server number) = 128 + min server 15
+kind_of (ServerSilent server) = 144 + min server 15

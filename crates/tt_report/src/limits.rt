@@ -8,28 +8,34 @@ ghost use Rattle.tt_report.specs.Left.Happened.{asked, settled};
 use tt_status::{Limit, LogEvent, RefusedFusion};
 
 /// The number of kinds of lines.
-const KINDS: usize = 112;
+const KINDS: usize = 160;
 
 /// The kind of the lines that say that source 0 is silent. The kinds of the other sources follow.
-const SILENT: usize = 32;
+const SILENT: usize = 48;
 
 /// The kind of the lines that say that source 0 is a suspect. The kinds of the other sources follow.
-const SUSPECT: usize = 48;
+const SUSPECT: usize = 64;
 
 /// The kind of the lines that say that a packet to source 0 could not be sent. The kinds of the other sources follow.
-const UNSENT: usize = 64;
+const UNSENT: usize = 80;
 
 /// The kind of the lines that say that the name of source 0 has no address. The kinds of the other sources follow.
-const UNRESOLVED: usize = 80;
+const UNRESOLVED: usize = 96;
 
 /// The kind of the lines that say that the name of source 0 has an address. The kinds of the other sources follow.
-const RESOLVED: usize = 96;
+const RESOLVED: usize = 112;
+
+/// The kind of the lines that say that a reply of server 0 was refused. The kinds of the other servers follow.
+const REFUSED: usize = 128;
+
+/// The kind of the lines that say that no reply of server 0 came. The kinds of the other servers follow.
+const UNHEARD: usize = 144;
 
 /// The kind of an event. At most one line of each kind is logged in ten seconds. Each
-/// reason for which a fusion is refused has a kind of its own, and each source has kinds of its own.
+/// reason for which a fusion is refused has a kind of its own, and each source and each server of a master has kinds of its own.
 fn kind_of(event: LogEvent) -> usize
     ensures value { result ≡ kind_of event }
-    ensures in_range { result < 112 }
+    ensures in_range { result < 160 }
 {
     match event {
         LogEvent::Started { .. } => 0,
@@ -66,11 +72,17 @@ fn kind_of(event: LogEvent) -> usize
         LogEvent::KeysRead { .. } => 27,
         LogEvent::KeysRefused { .. } => 28,
         LogEvent::AddressAwaited { .. } => 29,
+        LogEvent::MasterSilent { .. } => 30,
+        LogEvent::MasterAnswers => 31,
+        LogEvent::WidthAbove { .. } => 32,
+        LogEvent::ClockStepped => 33,
         LogEvent::SourceSilent { source } => SILENT + source.min(15) as usize,
         LogEvent::SourceSuspect { source } => SUSPECT + source.min(15) as usize,
         LogEvent::SourceUnsent { source } => UNSENT + source.min(15) as usize,
         LogEvent::SourceUnresolved { source } => UNRESOLVED + source.min(15) as usize,
         LogEvent::SourceResolved { source, .. } => RESOLVED + source.min(15) as usize,
+        LogEvent::ServerRefused { server, .. } => REFUSED + server.min(15) as usize,
+        LogEvent::ServerSilent { server } => UNHEARD + server.min(15) as usize,
     }
 }
 

@@ -10,7 +10,7 @@ use Rattle.tt_status.specs.Moment.{moment_text}
 use Rattle.tt_status.specs.declared.lines.LogFormat.{LogFormat}
 use Rattle.tt_status.specs.declared.lines.LogFormat.TheVariants.{Text, Json}
 use Rattle.tt_status.specs.declared.lines.LogEvent.{LogEvent}
-use Rattle.tt_status.specs.declared.lines.LogEvent.TheVariants.{Started, FirstPublication, SourceSilent, SourceSuspect, FusionRefused, ClockBack, AnswersRefused, RoundFailed, SharingEnded, SharingResumed, StatusUnwritten, NotAccepted, StateLoose, EpochLoose, SharedLoose, Ended, MasterStarted, MasterFailed, SocketRenewed, PublicationSlow, SourceUnsent, AssumptionBroken, HostSlept, GuestDisrupted, SleepUnseen, SourcesStale, StartPaused, EvidenceUnwritten, Stranger, SourceUnresolved, SourceResolved, KeysRead, KeysRefused, AddressAwaited}
+use Rattle.tt_status.specs.declared.lines.LogEvent.TheVariants.{Started, FirstPublication, SourceSilent, SourceSuspect, FusionRefused, ClockBack, AnswersRefused, RoundFailed, SharingEnded, SharingResumed, StatusUnwritten, NotAccepted, StateLoose, EpochLoose, SharedLoose, Ended, MasterStarted, MasterFailed, SocketRenewed, PublicationSlow, SourceUnsent, AssumptionBroken, HostSlept, GuestDisrupted, SleepUnseen, SourcesStale, StartPaused, EvidenceUnwritten, Stranger, SourceUnresolved, SourceResolved, KeysRead, KeysRefused, AddressAwaited, MasterSilent, MasterAnswers, WidthAbove, ClockStepped, ServerRefused, ServerSilent}
 use Rattle.tt_status.specs.declared.lines.RefusedFusion.{RefusedFusion}
 use Rattle.tt_status.specs.declared.lines.RefusedFusion.TheVariants.{NoPoint, TooFewKnown}
 
@@ -38,6 +38,8 @@ level_of Ended = codes "info"
 level_of (MasterStarted source port) = codes "info"
 level_of (SourceResolved source address) = codes "info"
 level_of (KeysRead keys) = codes "info"
+level_of MasterAnswers = codes "info"
+level_of ClockStepped = codes "error"
 level_of _ = codes "warn"
 
 -- how an event is called
@@ -76,6 +78,12 @@ name_of (SourceResolved source address) = codes "source_resolved"
 name_of (KeysRead keys) = codes "keys_read"
 name_of (KeysRefused number line) = codes "keys_refused"
 name_of (AddressAwaited pause) = codes "address_awaited"
+name_of (MasterSilent number) = codes "master_silent"
+name_of MasterAnswers = codes "master_answers"
+name_of (WidthAbove width limit) = codes "width_above"
+name_of ClockStepped = codes "clock_stepped"
+name_of (ServerRefused server number) = codes "server_refused"
+name_of (ServerSilent server) = codes "server_silent"
 
 -- its numbers, each behind its name, and its address; the name of a time in nanoseconds ends in `_ns`
 abbrev pub fields_of : LogFormat → LogEvent → List ℕ
@@ -104,6 +112,10 @@ fields_of f (SourceResolved source address) = field f (codes "source") source ++
 fields_of f (KeysRead keys) = field f (codes "keys") keys
 fields_of f (KeysRefused number line) = field f (codes "number") number ++ field f (codes "line") line
 fields_of f (AddressAwaited pause) = field f (codes "pause_ns") pause
+fields_of f (MasterSilent number) = field f (codes "number") number
+fields_of f (WidthAbove width limit) = field f (codes "width_ns") width ++ field f (codes "limit_ns") limit
+fields_of f (ServerRefused server number) = field f (codes "server") server ++ field f (codes "number") number
+fields_of f (ServerSilent server) = field f (codes "server") server
 fields_of f _ = []
 
 -- the time, the level and the name of an event

@@ -6,3 +6,4 @@ pub mod Event
 pub mod Metric
 pub mod Histogram
 pub mod Status
+pub mod Server

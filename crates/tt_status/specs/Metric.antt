@@ -14,7 +14,7 @@ use Rattle.tt_status.specs.declared.metrics.Value.TheVariants as Number
 use Rattle.tt_status.specs.declared.metrics.Outcome.{Outcome}
 use Rattle.tt_status.specs.declared.metrics.Outcome.TheVariants.{Accepted, Refused, Silent}
 use Rattle.tt_status.specs.declared.metrics.Subject.{Subject}
-use Rattle.tt_status.specs.declared.metrics.Subject.TheVariants.{Machine, Version, Refusal, Source, OutcomeOf, RefusedOf, UnopenedOf, Unopened, Key, AtMost, Sum, Count}
+use Rattle.tt_status.specs.declared.metrics.Subject.TheVariants.{Machine, Version, Refusal, Source, OutcomeOf, RefusedOf, UnopenedOf, Unopened, Key, Reason, Server, AtMost, Sum, Count}
 
 -- a number, and what it is of
 pub record Sample : Type 0 where
@@ -71,6 +71,8 @@ labels_text (UnopenedOf source fault) = label_text (codes "source") (decimal sou
 labels_text (Unopened fault) = label_text (codes "number") (decimal (seal_number_of fault))
 labels_text (Key (Some key)) = label_text (codes "key") (decimal key)
 labels_text (Key None) = label_text (codes "key") (codes "none")
+labels_text (Reason number) = label_text (codes "number") (decimal number)
+labels_text (Server server) = label_text (codes "server") (decimal server)
 labels_text (AtMost None) = label_text (codes "le") (codes "+Inf")
 labels_text (AtMost (Some bound)) = label_text (codes "le") (seconds_text bound)
 labels_text Sum = []

@@ -173,6 +173,28 @@ pub enum LogEvent {
     AddressAwaited {
         pause: u64,
     },
+    /// From now on this master answers no poll, for the reason of this number: 2401 to 2408.
+    MasterSilent {
+        number: u64,
+    },
+    /// This master answers polls again.
+    MasterAnswers,
+    /// The span of an answer is wider than it shall be. Both are in nanoseconds.
+    WidthAbove {
+        width: u64,
+        limit: u64,
+    },
+    /// The real-time clock was stepped: this master is silent until it is started again.
+    ClockStepped,
+    /// A reply of this server of a master was refused with this number.
+    ServerRefused {
+        server: u64,
+        number: u64,
+    },
+    /// No reply of this server of a master came to a request.
+    ServerSilent {
+        server: u64,
+    },
 }
 
 impl LogEvent {
@@ -187,7 +209,9 @@ impl LogEvent {
             | LogEvent::Ended
             | LogEvent::MasterStarted { .. }
             | LogEvent::SourceResolved { .. }
-            | LogEvent::KeysRead { .. } => "info",
+            | LogEvent::KeysRead { .. }
+            | LogEvent::MasterAnswers => "info",
+            LogEvent::ClockStepped => "error",
             _ => "warn",
         }
     }
@@ -231,6 +255,12 @@ impl LogEvent {
             LogEvent::KeysRead { .. } => "keys_read",
             LogEvent::KeysRefused { .. } => "keys_refused",
             LogEvent::AddressAwaited { .. } => "address_awaited",
+            LogEvent::MasterSilent { .. } => "master_silent",
+            LogEvent::MasterAnswers => "master_answers",
+            LogEvent::WidthAbove { .. } => "width_above",
+            LogEvent::ClockStepped => "clock_stepped",
+            LogEvent::ServerRefused { .. } => "server_refused",
+            LogEvent::ServerSilent { .. } => "server_silent",
         }
     }
 }
@@ -413,6 +443,16 @@ fn push_fields(text: &mut String, format: LogFormat, event: LogEvent) -> Result<
             push_field(text, format, "line", line)
         }
         LogEvent::AddressAwaited { pause } => push_field(text, format, "pause_ns", pause),
+        LogEvent::MasterSilent { number } => push_field(text, format, "number", number),
+        LogEvent::WidthAbove { width, limit } => {
+            push_field(text, format, "width_ns", width)?;
+            push_field(text, format, "limit_ns", limit)
+        }
+        LogEvent::ServerRefused { server, number } => {
+            push_field(text, format, "server", server)?;
+            push_field(text, format, "number", number)
+        }
+        LogEvent::ServerSilent { server } => push_field(text, format, "server", server),
         _ => Ok(()),
     }
 }

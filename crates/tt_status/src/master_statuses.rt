@@ -2,13 +2,25 @@
 
 ghost use Rattle.std.specs.Prelude.{◌≡◌, ◌++◌, OnOk, string_bytes};
 ghost use Rattle.std.specs.List.{flat_map};
-ghost use Rattle.tt_status.specs.Master.{master_sample_text, master_metric_text, master_build_metric, keys_metric, sealed_sample, answers_metric, dropped_name, dropped_sample, dropped_metric, master_status_text};
+ghost use Rattle.tt_status.specs.Master.{master_sample_text, master_metric_text, master_build_metric, keys_metric, sealed_sample, answers_metric, dropped_name, dropped_sample, dropped_metric, unanswered_metric, width_metrics, own_metrics, master_status_text};
+ghost use Rattle.tt_status.specs.Metric.{single};
 ghost use Rattle.tt_status.specs.Status.{count};
+ghost use Rattle.tt_status.specs.declared.metrics.Kind.TheVariants.{Gauge};
+ghost use Rattle.tt_status.specs.declared.metrics.Value.TheVariants.{Nanos};
 
 use crate::metrics::{Kind, Subject, Value, push_head, push_labelled};
+use crate::server_statuses::{ServerStatus, push_servers};
 use crate::statuses::{UNOPENED, unopened_place};
 use std::alloc::AllocError;
 use tt_seal::SealFault;
+
+/// How many reasons there are for which a packet is not answered.
+pub const UNANSWERED: usize = 11;
+
+/// The numbers of the reasons for which a packet is not answered, by their places.
+const NUMBERS: [u64; UNANSWERED] = [
+    301, 302, 303, 2401, 2402, 2403, 2404, 2405, 2406, 2407, 2408,
+];
 
 /// How many answers a master has sealed under one key.
 #[derive(Clone, Copy, Debug, PartialEq, Eq)]
@@ -33,20 +45,41 @@ pub struct MasterStatus {
     /// How many packets it has dropped since they did not open, for the reason of each place, which [`unopened_place`]
     /// gives.
     pub dropped: [u64; UNOPENED],
+    /// How many packets it has not answered, for the reason of each place: 301, 302, 303 and 2401 to 2408, in this order.
+    pub unanswered: [u64; UNANSWERED],
+    /// The width of the last answer's span, in nanoseconds; none before the first.
+    pub width: Option<u64>,
+    /// The greatest width of an answer's span since the status before, in nanoseconds; none where there was no answer.
+    pub widest: Option<u64>,
+    /// What it knows of each of its NTP servers, in their order. Empty where it stands on this computer's clock.
+    pub servers: Vec<ServerStatus>,
 }
 
 /// Adds the status of a master to a text, in the format that Prometheus collects (its text format, version 0.0.4). Each
 /// metric has its help and its type once, before all of its samples, and each sample has the label `source`, the number of
 /// the source that the master is. The answers under each key follow in the order of `sealed`, and behind them those that
-/// were not sealed, under `key="none"`. Refuses only if it is out of memory; then the text may have a part of it at its
+/// were not sealed, under `key="none"`. The metrics of the servers have the label `server` too, the place of the server in
+/// `servers`; where there are no servers, none of these metrics is there. Times are in seconds, with nine digits behind the
+/// point, and `NaN` where there are none. Refuses only if it is out of memory; then the text may have a part of it at its
 /// end.
 pub fn push_master_status(text: &mut String, status: &MasterStatus) -> Result<(), AllocError>
     ensures written { OnOk result (string_bytes text.new ≡ string_bytes text.old ++ master_status_text status.now) }
 {
+    push_own(text, status)?;
+    push_servers(text, status.source, &status.servers)
+}
+
+/// Adds what the master has done itself.
+fn push_own(text: &mut String, status: &MasterStatus) -> Result<(), AllocError>
+    ensures { OnOk result (string_bytes text.new ≡ string_bytes text.old
+        ++ flat_map (master_metric_text status.now.source) (own_metrics status.now)) }
+{
     push_master_build(text, status.source)?;
     push_keys(text, status)?;
     push_answers(text, status)?;
-    push_dropped(text, status)
+    push_dropped(text, status)?;
+    push_unanswered(text, status)?;
+    push_widths(text, status)
 }
 
 /// Adds the metric that names the version.
@@ -139,6 +172,67 @@ fn push_dropped_for(
         status.source,
         Subject::Unopened(reason),
         status.dropped[unopened_place(reason)],
+    )
+}
+
+/// Adds how many packets were not answered, by the reason.
+fn push_unanswered(text: &mut String, status: &MasterStatus) -> Result<(), AllocError>
+    ensures { OnOk result (string_bytes text.new ≡ string_bytes text.old ++ master_metric_text status.now.source (unanswered_metric status.now)) }
+{
+    let name = "truetime_master_unanswered_total";
+    push_head(
+        text,
+        name,
+        "Packets that were not answered, by the number of the reason.",
+        Kind::Counter,
+    )?;
+    for place in 0..UNANSWERED {
+        let reason = Subject::Reason(NUMBERS[place]);
+        push_count(text, name, status.source, reason, status.unanswered[place])?;
+    }
+    Ok(())
+}
+
+/// Adds how wide the answers were.
+fn push_widths(text: &mut String, status: &MasterStatus) -> Result<(), AllocError>
+    ensures { OnOk result (string_bytes text.new ≡ string_bytes text.old
+        ++ flat_map (master_metric_text status.now.source) (width_metrics status.now)) }
+{
+    push_width(
+        text,
+        "truetime_master_width_seconds",
+        "The width of the last answer's span; NaN before the first.",
+        status.source,
+        status.width,
+    )?;
+    push_width(
+        text,
+        "truetime_master_width_max_seconds",
+        "The greatest width of an answer's span since the status before; NaN where there was no answer.",
+        status.source,
+        status.widest,
+    )
+}
+
+/// Adds the metric of a width.
+fn push_width(
+    text: &mut String,
+    name: &str,
+    help: &str,
+    source: u64,
+    width: Option<u64>,
+) -> Result<(), AllocError>
+    ensures { OnOk result (string_bytes text.new ≡ string_bytes text.old
+        ++ master_metric_text source (single name.now help.now Gauge (Nanos width))) }
+{
+    push_head(text, name, help, Kind::Gauge)?;
+    push_labelled(
+        text,
+        name,
+        "source",
+        source,
+        Subject::Machine,
+        Value::Nanos(width),
     )
 }
 

@@ -96,6 +96,10 @@ pub(crate) enum Subject {
     Unopened(SealFault),
     /// What is sealed under the key of this number; what is not sealed where there is none.
     Key(Option<u32>),
+    /// What was done for the reason of this number.
+    Reason(u64),
+    /// This server of a master.
+    Server(u64),
     /// The values of a histogram that are at most this bound, in nanoseconds; all of them where there is none.
     AtMost(Option<u64>),
     /// The sum of the values of a histogram.
@@ -218,6 +222,8 @@ fn push_labels(text: &mut String, subject: Subject) -> Result<(), AllocError>
         Subject::Unopened(fault) => push_number(text, "number", u64::from(fault.number())),
         Subject::Key(Some(key)) => push_number(text, "key", u64::from(key)),
         Subject::Key(None) => push_word(text, "key", "none"),
+        Subject::Reason(number) => push_number(text, "number", number),
+        Subject::Server(server) => push_number(text, "server", server),
         Subject::AtMost(Some(bound)) => push_bound(text, bound),
         Subject::AtMost(None) => push_word(text, "le", "+Inf"),
     }

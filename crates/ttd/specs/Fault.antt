@@ -5,7 +5,6 @@ use Rattle.tt_rounds.specs.declared.faults.LinkFault.TheVariants as links
 use Rattle.tt_settings.specs.Fault.{number_of as settings_number}
 use Rattle.tt_shared.specs.Fault.{shared_number_of}
 use Rattle.tt_server.specs.Fault.{number_of as server_number}
-use Rattle.tt_keys.specs.Fault.{number_of as keys_number}
 use Rattle.tt_keys.specs.declared.faults.KeysFault.{KeysFault}
 use Rattle.tt_keys.specs.declared.faults.KeysFault.TheVariants as keys
 use Rattle.tt_epoch.specs.declared.faults.EpochFault.{EpochFault}
@@ -19,9 +18,12 @@ use Rattle.tt_shared.specs.declared.faults.SharedFault.TheVariants as shared
 use Rattle.tt_settings.specs.declared.faults.SettingsFault.{SettingsFault}
 use Rattle.tt_settings.specs.declared.faults.SettingsFault.TheVariants as settings
 use Rattle.ttd.specs.declared.faults.ServiceFault.{ServiceFault}
-use Rattle.ttd.specs.declared.faults.ServiceFault.TheVariants.{Words, BadFile, ReadFailed, LinkFailed, CannotListen, Keys, NoRandom, Settings, Shared, Server, Memory}
+use Rattle.ttd.specs.declared.faults.ServiceFault.TheVariants.{Words, BadFile, ReadFailed, LinkFailed, Master, NoRandom, Settings, Shared, Server, Memory}
 use Rattle.ttd_commands.specs.Fault.{number_of as command_number}
 use Rattle.ttd_commands.specs.declared.faults.Fault.TheVariants as command
+use Rattle.ttd_masters.specs.Fault.{number_of as master_number}
+use Rattle.ttd_masters.specs.declared.faults.StartFault.{StartFault}
+use Rattle.ttd_masters.specs.declared.faults.StartFault.TheVariants as master
 use Rattle.ttd_words.specs.Fault.{number_of as words_number}
 use Rattle.ttd_words.specs.declared.ending.Status.{Status}
 use Rattle.ttd_words.specs.declared.ending.Status.TheVariants.{Memory as NoMemory, Bad, Device}
@@ -34,8 +36,7 @@ number_of (Words fault) = words_number fault
 number_of BadFile = command_number command.BadInput
 number_of ReadFailed = command_number command.ReadFailed
 number_of LinkFailed = link_number_of links.Failed
-number_of (CannotListen address) = link_number_of links.Failed
-number_of (Keys fault) = keys_number fault
+number_of (Master fault) = master_number fault
 number_of NoRandom = 1829
 number_of (Settings fault) = settings_number fault
 number_of (Shared fault) = shared_number_of fault
@@ -53,6 +54,23 @@ abbrev pub status_of_keys : KeysFault → Status
 status_of_keys keys.CannotRead = Device
 status_of_keys keys.Memory = NoMemory
 status_of_keys _ = Bad
+
+-- How the program ends where a master does not serve: as at a failed device where it has not its sockets, its file or random bytes.
+abbrev pub status_of_master : StartFault → Status
+status_of_master master.ReadFailed = Device
+status_of_master (master.CannotListen address) = Device
+status_of_master (master.CannotAsk address) = Device
+status_of_master master.NoRandom = Device
+status_of_master (master.Keys fault) = status_of_keys fault
+status_of_master master.Memory = NoMemory
+status_of_master _ = Bad
+
+-- What the program refuses with where a master does not serve.
+abbrev pub master_refused : StartFault → ServiceFault
+master_refused master.BadFile = BadFile
+master_refused master.ReadFailed = ReadFailed
+master_refused master.Memory = Memory
+master_refused fault = Master fault
 
 -- How the program ends where a configuration is refused.
 abbrev pub status_of_settings : SettingsFault → Status
@@ -94,8 +112,7 @@ abbrev pub status_of : ServiceFault → Status
 status_of (Words fault) = status_of_words fault
 status_of ReadFailed = Device
 status_of LinkFailed = Device
-status_of (CannotListen address) = Device
-status_of (Keys fault) = status_of_keys fault
+status_of (Master fault) = status_of_master fault
 status_of NoRandom = Device
 status_of (Settings fault) = status_of_settings fault
 status_of (Shared fault) = status_of_shared fault

@@ -1,9 +1,5 @@
 pub mod Fault
 pub mod Answer
-pub mod Clocks
 pub mod Standard
-pub mod Packets
 pub mod Asking
 pub mod Keys
-pub mod Pauses
-pub mod Standing

@@ -3,7 +3,6 @@
 ghost use Rattle.std.specs.Prelude.{◌≡◌};
 ghost use Rattle.ttd.specs.Asking.{ending_of, worse};
 
-use crate::clocks::Monotonic;
 use crate::faults::ServiceFault;
 use crate::lines::{Line, end, keep, read_line};
 use crate::services::Stop;
@@ -17,6 +16,7 @@ use tt_live::{Meaning, Reply, exchange, meaning_of, refusal_in};
 use tt_publish::Clock;
 use tt_session::{Deadline, DeadlineReader, DeadlineWriter, Timed};
 use tt_stream::{ByteReader, ByteWriter, DeviceFault};
+use ttd_masters::Monotonic;
 use ttd_words::{Peer, Status, explain, sentence_of, write};
 
 /// The most times that one line is sent.

@@ -1,11 +1,10 @@
 //! Why a service refuses, and how the program ends after it.
 
 ghost use Rattle.std.specs.Prelude.{◌≡◌};
-ghost use Rattle.ttd.specs.Fault.{number_of, status_of, status_of_epoch, status_of_keys, status_of_publish, status_of_server, status_of_settings, status_of_shared, status_of_words};
+ghost use Rattle.ttd.specs.Fault.{master_refused, number_of, status_of, status_of_epoch, status_of_keys, status_of_master, status_of_publish, status_of_server, status_of_settings, status_of_shared, status_of_words};
 ghost use Rattle.ttd.specs.declared.faults.ServiceFault.TheVariants.{Memory};
 
 use std::alloc::{AllocError, AllocFailed};
-use std::net::SocketAddr;
 use thiserror::Error;
 use tt_epoch::EpochFault;
 use tt_keys::KeysFault;
@@ -15,6 +14,7 @@ use tt_server::ServerFault;
 use tt_settings::SettingsFault;
 use tt_shared::SharedFault;
 use ttd_commands::Fault;
+use ttd_masters::StartFault;
 use ttd_words::{Status, WordsFault};
 
 /// Why a service prints a refusal.
@@ -32,12 +32,9 @@ pub enum ServiceFault {
     /// A connection can't be had, or failed.
     #[error("the link failed")]
     LinkFailed,
-    /// A master has no socket at its address.
-    #[error("no socket can be had at {0}")]
-    CannotListen(SocketAddr),
-    /// The file of keys gives no keys.
+    /// A master does not serve.
     #[error("{0}")]
-    Keys(KeysFault),
+    Master(StartFault),
     /// The system gives no random bytes.
     #[error("no random bytes")]
     NoRandom,
@@ -56,8 +53,8 @@ pub enum ServiceFault {
 }
 
 impl ServiceFault {
-    /// The number of the refusal: 1603 `BadFile`, 1604 `ReadFailed`, 1501 `LinkFailed` and `CannotListen`, 1829
-    /// `NoRandom`, the number of the inner fault for `Words`, `Keys`, `Settings`, `Shared` and `Server`, and 1 `Memory`.
+    /// The number of the refusal: 1603 `BadFile`, 1604 `ReadFailed`, 1501 `LinkFailed`, 1829
+    /// `NoRandom`, the number of the inner fault for `Words`, `Master`, `Settings`, `Shared` and `Server`, and 1 `Memory`.
     pub fn number(&self) -> u16
         ensures { result ≡ number_of self.now }
     {
@@ -65,8 +62,8 @@ impl ServiceFault {
             ServiceFault::Words(fault) => fault.number(),
             ServiceFault::BadFile => Fault::BadInput.number(),
             ServiceFault::ReadFailed => Fault::ReadFailed.number(),
-            ServiceFault::LinkFailed | ServiceFault::CannotListen(_) => LinkFault::Failed.number(),
-            ServiceFault::Keys(fault) => fault.number(),
+            ServiceFault::LinkFailed => LinkFault::Failed.number(),
+            ServiceFault::Master(fault) => fault.number(),
             ServiceFault::NoRandom => 1829,
             ServiceFault::Settings(fault) => fault.number(),
             ServiceFault::Shared(fault) => fault.number(),
@@ -81,11 +78,10 @@ impl ServiceFault {
     {
         match self {
             ServiceFault::Words(fault) => status_of_words(*fault),
-            ServiceFault::ReadFailed
-            | ServiceFault::LinkFailed
-            | ServiceFault::CannotListen(_)
-            | ServiceFault::NoRandom => Status::Device,
-            ServiceFault::Keys(fault) => status_of_keys(*fault),
+            ServiceFault::ReadFailed | ServiceFault::LinkFailed | ServiceFault::NoRandom => {
+                Status::Device
+            }
+            ServiceFault::Master(fault) => status_of_master(*fault),
             ServiceFault::Settings(fault) => status_of_settings(*fault),
             ServiceFault::Shared(fault) => status_of_shared(*fault),
             ServiceFault::Server(fault) => status_of_server(*fault),
@@ -112,6 +108,22 @@ fn status_of_keys(fault: KeysFault) -> Status
     match fault {
         KeysFault::CannotRead => Status::Device,
         KeysFault::Memory => Status::Memory,
+        _ => Status::Bad,
+    }
+}
+
+/// How the program ends if a master does not serve: as after a failed device where it has not its sockets, its file or random
+/// bytes.
+fn status_of_master(fault: StartFault) -> Status
+    ensures { result ≡ status_of_master fault }
+{
+    match fault {
+        StartFault::ReadFailed
+        | StartFault::CannotListen(_)
+        | StartFault::CannotAsk(_)
+        | StartFault::NoRandom => Status::Device,
+        StartFault::Keys(fault) => status_of_keys(fault),
+        StartFault::Memory => Status::Memory,
         _ => Status::Bad,
     }
 }
@@ -172,6 +184,19 @@ fn status_of_server(fault: ServerFault) -> Status
         ServerFault::Publish(fault) => status_of_publish(fault),
         ServerFault::Memory => Status::Memory,
         _ => Status::Bad,
+    }
+}
+
+impl From<StartFault> for ServiceFault {
+    ghost from_gives = { λ inner fault. fault ≡ master_refused inner };
+
+    fn from(fault: StartFault) -> ServiceFault {
+        match fault {
+            StartFault::BadFile => ServiceFault::BadFile,
+            StartFault::ReadFailed => ServiceFault::ReadFailed,
+            StartFault::Memory => ServiceFault::Memory,
+            other => ServiceFault::Master(other),
+        }
     }
 }
 

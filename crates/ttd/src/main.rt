@@ -1,15 +1,12 @@
 //! The program `ttd`: the commands of `ttd_commands`, and the services, which talk to other processes: `master` answers
-//! polls, `serve` runs a machine, `ask` sends lines to a machine, `read` reads the time that a machine shares in a file,
-//! and `key` makes a line for a file of keys.
+//! polls (`ttd_masters`), `serve` runs a machine, `ask` sends lines to a machine, `read` reads the time that a machine shares
+//! in a file, and `key` makes a line for a file of keys.
 //!
 //! [`run`](program::run) does what the arguments ask for, with the process's standard input and standard output. A
 //! refusal is also explained in a sentence on standard error.
 //!
 //! - `arguments`: the arguments with which the program was started. `program`: what they ask for is done.
 //! - `commands`: what is said of a command that has ended. `services`: the services, and how each ended.
-//! - `clocks`: this computer's clocks. `links`: the link of a master to the senders of polls. `masters`: the service
-//!   `master`. `sealed_masters`: a master that answers sealed polls. `key_files`: its file of keys. `pauses`: when it looks
-//!   at it. `standing`: what a master shows of itself.
 //! - `making`: the service `key`.
 //! - `lines`: lines from a device. `asking`: the service `ask`.
 //! - `reading`: the service `read`. `serving`: the service `serve`. `standard`: the descriptors 0 to 2.
@@ -18,22 +15,15 @@
 
 mod arguments;
 mod asking;
-mod clocks;
 mod commands;
 mod faults;
-mod key_files;
 mod lines;
-mod links;
 mod making;
-mod masters;
-mod pauses;
 mod program;
 mod reading;
-mod sealed_masters;
 mod services;
 mod serving;
 mod standard;
-mod standing;
 
 use arguments::words_given;
 use program::{reject, run};

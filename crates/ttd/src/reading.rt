@@ -1,6 +1,5 @@
 //! The service `read`.
 
-use crate::clocks::Monotonic;
 use crate::faults::ServiceFault;
 use crate::services::Stop;
 use std::fs::{File, Files};
@@ -9,6 +8,7 @@ use std::time::Clock as SystemClock;
 use tt_shared::open_view;
 use tt_stream::ByteWriter;
 use tt_text::short_line;
+use ttd_masters::Monotonic;
 use ttd_words::write;
 
 /// Writes the reading of a shared file. Standard error says if it is stale.

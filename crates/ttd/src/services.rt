@@ -6,7 +6,6 @@ ghost use Rattle.ttd.specs.declared.services.Stop.TheVariants.{Refused};
 use crate::asking::ask;
 use crate::faults::ServiceFault;
 use crate::making::make_key;
-use crate::masters::{MasterPlan, serve_polls};
 use crate::reading::read;
 use crate::serving::run_server;
 use crate::standard::fill_standard;
@@ -19,6 +18,7 @@ use std::thread::Threads;
 use std::time::Clock;
 use tt_report::Disk;
 use tt_stream::{ByteReader, ByteWriter};
+use ttd_masters::{MasterPlan, serve_polls};
 use ttd_words::{Service, Status, explain, explain_unwritten, refuse};
 
 /// Why a service stops before its answer is complete.
@@ -99,9 +99,8 @@ fn run_service<
         Service::Master {
             source,
             listen,
-            uncertainty,
-            offset,
-            acts,
+            time,
+            warn_width,
             log,
             keys,
             status,
@@ -109,14 +108,13 @@ fn run_service<
             let plan = MasterPlan {
                 source: *source,
                 listen: *listen,
-                uncertainty: *uncertainty,
-                offset: *offset,
-                acts: acts.as_slice(),
+                time,
+                warn_width: *warn_width,
                 log: *log,
                 keys: *keys,
                 status: *status,
             };
-            serve_polls(rt, plan)?;
+            serve_polls(rt, plan).map_err(ServiceFault::from)?;
             Ok(())
         }
         Service::Serve {

@@ -1,10 +1,9 @@
 //! The service `serve`.
 
 use crate::faults::ServiceFault;
-use crate::key_files;
 use crate::services::Stop;
 use std::alloc::Global;
-use std::fs::{File, Files, OpenOptions};
+use std::fs::{File, Files};
 use std::io::{Eprint, Input, Read};
 use std::net::{Net, TcpListener, TcpStream};
 use std::random::RandomSource;
@@ -12,35 +11,12 @@ use std::str;
 use std::sync::Wait;
 use std::thread::Threads;
 use std::time::Clock;
-use tt_files::open_regular;
 use tt_report::Disk;
 use tt_server::{ServerFault, outline, serve};
 use tt_settings::{Refusal, Settings, SettingsFault};
-use tt_stream::{ByteWriter, Counted, ReadFault, read_to_end};
+use tt_stream::ByteWriter;
+use ttd_masters::bytes_of;
 use ttd_words::{Status, write};
-
-/// The most bytes of a configuration: 1 MiB.
-const MOST_FILE: usize = 1_048_576;
-
-/// The bytes of a regular file. Anything else at the path is refused unopened.
-fn bytes_of<H: Files<File = File>>(
-    rt: &H,
-    alloc: Global,
-    path: &str,
-) -> Result<Vec<u8>, ServiceFault> {
-    let mut how = OpenOptions::new();
-    how.read(true);
-    let Ok(file) = open_regular(rt, path, &how) else {
-        return Err(ServiceFault::ReadFailed);
-    };
-    let mut reader = Counted::new(file);
-    match read_to_end(alloc, &mut reader, MOST_FILE, MOST_FILE as u32 + 2) {
-        Ok(bytes) => Ok(bytes),
-        Err(ReadFault::Memory) => Err(ServiceFault::Memory),
-        Err(ReadFault::TooLong) => Err(ServiceFault::BadFile),
-        Err(_) => Err(ServiceFault::ReadFailed),
-    }
-}
 
 /// The settings in a file. If the configuration is refused, standard error says why, and at which line.
 fn settings_of<H: Files<File = File> + Eprint>(
@@ -78,7 +54,7 @@ fn say_keys<H: Eprint>(rt: &H, settings: &Settings, fault: ServerFault) {
         return;
     };
     match fault {
-        ServerFault::Keys(fault) => key_files::say_refusal(rt, path.as_str(), fault),
+        ServerFault::Keys(fault) => ttd_masters::say_refusal(rt, path.as_str(), fault),
         ServerFault::NoKey(_) => {
             let path = path.as_str();
             let _ = eprint!(rt; "{path}: {fault}\n");

@@ -50,9 +50,9 @@ free_rule name = record (new_rule name) { long = Some name; value_names = 1 }
 abbrev pub max_id : ℕ
 max_id = 4294967295
 
--- The option `--id N`, which may be left out.
-abbrev pub id_rule : Rule
-id_rule = number_rule (codes "id") max_id
+-- An option `--NAME N` with the number of a key, which may be left out.
+abbrev pub id_rule : Text → Rule
+id_rule name = number_rule name max_id
 
 -- The command `twin` with its two options.
 abbrev pub twin_app : App
@@ -62,13 +62,13 @@ twin_app = with_rule (with_rule (new_app (codes "twin")) (given_rule (codes "eve
 abbrev pub needed_rule : Text → ℕ → Rule
 needed_rule name most = record (number_rule name most) { required = true }
 
--- The option `--offset NS`, which is 0 where it is not given.
-abbrev pub offset_rule : Rule
-offset_rule = record (new_rule (codes "offset")) { long = Some (codes "offset"); value_names = 1; defaults = codes "0" ∷ [] }
+-- An option `--NAME TEXT`, which may be given often.
+abbrev pub many_rule : Text → Rule
+many_rule name = record (new_rule name) { long = Some name; value_names = 1; action = Some Append }
 
--- The option `--act ACT`, which may be given often.
-abbrev pub act_rule : Rule
-act_rule = record (new_rule (codes "act")) { long = Some (codes "act"); value_names = 1; action = Some Append }
+-- The most servers of a master that may be wrong.
+abbrev pub max_faulty : ℕ
+max_faulty = 7
 
 -- The option `--log FORM`, which is `text` where it is not given.
 abbrev pub log_rule : Rule
@@ -92,16 +92,32 @@ words_rule = record (new_rule (codes "words")) { value_names = 1; action = Some 
 
 -- The command `master` with the options that have to be given.
 abbrev pub plain_master_app : App
-plain_master_app = with_rule (with_rule (with_rule (new_app (codes "master")) (needed_rule (codes "source") max_source))
-    (text_rule (codes "listen"))) (needed_rule (codes "uncertainty") max_time)
+plain_master_app = with_rule (with_rule (new_app (codes "master")) (needed_rule (codes "source") max_source)) (text_rule (codes "listen"))
 
--- The command `master` with these and the options of what it answers and says.
-abbrev pub acting_master_app : App
-acting_master_app = with_rule (with_rule (with_rule plain_master_app offset_rule) act_rule) log_rule
+-- The command `master` with these and the options of a stated uncertainty.
+abbrev pub stated_master_app : App
+stated_master_app = with_rule (with_rule (with_rule plain_master_app (number_rule (codes "uncertainty") max_time)) (free_rule (codes "offset")))
+    (many_rule (codes "act"))
 
--- The command `master` with these and its files.
+-- The command `master` with these and the servers, and which of them may be wrong by what.
+abbrev pub ntp_master_app : App
+ntp_master_app = with_rule (with_rule (with_rule stated_master_app (many_rule (codes "ntp"))) (number_rule (codes "faulty") max_faulty))
+    (number_rule (codes "margin") max_time)
+
+-- The command `master` with these and how often and how long servers are trusted.
+abbrev pub paced_master_app : App
+paced_master_app = with_rule (with_rule (with_rule ntp_master_app (free_rule (codes "every"))) (number_rule (codes "drift") max_drift))
+    (free_rule (codes "max-age"))
+
+-- The command `master` with these and what more is asked of servers.
+abbrev pub asking_master_app : App
+asking_master_app = with_rule (with_rule (with_rule paced_master_app (id_rule (codes "ntp-key"))) (free_rule (codes "ntp-keys")))
+    (flag_rule (codes "local"))
+
+-- The command `master` with these, its warning, the form of its log, and its files.
 abbrev pub master_app : App
-master_app = with_rule (with_rule acting_master_app (free_rule (codes "keys"))) (free_rule (codes "status"))
+master_app = with_rule (with_rule (with_rule (with_rule asking_master_app (number_rule (codes "warn-width") max_time)) log_rule) (free_rule (codes "keys")))
+    (free_rule (codes "status"))
 
 -- The command `serve` with its file and its flags.
 abbrev pub serve_app : App
@@ -117,7 +133,7 @@ read_app = with_rule (new_app (codes "read")) (place_rule (codes "file"))
 
 -- The command `key` with its options.
 abbrev pub key_app : App
-key_app = with_rule (with_rule (new_app (codes "key")) id_rule) (free_rule (codes "name"))
+key_app = with_rule (with_rule (new_app (codes "key")) (id_rule (codes "id"))) (free_rule (codes "name"))
 
 -- The program with no command yet: its words begin with no name of the program, and one command has to be named.
 abbrev pub bare_app : App

@@ -1,9 +1,24 @@
 -- The numbers of the refusals.
-use Rattle.std.specs.Prelude.{ℕ, Result, Ok, Err}
+use Rattle.std.specs.Prelude.{ℕ, List, codes, Result, Ok, Err}
 use Rattle.ttd_words.specs.declared.faults.Given.{Given}
 use Rattle.ttd_words.specs.declared.faults.Given.TheVariants.{NotLocal, Address}
+use Rattle.ttd_words.specs.declared.faults.TimeOption.{TimeOption}
+use Rattle.ttd_words.specs.declared.faults.TimeOption.TheVariants.{Offset, Act, Faulty, Margin, Every, Drift, MaxAge, NtpKey, NtpKeys, Local}
 use Rattle.ttd_words.specs.declared.faults.WordsFault.{WordsFault}
 use Rattle.ttd_words.specs.declared.faults.WordsFault.TheVariants.{BadWords, BadValue, Memory}
+
+-- The name of an option of `master` that only one kind of its time has, without its hyphens.
+abbrev pub id_of : TimeOption → List ℕ
+id_of Offset = codes "offset"
+id_of Act = codes "act"
+id_of Faulty = codes "faulty"
+id_of Margin = codes "margin"
+id_of Every = codes "every"
+id_of Drift = codes "drift"
+id_of MaxAge = codes "max-age"
+id_of NtpKey = codes "ntp-key"
+id_of NtpKeys = codes "ntp-keys"
+id_of Local = codes "local"
 
 -- The number of the refusal of a value: 1805 of an address outside this host, and else that of bad words.
 abbrev pub value_number : Given → ℕ

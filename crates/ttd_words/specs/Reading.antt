@@ -1,8 +1,9 @@
 -- What words ask for.
-use Rattle.std.specs.Prelude.{◌≡◌, ◌⊎◌, ◌||◌, ◌≤◌, ℕ, Bool, true, false, List, [], ◌∷◌, ◌++◌, length, drop, Option, Some, None, ok_or, is_some, Result, Ok, Err, IsOk, IsSome, IfSome, MatchResult, if◌then◌else◌, nat_eq, nat_le, codes, string_bytes, option_and_then, option_map, not}
+use Rattle.std.specs.Prelude.{◌≡◌, ◌⊎◌, ◌||◌, ◌≤◌, ℕ, Bool, true, false, List, [], ◌∷◌, ◌++◌, ◌*◌, ◌&&◌, length, drop, Option, Some, None, ok_or, is_some, Result, Ok, Err, IsOk, IsSome, IfSome, MatchResult, if◌then◌else◌, nat_eq, nat_le, nat_lt, codes, string_bytes, option_and_then, option_map, not}
 use Rattle.std.specs.Cmp.Lexicographic.{pointwise}
 use Rattle.std.specs.List.{join_by, list_all, list_any}
-use Rattle.std.specs.Option.{option_map_or}
+use Rattle.std.specs.Option.{option_map_or, unwrap_or}
+use Rattle.std.specs.Net.Socket.{socket_port}
 use Rattle.std.specs.Str.{bytes_eq}
 use Rattle.std.specs.Str.Parse.{digits_value, without_leading_plus}
 use Rattle.std.specs.declared.net.socket_addr.SocketAddr.{SocketAddr}
@@ -12,23 +13,28 @@ use Rattle.clap.specs.Kinds.{Kinds}
 use Rattle.clap.specs.declared.error.kind.ErrorKind.{ErrorKind}
 use Rattle.clap.specs.declared.error.kind.ErrorKind.TheVariants.{DisplayHelp, DisplayVersion}
 use Rattle.tt_span.specs.Drift.{max_drift}
+use Rattle.tt_span.specs.Sources.{max_sources}
 use Rattle.tt_span.specs.Time.{max_time}
 use Rattle.tt_poll.specs.Message.{max_source}
+use Rattle.tt_daemon.specs.Config.{default_drift}
 use Rattle.tt_master.specs.declared.acts.Act.{Act}
 use Rattle.tt_master.specs.declared.acts.Act.TheVariants.{Honest}
 use Rattle.tt_script.specs.Acts.{act_in}
 use Rattle.tt_status.specs.declared.lines.LogFormat.{LogFormat}
 use Rattle.tt_settings.specs.Address.{port_of}
+use Rattle.tt_settings.specs.Duration.{duration_of}
 use Rattle.tt_settings.specs.Form.{log_format_of}
-use Rattle.tt_settings.specs.Numeral.{number_of as time_of}
+use Rattle.tt_settings.specs.Numeral.{number_of as amount_of}
 use Rattle.tt_settings.specs.Socket.{address_of, is_loopback}
 use Rattle.tt_keys.specs.Line.{is_name}
-use Rattle.ttd_words.specs.CommandLine.{faults_of, max_id, max_number, named_by, names_service}
-use Rattle.ttd_words.specs.Fault.{◌>>=◌}
+use Rattle.ttd_words.specs.CommandLine.{faults_of, max_faulty, max_id, max_number, named_by, names_service}
+use Rattle.ttd_words.specs.Fault.{◌>>=◌, id_of}
 use Rattle.ttd_words.specs.declared.requests.Asked.{Asked}
 use Rattle.ttd_words.specs.declared.requests.Asked.TheVariants as asks
 use Rattle.ttd_words.specs.declared.requests.Command.{Command}
 use Rattle.ttd_words.specs.declared.requests.Command.TheVariants.{Age, Fuse, Check, Run as RunScript, Trace, Twin, Picture, Live, Judge}
+use Rattle.ttd_words.specs.declared.requests.MasterTime.{MasterTime}
+use Rattle.ttd_words.specs.declared.requests.MasterTime.TheVariants as time
 use Rattle.ttd_words.specs.declared.requests.Offset.{Offset}
 use Rattle.ttd_words.specs.declared.requests.Offset.TheVariants.{Later, Earlier}
 use Rattle.ttd_words.specs.declared.requests.Peer.{Peer}
@@ -37,7 +43,10 @@ use Rattle.ttd_words.specs.declared.requests.Service.{Service}
 use Rattle.ttd_words.specs.declared.requests.Service.TheVariants as service
 use Rattle.ttd_words.specs.declared.requests.Side.{Side}
 use Rattle.ttd_words.specs.declared.requests.Side.TheVariants.{Low, High}
+use Rattle.ttd_words.specs.declared.faults.Given.{Given}
 use Rattle.ttd_words.specs.declared.faults.Given.TheVariants as given
+use Rattle.ttd_words.specs.declared.faults.TimeOption.{TimeOption}
+use Rattle.ttd_words.specs.declared.faults.TimeOption.TheVariants as option
 use Rattle.ttd_words.specs.declared.faults.WordsFault.{WordsFault}
 use Rattle.ttd_words.specs.declared.faults.WordsFault.TheVariants.{BadWords, BadValue, Memory}
 
@@ -69,9 +78,41 @@ abbrev pub place_of : Peer → Place
 place_of (peer.Port port) = AtPort port
 place_of (peer.Path path) = AtPath path.now
 
+-- How a master stands on NTP servers, without its memory.
+pub record NtpPlan : Type 0 where
+  pub servers : List SocketAddr
+  pub faulty : ℕ
+  pub margin : ℕ
+  pub every : Option ℕ
+  pub drift : ℕ
+  pub max_age : ℕ
+  pub key : Option ℕ
+  pub keys : Option Text
+  pub local : Bool
+
+-- What the time of a master stands on, without its memory.
+pub data Time : Type 0 where
+  Stated : ℕ → Offset → List Act → Time
+  ByServers : NtpPlan → Time
+
+-- What the time of a master stands on.
+abbrev pub time_meant : MasterTime → Time
+time_meant (time.Stated uncertainty offset acts) = Stated uncertainty offset acts.items
+time_meant (time.Ntp ntp) = ByServers (record {
+  servers = ntp.servers.items;
+  faulty = ntp.faulty;
+  margin = ntp.margin;
+  every = ntp.every;
+  drift = ntp.drift;
+  max_age = ntp.max_age;
+  key = ntp.key;
+  keys = option_map (λ path. path.now) ntp.keys;
+  local = ntp.local;
+})
+
 -- What a service is to do, without its memory.
 pub data Meaning : Type 0 where
-  Master : ℕ → SocketAddr → ℕ → Offset → List Act → LogFormat → Option Text → Option Text → Meaning
+  Master : ℕ → SocketAddr → Time → Option ℕ → LogFormat → Option Text → Option Text → Meaning
   Serve : Text → Bool → Bool → Meaning
   Ask : Place → Option Text → ℕ → Meaning
   Read : Text → Meaning
@@ -79,8 +120,8 @@ pub data Meaning : Type 0 where
 
 -- What a service is to do.
 abbrev pub meaning_of : Service → Meaning
-meaning_of (service.Master source listen uncertainty offset acts log keys status) =
-    Master source listen uncertainty offset acts.items log (option_map (λ path. path.now) keys) (option_map (λ path. path.now) status)
+meaning_of (service.Master source listen time warn_width log keys status) =
+    Master source listen (time_meant time) warn_width log (option_map (λ path. path.now) keys) (option_map (λ path. path.now) status)
 meaning_of (service.Serve file check until_eof) = Serve file.now check until_eof
 meaning_of (service.Ask peer line retry) = Ask (place_of peer) (option_map string_bytes line) retry
 meaning_of (service.Read file) = Read file.now
@@ -94,6 +135,16 @@ up_to most None = Err BadWords
 -- The number of at most `most` that was given for an option, or else its default.
 abbrev pub number_to : Text → ℕ → List Row → Result ℕ WordsFault
 number_to id most rows = up_to most (number_at id rows)
+
+-- A number of at most `most`, where one was given.
+abbrev pub number_if : ℕ → Option ℕ → Result (Option ℕ) WordsFault
+number_if most None = Ok None
+number_if most (Some n) = if nat_le n most then Ok (Some n) else Err BadWords
+
+-- A number of at most `most`, and the default where none was given.
+abbrev pub number_or : ℕ → ℕ → Option ℕ → Result ℕ WordsFault
+number_or most default None = Ok default
+number_or most default (Some n) = if nat_le n most then Ok n else Err BadWords
 
 -- The text that was given for an option or a place, or else its default.
 abbrev pub text_at : Text → List Row → Result Text WordsFault
@@ -155,7 +206,7 @@ flag_at id rows = option_map_or (λ text. bytes_eq text (codes "true")) (first_o
 abbrev pub time_behind : Text → Text → Option ℕ
 time_behind word text =
     let digits = drop (length word) text in
-    if pointwise nat_eq text (word ++ digits) then time_of max_time digits else None
+    if pointwise nat_eq text (word ++ digits) then amount_of max_time digits else None
 
 -- An offset by the time behind a minus, that behind a plus, and that of the whole text.
 abbrev pub offset_by : Option ℕ → Option ℕ → Option ℕ → Result Offset WordsFault
@@ -166,13 +217,12 @@ offset_by None None None = Err (BadValue given.Offset)
 
 -- The offset that a text writes.
 abbrev pub offset_in : Text → Result Offset WordsFault
-offset_in text = offset_by (time_behind (codes "-") text) (time_behind (codes "+") text) (time_of max_time text)
+offset_in text = offset_by (time_behind (codes "-") text) (time_behind (codes "+") text) (amount_of max_time text)
 
--- The offset that was given for an option.
-abbrev pub offset_at : Text → List Row → Result Offset WordsFault
-offset_at id rows = do
-  text ← text_at id rows
-  offset_in text
+-- The offset that a text writes, and none at all where there is no text.
+abbrev pub offset_if : Option Text → Result Offset WordsFault
+offset_if None = Ok (Later 0)
+offset_if (Some text) = offset_in text
 
 -- The form of the log that was given for an option.
 abbrev pub log_at : Text → List Row → Result LogFormat WordsFault
@@ -202,16 +252,162 @@ acts_at (Some texts) = acts_in texts
 abbrev pub line_at : Option (List Text) → Option Text
 line_at words = option_map (join_by (λ text. text) (codes " ")) words
 
+-- What was given is refused as this.
+abbrev pub refuse_if : Bool → Given → Result (Unit {0}) WordsFault
+refuse_if true refusal = Err (BadValue refusal)
+refuse_if false refusal = Ok tt
+
+-- The refusal of an option of NTP servers, where it was given.
+abbrev pub no_ntp_option : TimeOption → List Row → Result (Unit {0}) WordsFault
+no_ntp_option option rows = refuse_if (is_some (first_of (id_of option) rows)) (given.WithoutNtp option)
+
+-- The refusal of an option of a stated uncertainty, where it was given.
+abbrev pub no_stated_option : TimeOption → List Row → Result (Unit {0}) WordsFault
+no_stated_option option rows = refuse_if (is_some (first_of (id_of option) rows)) (given.WithNtp option)
+
+-- The first refusal of an option of NTP servers that was given.
+unfoldable pub no_ntp_options : List Row → Result (Unit {0}) WordsFault
+no_ntp_options rows = do
+  faulty ← no_ntp_option option.Faulty rows
+  margin ← no_ntp_option option.Margin rows
+  every ← no_ntp_option option.Every rows
+  drift ← no_ntp_option option.Drift rows
+  age ← no_ntp_option option.MaxAge rows
+  key ← no_ntp_option option.NtpKey rows
+  keys ← no_ntp_option option.NtpKeys rows
+  refuse_if (flag_at (codes "local") rows) (given.WithoutNtp option.Local)
+
+-- A stated uncertainty by what was found.
+unfoldable pub stated_of : List Row → Result Time WordsFault
+stated_of rows = do
+  alone ← no_ntp_options rows
+  uncertainty ← number_to (codes "uncertainty") max_time rows
+  offset ← offset_if (first_of (codes "offset") rows)
+  acts ← acts_at (all_of (codes "act") rows)
+  Ok (Stated uncertainty offset acts)
+
+-- An address of an NTP server: one with a port above 0.
+abbrev pub server_if : Option SocketAddr → Result SocketAddr WordsFault
+server_if (Some address) = if nat_lt 0 (socket_port address) then Ok address else Err (BadValue given.Ntp)
+server_if None = Err (BadValue given.Ntp)
+
+-- The addresses that texts write, one after the other.
+abbrev pub servers_in : List Text → Result (List SocketAddr) WordsFault
+servers_in [] = Ok []
+servers_in (text ∷ rest) = do
+  server ← server_if (address_of text)
+  servers ← servers_in rest
+  Ok (server ∷ servers)
+
+-- A text is among these.
+abbrev pub is_among : Text → List Text → Bool
+is_among text others = list_any (λ other. bytes_eq other text) others
+
+-- A text is there twice.
+abbrev pub has_twice : List Text → Bool
+has_twice [] = false
+has_twice (text ∷ rest) = is_among text rest || has_twice rest
+
+-- The refusal of more servers than a master takes, and of one that is there twice.
+abbrev pub servers_fit : List Text → Result (Unit {0}) WordsFault
+servers_fit texts = do
+  few ← refuse_if (nat_lt max_sources (length texts)) given.ManyServers
+  refuse_if (has_twice texts) given.ServerTwice
+
+-- A number of servers that may be wrong, where twice as many are fewer than there are servers.
+abbrev pub faulty_of : ℕ → ℕ → Result ℕ WordsFault
+faulty_of servers faulty = if nat_lt (2 * faulty) servers then Ok faulty else Err (BadValue given.Faulty)
+
+-- The number of servers that may be wrong, which is 0 where none was given.
+abbrev pub faulty_at : ℕ → List Row → Result ℕ WordsFault
+faulty_at servers rows = do
+  faulty ← number_or max_faulty 0 (number_at (codes "faulty") rows)
+  faulty_of servers faulty
+
+-- The drift that was given, and that of a machine where none was given.
+abbrev pub drift_at : List Row → Result ℕ WordsFault
+drift_at rows = number_or max_drift default_drift (number_at (codes "drift") rows)
+
+-- A time from a millisecond to a day, of which a wrong one is refused as this.
+abbrev pub duration_if : Given → Option ℕ → Result ℕ WordsFault
+duration_if refusal (Some time) = if nat_le 1000000 time && nat_le time 86400000000000 then Ok time else Err (BadValue refusal)
+duration_if refusal None = Err (BadValue refusal)
+
+-- The time that a text writes, where there is a text.
+abbrev pub duration_at : Given → Option Text → Result (Option ℕ) WordsFault
+duration_at refusal None = Ok None
+duration_at refusal (Some text) = do
+  time ← duration_if refusal (duration_of text)
+  Ok (Some time)
+
+-- The greatest age of a reply that was given, and 1024 seconds where none was given.
+abbrev pub age_at : List Row → Result ℕ WordsFault
+age_at rows = do
+  age ← duration_at given.MaxAge (first_of (codes "max-age") rows)
+  Ok (unwrap_or age 1024000000000)
+
+-- The number of a key, where it was given exactly if its file was.
+abbrev pub key_of_both : Option ℕ → Option Text → Result (Option ℕ) WordsFault
+key_of_both (Some key) None = Err (BadValue given.NtpKeyAlone)
+key_of_both None (Some keys) = Err (BadValue given.NtpKeysAlone)
+key_of_both (Some key) (Some keys) = Ok (Some key)
+key_of_both None None = Ok None
+
+-- The number of the key that signs packets, which is given exactly where its file is.
+abbrev pub key_at : List Row → Result (Option ℕ) WordsFault
+key_at rows = do
+  key ← id_at (codes "ntp-key") rows
+  key_of_both key (first_of (codes "ntp-keys") rows)
+
+-- NTP servers by their texts and what was found.
+unfoldable pub ntp_of : List Text → List Row → Result Time WordsFault
+ntp_of texts rows = do
+  no_offset ← no_stated_option option.Offset rows
+  no_act ← no_stated_option option.Act rows
+  fit ← servers_fit texts
+  faulty ← faulty_at (length texts) rows
+  margin ← number_or max_time 0 (number_at (codes "margin") rows)
+  every ← duration_at given.Every (first_of (codes "every") rows)
+  drift ← drift_at rows
+  max_age ← age_at rows
+  key ← key_at rows
+  servers ← servers_in texts
+  Ok (ByServers (record {
+    servers = servers;
+    faulty = faulty;
+    margin = margin;
+    every = every;
+    drift = drift;
+    max_age = max_age;
+    key = key;
+    keys = first_of (codes "ntp-keys") rows;
+    local = flag_at (codes "local") rows;
+  }))
+
+-- What the time of a master stands on, by whether an uncertainty was given, and by the servers that were: exactly one of both.
+abbrev pub time_by : Bool → Option (List Text) → List Row → Result Time WordsFault
+time_by true None rows = stated_of rows
+time_by false None rows = Err (BadValue given.NoTime)
+time_by true (Some texts) rows = Err (BadValue given.BothTimes)
+time_by false (Some texts) rows = ntp_of texts rows
+
+-- What the time of a master stands on, by what was found.
+abbrev pub time_of : List Row → Result Time WordsFault
+time_of rows = time_by (is_some (first_of (codes "uncertainty") rows)) (all_of (codes "ntp") rows) rows
+
+-- The result is the time that is meant, or the refusal, or out of memory.
+abbrev pub IsTimeMeant : Result Time WordsFault → Result MasterTime WordsFault → Type 0
+IsTimeMeant defined result = MatchResult result (λ found. defined ≡ Ok (time_meant found)) (λ fault. (defined ≡ Err fault) ⊎ (fault ≡ Memory))
+
 -- The command `master` by what was found for its options.
 unfoldable pub master_of : List Row → Result Meaning WordsFault
 master_of rows = do
   source ← number_to (codes "source") max_source rows
   listen ← listen_at (codes "listen") (is_some (first_of (codes "keys") rows)) rows
-  uncertainty ← number_to (codes "uncertainty") max_time rows
-  offset ← offset_at (codes "offset") rows
+  warn_width ← number_if max_time (number_at (codes "warn-width") rows)
   log ← log_at (codes "log") rows
-  acts ← acts_at (all_of (codes "act") rows)
-  Ok (Master source listen uncertainty offset acts log (first_of (codes "keys") rows) (first_of (codes "status") rows))
+  time ← time_of rows
+  Ok (Master source listen time warn_width log (first_of (codes "keys") rows) (first_of (codes "status") rows))
 
 -- The command `serve` by what was found.
 abbrev pub serve_of : List Row → Result Meaning WordsFault

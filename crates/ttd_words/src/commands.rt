@@ -4,12 +4,13 @@ ghost use Rattle.std.specs.Prelude.{◌≡◌, IfOk, false};
 ghost use Rattle.clap.specs.Simple.{new_app};
 ghost use Rattle.clap.specs.Words.{app_of};
 ghost use Rattle.clap.specs.declared.builder.command.Command.TheViews.{out-Command};
-ghost use Rattle.ttd_words.specs.CommandLine.{acting_master_app, age_app, ask_app, key_app, master_app, plain_master_app, read_app, serve_app, twin_app};
+ghost use Rattle.ttd_words.specs.CommandLine.{age_app, ask_app, asking_master_app, key_app, master_app, ntp_master_app, paced_master_app, plain_master_app, read_app, serve_app, stated_master_app, twin_app};
 
 use crate::help::{ABOUT_AGE, ABOUT_TWIN};
 use crate::options::{
-    act_option, drift_option, flag, free_option, given_option, id_option, line_words, log_option,
-    offset_option, place, retry_option, source_option, text_option, uncertainty_option,
+    drift_option, faulty_option, flag, free_option, given_option, id_option, line_words,
+    log_option, many_option, master_drift_option, place, retry_option, source_option, text_option,
+    time_option,
 };
 use crate::service_help::{ABOUT_ASK, ABOUT_KEY, ABOUT_MASTER, ABOUT_READ, ABOUT_SERVE};
 use clap::Command;
@@ -78,7 +79,7 @@ fn plain_master_command<'a>(alloc: Global) -> Result<Command<'a>, AllocError>
     let bare = plain_command(
         alloc,
         "master",
-        "Runs a time master, which answers polls by this computer's clock",
+        "Runs a time master, which answers polls by this computer's clock or by NTP servers",
         ABOUT_MASTER,
     );
     let with_source = bare.arg(source_option(alloc))?;
@@ -88,19 +89,107 @@ fn plain_master_command<'a>(alloc: Global) -> Result<Command<'a>, AllocError>
         "ADDRESS",
         "Where it is asked, over UDP: 127.0.0.1:PORT, or with --keys any address",
     );
-    let with_listen = with_source.arg(listen)?;
-    with_listen.arg(uncertainty_option(alloc))
+    with_source.arg(listen)
 }
 
-/// The command `master` with these and the options of what it answers and says.
-fn acting_master_command<'a>(alloc: Global) -> Result<Command<'a>, AllocError>
-    ensures app { IfOk result (λ c. app_of c ≡ acting_master_app) }
+/// The command `master` with these and the options of a stated uncertainty.
+fn stated_master_command<'a>(alloc: Global) -> Result<Command<'a>, AllocError>
+    ensures app { IfOk result (λ c. app_of c ≡ stated_master_app) }
     ensures local { IfOk result (λ c. (out-Command c).has_globals ≡ false) }
 {
     let plain = plain_master_command(alloc)?;
-    let with_offset = plain.arg(offset_option(alloc))?;
-    let with_act = with_offset.arg(act_option(alloc))?;
-    with_act.arg(log_option(alloc))
+    let uncertainty = time_option(
+        alloc,
+        "uncertainty",
+        "Answers by this computer's clock: what it may be wrong by, in nanoseconds",
+    );
+    let with_uncertainty = plain.arg(uncertainty)?;
+    let offset = free_option(
+        alloc,
+        "offset",
+        "NS",
+        "How far this clock is ahead, in nanoseconds; behind: --offset=-NS [default: 0]",
+    );
+    let with_offset = with_uncertainty.arg(offset)?;
+    let act = many_option(
+        alloc,
+        "act",
+        "ACT",
+        "What it does with a poll; the next --act with the next, and the last with all further ones",
+    );
+    with_offset.arg(act)
+}
+
+/// The command `master` with these and the servers, and which of them may be wrong by what.
+fn ntp_master_command<'a>(alloc: Global) -> Result<Command<'a>, AllocError>
+    ensures app { IfOk result (λ c. app_of c ≡ ntp_master_app) }
+    ensures local { IfOk result (λ c. (out-Command c).has_globals ≡ false) }
+{
+    let stated = stated_master_command(alloc)?;
+    let ntp = many_option(
+        alloc,
+        "ntp",
+        "ADDRESS:PORT",
+        "Answers by this NTP server; the next --ntp names a further one, up to 16",
+    );
+    let with_ntp = stated.arg(ntp)?;
+    let with_faulty = with_ntp.arg(faulty_option(alloc))?;
+    let margin = time_option(
+        alloc,
+        "margin",
+        "NTP: what a server may be wrong by beyond what it says, in nanoseconds [default: 0]",
+    );
+    with_faulty.arg(margin)
+}
+
+/// The command `master` with these and how often and how long servers are trusted.
+fn paced_master_command<'a>(alloc: Global) -> Result<Command<'a>, AllocError>
+    ensures app { IfOk result (λ c. app_of c ≡ paced_master_app) }
+    ensures local { IfOk result (λ c. (out-Command c).has_globals ≡ false) }
+{
+    let ntp = ntp_master_command(alloc)?;
+    let every = free_option(
+        alloc,
+        "every",
+        "TIME",
+        "NTP: from one request to the next, 1ms to 86400s [default: 64s, on this host 1ms]",
+    );
+    let with_every = ntp.arg(every)?;
+    let with_drift = with_every.arg(master_drift_option(alloc))?;
+    let age = free_option(
+        alloc,
+        "max-age",
+        "TIME",
+        "NTP: how old a reply may become, 1ms to 86400s [default: 1024s]",
+    );
+    with_drift.arg(age)
+}
+
+/// The command `master` with these and what more is asked of servers.
+fn asking_master_command<'a>(alloc: Global) -> Result<Command<'a>, AllocError>
+    ensures app { IfOk result (λ c. app_of c ≡ asking_master_app) }
+    ensures local { IfOk result (λ c. (out-Command c).has_globals ≡ false) }
+{
+    let paced = paced_master_command(alloc)?;
+    let number = id_option(
+        alloc,
+        "ntp-key",
+        "NTP: the number of the key of --ntp-keys that signs packets, up to 4294967295",
+    );
+    let with_number = paced.arg(number)?;
+    let keys = free_option(
+        alloc,
+        "ntp-keys",
+        "FILE",
+        "NTP: the file with this key, in the form of chrony's chrony.keys",
+    );
+    let with_keys = with_number.arg(keys)?;
+    let local = flag(
+        alloc,
+        "local",
+        "NTP: takes a server whose time is that of its own clock alone",
+    );
+    with_keys.arg(local)
 }
 
 /// The command `master`.
@@ -108,14 +197,21 @@ pub(crate) fn master_command<'a>(alloc: Global) -> Result<Command<'a>, AllocErro
     ensures app { IfOk result (λ c. app_of c ≡ master_app) }
     ensures local { IfOk result (λ c. (out-Command c).has_globals ≡ false) }
 {
-    let acting = acting_master_command(alloc)?;
+    let asking = asking_master_command(alloc)?;
+    let warn_width = time_option(
+        alloc,
+        "warn-width",
+        "The width of an answer above which its log warns, in nanoseconds",
+    );
+    let with_warning = asking.arg(warn_width)?;
+    let with_log = with_warning.arg(log_option(alloc))?;
     let keys = free_option(
         alloc,
         "keys",
         "FILE",
         "Its file of keys: it answers polls that are sealed under one of them, and no others",
     );
-    let with_keys = acting.arg(keys)?;
+    let with_keys = with_log.arg(keys)?;
     let status = free_option(alloc, "status", "FILE", "Where it writes its status");
     with_keys.arg(status)
 }
@@ -177,7 +273,12 @@ pub(crate) fn key_command<'a>(alloc: Global) -> Result<Command<'a>, AllocError>
     ensures local { IfOk result (λ c. (out-Command c).has_globals ≡ false) }
 {
     let bare = plain_command(alloc, "key", "Makes a line for a file of keys", ABOUT_KEY);
-    let with_id = bare.arg(id_option(alloc))?;
+    let id = id_option(
+        alloc,
+        "id",
+        "The number of the key, up to 4294967295; without it a random one",
+    );
+    let with_id = bare.arg(id)?;
     let name = free_option(alloc, "name", "TEXT", "A name for the reader of the file");
     with_id.arg(name)
 }

@@ -1,11 +1,46 @@
 //! Why arguments are rejected.
 
 ghost use Rattle.std.specs.Prelude.{◌≡◌};
-ghost use Rattle.ttd_words.specs.Fault.{number_of, value_number};
+ghost use Rattle.ttd_words.specs.Fault.{id_of, number_of, value_number};
 ghost use Rattle.ttd_words.specs.declared.faults.WordsFault.TheVariants.{Memory};
 
 use std::alloc::{AllocError, AllocFailed};
 use thiserror::Error;
+
+/// An option of `master` that only one kind of its time has. It is shown as it is written.
+#[derive(Clone, Copy, Debug, PartialEq, Eq, Error)]
+pub enum TimeOption {
+    /// `--offset`, of a stated uncertainty.
+    #[error("--offset")]
+    Offset,
+    /// `--act`, of a stated uncertainty.
+    #[error("--act")]
+    Act,
+    /// `--faulty`, of NTP servers.
+    #[error("--faulty")]
+    Faulty,
+    /// `--margin`, of NTP servers.
+    #[error("--margin")]
+    Margin,
+    /// `--every`, of NTP servers.
+    #[error("--every")]
+    Every,
+    /// `--drift`, of NTP servers.
+    #[error("--drift")]
+    Drift,
+    /// `--max-age`, of NTP servers.
+    #[error("--max-age")]
+    MaxAge,
+    /// `--ntp-key`, of NTP servers.
+    #[error("--ntp-key")]
+    NtpKey,
+    /// `--ntp-keys`, of NTP servers.
+    #[error("--ntp-keys")]
+    NtpKeys,
+    /// `--local`, of NTP servers.
+    #[error("--local")]
+    Local,
+}
 
 /// An argument of which clap takes any text, though the program does not. It is shown as what it would have to be.
 #[derive(Clone, Copy, Debug, PartialEq, Eq, Error)]
@@ -28,12 +63,68 @@ pub enum Given {
     /// `--act` of `master`.
     #[error("invalid arguments: --act is honest, silent, garbage, repeat, 'ahead N' or 'behind N'")]
     Act,
+    /// Neither `--uncertainty` nor `--ntp` of `master`.
+    #[error("invalid arguments: --uncertainty NS is needed, or --ntp ADDRESS:PORT")]
+    NoTime,
+    /// Both `--uncertainty` and `--ntp` of `master`.
+    #[error("invalid arguments: --uncertainty goes without --ntp, and --ntp without --uncertainty")]
+    BothTimes,
+    /// An option of `master` that goes with `--uncertainty` alone, beside `--ntp`.
+    #[error("invalid arguments: {0} goes with --uncertainty, and not with --ntp")]
+    WithNtp(TimeOption),
+    /// An option of `master` that goes with `--ntp` alone, beside `--uncertainty`.
+    #[error("invalid arguments: {0} goes with --ntp, and not with --uncertainty")]
+    WithoutNtp(TimeOption),
+    /// `--ntp` of `master`, which is no address with a port above 0.
+    #[error("invalid arguments: --ntp is an address and a port above 0, as 10.0.0.1:123 or [fd00::1]:123")]
+    Ntp,
+    /// `--ntp` of `master`, more often than 16 times.
+    #[error("invalid arguments: --ntp is given at most 16 times")]
+    ManyServers,
+    /// `--ntp` of `master`, twice with one address.
+    #[error("invalid arguments: each --ntp has an address of its own")]
+    ServerTwice,
+    /// `--faulty` of `master`, which is too great for its servers.
+    #[error("invalid arguments: --faulty N needs --ntp at least 2 N + 1 times")]
+    Faulty,
+    /// `--every` of `master`.
+    #[error("invalid arguments: --every is a time with its unit from 1ms to 86400s, as 64s")]
+    Every,
+    /// `--max-age` of `master`.
+    #[error("invalid arguments: --max-age is a time with its unit from 1ms to 86400s, as 1024s")]
+    MaxAge,
+    /// `--ntp-key` of `master` without `--ntp-keys`.
+    #[error("invalid arguments: --ntp-key N needs --ntp-keys FILE")]
+    NtpKeyAlone,
+    /// `--ntp-keys` of `master` without `--ntp-key`.
+    #[error("invalid arguments: --ntp-keys FILE needs --ntp-key N")]
+    NtpKeysAlone,
     /// `--name` of `key`.
     #[error("invalid arguments: --name is printable characters of ASCII without blanks")]
     Name,
     /// The machine that `ask` asks.
     #[error("not an address of this host, as 127.0.0.1:7101, nor the path of a Unix socket")]
     Address,
+}
+
+impl TimeOption {
+    /// The name of the option without its hyphens.
+    pub(crate) fn id(self) -> &'static str
+        ensures { result.now ≡ id_of self }
+    {
+        match self {
+            TimeOption::Offset => "offset",
+            TimeOption::Act => "act",
+            TimeOption::Faulty => "faulty",
+            TimeOption::Margin => "margin",
+            TimeOption::Every => "every",
+            TimeOption::Drift => "drift",
+            TimeOption::MaxAge => "max-age",
+            TimeOption::NtpKey => "ntp-key",
+            TimeOption::NtpKeys => "ntp-keys",
+            TimeOption::Local => "local",
+        }
+    }
 }
 
 impl Given {

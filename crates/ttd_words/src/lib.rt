@@ -22,7 +22,8 @@
 //! - `requests`: what arguments can ask for. `faults`: why they are rejected.
 //! - `options`: the options and the positional arguments, `commands`: the commands with them, and `tree`: the whole
 //!   command line. `help` and `service_help`: the texts of the help.
-//! - `values`: what was given for an option. [`words`]: what the arguments ask for. `texts`: the help, and what is wrong.
+//! - `values`: what was given for an option. `masters`: what the time of a master stands on. [`words`]: what the
+//!   arguments ask for. `texts`: the help, and what is wrong.
 //! - `ending`: how the program ends. `refusals`: what is written, and what is said of a refusal. `sentences`: what the
 //!   refusals of a machine mean.
 //!
@@ -34,6 +35,7 @@ mod commands;
 mod ending;
 mod faults;
 mod help;
+mod masters;
 mod options;
 mod refusals;
 mod requests;
@@ -45,9 +47,9 @@ mod values;
 pub mod words;
 
 pub use ending::Status;
-pub use faults::{Given, WordsFault};
+pub use faults::{Given, TimeOption, WordsFault};
 pub use refusals::{end_with, explain, explain_unwritten, refuse, write};
-pub use requests::{Asked, Command, Offset, Peer, Service, Side};
+pub use requests::{Asked, Command, MasterTime, NtpTime, Offset, Peer, Service, Side};
 pub use sentences::sentence_of;
 pub use texts::{help_text, mistake_text, usage_text};
 pub use words::{is_service, read_words, word_laws};

@@ -3,11 +3,13 @@
 ghost use Rattle.std.specs.Prelude.{◌≡◌, codes, false};
 ghost use Rattle.clap.specs.Matches.{count_text};
 ghost use Rattle.clap.specs.Words.{rule_of};
+ghost use Rattle.tt_span.specs.Drift.{max_drift};
 ghost use Rattle.tt_span.specs.Time.{max_time};
 ghost use Rattle.tt_poll.specs.Message.{max_source};
 ghost use Rattle.tt_daemon.specs.Config.{default_drift};
-ghost use Rattle.ttd_words.specs.CommandLine.{act_rule, drift_rule, flag_rule, free_rule, given_rule, id_rule, log_rule, needed_rule, offset_rule, place_rule, retry_rule, text_rule, words_rule};
+ghost use Rattle.ttd_words.specs.CommandLine.{drift_rule, flag_rule, free_rule, given_rule, id_rule, log_rule, many_rule, max_faulty, needed_rule, number_rule, place_rule, retry_rule, text_rule, words_rule};
 
+use crate::masters::MOST_FAULTY;
 use crate::values::MOST_ID;
 use crate::words::MOST_RETRY;
 use clap::{Arg, ArgAction, value_parser};
@@ -32,6 +34,20 @@ pub(crate) fn drift_option<'a>(alloc: Global) -> Arg<'a>
         .value_name("N")
         .default_value(default_drift())
         .help("What the clock may be wrong by, in parts per million, up to 100000")
+        .value_parser(value_parser!(u64).range(..=i64::from(MAX_DRIFT)))
+}
+
+/// The option `--drift N` of `master`: at most [`MAX_DRIFT`].
+pub(crate) fn master_drift_option<'a>(alloc: Global) -> Arg<'a>
+    ensures rule { rule_of result ≡ number_rule (codes "drift") max_drift }
+    ensures local { result.global ≡ false }
+{
+    Arg::new(alloc, "drift")
+        .long("drift")
+        .value_name("N")
+        .help(
+            "NTP: what the monotonic clock may be wrong by, in parts per million, up to 100000 [default: 200]",
+        )
         .value_parser(value_parser!(u64).range(..=i64::from(MAX_DRIFT)))
 }
 
@@ -86,15 +102,15 @@ pub(crate) fn free_option<'a>(
         .help(help)
 }
 
-/// The option `--id N`: at most [`MOST_ID`].
-pub(crate) fn id_option<'a>(alloc: Global) -> Arg<'a>
-    ensures rule { rule_of result ≡ id_rule }
+/// An option `--NAME N` with the number of a key: at most [`MOST_ID`].
+pub(crate) fn id_option<'a>(alloc: Global, name: &'a str, help: &'a str) -> Arg<'a>
+    ensures rule { rule_of result ≡ id_rule name.entry.now }
     ensures local { result.global ≡ false }
 {
-    Arg::new(alloc, "id")
-        .long("id")
+    Arg::new(alloc, name)
+        .long(name)
         .value_name("N")
-        .help("The number of the key, up to 4294967295; without it a random one")
+        .help(help)
         .value_parser(value_parser!(u64).range(..=MOST_ID as i64))
 }
 
@@ -111,43 +127,45 @@ pub(crate) fn source_option<'a>(alloc: Global) -> Arg<'a>
         .value_parser(value_parser!(u64).range(..=i64::from(MAX_SOURCE)))
 }
 
-/// The option `--uncertainty NS`: at most [`MAX_TIME`].
-pub(crate) fn uncertainty_option<'a>(alloc: Global) -> Arg<'a>
-    ensures rule { rule_of result ≡ needed_rule (codes "uncertainty") max_time }
+/// An option `--NAME NS` with nanoseconds: at most [`MAX_TIME`].
+pub(crate) fn time_option<'a>(alloc: Global, name: &'a str, help: &'a str) -> Arg<'a>
+    ensures rule { rule_of result ≡ number_rule name.entry.now max_time }
     ensures local { result.global ≡ false }
 {
-    Arg::new(alloc, "uncertainty")
-        .long("uncertainty")
+    Arg::new(alloc, name)
+        .long(name)
         .value_name("NS")
-        .required(true)
-        .help("What its clock may be wrong by, in nanoseconds")
+        .help(help)
         .value_parser(value_parser!(u64).range(..=MAX_TIME as i64))
 }
 
-/// The option `--offset NS`.
-pub(crate) fn offset_option<'a>(alloc: Global) -> Arg<'a>
-    ensures rule { rule_of result ≡ offset_rule }
+/// The option `--faulty N`: at most [`MOST_FAULTY`].
+pub(crate) fn faulty_option<'a>(alloc: Global) -> Arg<'a>
+    ensures rule { rule_of result ≡ number_rule (codes "faulty") max_faulty }
     ensures local { result.global ≡ false }
 {
-    Arg::new(alloc, "offset")
-        .long("offset")
-        .value_name("NS")
-        .default_value("0")
-        .help("How far its clock is ahead, in nanoseconds; behind: --offset=-NS")
+    Arg::new(alloc, "faulty")
+        .long("faulty")
+        .value_name("N")
+        .help("NTP: how many of the servers may be wrong, fewer than half of them [default: 0]")
+        .value_parser(value_parser!(u64).range(..=MOST_FAULTY as i64))
 }
 
-/// The option `--act ACT`.
-pub(crate) fn act_option<'a>(alloc: Global) -> Arg<'a>
-    ensures rule { rule_of result ≡ act_rule }
+/// An option `--NAME VALUE` with any text, which may be given often.
+pub(crate) fn many_option<'a>(
+    alloc: Global,
+    name: &'a str,
+    value: &'a str,
+    help: &'a str,
+) -> Arg<'a>
+    ensures rule { rule_of result ≡ many_rule name.entry.now }
     ensures local { result.global ≡ false }
 {
-    Arg::new(alloc, "act")
-        .long("act")
-        .value_name("ACT")
+    Arg::new(alloc, name)
+        .long(name)
+        .value_name(value)
         .action(ArgAction::Append)
-        .help(
-            "What it does with a poll; the next --act with the next, and the last with all further ones",
-        )
+        .help(help)
 }
 
 /// The option `--log FORM`.

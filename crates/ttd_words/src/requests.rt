@@ -69,6 +69,45 @@ pub enum Peer<'a> {
     Path(&'a str),
 }
 
+/// What a master's answers stand on.
+#[derive(Debug, Drop)]
+pub enum MasterTime<'a> {
+    /// This computer's real-time clock, and how wrong its operator says that it may be.
+    Stated {
+        /// What the clock may be wrong by, in nanoseconds, at most [`MAX_TIME`](tt_span::MAX_TIME).
+        uncertainty: u64,
+        /// How far the clock is off on purpose.
+        offset: Offset,
+        /// Its acts, at least one: one for each poll in order, and the last one for all further polls.
+        acts: Vec<Act>,
+    },
+    /// What NTP servers say.
+    Ntp(NtpTime<'a>),
+}
+
+/// How a master stands on NTP servers.
+#[derive(Debug, Drop)]
+pub struct NtpTime<'a> {
+    /// The addresses of the servers: from 1 to 16, with ports above 0, and none is there twice.
+    pub servers: Vec<SocketAddr>,
+    /// The most servers that may be wrong: twice as many are fewer than there are servers.
+    pub faulty: u64,
+    /// What a server may be wrong by beyond what it says, in nanoseconds, at most [`MAX_TIME`](tt_span::MAX_TIME).
+    pub margin: u64,
+    /// The time from one request to the next, in nanoseconds, from a millisecond to a day. None: it was not given.
+    pub every: Option<u64>,
+    /// The drift of this computer's clock: [`DEFAULT_DRIFT`](tt_daemon::DEFAULT_DRIFT) if it was not given.
+    pub drift: Drift,
+    /// The greatest age of a reply, in nanoseconds, from a millisecond to a day: 1024 seconds if it was not given.
+    pub max_age: u64,
+    /// The number of the key with which packets are signed. None: they are not signed.
+    pub key: Option<u32>,
+    /// The path of the file with this key: it is given exactly where the number is.
+    pub keys: Option<&'a str>,
+    /// Whether a server is taken whose time comes from its own clock alone.
+    pub local: bool,
+}
+
 /// A command that speaks to other processes, with its options.
 #[derive(Debug, Drop)]
 pub enum Service<'a> {
@@ -78,12 +117,11 @@ pub enum Service<'a> {
         source: u64,
         /// The address at which it is polled: one of this host if there is no file of keys.
         listen: SocketAddr,
-        /// What its clock may be wrong by, in nanoseconds, at most [`MAX_TIME`](tt_span::MAX_TIME).
-        uncertainty: u64,
-        /// How far its clock is off on purpose.
-        offset: Offset,
-        /// Its acts: one for each poll in order, and the last one for all further polls.
-        acts: Vec<Act>,
+        /// What its answers stand on.
+        time: MasterTime<'a>,
+        /// The width of an answer in nanoseconds above which its log warns, at most
+        /// [`MAX_TIME`](tt_span::MAX_TIME). None: it never warns of it.
+        warn_width: Option<u64>,
         /// The form of its log.
         log: LogFormat,
         /// The path of its file of keys: it answers polls that are sealed under one of them, and no others. None: it

@@ -2,10 +2,27 @@
 
 /// What `master` does.
 pub(crate) const ABOUT_MASTER: &str = "\
-Answers polls of TTP1 and TTP2 over UDP with the time of this computer's real-time clock, moved by
---offset, and its uncertainty both ways, until it is ended. It writes one line to standard error
-when it begins, and one when its socket or its clock fails, at most one in ten seconds. An answer
-that can't be sent is lost. Nothing is read from standard input.
+Answers polls of TTP1 and TTP2 over UDP until it is ended, each with the interval in which the true
+time lies. It writes one line to standard error when it begins, and one when its socket or its clock
+fails, at most one in ten seconds. An answer that can't be sent is lost. Nothing is read from
+standard input.
+
+The interval is right as far as what it stands on is, which is one of two:
+  --uncertainty  this computer's real-time clock, moved by --offset, and what you say that it may be
+                 wrong by, both ways. --offset and --act go with it.
+  --ntp          NTP servers, up to 16, each with an --ntp of its own, by its IPv4 or IPv6 address
+                 and a port. Each reply says how wrong its server may be; the interval widens by
+                 --drift from reply to reply. A server says nothing before its first reply, when its
+                 last reply is older than --max-age, when that is refused, and around a leap second.
+                 --faulty, --margin, --every, --drift, --max-age, --ntp-key, --ntp-keys and --local
+                 go with it.
+With --faulty N, at most N of the servers may be wrong; there are more than twice as many servers.
+No poll is answered while more than N servers say nothing, or while they disagree. --margin widens
+each reply, against a server that is wrong by more than it says. A server is asked each --every.
+After its answer RATE it is asked half as often, and after DENY or RSTR never again. With --ntp-key
+and --ntp-keys requests are signed by SHA-1 or SHA-256, and a reply that is not is dropped. --local
+takes a server that has no source of time but its own clock. A TIME is a number with its unit: ns,
+us, ms or s. With --warn-width the log warns of answers that are wider.
 
 Without --keys only senders on this host are answered. With --keys it answers, from any address,
 polls that are sealed under a key of the file, and nothing else; each answer is sealed under the key
@@ -24,9 +41,13 @@ Acts, for tests: honest (which it is without --act), silent, garbage, repeat, 'a
 Examples:
   ttd master --source 0 --listen 127.0.0.1:7001 --uncertainty 1000000
   ttd master --source 0 --listen 10.0.0.1:7001 --uncertainty 1000000 --keys /etc/truetime/keys
+  ttd master --source 0 --listen 127.0.0.1:7001 --ntp 127.0.0.1:123
+  ttd master --source 0 --listen 127.0.0.1:7001 --ntp 10.0.0.5:123 --ntp 10.0.0.6:123
+    --ntp [fd00::7]:123 --faulty 1 --every 64s --margin 100000 --warn-width 50000000
 
 Refused:
-  1601          invalid arguments
+  1601          invalid arguments: neither or both of --uncertainty and --ntp, an option that goes
+                with the other, a server twice, too many that are faulty; standard error says which
   1805          --listen is outside this host, and there is no --keys
   2211          the file of keys can't be read; the status is 4
   2212, 2213    its mode is neither 0600 nor 0400, or its owner is another user

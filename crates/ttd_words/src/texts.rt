@@ -6,12 +6,15 @@ ghost use Rattle.clap.specs.Walk.{texts};
 ghost use Rattle.ttd_words.specs.Reading.{AreForHelp, AreMistaken, AreTaken, IsUnlessMemory};
 
 use crate::faults::{Given, WordsFault};
+use crate::masters::{is_among, server_in};
 use crate::tree::ttd_command;
 use crate::words::{asked_for, parsed};
 use clap::ArgMatches;
 use clap::error::ErrorKind;
 use std::alloc::{AllocError, Global};
+use std::fmt::Display;
 use tt_script::act_in;
+use tt_span::MAX_SOURCES;
 
 /// The text of the help, or of the version, that the arguments ask for. They ask for it if
 /// [`read_words`](crate::read_words) answers [`Asked::Help`](crate::Asked::Help) to them. The wording is clap's own.
@@ -35,26 +38,66 @@ pub fn help_text(alloc: Global, words: &[&str]) -> Result<String, WordsFault>
     }
 }
 
+/// The message for standard error about options of which one is missing.
+fn missing_mistake(alloc: Global, options: &str) -> Result<String, AllocError> {
+    format!(in alloc;
+        "error: the following required arguments were not provided:\n  {options}\n\nFor more information, try '--help'.\n"
+    )
+}
+
+/// The message for standard error about two options of which one has to be left out.
+fn pair_mistake<S: Display>(alloc: Global, option: &S, other: &str) -> Result<String, AllocError> {
+    format!(in alloc;
+        "error: the argument '{option}' cannot be used with '{other}'\n\nFor more information, try '--help'.\n"
+    )
+}
+
+/// The message for standard error about arguments that are refused though clap takes them.
+fn given_mistake(
+    alloc: Global,
+    matches: &ArgMatches<'_>,
+    given: Given,
+) -> Result<String, AllocError> {
+    match given {
+        Given::NoTime => missing_mistake(alloc, "<--uncertainty <NS>|--ntp <ADDRESS:PORT>>"),
+        Given::NtpKeyAlone => missing_mistake(alloc, "--ntp-keys <FILE>"),
+        Given::NtpKeysAlone => missing_mistake(alloc, "--ntp-key <N>"),
+        Given::BothTimes => pair_mistake(alloc, &"--uncertainty <NS>", "--ntp <ADDRESS:PORT>"),
+        Given::WithNtp(option) => pair_mistake(alloc, &option, "--ntp <ADDRESS:PORT>"),
+        Given::WithoutNtp(option) => pair_mistake(alloc, &option, "--uncertainty <NS>"),
+        _ => value_mistake(alloc, matches, given),
+    }
+}
+
+/// The argument with such a value, as the help names it, and its name.
+fn named_by(given: Given) -> (&'static str, &'static str) {
+    match given {
+        Given::Side => ("--side <SIDE>", "side"),
+        Given::Listen | Given::NotLocal => ("--listen <ADDRESS>", "listen"),
+        Given::Name => ("--name <TEXT>", "name"),
+        Given::Offset => ("--offset <NS>", "offset"),
+        Given::Log => ("--log <FORM>", "log"),
+        Given::Act => ("--act <ACT>", "act"),
+        Given::Ntp | Given::ManyServers | Given::ServerTwice => ("--ntp <ADDRESS:PORT>", "ntp"),
+        Given::Faulty => ("--faulty <N>", "faulty"),
+        Given::Every => ("--every <TIME>", "every"),
+        Given::MaxAge => ("--max-age <TIME>", "max-age"),
+        _ => ("<ADDRESS|PATH>", "address"),
+    }
+}
+
 /// The message for standard error about a value that is refused though clap takes it.
 fn value_mistake(
     alloc: Global,
     matches: &ArgMatches<'_>,
-    fault: WordsFault,
+    given: Given,
 ) -> Result<String, AllocError> {
     let Some((_, options)) = matches.subcommand() else {
         return Err(AllocError);
     };
-    let (name, id) = match fault {
-        WordsFault::BadValue(Given::Side) => ("--side <SIDE>", "side"),
-        WordsFault::BadValue(Given::Listen | Given::NotLocal) => ("--listen <ADDRESS>", "listen"),
-        WordsFault::BadValue(Given::Name) => ("--name <TEXT>", "name"),
-        WordsFault::BadValue(Given::Offset) => ("--offset <NS>", "offset"),
-        WordsFault::BadValue(Given::Log) => ("--log <FORM>", "log"),
-        WordsFault::BadValue(Given::Act) => ("--act <ACT>", "act"),
-        _ => ("<ADDRESS|PATH>", "address"),
-    };
+    let (name, id) = named_by(given);
     let value = match options.get_strs(id) {
-        Some(values) => refused_of(id, values),
+        Some(values) => refused_of(given, values),
         None => "",
     };
     format!(in alloc;
@@ -62,14 +105,25 @@ fn value_mistake(
     )
 }
 
-/// Of the values of this argument the one that is refused: of acts the first that is none.
-fn refused_of<'a>(id: &str, values: &[&'a str]) -> &'a str {
-    for value in values {
-        if id != "act" || act_in(value).is_none() {
+/// Of the values of this argument the one that is refused.
+fn refused_of<'a>(given: Given, values: &[&'a str]) -> &'a str {
+    for (place, value) in values.iter().enumerate() {
+        if is_refused(given, *value, &values[..place]) {
             return *value;
         }
     }
     ""
+}
+
+/// Whether a value behind these is refused so.
+fn is_refused(given: Given, value: &str, before: &[&str]) -> bool {
+    match given {
+        Given::Act => act_in(value).is_none(),
+        Given::Ntp => server_in(value).is_err(),
+        Given::ManyServers => before.len() == MAX_SOURCES,
+        Given::ServerTwice => is_among(value, before),
+        _ => true,
+    }
 }
 
 /// The message for standard error about arguments that [`read_words`](crate::read_words) rejects: which argument was not
@@ -86,7 +140,10 @@ pub fn mistake_text(alloc: Global, words: &[&str]) -> Result<Option<String>, All
         Ok(matches) => match asked_for(alloc, &matches) {
             Ok(_) => Ok(None),
             Err(WordsFault::Memory) => Err(AllocError),
-            Err(fault) => Ok(Some(value_mistake(alloc, &matches, fault)?)),
+            Err(WordsFault::BadValue(given)) => Ok(Some(given_mistake(alloc, &matches, given)?)),
+            Err(WordsFault::BadWords) => {
+                Ok(Some(value_mistake(alloc, &matches, Given::Address)?))
+            }
         },
         Err(error) => match error.kind() {
             ErrorKind::DisplayHelp | ErrorKind::DisplayVersion => Ok(None),

@@ -6,7 +6,7 @@ ghost use Rattle.clap.specs.Words.{found_of, rows_of};
 ghost use Rattle.tt_span.specs.Time.{max_time};
 ghost use Rattle.tt_settings.specs.Numeral.{number_of as number_in};
 ghost use Rattle.tt_settings.specs.Socket.{address_of as address_in};
-ghost use Rattle.ttd_words.specs.Reading.{act_of, acts_at, acts_in, flag_at, id_at, line_at, listen_at, listen_if, log_at, name_at, number_at, number_to, offset_at, offset_by, offset_in, place_at, place_in, place_of, side_at, side_in, text_at, time_behind};
+ghost use Rattle.ttd_words.specs.Reading.{act_of, acts_at, acts_in, flag_at, id_at, line_at, listen_at, listen_if, log_at, name_at, number_at, number_to, number_if, number_or, offset_by, offset_if, offset_in, place_at, place_in, place_of, side_at, side_in, text_at, time_behind};
 ghost use Rattle.tt_script.specs.Acts.{act_in as act_in_script};
 
 use crate::faults::{Given, WordsFault};
@@ -41,6 +41,37 @@ pub(crate) fn number_to(matches: &ArgMatches<'_>, id: &str, most: u64) -> Result
     }
 }
 
+/// The number that was given for an option, or None if it was left out. It has to be at most `most`.
+pub(crate) fn number_if(
+    matches: &ArgMatches<'_>,
+    id: &str,
+    most: u64,
+) -> Result<Option<u64>, WordsFault>
+    ensures { result ≡ number_if most (number_at id.now (rows_of (found_of matches.now))) }
+{
+    match number_given(matches, id) {
+        Some(number) if number <= most => Ok(Some(number)),
+        Some(_) => Err(WordsFault::BadWords),
+        None => Ok(None),
+    }
+}
+
+/// The number that was given for an option, or `default` if it was left out. It has to be at most `most`.
+pub(crate) fn number_or(
+    matches: &ArgMatches<'_>,
+    id: &str,
+    most: u64,
+    default: u64,
+) -> Result<u64, WordsFault>
+    ensures { result ≡ number_or most default (number_at id.now (rows_of (found_of matches.now))) }
+{
+    match number_given(matches, id) {
+        Some(number) if number <= most => Ok(number),
+        Some(_) => Err(WordsFault::BadWords),
+        None => Ok(default),
+    }
+}
+
 /// The text that was given for an option or a positional argument, or its default.
 pub(crate) fn text_at<'a>(matches: &ArgMatches<'a>, id: &str) -> Result<&'a str, WordsFault>
     ensures { let defined = text_at id.now (rows_of (found_of matches.now)) in
@@ -57,6 +88,13 @@ pub(crate) fn path_at<'a>(matches: &ArgMatches<'a>, id: &str) -> Option<&'a str>
     ensures { option_map (λ path. path.now) result ≡ first_of id.now (rows_of (found_of matches.now)) }
 {
     matches.get_str(id)
+}
+
+/// The texts that were given for an option, in their order. None if it was left out.
+pub(crate) fn texts_at<'m, 'a>(matches: &'m ArgMatches<'a>, id: &str) -> Option<&'m [&'a str]>
+    ensures { option_map (λ given. texts given.now) result ≡ all_of id.now (rows_of (found_of matches.now)) }
+{
+    matches.get_strs(id)
 }
 
 /// The address in this text, if it may be listened at: with keys one of any host, else one of this host.
@@ -194,11 +232,14 @@ fn offset_in(text: &str) -> Result<Offset, WordsFault>
     }
 }
 
-/// The offset that was given for an option, or its default.
+/// The offset that was given for an option, or none at all if it was left out.
 pub(crate) fn offset_at(matches: &ArgMatches<'_>, id: &str) -> Result<Offset, WordsFault>
-    ensures { result ≡ offset_at id.now (rows_of (found_of matches.now)) }
+    ensures { result ≡ offset_if (first_of id.now (rows_of (found_of matches.now))) }
 {
-    offset_in(text_at(matches, id)?)
+    match path_at(matches, id) {
+        Some(text) => offset_in(text),
+        None => Ok(Offset::Later(0)),
+    }
 }
 
 /// The form of the log that was given for an option, or its default.

@@ -9,11 +9,12 @@ ghost use Rattle.ttd_words.specs.CommandLine.{faults_of, is_service as names_one
 ghost use Rattle.ttd_words.specs.Reading.{AreForHelp, AreMistaken, AreTaken, HasAge, HasNumbers, IsMeant, IsRefused, IsUnlessMemory, Meaning, Request, age_of, ask_of, asked_of, command_named, key_of, master_of, number_at, read_of, request_in, request_named, serve_of, service_named, twin_of};
 
 use crate::faults::{Given, WordsFault};
+use crate::masters::time_asked;
 use crate::requests::{Asked, Command, Service};
 use crate::tree::ttd_command;
 use crate::values::{
-    acts_at, flag_at, id_at, line_at, listen_at, log_at, name_at, number_given, number_to,
-    offset_at, path_at, peer_at, side_at, text_at,
+    flag_at, id_at, line_at, listen_at, log_at, name_at, number_given, number_if, number_to,
+    path_at, peer_at, side_at, text_at,
 };
 use clap::error::ErrorKind;
 use clap::{ArgMatches, Error};
@@ -100,16 +101,14 @@ fn master_asked<'a>(alloc: Global, matches: &ArgMatches<'a>) -> Result<Service<'
     let source = number_to(matches, "source", u64::from(MAX_SOURCE))?;
     let keys = path_at(matches, "keys");
     let listen = listen_at(matches, "listen", keys.is_some())?;
-    let uncertainty = number_to(matches, "uncertainty", MAX_TIME)?;
-    let offset = offset_at(matches, "offset")?;
+    let warn_width = number_if(matches, "warn-width", MAX_TIME)?;
     let log = log_at(matches, "log")?;
-    let acts = acts_at(alloc, matches, "act")?;
+    let time = time_asked(alloc, matches)?;
     Ok(Service::Master {
         source,
         listen,
-        uncertainty,
-        offset,
-        acts,
+        time,
+        warn_width,
         log,
         keys,
         status: path_at(matches, "status"),
@@ -216,6 +215,11 @@ pub(crate) fn parsed<'a>(alloc: Global, words: &'a [&'a str]) -> Result<ArgMatch
 /// at which a master listens is one of IPv4 or IPv6 with a port, in the one spelling in which it is printed; without a
 /// file of keys it is on the loopback. The address of a machine that is asked is `127.0.0.1:` and a port. Where `ask` is given a text with a `/`, or one that has no `:` and is not empty, that is
 /// the path of a Unix socket.
+///
+/// A master has exactly one of an uncertainty and NTP servers, and no option of the other. The address of a server is as
+/// that at which a master listens, of any host, with a port above 0. There are at most 16, none twice, and more than
+/// twice as many as may be faulty. A time has a unit, as [`duration_of`](tt_settings::duration_of) reads it, and is from
+/// a millisecond to a day. The key of NTP and its file are given together.
 ///
 /// Rejects with [`WordsFault::BadWords`] (1601) arguments that the command line does not take: none at all, an unknown
 /// word, an option that is missing or comes twice, a value that is not a number of 64 bits, or one that is too great, as

@@ -1,0 +1,5 @@
+pub mod Saying
+pub mod Running
+pub mod Waiting
+pub mod Fusing
+pub mod Words

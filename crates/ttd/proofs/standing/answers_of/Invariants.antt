@@ -1,7 +1,0 @@
--- The answers so far are those under the keys so far.
-use Rattle.std.proofs.Common.{◌≡◌, take}
-use Rattle.ttd.specs.Standing.{answers_of}
-use Rattle.ttd.proofs.standing.answers_of.Given as goal
-
-abbrev pub invariant-numbers : goal.invariant-numbers
-invariant-numbers g l = l.all.items ≡ answers_of l.link.counts.items (take l.number-index l.numbers)

@@ -1,0 +1,9 @@
+pub mod Fault
+pub mod Clocks
+pub mod Packets
+pub mod Keys
+pub mod Pauses
+pub mod Standing
+pub mod Upstreams
+pub mod Playing
+pub mod Telling

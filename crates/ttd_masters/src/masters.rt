@@ -1,0 +1,252 @@
+//! The service `master`.
+
+ghost use Rattle.std.specs.Prelude.{◌≡◌, ◌≤◌, IfOk};
+ghost use Rattle.tt_poll.specs.Message.{max_source};
+
+use crate::clocks::RealTime;
+use crate::faults::StartFault;
+use crate::following::servers_of;
+use crate::key_files::{KeyFile, say_refusal};
+use crate::links::AnsweringLink;
+use crate::pauses::{FIRST_PAUSE, Looks, next_pause};
+use crate::players::{Acting, Honest, Player, take_turn};
+use crate::references::{KnownTime, StatedTime};
+use crate::sealed_masters::{Sealed, answer_sealed};
+use crate::standing::open_status;
+use crate::telling::told_by;
+use std::fs::{File, Files};
+use std::io::{Eprint, ErrorKind};
+use std::net::{Net, SocketAddr, UdpSocket};
+use std::random::RandomSource;
+use std::sync::Wait;
+use std::thread;
+use std::thread::Threads;
+use std::time::{Clock as SystemClock, Duration};
+use tt_keys::KeysFault;
+use tt_master::{Act, Master, SpanMaster};
+use tt_poll::MAX_SOURCE;
+use tt_report::{Disk, Reporter, ReporterFault};
+use tt_seal::Key;
+use tt_span::MAX_TIME;
+use tt_status::{LogEvent, LogFormat};
+use ttd_words::MasterTime;
+
+/// How long a master waits for a packet before it looks at its file of keys, in milliseconds.
+const READ_WAIT: u64 = 1_000;
+
+/// The nanoseconds of a millisecond.
+const MILLI: u64 = 1_000_000;
+
+/// What a master has to do.
+#[derive(Clone, Copy)]
+pub struct MasterPlan<'a> {
+    /// The number of the source that it is.
+    pub source: u64,
+    /// The address at which it is polled.
+    pub listen: SocketAddr,
+    /// What its answers stand on.
+    pub time: &'a MasterTime<'a>,
+    /// The width of an answer in nanoseconds above which its log warns, if there is one.
+    pub warn_width: Option<u64>,
+    /// The form of its log.
+    pub log: LogFormat,
+    /// The path of its file of keys. None: it answers open polls of this host.
+    pub keys: Option<&'a str>,
+    /// The path of its status file. None: it writes none.
+    pub status: Option<&'a str>,
+}
+
+/// Answers polls until the process is ended: by this computer's clock, or by what NTP servers say. Where acts were given, it
+/// does one act for each poll that comes, in their order, and the last one for all further polls; they are for tests. A failure
+/// of the link or of the clock is logged, and it goes on after a pause. The log and the status are written by threads of their
+/// own, for which no poll waits.
+///
+/// With a file of keys it answers polls from any address that are sealed under one of the keys, each under the key of the
+/// poll, and nothing else. Without one it answers open polls of this host.
+///
+/// Refuses with 1601 `BadPlan` where the source is above [`MAX_SOURCE`] or the uncertainty is above [`MAX_TIME`]; with 2211
+/// to 2216 or 1 where the file of keys is refused; with 1816 or 1 where a thread can't be started; with what refuses the NTP
+/// servers ([`servers_of`]); and with 1501 `CannotListen` where the socket can't be opened, unless its address is not up.
+pub fn serve_polls<
+    H: Threads
+        + Wait
+        + SystemClock
+        + Eprint
+        + Files<File = File>
+        + Net
+        + AllocGlobal
+        + Disk
+        + RandomSource
+        + Copy
+        + Send
+        + 'static,
+>(rt: &H, plan: MasterPlan<'_>) -> Result<(), StartFault> {
+    match plan.keys {
+        None => {
+            let reporter = reporter_of(rt, &plan)?;
+            let mut player = player_of(rt, &reporter, &plan)?;
+            let socket = begin(rt, &reporter, &plan)?;
+            let link = AnsweringLink::new(socket, false);
+            answer_open(rt, &reporter, &plan, link, &mut player)
+        }
+        Some(path) => {
+            let mut file = KeyFile::new(path);
+            let keys = first_keys(rt, &mut file, path)?;
+            let reporter = reporter_of(rt, &plan)?;
+            let mut player = player_of(rt, &reporter, &plan)?;
+            let socket = begin(rt, &reporter, &plan)?;
+            let link = AnsweringLink::new(socket, true);
+            let sealed = Sealed::new(rt, link, file, keys)?;
+            answer_sealed(rt, &reporter, &plan, sealed, &mut player)
+        }
+    }
+}
+
+/// The master of this number.
+fn source_of(plan: &MasterPlan<'_>) -> Result<u8, StartFault>
+    ensures { IfOk result (λ source. (source ≡ plan.now.source) × (source ≤ max_source)) }
+{
+    if plan.source > u64::from(MAX_SOURCE) {
+        return Err(StartFault::BadPlan);
+    }
+    Ok(plan.source as u8)
+}
+
+/// How the master answers polls: honestly, unless other acts were given.
+fn player_of<
+    'a,
+    H: Threads
+        + Wait
+        + SystemClock
+        + Eprint
+        + Files<File = File>
+        + Net
+        + AllocGlobal
+        + RandomSource
+        + Copy
+        + Send
+        + 'static,
+>(rt: &'a H, reporter: &'a Reporter, plan: &MasterPlan<'a>) -> Result<Player<'a, H>, StartFault> {
+    let source = source_of(plan)?;
+    match plan.time {
+        MasterTime::Stated {
+            uncertainty,
+            offset,
+            acts,
+        } => {
+            if *uncertainty > MAX_TIME {
+                return Err(StartFault::BadPlan);
+            }
+            if acts.as_slice() != [Act::Honest].as_slice() {
+                let clock = RealTime::new(rt, *offset);
+                let master = Master::new(source, *uncertainty, clock);
+                return Ok(Player::Acting(Acting::new(master, acts.as_slice())));
+            }
+            let known = KnownTime::Stated(StatedTime::new(rt, *offset, *uncertainty));
+            Ok(honest(source, known, plan.warn_width))
+        }
+        MasterTime::Ntp(time) => {
+            let known = servers_of(rt, reporter, time)?;
+            Ok(honest(source, known, plan.warn_width))
+        }
+    }
+}
+
+/// A master that answers what it knows.
+fn honest<'a, H: Wait + SystemClock>(
+    source: u8,
+    known: KnownTime<'a, H>,
+    warn_width: Option<u64>,
+) -> Player<'a, H>
+    requires source_in { source ≤ max_source }
+{
+    Player::Honest(Honest::new(SpanMaster::new(source, known), warn_width))
+}
+
+/// The keys of the file at this path. If they are refused, standard error says why, and at which line.
+fn first_keys<H: Files<File = File> + Eprint + AllocGlobal>(
+    rt: &H,
+    file: &mut KeyFile<'_>,
+    path: &str,
+) -> Result<Vec<Key>, StartFault> {
+    match file.read(rt, rt.alloc()) {
+        Ok(keys) => Ok(keys),
+        Err(KeysFault::Memory) => Err(StartFault::Memory),
+        Err(fault) => {
+            say_refusal(rt, path, fault);
+            Err(StartFault::Keys(fault))
+        }
+    }
+}
+
+/// The reporter of a master.
+fn reporter_of<
+    H: Threads + Wait + SystemClock + Eprint + AllocGlobal + Disk + Copy + Send + 'static,
+>(rt: &H, plan: &MasterPlan<'_>) -> Result<Reporter, StartFault> {
+    match Reporter::start(rt, rt.alloc(), plan.log, plan.status, None) {
+        Ok(reporter) => Ok(reporter),
+        Err(ReporterFault::NoThread) => Err(StartFault::NoThread),
+        Err(ReporterFault::Memory) => Err(StartFault::Memory),
+    }
+}
+
+/// The socket of a master, whose start is logged.
+fn begin<H: Wait + SystemClock + Net>(
+    rt: &H,
+    reporter: &Reporter,
+    plan: &MasterPlan<'_>,
+) -> Result<UdpSocket, StartFault> {
+    let socket = socket_at(rt, reporter, plan.listen)?;
+    let wait = Duration::from_millis(READ_WAIT);
+    let (Ok(address), Ok(())) = (socket.local_addr(), socket.set_read_timeout(Some(wait))) else {
+        return Err(StartFault::CannotListen(plan.listen));
+    };
+    let port = u64::from(address.port());
+    let source = plan.source;
+    reporter.log(rt, LogEvent::MasterStarted { source, port });
+    Ok(socket)
+}
+
+/// A socket at this address. An address that is not up yet is tried again, with growing pauses, and logged.
+fn socket_at<H: Wait + SystemClock + Net>(
+    rt: &H,
+    reporter: &Reporter,
+    listen: SocketAddr,
+) -> Result<UdpSocket, StartFault> {
+    let mut pause = FIRST_PAUSE;
+    for _ in rt.forever() {
+        match UdpSocket::bind(rt, listen) {
+            Ok(socket) => return Ok(socket),
+            Err(error) if error.kind() == ErrorKind::AddrNotAvailable => {
+                let nanos = pause.saturating_mul(MILLI);
+                reporter.log(rt, LogEvent::AddressAwaited { pause: nanos });
+                thread::sleep(rt, Duration::from_millis(pause));
+                pause = next_pause(pause);
+            }
+            Err(_) => return Err(StartFault::CannotListen(listen)),
+        }
+    }
+    unreachable!()
+}
+
+/// Answers open polls of this host, and never ends. If there is a status file, it shows its status about once a second.
+fn answer_open<H: Wait + SystemClock + AllocGlobal>(
+    rt: &H,
+    reporter: &Reporter,
+    plan: &MasterPlan<'_>,
+    link: AnsweringLink,
+    player: &mut Player<'_, H>,
+) -> Result<(), StartFault> {
+    let mut link = link;
+    let mut looks = Looks::new(rt);
+    for _ in rt.forever() {
+        take_turn(rt, reporter, &mut link, player);
+        if plan.status.is_some() && looks.is_due() {
+            if let Ok(told) = told_by(rt, player) {
+                let answers = link.answers();
+                reporter.show_master(rt, open_status(rt.alloc(), plan.source, answers, told));
+            }
+        }
+    }
+    unreachable!()
+}

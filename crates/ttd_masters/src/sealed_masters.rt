@@ -1,0 +1,116 @@
+//! A master that answers sealed polls.
+
+use crate::faults::StartFault;
+use crate::key_files::{KeyFile, line_in};
+use crate::links::AnsweringLink;
+use crate::masters::MasterPlan;
+use crate::pauses::Looks;
+use crate::players::{Player, take_turn};
+use crate::standing::{Told, numbers_of, sealed_status};
+use crate::telling::told_by;
+use std::fs::{File, Files};
+use std::sync::Wait;
+use std::time::Clock as SystemClock;
+use tt_keys::KeysFault;
+use tt_report::Reporter;
+use tt_rounds::SealedAnswers;
+use tt_seal::Key;
+use tt_status::LogEvent;
+
+/// A link to the machines whose keys a master has, the file of these keys, and their numbers.
+#[derive(Drop)]
+pub(crate) struct Sealed<'a> {
+    link: SealedAnswers<AnsweringLink>,
+    file: KeyFile<'a>,
+    numbers: Vec<u32>,
+}
+
+impl<'a> Sealed<'a> {
+    /// The link under the keys of the file.
+    pub(crate) fn new<H: AllocGlobal>(
+        rt: &H,
+        link: AnsweringLink,
+        file: KeyFile<'a>,
+        keys: Vec<Key>,
+    ) -> Result<Self, StartFault> {
+        let numbers = numbers_of(rt.alloc(), &keys)?;
+        let link = SealedAnswers::new(rt.alloc(), link, keys)?;
+        Ok(Sealed {
+            link,
+            file,
+            numbers,
+        })
+    }
+
+    /// Looks at the file, and takes its keys if it has changed. If they are refused, the keys stay. Either is logged.
+    fn look<H: Wait + SystemClock + Files<File = File> + AllocGlobal>(
+        &mut self,
+        rt: &H,
+        reporter: &Reporter,
+    ) {
+        if !self.file.has_changed(rt) {
+            return;
+        }
+        let event = match self.file.read(rt, rt.alloc()) {
+            Ok(keys) => self.take(rt, keys),
+            Err(fault) => refused(fault),
+        };
+        reporter.log(rt, event)
+    }
+
+    /// Shows its status, if there is memory for it.
+    fn show<H: Wait + AllocGlobal>(&self, rt: &H, reporter: &Reporter, source: u64, told: Told) {
+        if let Ok(status) = sealed_status(rt.alloc(), source, &self.numbers, &self.link, told) {
+            reporter.show_master(rt, status)
+        }
+    }
+
+    /// Takes these keys, if there is memory for them. Answers what is logged.
+    fn take<H: AllocGlobal>(&mut self, rt: &H, keys: Vec<Key>) -> LogEvent {
+        let alloc = rt.alloc();
+        let count = keys.len() as u64;
+        let Ok(numbers) = numbers_of(alloc, &keys) else {
+            self.file.forget();
+            return refused(KeysFault::Memory);
+        };
+        if self.link.set_keys(alloc, keys).is_err() {
+            self.file.forget();
+            return refused(KeysFault::Memory);
+        }
+        self.numbers = numbers;
+        LogEvent::KeysRead { keys: count }
+    }
+}
+
+/// What is logged where a file of keys is refused.
+fn refused(fault: KeysFault) -> LogEvent {
+    LogEvent::KeysRefused {
+        number: u64::from(fault.number()),
+        line: line_in(fault),
+    }
+}
+
+/// Answers sealed polls, and never ends. About once a second it looks at its file of keys and, if there is a status file,
+/// shows its status.
+pub(crate) fn answer_sealed<H: Wait + SystemClock + Files<File = File> + AllocGlobal>(
+    rt: &H,
+    reporter: &Reporter,
+    plan: &MasterPlan<'_>,
+    sealed: Sealed<'_>,
+    player: &mut Player<'_, H>,
+) -> Result<(), StartFault> {
+    let mut sealed = sealed;
+    let mut looks = Looks::new(rt);
+    for _ in rt.forever() {
+        take_turn(rt, reporter, &mut sealed.link, player);
+        if looks.is_due() {
+            sealed.look(rt, reporter);
+            if plan.status.is_some() {
+                if let Ok(told) = told_by(rt, player) {
+                    sealed.show(rt, reporter, plan.source, told);
+                }
+            }
+        }
+    }
+    unreachable!()
+}

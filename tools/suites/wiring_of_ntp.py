@@ -1,0 +1,406 @@
+"""Scenarios of the suite `wiring`: a master over servers of NTP of a script. Each of its options, of the numbers of its status and of the lines
+of its log is what its name says. What a reply says is worked out in harness/ntp.py, apart from the program."""
+import contextlib
+import os
+import socket
+import threading
+import time
+
+from harness.metrics import faults_in, numbers_in
+from harness.ntp import PACKET, SHORT, FakeServer, Key, Says, kiss, stamp_of
+from harness.processes import SECOND
+from harness.program import read_text, write
+from harness.trouble import REQUEST, SPAN, Spoils
+from suites.wiring import suite
+from suites.wiring_checks import OF_MASTERS, eventually, number_of
+from suites.wiring_of_masters import EPOCH, MACHINE, Asked, Spoiled
+
+OFTEN = "100ms"
+#: What an answer may be wider than it has to be, and how late something may come: the host may be busy.
+SLACK_NS, SOON_S = 100_000_000, 15.0
+#: Between two polls of those that come all the while.
+PAUSE_S = 0.05
+DAY_S, NOON_S = 86_400, 43_200
+
+
+class Polls(threading.Thread):
+    """Polls a master again and again, since one on the host of its server asks that when it is polled."""
+
+    def __init__(self, over):
+        super().__init__(daemon=True)
+        self.over, self.ended = over, threading.Event()
+        self.start()
+
+    def run(self):
+        with socket.socket(socket.AF_INET, socket.SOCK_DGRAM) as door:
+            door.connect(self.over.door.getpeername())
+            while not self.ended.wait(PAUSE_S):
+                with contextlib.suppress(OSError):
+                    door.send(REQUEST.pack(b"TTP2", 1, MACHINE, self.over.source, 0, 1, EPOCH))
+
+    def close(self):
+        self.ended.set()
+        self.join()
+
+
+class Over(Asked):
+    """A master over servers, with a status, and a client of it."""
+    number = 0
+
+    def __init__(self, trial, servers, *flags, source=2, **options):
+        Over.number += 1
+        self.path = os.path.join(trial.room, f"status-{Over.number}")
+        super().__init__(trial, source, *flags, ntp=[server.address for server in servers], status=[self.path], **options)
+        trial.logs(self.process, "master_started", source=source, seconds=SOON_S)
+
+    def polled(self, trial):
+        """It is polled all the while."""
+        trial.keep(Polls(self))
+        return self
+
+    def span(self, seconds=1.0):
+        """The interval of its answer, and the real-time clock before and after; or nothing."""
+        packet, before, after = self.poll(seconds)
+        if not packet or packet[:REQUEST.size] != self.head() or len(packet) != REQUEST.size + SPAN.size:
+            return None
+        return *SPAN.unpack(packet[REQUEST.size:]), before, after
+
+    def holds(self, ahead_ns=0, width_ns=None):
+        """Whether it comes to answer an interval that holds the host's clock and so much more, about so wide."""
+        def look():
+            if not (span := self.span()):
+                return False
+            low, high, before, after = span
+            is_right = low <= after + ahead_ns and before + ahead_ns <= high
+            return is_right and (width_ns is None or width_ns <= high - low <= width_ns + SLACK_NS)
+        return eventually(look, SOON_S, 0.05)
+
+    def numbers(self):
+        """Its status by the names of OF_MASTERS, those of servers as lists."""
+        text = read_text(self.path)
+        found, numbers = {}, numbers_in(text.replace(f'{{source="{self.source}",', "{").replace(f'{{source="{self.source}"}}', ""))
+        for name, line in OF_MASTERS.items():
+            if "%d" in line:
+                servers = [line % server for server in range(16) if line % server in numbers]
+                found[name] = [number_of(numbers, sample) for sample in servers]
+            else:
+                found[name] = number_of(numbers, line)
+        return found
+
+    def comes_to(self, trial, seconds=SOON_S, **wanted):
+        """Its status comes to have these numbers, all of them at once; all that it has then."""
+        seen = [dict.fromkeys(wanted)]
+
+        def look():
+            seen.append(self.numbers())
+            return all(seen[-1][name] == value for name, value in wanted.items())
+
+        eventually(look, seconds, 0.05)
+        for name, value in wanted.items():
+            trial.equal(f"master {name}", seen[-1][name], value)
+        return seen[-1]
+
+    def is_silent(self, polls=3):
+        return all(self.span(0.3) is None for _ in range(polls))
+
+
+def tells_silence(trial, over, number):
+    """Its log says why it is silent. Where a first reply was late, that was told, and nothing more of the kind for ten seconds."""
+    trial.logs(over.process, "master_silent", SOON_S)
+    told = {line["number"] for line in over.process.said("master_silent")}
+    trial.check("log master_silent", str(number) in told or told == {"2402"}, f"no {number}, only {told}")
+
+
+def servers_of(trial, *says):
+    """Servers on loopback, each with what it says."""
+    return [trial.keep(FakeServer(one)) for one in says]
+
+
+def at_noon(**fields):
+    """What a server says whose clock shows noon, so that no leap second is near."""
+    return Says(ahead_ns=(NOON_S - time.time_ns() // SECOND % DAY_S) * SECOND, **fields)
+
+
+def radius_ns(delay=0, dispersion=0):
+    """What a server claims, without what is below a millisecond."""
+    return (delay / 2 + dispersion) * SECOND / SHORT
+
+
+@suite.case()
+def servers_of_masters(trial):
+    """It answers what its server says, and nothing of its host's clock."""
+    for ahead_ns, delay, dispersion in ((0, 0, 655), (7 * SECOND, 6554, 0), (-9 * SECOND, 655, 13107)):
+        server, = servers_of(trial, Says(ahead_ns=ahead_ns, delay=delay, dispersion=dispersion))
+        over = Over(trial, [server], every=[OFTEN])
+        trial.check("option ntp", over.holds(ahead_ns, 2 * radius_ns(delay, dispersion)), f"{over.span()} of a server {ahead_ns} ns ahead")
+    ran = trial.command("master", "--source", "0", "--listen", "127.0.0.1:1", "--ntp", "127.0.0.1:123", "--uncertainty", "5")
+    trial.equal("option ntp", ran.status, 2)
+
+
+@suite.case()
+def margins_of_masters(trial):
+    """An answer is wider by twice the margin, and by no more."""
+    server, = servers_of(trial, Says())
+    plain, wide = (Over(trial, [server], every=[OFTEN], margin=[margin]) for margin in (0, 1_234_567_890))
+    widths = {}
+    for name, over in (("plain", plain), ("wide", wide)):
+        spans = [over.span() for _ in range(30) if time.sleep(0.05) is None]
+        widths[name] = min((span[1] - span[0] for span in spans if span), default=-1)
+    trial.between("option margin", 2 * 1_234_567_890 - 20_000_000, widths["wide"] - widths["plain"], 2 * 1_234_567_890 + 20_000_000)
+
+
+@suite.case()
+def drifts_of_masters(trial):
+    """An answer grows by twice the drift, which is 200 parts per million where none is given, once its server is silent."""
+    for given, rate in ((["50000"], 50_000), ([], 200)):
+        server, = servers_of(trial, Says())
+        over = Over(trial, [server], every=["1s"], drift=given)
+        trial.check("option drift", over.holds(), "no answer")
+        server.says = Says(silent=True)
+        time.sleep(0.1)
+        first, began = over.span(), time.time_ns()
+        time.sleep(3)
+        then, ended = over.span(), time.time_ns()
+        if not first or not then:
+            trial.check("option drift", False, "no answer")
+            continue
+        grown = (then[1] - then[0]) - (first[1] - first[0])
+        trial.between("option drift", 2 * rate * (then[2] - began) // 10**6 - 10, grown, 2 * rate * (ended - first[2]) // 10**6 + 10)
+
+
+@suite.case()
+def requests_of_masters(trial):
+    """A server is asked so often; one on loopback at each poll, where nothing is said, and not between polls. Others are asked by themselves
+    (tools/lab/upsets.py)."""
+    server, = servers_of(trial, Says())
+    Over(trial, [server], every=["400ms"]).polled(trial)
+    eventually(lambda: len(server.times) > 8, SOON_S)
+    gaps = sorted(after - before for before, after in zip(server.times, server.times[1:]))
+    trial.check("option every", len(gaps) > 6 and 0.39 < gaps[len(gaps) // 2] < 0.6 and gaps[0] > 0.3, f"requests are {gaps} apart")
+    first, second = servers_of(trial, Says(), Says())
+    over = Over(trial, [first])
+    Over(trial, [second])
+    trial.check("option every", over.holds(), "no answer")
+    before, quiet = len(first.requests), len(second.requests)
+    for _ in range(10):
+        over.poll()
+        time.sleep(0.02)
+    trial.between("option every", 8, len(first.requests) - before, 10)
+    time.sleep(1)
+    trial.between("option every", quiet, len(second.requests), quiet + 1)
+
+
+@suite.case()
+def ages_of_masters(trial):
+    """A master whose server is not heard is silent once the reply is so old, says why, and answers again."""
+    server, = servers_of(trial, Says())
+    over = Over(trial, [server], every=["200ms"], max_age=["2s"])
+    trial.check("option max-age", over.holds(), "no answer")
+    server.says = Says(silent=True)
+    last = began = time.monotonic()
+    while time.monotonic() < began + SOON_S and over.span(0.3):
+        last = time.monotonic()
+        time.sleep(0.05)
+    trial.between("option max-age", 1.6, last - began, 3.0)
+    tells_silence(trial, over, 2403)
+    trial.logs(over.process, "server_silent", SOON_S, server=0)
+    seen = over.comes_to(trial, server_silence=[2403], server_width_seconds=[None])
+    trial.between("master server_age_seconds", 2 * SECOND, seen["server_age_seconds"][0], 20 * SECOND)
+    server.says = Says()
+    trial.check("option max-age", over.holds(), "no answer after the server was heard again")
+    trial.logs(over.process, "master_answers", SOON_S)
+    seen = over.polled(trial).comes_to(trial, server_silence=[0])
+    trial.between("master server_age_seconds", 0, seen["server_age_seconds"][0], SECOND)
+    trial.check("master unanswered_2403", (seen["unanswered_2403"] or 0) > 0, "no poll is counted")
+
+
+@suite.case()
+def local_references(trial):
+    """A server that follows its own clock is refused, or taken with --local."""
+    server, = servers_of(trial, Says(reference=0x7F7F0101))
+    refused, taken = Over(trial, [server], every=[OFTEN]), Over(trial, [server], "--local", every=[OFTEN])
+    trial.check("option local", taken.holds(), "it is refused with --local")
+    trial.check("option local", refused.is_silent(), "it is taken without --local")
+    trial.logs(refused.process, "server_refused", SOON_S, server=0, number=2313)
+    tells_silence(trial, refused, 2404)
+    polls = refused.numbers()["unanswered_2402"]
+    refused.comes_to(trial, server_silence=[2404], server_replies_total=[0], unanswered_2404=refused.nonce - polls)
+
+
+@suite.case()
+def faulty_servers(trial):
+    """Of three servers one may lie, or two, or none may; where they disagree it is silent."""
+    servers = servers_of(trial, Says(), Says(ahead_ns=20 * SECOND), Says())
+    for faulty in (["1"], []):
+        over = Over(trial, servers, every=[OFTEN], faulty=faulty).polled(trial)
+        if faulty:
+            trial.check("option faulty", over.holds(0, 0), f"{over.span()} with one liar of three")
+            continue
+        eventually(lambda over=over: over.numbers()["server_silence"] == [0, 0, 0], SOON_S)
+        trial.check("option faulty", over.is_silent(), "an answer where one server lies and none may")
+        tells_silence(trial, over, 2407)
+        trial.check("master unanswered_2407", eventually(lambda over=over: over.numbers()["unanswered_2407"] >= 3, SOON_S), "none are counted")
+    servers = servers_of(trial, Says(), Says(silent=True), Says(silent=True))
+    over = Over(trial, servers, every=[OFTEN], faulty=["1"])
+    polls = trial.keep(Polls(over))
+    over.comes_to(trial, server_silence=[0, 2402, 2402])
+    trial.check("option faulty", over.is_silent(), "an answer where one server of three is heard")
+    polls.close()
+    time.sleep(1.2)
+    before = over.numbers()["unanswered_2402"]
+    trial.check("option faulty", over.is_silent(3), "an answer where one server of three is heard")
+    seen = over.comes_to(trial, unanswered_2402=before + 3)
+    trial.equal("master server_replies_total", seen["server_replies_total"][1:], [0, 0])
+
+
+@suite.case()
+def keys_of_servers(trial):
+    """Requests have the code of the key, and so have the replies that are taken."""
+    keys = [Key(7, "sha1", bytes(range(20))), Key(9, "sha256", bytes(range(40, 72)))]
+    path = os.path.join(trial.room, "ntp-keys")
+    write(path, f"# keys\n{keys[0].line()}\n{keys[1].line()}\n".encode())
+    os.chmod(path, 0o600)
+    for key in keys:
+        server, = servers_of(trial, Says(key=key))
+        over = Over(trial, [server], every=[OFTEN], ntp_key=[key.number], ntp_keys=[path])
+        trial.check("option ntp-keys", over.holds(), f"no answer under the key {key.kind}")
+        request = server.requests[-1] if server.requests else b""
+        trial.check("option ntp-key", request[PACKET.size:] == key.code(request[:PACKET.size]), f"the request {request.hex(' ', 8)}")
+        over.polled(trial)
+        server.says = Says(key=key._replace(secret=b"another"), ahead_ns=50 * SECOND)
+        before = over.numbers()["server_refused_total"][0]
+        is_counted = eventually(lambda: over.numbers()["server_refused_total"][0] > before + 1, SOON_S)
+        trial.check("option ntp-key", is_counted, "replies under another key are not counted")
+        trial.check("option ntp-key", over.holds(), "a reply under another key was taken")
+    server, = servers_of(trial, Says())
+    over = Over(trial, [server], every=[OFTEN], ntp_key=["7"], ntp_keys=[path]).polled(trial)
+    trial.check("option ntp-key", eventually(lambda: len(server.requests) > 2, SOON_S) and over.is_silent(), "a reply without a code was taken")
+
+
+@suite.case()
+def widths_of_masters(trial):
+    """The status has the width of the last answer and of the widest; a line tells of one that is wider than it should be."""
+    server, = servers_of(trial, Says(dispersion=SHORT // 10))
+    over = Over(trial, [server], every=[OFTEN], warn_width=[100_000_000])
+    narrow = Over(trial, [server], every=[OFTEN], warn_width=[900_000_000])
+    trial.check("option warn-width", over.holds() and narrow.holds(), "no answer")
+    line = trial.logs(over.process, "width_above", SOON_S, limit_ns=100_000_000)
+    trial.between("log width_above", 200_000_000, int(line.get("width_ns", 0)), 200_000_000 + SLACK_NS)
+    span = eventually(over.span, SOON_S)
+    width = span[1] - span[0] if span else None
+    seen = over.comes_to(trial, width=width)
+    trial.between("master server_root_distance_seconds", 100_000_000, seen["server_root_distance_seconds"][0], 100_000_000 + SLACK_NS)
+    trial.between("master server_width_seconds", 200_000_000, seen["server_width_seconds"][0], 200_000_000 + 3 * SLACK_NS)
+    trial.equal("option warn-width", narrow.process.said("width_above"), [])
+    stated = Asked(trial, 4, uncertainty=[1_000_000], warn_width=[1_000])
+    trial.logs(stated.process, "master_started", SOON_S)
+    trial.check("option warn-width", stated.poll()[0], "no answer by the host's clock")
+    trial.logs(stated.process, "width_above", SOON_S, width_ns=2_000_000, limit_ns=1_000)
+    over.comes_to(trial, width_max=None)
+    spans = [over.span() for _ in range(4)]
+    widest = max(span[1] - span[0] for span in spans if span)
+    trial.check("master width_max", eventually(lambda: over.numbers()["width_max"] == widest, 3), f"not {widest}: {over.numbers()['width_max']}")
+    trial.equal("option status", faults_in(read_text(over.path)), [])
+
+
+@suite.case()
+def counts_of_masters(trial):
+    """The status tells of each server what it said, and counts requests, replies, and polls by why they were not answered."""
+    says = [at_noon(stratum=3, leap=1), at_noon(stratum=5, leap=2), at_noon(stratum=1)]
+    servers = servers_of(trial, *says)
+    over = Over(trial, servers, every=["1s"], faulty=["1"]).polled(trial)
+    over.comes_to(trial, server_stratum=[3, 5, 1], server_leap=[1, 2, 0], server_silence=[0, 0, 0], server_kisses_total=[0, 0, 0])
+
+    def look():
+        sent = [len(server.requests) for server in servers]
+        seen = over.numbers()
+        taken = [reply + refused for reply, refused in zip(seen["server_replies_total"], seen["server_refused_total"])]
+        return sent if [seen["server_requests_total"], taken] == [sent, sent] else None
+    trial.check("master server_requests_total", eventually(look, SOON_S, 0.02), f"{over.numbers()}, {[len(server.requests) for server in servers]}")
+    for name, least in (("server_replies_total", 4), ("server_width_seconds", 1_000_000)):
+        is_seen = eventually(lambda name=name, least=least: all(number >= least for number in over.numbers()[name]), SOON_S)
+        trial.check(f"master {name}", is_seen, f"{over.numbers()[name]}")
+    for packet, number, times in ((b"no poll", 301, 2), (REQUEST.pack(b"TTP2", 1, MACHINE, 5, 0, 1, EPOCH), 302, 3),
+                                  (REQUEST.pack(b"TTP2", 2, MACHINE, 2, 0, 1, EPOCH) + SPAN.pack(1, 2), 303, 4)):
+        for _ in range(times):
+            over.door.send(packet)
+        over.comes_to(trial, **{f"unanswered_{number}": times})
+    before = over.numbers()["server_refused_total"][0]
+    servers[0].says = Says(leap=3)
+    trial.check("master server_refused_total", eventually(lambda: over.numbers()["server_refused_total"][0] > before + 1, SOON_S), "not counted")
+    over.comes_to(trial, server_silence=[2404, 0, 0])
+
+
+@suite.case()
+def kisses_of_servers(trial):
+    """RATE doubles the pause; DENY and RSTR end the requests."""
+    server, = servers_of(trial, kiss("RATE"))
+    over = Over(trial, [server], every=["200ms"]).polled(trial)
+    eventually(lambda: len(server.times) >= 5, SOON_S)
+    gaps = [after - before for before, after in zip(server.times, server.times[1:])]
+    # A reply that comes too late is not heard, and does not double the pause.
+    doubled = [gap for before, gap in zip(gaps, gaps[1:]) if gap > 1.5 * before]
+    trial.check("master server_kisses_total", len(doubled) >= 2 and gaps[-1] > 0.75, f"requests are {gaps} apart")
+    seen = over.numbers()
+    trial.between("master server_kisses_total", len(server.times) - 1, seen["server_kisses_total"][0] + 1, len(server.times) + 1)
+    for code in ("DENY", "RSTR"):
+        server, = servers_of(trial, Says())
+        over = Over(trial, [server], every=[OFTEN])
+        trial.check("option ntp", over.holds(), "no answer")
+        server.says = kiss(code)
+        over.polled(trial).comes_to(trial, server_silence=[2405], server_kisses_total=[1])
+        before = len(server.requests)
+        trial.check("master unanswered_2405", over.is_silent(), f"an answer after {code}")
+        trial.check("master unanswered_2405", eventually(lambda over=over: over.numbers()["unanswered_2405"] >= 3, SOON_S), "not counted")
+        trial.equal("master server_requests_total", len(server.requests), before)
+
+
+@suite.case()
+def leap_seconds_of_servers(trial):
+    """From a minute before a leap second until the server has stepped it is silent."""
+    to_midnight = (DAY_S - time.time_ns() // SECOND % DAY_S) * SECOND
+    server, = servers_of(trial, Says(leap=1, ahead_ns=to_midnight - 50 * SECOND))
+    over = Over(trial, [server], every=[OFTEN]).polled(trial)
+    over.comes_to(trial, server_silence=[2406])
+    trial.check("master unanswered_2406", over.is_silent(), "an answer 50 s before a leap second")
+    trial.check("master unanswered_2406", eventually(lambda: over.numbers()["unanswered_2406"] >= 3, SOON_S), "not counted")
+    server.says = Says(leap=0, ahead_ns=to_midnight + 20 * SECOND)
+    trial.check("master unanswered_2406", over.holds(to_midnight + 20 * SECOND), "no answer after the leap second")
+
+
+@suite.case()
+def refusals_of_servers(trial):
+    """The log names why a reply is refused. What is no reply of the server to the request is counted, and awaited on."""
+    later = stamp_of(time.time_ns() + 3600 * SECOND)
+    refused = {2307: kiss("RATE"), 2308: kiss("DENY"), 2309: kiss("RSTR"), 2310: kiss("INIT"), 2311: Says(leap=3), 2312: Says(stratum=16),
+               2314: Says(changed={"shown": 0}), 2315: Says(changed={"came": later}), 2316: Says(changed={"set": later}),
+               2317: Says(dispersion=2 * SHORT)}
+    strange = [Says(packet=lambda _: bytes(47)), Says(changed={"version": 3}), Says(changed={"mode": 3}), Says(changed={"origin": 5})]
+    made = {number: Over(trial, servers_of(trial, says), every=[OFTEN]).polled(trial) for number, says in refused.items()}
+    passed = [Over(trial, servers_of(trial, says), every=[OFTEN]).polled(trial) for says in strange]
+    for number, over in made.items():
+        trial.logs(over.process, "server_refused", SOON_S, server=0, number=number)
+        trial.check("option ntp", over.is_silent(1), f"an answer by a reply that is refused by {number}")
+    for over in passed:
+        is_counted = eventually(lambda over=over: over.numbers()["server_refused_total"][0] > 1, SOON_S)
+        trial.check("master server_refused_total", is_counted, "what is no reply is not counted")
+        trial.equal("master server_silence", over.numbers()["server_silence"], [2402])
+        trial.equal("log server_refused", over.process.said("server_refused"), [])
+
+
+@suite.case()
+def steps_of_clocks(trial):
+    """A step of the real-time clock against the monotonic one is told of, and the master is silent from then on."""
+    spoils, path = Spoils(trial.room), os.path.join(trial.room, "status")
+    asked = Asked(trial, 1, uncertainty=[5])
+    asked.process.kill()
+    words = ["master", "--source", "1", "--listen", asked.address, "--uncertainty", "5", "--status", path]
+    process = trial.keep(Spoiled(trial, spoils, words))
+    trial.check("option uncertainty", eventually(lambda: asked.poll(0.3)[0], SOON_S), "no answer")
+    spoils.turn(jump_ns=3 * SECOND)
+    trial.check("master unanswered_2408", eventually(lambda: asked.poll(0.3)[0] is None, SOON_S), "it answers after a step")
+    trial.logs(process, "clock_stepped", SOON_S)
+    trial.check("master unanswered_2408", all(asked.poll(0.2)[0] is None for _ in range(3)), "it answers again")
+    counted = f'truetime_master_unanswered_total{{source="1",number="2408"}} '
+    is_counted = eventually(lambda: int(read_text(path).partition(counted)[2].partition("\n")[0] or 0) >= 3, SOON_S)
+    trial.check("master unanswered_2408", is_counted, "polls are not counted")
