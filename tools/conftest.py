@@ -45,7 +45,7 @@ class SuiteFile(pytest.File):
 
 
 class CaseItem(pytest.Item):
-    """A case, which is tried once more where its suite does that."""
+    """A case, which is tried again as often as its suite does that."""
 
     def __init__(self, *, case, **rest):
         super().__init__(**rest)
@@ -57,9 +57,10 @@ class CaseItem(pytest.Item):
             if len(results) < len(suite.cases):
                 pytest.skip("not all cases were run")
             shared = [result for result in results if not result.left_out]
-        result = self.case.run(options, shared)
-        if result.wrong and suite.again:
+        for _ in range(1 + suite.again):
             result = self.case.run(options, shared)
+            if not result.wrong:
+                break
         results.append(result)
         if result.left_out:
             pytest.skip(result.left_out)

@@ -2,6 +2,7 @@
 import argparse
 import dataclasses
 import os
+import time
 from xml.etree import ElementTree
 
 from harness.program import PROGRAM, STAMPS
@@ -73,12 +74,24 @@ def main(about: str) -> int:
     if given.list:
         print("".join(f"{case.path}\n" for _, cases in chosen for case in cases), end="")
         return 0
-    results, options = {}, options_of(given)
+    results, seconds, options = {}, {}, options_of(given)
     for suite, cases in chosen:  # a case that is named may take long
+        began = time.monotonic()
         results[suite.name] = suite.run(cases, dataclasses.replace(options, long=given.long or cases != suite.cases), max(1, given.times))
+        seconds[suite.name] = time.monotonic() - began
     if given.junit:
         write_junit(given.junit, results)
     wrong = [name for name, of_suite in results.items() if wrong_in(of_suite)]
     if len(results) > 1:
+        tell_again(results, seconds)
         print(f"check: {len(results)} suites, {len(wrong)} wrong{': ' if wrong else ''}{' '.join(wrong)}")
     return bool(wrong)
+
+
+def tell_again(results: dict[str, list[Result]], seconds: dict[str, float]) -> None:
+    """Prints at the end how long each suite took, and what stayed wrong, since of a long run often only the last lines are kept."""
+    print(f"check: seconds on {os.cpu_count()} processors: {', '.join(f'{name} {took:.0f}' for name, took in seconds.items())}")
+    for name, of_suite in results.items():
+        for result in of_suite:
+            for what in result.wrong[:5]:
+                print(f"check: {name}/{result.case}: {what[:300]}")

@@ -87,9 +87,9 @@ def time_limit(seconds: int):
 
 
 class Suite:
-    """Cases, how many of them run at once and how long, and whether one that was wrong is tried once more when nothing runs beside it."""
+    """Cases, how many of them run at once and how long, and how often one that was wrong is tried again when nothing runs beside it."""
 
-    def __init__(self, module: str, trial: type[Trial] = Trial, at_once: int = 1, longest_s: int = 0, again: bool = False):
+    def __init__(self, module: str, trial: type[Trial] = Trial, at_once: int = 1, longest_s: int = 0, again: int = 0):
         self.name, self.trial, self.at_once, self.longest_s, self.again = module.rpartition(".")[2], trial, at_once, longest_s, again
         self.found: list[Case] = []
         self.families: list[typing.Callable] = []
@@ -151,10 +151,11 @@ class Suite:
                 print(f"{self.name}: {result.case} is left out: {result.left_out}", flush=True)
         chosen = sorted([case for case in cases if not case.left_out(options.long)] * times, key=lambda case: not case.quiet)
         results = self.run_once(chosen, options, self.at_once)
-        if self.again and times == 1 and (wrong := [case for case, result in zip(chosen, results) if result.wrong]):
-            print(f"{self.name}: once more, one at a time: {' '.join(case.name for case in wrong)}", flush=True)
-            second = dict(zip(wrong, self.run_once(wrong, options, 1)))
-            results = [second.get(case, result) for case, result in zip(chosen, results)]
+        for _ in range(self.again if times == 1 else 0):
+            if wrong := [case for case, result in zip(chosen, results) if result.wrong]:
+                print(f"{self.name}: once more, one at a time: {' '.join(case.name for case in wrong)}", flush=True)
+                anew = dict(zip(wrong, self.run_once(wrong, options, 1)))
+                results = [anew.get(case, result) for case, result in zip(chosen, results)]
         if self.of_all and cases == self.cases:
             results += self.tell([self.of_all.run(options, results)])
         print(f"{self.name}: {self.told(results)}", flush=True)

@@ -11,7 +11,7 @@ import threading
 import time
 
 from harness.processes import Fault, Machine, free_port, truetime
-from harness.program import compile_c, write
+from harness.program import compile_c, read_text, write
 
 NOBODY = 65534
 POLL_S, WAIT_S = 0.1, 0.1
@@ -126,11 +126,17 @@ class Node(Machine):
 
     def processor_ns(self):
         """The processor time of all its threads."""
-        spent, tasks = 0, f"/proc/{self.running.pid}/task"
-        for task in os.listdir(tasks):
-            with open(f"{tasks}/{task}/schedstat", encoding="ascii") as file:
-                spent += int(file.read().split()[0])
-        return spent
+        return sum(int(text.split()[0]) for text in self.of_threads("schedstat"))
+
+    def wakes(self):
+        """How often its threads have waited for something, and gone on."""
+        return sum(int(line.split()[1]) for text in self.of_threads("status") for line in text.splitlines()
+                   if line.startswith("voluntary_ctxt_switches:"))
+
+    def of_threads(self, name):
+        """What the kernel says of each of its threads in the file of this name."""
+        tasks = f"/proc/{self.running.pid}/task"
+        return [read_text(f"{tasks}/{task}/{name}") for task in os.listdir(tasks)]
 
     def allow_no_more_descriptors(self):
         number = len(os.listdir(f"/proc/{self.running.pid}/fd"))

@@ -10,13 +10,13 @@ from then on no session has a reading until the next life, whose first one has t
 - More than f sources lie together, by more or by less than the width; all are silent; a whole fleet breaks at once.
 - What follows: pauses of the starts, the evidence, `on_break = "warn"`, `max_width`, and time namespaces.
 
-The scenarios are in breaks_of_clocks.py, breaks_of_sources.py and breaks_of_settings.py. One that was wrong is tried once more when nothing
-runs beside it.
+The scenarios are in breaks_of_clocks.py, breaks_of_sources.py and breaks_of_settings.py. One that was wrong is tried again up to two
+times when nothing runs beside it.
 """
 from harness.suite import Suite, wrong_in
 from suites.breaks_world import Breaks
 
-suite = Suite(__name__, Breaks, at_once=6, longest_s=60, again=True)
+suite = Suite(__name__, Breaks, at_once=6, longest_s=60, again=2)
 
 
 @suite.last_line

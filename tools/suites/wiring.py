@@ -1,7 +1,7 @@
 """Tries from outside whether each setting, number and line of the log of the time service is wired to what its name says.
 
-All scenarios run at once. One that was wrong is tried once more when nothing runs beside it: some are bound to times, and the host may be
-busy. Masters are scripts that keep what a machine sends.
+All scenarios run at once, but for a few that are bound to milliseconds and come first. One that was wrong is tried again up to three times
+when nothing runs beside it: the host may be busy, and a wrong wiring is wrong each time. Masters are scripts that keep what a machine sends.
 
 - Each setting of a machine, each option of `master` and each of its acts has its effect, with a value that is no default.
 - Each number of the status and of the shared file is that of what was done: rounds of a known kind, packets of each kind that is refused
@@ -14,7 +14,7 @@ becomes of clients, files and networks that fail (the suite `faults`), and numbe
 from harness.suite import Suite, wrong_in
 from suites.wiring_checks import NAMES, Checks
 
-suite = Suite(__name__, Checks, at_once=32, longest_s=40, again=True)
+suite = Suite(__name__, Checks, at_once=32, longest_s=40, again=3)
 
 
 @suite.whole

@@ -77,6 +77,7 @@ class Over(Asked):
 
     def numbers(self):
         """Its status by the names of OF_MASTERS, those of servers as lists."""
+        eventually(lambda: os.path.exists(self.path), SOON_S)
         text = read_text(self.path)
         found, numbers = {}, numbers_in(text.replace(f'{{source="{self.source}",', "{").replace(f'{{source="{self.source}"}}', ""))
         for name, line in OF_MASTERS.items():

@@ -118,7 +118,7 @@ def first_publication(trial):
     trial.logs(node, "ended")
 
 
-@suite.case()
+@suite.case(quiet=True)
 def refused_sources(trial):
     """Sources whose answers are all refused, each for another reason, are neither accepted nor silent."""
     packets = {"404": lambda _: b"x", "405": other(source=1), "406": other(nonce=1), "407": other(epoch=1)}
@@ -172,7 +172,7 @@ def ages(trial):
 DELAYS, MORE = [0.012, 0.06, 0.12], 0.04
 
 
-@suite.case()
+@suite.case(quiet=True)
 def round_trips(trial):
     """Each source answers late by a time of its own."""
     masters = trial.scripts(*map(late, DELAYS))
@@ -193,7 +193,7 @@ def round_trips(trial):
 SPANS, NEAR = [(100, 100), (300, 500), (200, 200)], 20
 
 
-@suite.case()
+@suite.case(quiet=True)
 def spans_of_sources(trial):
     """Of three sources, one of which may be faulty, the fused span is that of the third one."""
     node = trial.running_node(trial.scripts(*(spans(low * 1_000_000, high * 1_000_000) for low, high in SPANS)))
@@ -207,7 +207,7 @@ def spans_of_sources(trial):
 RATES = [0, 20_000, 0, -10_000, 0]
 
 
-@suite.case()
+@suite.case(quiet=True)
 def rates(trial):
     """Two of five sources run fast and slow: the machine's clock loses and gains as much, within an error that shrinks."""
     node = trial.running_node(trial.scripts(*map(runs, RATES)), poll="50ms", wait="50ms")
