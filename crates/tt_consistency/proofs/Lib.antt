@@ -34,3 +34,5 @@ mod WorkedNode
 mod Working
 mod WorkedLife
 mod BesideSessions
+mod Terming
+mod WorkedTerms

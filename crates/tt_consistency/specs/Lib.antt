@@ -14,3 +14,4 @@ pub mod Worked
 pub mod Lives
 pub mod Assumed
 pub mod Stampers
+pub mod Terms

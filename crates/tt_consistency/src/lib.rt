@@ -30,11 +30,16 @@
 //! A life is one run of the service on a machine. The law of lives has two kinds of premises: what a run proves of its
 //! own life, and what no program can prove of it.
 //!
+//! # Terms
+//!
+//! Where the leader of a shard moves, an engine with consensus grants leases to its terms. If each lease begins above the
+//! ends of all before it, then the commits of a later term have the greater stamps, on whatever machines the leaders run.
+//!
 //! - `runs`: `step_laws`, `round_laws`, `timeline_laws`, `assumption_laws` and `reading_laws`. `meeting`:
 //!   `meeting_laws`.
 //! - `orders`: `session_laws`, `lease_laws`, `reply_laws`, `order_laws` and `sequencer_laws`.
 //! - `services`: `machine_laws`, `service_laws`, `consistency_laws` and `node_laws`.
-//! - `lives`: `life_laws`. `stampers`: `stamper_laws`.
+//! - `lives`: `life_laws`. `stampers`: `stamper_laws`. `terms`: `term_laws`.
 #![tactic(auto)]
 
 mod lives;
@@ -43,6 +48,7 @@ mod orders;
 mod runs;
 mod services;
 mod stampers;
+mod terms;
 
 pub use lives::life_laws;
 pub use meeting::meeting_laws;
@@ -50,3 +56,4 @@ pub use orders::{lease_laws, order_laws, reply_laws, sequencer_laws, session_law
 pub use runs::{assumption_laws, reading_laws, round_laws, step_laws, timeline_laws};
 pub use services::{consistency_laws, machine_laws, node_laws, service_laws};
 pub use stampers::stamper_laws;
+pub use terms::term_laws;
