@@ -46,7 +46,7 @@ FILES = {
     },
     "truetime": {
         "usr/bin/ttd": None, "usr/share/man/man1/ttd.1.gz": None, "usr/share/man/man5/node.toml.5.gz": None,
-        **{f"usr/libexec/truetime/{name}": f"packaging/{name}" for name in ("await", "watch")},
+        **{f"usr/libexec/truetime/{name}": f"packaging/{name}" for name in ("await", "stands-still")},
         **{f"{UNITS}/{name}": f"packaging/{name}" for name in (
             "truetime@.service", "truetime-master@.service", "truetime-watch@.service", "truetime-watch@.timer")},
         "usr/lib/sysusers.d/truetime.conf": "packaging/truetime.sysusers", "usr/lib/tmpfiles.d/truetime.conf": "packaging/truetime.tmpfiles",
@@ -55,7 +55,7 @@ FILES = {
         **{f"usr/share/doc/truetime/{name}.md": f"docs/{name}.md" for name in ("OPERATING", "UPGRADES", "MASTERS", "FORMATS", "THREATS")},
     },
 }
-PROGRAMS = {"usr/bin/ttd", "usr/libexec/truetime/await", "usr/libexec/truetime/watch"}
+PROGRAMS = {"usr/bin/ttd", "usr/libexec/truetime/await", "usr/libexec/truetime/stands-still"}
 # What packaging/install leaves to the packages.
 NOT_BY_INSTALL = re.compile(r"usr/share/(pkgconfig|cmake|doc/truetime/[A-Z])|usr/lib/python3")
 

@@ -14,6 +14,7 @@ from suites.packages import TRIES, UNITS, USER, Host, host_of, running, suite
 from suites.wiring_checks import eventually
 
 SETTINGS, STATUS, EPOCH = "etc/truetime/a.toml", "run/truetime/a/status.prom", "var/lib/truetime/a/epoch"
+WATCH = "ExecCondition", "ExecStart"
 ASK = ["ttd", "ask", "127.0.0.1:5601", "now", "--retry", "0"]
 # The triggers are those of other packages, and take long.
 INSTALL = ["--no-triggers", "-i"]
@@ -111,16 +112,19 @@ class Unit:
             self.main.send_signal(signal.SIGCONT)
             self.main.wait()
 
-    def does(self, key):
-        """Runs the commands of a key, and does what systemctl was told: what came of the last command, and what that was."""
+    def told(self, *keys):
+        """Runs the commands of these keys until one fails: what came of the last one, and what systemctl was told."""
         log = f"{self.host.root}/systemctl.log"
         write(log, b"")
-        ran, told = self.run(key)[-1], read_text(log).splitlines()
-        return ran, told
+        for key in keys:
+            ran = self.run(key)[-1]
+            if ran.status != 0:
+                break
+        return ran, read_text(log).splitlines()
 
     def reload(self):
         """What came of the last command of ExecReload, and what systemctl was told. A restart is made."""
-        ran, told = self.does("ExecReload")
+        ran, told = self.told("ExecReload")
         if told:
             self.close()
             self.start()
@@ -186,7 +190,7 @@ def ready(trial):
 
 @suite.case(root=True, programs=TRIES)
 def watched(trial):
-    """The timer's command restarts a machine that stands still, and no other one."""
+    """What the timer starts restarts a machine that stands still, and no other one."""
     if not (host := installed(trial)):
         return
     machine, watch = trial.keep(Unit(host, "truetime@.service")), Unit(host, "truetime-watch@.service")
@@ -197,24 +201,24 @@ def watched(trial):
         eventually(lambda: host.exists(STATUS))
         age(host, 100)
         eventually(lambda: os.stat(f"{host.root}/{STATUS}").st_mtime > time.time() - 5)
-        trial.equal("a machine that runs", watch.does("ExecStart")[1], [])
+        trial.equal("a machine that runs", watch.told(*WATCH)[1], [])
         machine.main.send_signal(signal.SIGSTOP)
         time.sleep(0.1)
         for seconds, wanted in (0, []), (40, []), (44, restart):  # ten rounds of 1.25 s, and half a minute
             age(host, seconds)
-            ran, told = watch.does("ExecStart")
-            trial.equal(f"one that stands still for {seconds} s", (ran.status, told), (0, wanted))
+            ran, told = watch.told(*WATCH)
+            trial.equal(f"one that stands still for {seconds} s", (ran.status, told), (0 if wanted else 1, wanted))
         put(host, GOOD, 'poll = "60s"')
         for seconds, wanted in (0, []), (600, []), (640, restart):
             age(host, seconds)
-            trial.equal(f"a poll each minute, and no status for {seconds} s", watch.does("ExecStart")[1], wanted)
+            trial.equal(f"a poll each minute, and no status for {seconds} s", watch.told(*WATCH)[1], wanted)
         os.utime(f"{host.root}/{EPOCH}")
-        trial.equal("one that has just started", watch.does("ExecStart")[1], [])
+        trial.equal("one that has just started", watch.told(*WATCH)[1], [])
     put(host, "machine = 9")
-    ran, told = watch.does("ExecStart")
+    ran, told = watch.told(*WATCH)
     trial.equal("settings that are refused", (ran.status, told), (2, []))
     write(f"{host.root}/{SETTINGS}", re.sub("\nstatus = .*", "", read_text("packaging/node.toml")).encode())
-    trial.equal("settings without a status", (watch.does("ExecStart")[0].status, watch.does("ExecStart")[1]), (0, []))
+    trial.equal("settings without a status", (watch.told(*WATCH)[0].status, watch.told(*WATCH)[1]), (1, []))
 
 
 class Clients:
