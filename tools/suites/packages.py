@@ -51,7 +51,7 @@ FILES = {
             "truetime@.service", "truetime-master@.service", "truetime-watch@.service", "truetime-watch@.timer")},
         "usr/lib/sysusers.d/truetime.conf": "packaging/truetime.sysusers", "usr/lib/tmpfiles.d/truetime.conf": "packaging/truetime.tmpfiles",
         **{f"{SHARED}/{name}": f"packaging/{name}" for name in ("alerts.yml", "dashboard.json")},
-        "usr/share/doc/truetime/examples/node.toml": "packaging/node.toml",
+        **{f"usr/share/doc/truetime/examples/{name}": f"packaging/{name}" for name in ("node.toml", "time.master")},
         **{f"usr/share/doc/truetime/{name}.md": f"docs/{name}.md" for name in ("OPERATING", "UPGRADES", "MASTERS", "FORMATS", "THREATS")},
     },
 }

@@ -354,7 +354,8 @@ def booted(trial):
     trial.check("install", ran.status == 0, f"status {ran.status}\n{ran.said[-1500:]}{ran.error[-1500:]}")
     put(host, GOOD)
     for source in range(3):
-        write(f"{host.root}/etc/truetime/m{source}.master", f"SOURCE={source}\nLISTEN=127.0.0.1:570{source + 1}\nUNCERTAINTY=1000000\n".encode())
+        text = read_text("packaging/time.master").replace("SOURCE=0", f"SOURCE={source}").replace(":5701", f":570{source + 1}")
+        write(f"{host.root}/etc/truetime/m{source}.master", text.replace("/time/", f"/m{source}/").encode())
     host.systemctl("daemon-reload")
     trial.equal("masters", host.systemctl("start", *(f"truetime-master@m{source}" for source in range(3))), ("", 0))
     return host
@@ -367,6 +368,7 @@ def by_systemd(trial):
         return
     trial.equal("start", host.systemctl("start", "truetime@a"), ("", 0))
     trial.equal("asked then", host.do(*ASK).status, 0)
+    trial.check("status of a master", eventually(lambda: host.exists("run/truetime-master/m2/status.prom")), "none is written")
     timers = [f"truetime-watch@a.timer {word}" for word in ("active", "inactive")]
     trial.equal("timer", f"truetime-watch@a.timer {host.systemctl('is-active', 'truetime-watch@a.timer')[0]}", timers[0])
     with Clients(host) as clients:
