@@ -96,11 +96,12 @@ def labels_in_status(trial, path):
 
 
 def labels_of_metrics(trial):
-    """The names in the status of a machine that runs, and in that of a master, each with its labels."""
+    """The names in the status of a machine that runs, and in that of a master over a server, each with its labels."""
     node, _ = machine(trial)
     path = f"{trial.room}/status-of-master"
     address = f"127.0.0.1:{free_port(socket.SOCK_DGRAM)}"
-    trial.keep(Process(trial, "master-with-status", ["master", "--source", "0", "--listen", address, "--uncertainty", "5", "--status", path]))
+    server = f"127.0.0.1:{free_port(socket.SOCK_DGRAM)}"
+    trial.keep(Process(trial, "master-with-status", ["master", "--source", "0", "--listen", address, "--ntp", server, "--status", path]))
     trial.check("status of a master", eventually(lambda: os.path.exists(path)), "none is written")
     return labels_in_status(trial, node.path("status")), labels_in_status(trial, path)
 
@@ -186,11 +187,23 @@ def metrics(trial):
         named = set(re.findall(r"\$labels\.(\w+)", alert.text))
         trial.equal(f"{alert.name}: labels that it does not have", named - labels - {"instance"}, set())
         trial.equal(f"{alert.name}: metrics in its words", set(re.findall(r"\btruetime_\w+", alert.text)) - known.keys(), set())
-    panels = [target["expr"] for panel in json.loads(read_text(DASHBOARD))["panels"] for target in panel.get("targets", ())]
+    dashboard = json.loads(read_text(DASHBOARD))
+    panels = [target["expr"] for panel in dashboard["panels"] for target in panel.get("targets", ())]
     shown = {name for expr in panels for name in re.findall(r"\btruetime_\w+", expr)}
     trial.equal("metrics of the dashboard that no status has", shown - known.keys(), set())
-    trial.equal("metrics that it does not show", {name for name in of_machine.keys() - shown if not name.endswith(("_sum", "_count"))}, set())
+    trial.equal("metrics that it does not show", {name for name in known.keys() - shown if not name.endswith(("_sum", "_count"))}, set())
+    try_hosts(trial, dashboard, of_machine, of_master)
     try_operating(trial, known, alerts)
+
+
+def try_hosts(trial, dashboard, of_machine, of_master):
+    """The hosts that the dashboard lists are those of machines, and those of masters."""
+    variables = {variable["name"]: variable["query"]["query"] for variable in dashboard["templating"]["list"][1:]}
+    found = re.fullmatch(r'label_values\(\{__name__=~"(.*)"\}, instance\)', variables["instance"])
+    trial.check("hosts", found, variables["instance"])
+    for what, names in ("machine", of_machine), ("master", of_master):
+        trial.check(f"hosts of a {what}", any(re.fullmatch(found[1], name) for name in names) if found else False, "they are not listed")
+    trial.equal("machines", variables["machine"], "label_values(truetime_epoch, machine)")
 
 
 def try_operating(trial, known, alerts):

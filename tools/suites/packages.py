@@ -6,6 +6,8 @@
   upgraded, removed and purged, and what lies there after each is what docs/OPERATING.md says. Nothing is enabled or started, and an
   upgrade stops nothing.
 - There a user runs the units' commands with the example of settings, and asks by the clients as installed, in Python and C.
+- A machine counts as started once it gives the time, is restarted where it stands still, and reloads good settings alone: by the commands of
+  the units, and by a systemd of its own where one can be started (packages_of_units.py).
 """
 import contextlib
 import glob
@@ -44,13 +46,16 @@ FILES = {
     },
     "truetime": {
         "usr/bin/ttd": None, "usr/share/man/man1/ttd.1.gz": None, "usr/share/man/man5/node.toml.5.gz": None,
-        **{f"{UNITS}/{name}": f"packaging/{name}" for name in ("truetime@.service", "truetime-master@.service")},
+        **{f"usr/libexec/truetime/{name}": f"packaging/{name}" for name in ("await", "stands-still")},
+        **{f"{UNITS}/{name}": f"packaging/{name}" for name in (
+            "truetime@.service", "truetime-master@.service", "truetime-watch@.service", "truetime-watch@.timer")},
         "usr/lib/sysusers.d/truetime.conf": "packaging/truetime.sysusers", "usr/lib/tmpfiles.d/truetime.conf": "packaging/truetime.tmpfiles",
         **{f"{SHARED}/{name}": f"packaging/{name}" for name in ("alerts.yml", "dashboard.json")},
-        "usr/share/doc/truetime/examples/node.toml": "packaging/node.toml",
-        **{f"usr/share/doc/truetime/{name}.md": f"docs/{name}.md" for name in ("OPERATING", "MASTERS", "FORMATS", "THREATS")},
+        **{f"usr/share/doc/truetime/examples/{name}": f"packaging/{name}" for name in ("node.toml", "time.master")},
+        **{f"usr/share/doc/truetime/{name}.md": f"docs/{name}.md" for name in ("OPERATING", "UPGRADES", "MASTERS", "FORMATS", "THREATS")},
     },
 }
+PROGRAMS = {"usr/bin/ttd", "usr/libexec/truetime/await", "usr/libexec/truetime/stands-still"}
 # What packaging/install leaves to the packages.
 NOT_BY_INSTALL = re.compile(r"usr/share/(pkgconfig|cmake|doc/truetime/[A-Z])|usr/lib/python3")
 
@@ -126,7 +131,7 @@ def files(trial):
                 content = read(f"{root}/{file}") if file in found else gzip.decompress(read(f"{root}/{file}.gz"))
                 trial.check(file, content == read(source), f"it is not {source}")
         modes = {file: stat.S_IMODE(os.stat(f"{root}/{file}").st_mode) for file in files_below(root)}
-        trial.equal(f"modes of {name}", {file: oct(mode) for file, mode in modes.items() if mode != (0o755 if file == "usr/bin/ttd" else 0o644)}, {})
+        trial.equal(f"modes of {name}", {file: oct(mode) for file, mode in modes.items() if mode != (0o755 if file in PROGRAMS else 0o644)}, {})
     try_program(trial, f"{trial.room}/truetime/usr/bin/ttd")
     trial.equal("install", run([in_top("packaging/install"), f"{trial.room}/by_hand"], env={**os.environ, "TTD": trial.program}).status, 0)
     wanted = {name.removesuffix(".gz").replace(UNITS, f"usr/{UNITS}") for of in FILES.values() for name in of if not NOT_BY_INSTALL.match(name)}
@@ -190,6 +195,9 @@ class Host:
         exec sleep 600
     """
 
+    #: The environment of its commands.
+    CLEAN = ["env", "-i", "PATH=/usr/sbin:/usr/bin:/sbin:/bin", "HOME=/root", "LC_ALL=C.UTF-8", "DEBIAN_FRONTEND=noninteractive"]
+
     def __init__(self, room):
         self.top = f"{room}/host"
         os.mkdir(self.top)
@@ -200,8 +208,7 @@ class Host:
             raise Fault(f"no copy of the root: {self.holder.stderr.read().decode().strip()}")
         #: What stands before a command that runs there.
         self.enter = ["nsenter", f"--mount=/proc/{self.holder.pid}/ns/mnt", f"--net=/proc/{self.holder.pid}/ns/net"]
-        self.inside = [*self.enter, "chroot", f"{self.top}/root", "env", "-i", "PATH=/usr/sbin:/usr/bin:/sbin:/bin", "HOME=/root", "LC_ALL=C.UTF-8",
-                       "DEBIAN_FRONTEND=noninteractive"]
+        self.inside = [*self.enter, "chroot", f"{self.top}/root", *self.CLEAN]
         #: The same as files of this process.
         self.root = f"/proc/{self.holder.pid}/root{self.top}/root"
 
@@ -352,10 +359,11 @@ def succeeds(trial, host, what, *words, wanted=None):
 def units_of(trial, host):
     """The commands that the units start, and that systemd takes both."""
     found = {}
-    for unit in ("truetime@", "truetime-master@"):
+    for unit in ("truetime@.service", "truetime-master@.service", "truetime-watch@.service", "truetime-watch@.timer"):
         if shutil.which("systemd-analyze"):
-            succeeds(trial, host, f"verify {unit}", "systemd-analyze", "verify", f"/{UNITS}/{unit}.service")
-        found[unit] = re.search("^ExecStart=(.*)$", read_text(f"{host.root}/{UNITS}/{unit}.service"), re.MULTILINE)[1]
+            succeeds(trial, host, f"verify {unit}", "systemd-analyze", "verify", f"/{UNITS}/{unit}")
+        if command := re.search("^ExecStart=(.*)$", read_text(f"{host.root}/{UNITS}/{unit}"), re.MULTILINE):
+            found[unit.partition(".")[0]] = command[1]
     return found
 
 
