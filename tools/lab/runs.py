@@ -19,6 +19,8 @@ class Run:
     phases: dict[str, tuple[str, ...]] = PHASES
     once: dict[str, str] = {}
     columns: tuple[str, ...] = ("forged", "unopened")
+    #: By how much users outlast the run, since what is done once may take longer than its phase.
+    more_s = 0.0
 
     def __init__(self, fleet: Fleet, seconds: float, say: typing.Callable[[str], None]):
         self.fleet, self.seconds, self.say = fleet, seconds, say
@@ -42,7 +44,7 @@ class Run:
         fleet.start_machines()
         for machine in fleet.machines.values():
             machine.use_all_workers()
-        self.users = fleet.start_users(self.seconds)
+        self.users = fleet.start_users(self.seconds + self.more_s)
         fleet.start_forger()
 
     def go_on(self) -> None:

@@ -64,11 +64,7 @@ class ShardRun(Run):
     """A run of a fleet with shards."""
     fleet: Sharded
     phases, once = PHASES, ONCE
-    columns = (*Run.columns, "excused")
-
-    def start(self) -> None:
-        super().start()
-        self.fleet.start_shards()
+    columns, more_s = (*Run.columns, "excused"), 6.0
 
     def look(self, phase) -> None:
         super().look(phase)
@@ -85,8 +81,8 @@ class ShardRun(Run):
         of_shards = judge(fleet.program, merge(shards, os.path.join(room, "of-shards")))
         terms = [terms_in(path) for path in shards]
         self.say(f"all but those under way while an assumption was broken: {whole}")
-        self.say(f"shards 1 and 2: {of_shards.commits:,} commits, {' and '.join(map(str, terms))} terms, {of_shards.term_violations} stamps not above an "
-                 f"earlier term's, {of_shards.equal_stamps} twice, {sum(missing)} acknowledged commits that a replica lacks")
+        self.say(f"shards 1 and 2: {of_shards.commits:,} commits, {' and '.join(map(str, terms))} terms, {of_shards.term_violations} stamps not above "
+                 f"an earlier term's, {of_shards.equal_stamps} twice, {sum(missing)} acknowledged commits that a replica lacks")
         for what, number in (("commits are out of order", whole.violations), ("stamps were given twice", whole.equal_stamps),
                              ("stamps are not above an earlier term's", of_shards.term_violations), ("acknowledged commits are lost", sum(missing))):
             if number:
@@ -97,8 +93,9 @@ class ShardRun(Run):
     def tell(self) -> None:
         super().tell()
         for broken in self.fleet.breaks:
-            self.say(f"{broken.what} on {', '.join(broken.hosts)}: {(broken.until - broken.since) / 1e9:.1f} s, "
-                     f"{'noticed' if broken.is_noticed else 'not noticed'}")
+            noticed = " and ".join(f"{seconds:.2f}" for seconds in broken.noticed_s) or "never"
+            self.say(f"{broken.what} on {', '.join(broken.hosts)}: noticed after {noticed} s, right again after "
+                     f"{(broken.until - broken.since) / 1e9:.1f} s")
 
     def judge_epochs(self) -> None:
         """Each life of a machine has a greater epoch than those before."""

@@ -48,12 +48,12 @@ def missing() -> str:
 
 @dataclasses.dataclass
 class Break:
-    """An assumption that is broken on these hosts from one time to another since 1970, and whether each machine has noticed."""
+    """An assumption that is broken on these hosts from one time to another since 1970, and how soon each machine had noticed, each time."""
     what: str
     hosts: typing.Sequence[str]
     since: int
     until: int = FOREVER
-    is_noticed: bool = False
+    noticed_s: list[float] = dataclasses.field(default_factory=list)
 
     def covers(self, host: str, began: int, ended: int) -> bool:
         return host in self.hosts and began <= self.until and ended >= self.since
@@ -110,8 +110,9 @@ class Sharded(Fleet):
     def machine(self, name: str, number: int, sources: list[Source], settings: dict) -> Machine:
         return UnitMachine(self.hosts[name], number, sources, self.key_files[name], **settings)
 
-    def start_shards(self) -> None:
-        """Starts etcd and both shards, each with a leader."""
+    def start_machines(self, **settings) -> None:
+        """Starts machines and their units, etcd, and both shards, each with a leader."""
+        super().start_machines(**settings)
         self.units = self.keep(Units(self.machines.values()))
         self.failover, asking = build(self.room), self.hosts[ASKING]
         self.etcd = Etcd([self.hosts[name] for name in MEMBERS], asking)
@@ -165,21 +166,20 @@ class Sharded(Fleet):
         self.breaks.append(Break(what, names, time.time_ns()))
         yield self.breaks[-1]
         try:
-            took = wait_until(lambda: all(self.is_right(name) for name in names), BACK_S, f"{what}: not right again")
-            self.did[f"{what}: right again after {took:.1f} s"] += 1
+            wait_until(lambda: all(self.reads(name) == "right" for name in names), BACK_S, f"{what}: not right again")
         except Fault as fault:
             self.wrong.append(str(fault))
         self.breaks[-1].until = time.time_ns()
 
-    def is_right(self, name: str) -> bool:
-        """Whether a machine gives a time, and that is right."""
+    def reads(self, name: str) -> str:
+        """Whether a machine gives a right or a wrong time now; nothing where it gives none."""
         try:
             with truetime.Session(self.machines[name].address, 5) as session:
                 before = time.time_ns()
                 now = session.now()
-                return before <= now.latest_ns and now.earliest_ns <= time.time_ns()
+                return "right" if before <= now.latest_ns and now.earliest_ns <= time.time_ns() else "wrong"
         except (OSError, truetime.Refused):
-            return False
+            return ""
 
     def is_noticed(self, broken: Break, since: int = 0) -> bool:
         """Whether the machine of each host has ended by it since it began, or since another time."""
@@ -187,9 +187,7 @@ class Sharded(Fleet):
 
     def await_notice(self, broken: Break, since: int = 0) -> None:
         try:
-            took = wait_until(lambda: self.is_noticed(broken, since), NOTICED_S, f"{broken.what}: not noticed")
-            self.did[f"{broken.what}: noticed after {took:.1f} s"] += 1
-            broken.is_noticed = True
+            broken.noticed_s.append(wait_until(lambda: self.is_noticed(broken, since), NOTICED_S, f"{broken.what}: not noticed"))
         except Fault as fault:
             self.wrong.append(str(fault))
 
@@ -222,8 +220,7 @@ class Sharded(Fleet):
             for master in self.masters[:3]:
                 master.behave(-LEAP_NS)
             self.await_notice(broken)
-            for machine in self.machines.values():
-                machine.wait_until_ready(BACK_S)
+            wait_until(lambda: all(self.reads(name) == "wrong" for name in self.machines), BACK_S, "no reading by masters that stepped")
             since = time.time_ns()
             for master in self.masters[:3]:
                 master.behave(self.honest_offset())
