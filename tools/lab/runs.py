@@ -9,8 +9,8 @@ from lab.users import rows_of, table
 
 #: How often something is done in a phase, how long a phase may be, and how often statuses are looked at.
 LEAST_PAUSE_S, MOST_PAUSE_S, MOST_PHASE_S, LOOK_S, JUDGE_S = 0.3, 1.2, 20.0, 0.25, 20.0
-#: How many commits a second there have to be, and what part of the forger's packets that no machine opens have to be counted as such.
-FEW_COMMITS, FEW_UNOPENED = 20, 0.2
+#: How many commits a second there have to be.
+FEW_COMMITS = 20
 
 
 class Run:
@@ -19,6 +19,8 @@ class Run:
     phases: dict[str, tuple[str, ...]] = PHASES
     once: dict[str, str] = {}
     columns: tuple[str, ...] = ("forged", "unopened")
+    #: What part of the forger's packets that no machine opens have to be counted as such.
+    few_unopened = 0.2
     #: By how much users outlast the run, since what is done once may take longer than its phase.
     more_s = 0.0
 
@@ -90,7 +92,7 @@ class Run:
         forged = self.fleet.forged()
         for name in self.fleet.shifts_s:
             unopened = sum(phase.counts[name] for phase in self.users.phases.values())
-            if unopened < forged / len(self.fleet.shifts_s) * FEW_UNOPENED:
+            if unopened < forged / len(self.fleet.shifts_s) * self.few_unopened:
                 self.wrong.append(f"machine {name} counts {unopened} packets that did not open, of {forged} that were forged for all")
         if answered := self.fleet.forger.answered.value:
             self.wrong.append(f"masters have answered {answered} polls that were not sealed")

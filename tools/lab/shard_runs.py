@@ -65,6 +65,11 @@ class ShardRun(Run):
     fleet: Sharded
     phases, once = PHASES, ONCE
     columns, more_s = (*Run.columns, "excused"), 6.0
+    few_unopened = 0.02  # lives are short, and each begins to count anew
+
+    def start(self) -> None:
+        super().start()
+        self.fleet.start_shard_users()
 
     def look(self, phase) -> None:
         super().look(phase)
@@ -81,8 +86,8 @@ class ShardRun(Run):
         of_shards = judge(fleet.program, merge(shards, os.path.join(room, "of-shards")))
         terms = [terms_in(path) for path in shards]
         self.say(f"all but those under way while an assumption was broken: {whole}")
-        self.say(f"shards 1 and 2: {of_shards.commits:,} commits, {' and '.join(map(str, terms))} terms, {of_shards.term_violations} stamps not above "
-                 f"an earlier term's, {of_shards.equal_stamps} twice, {sum(missing)} acknowledged commits that a replica lacks")
+        self.say(f"shards 1 and 2: {of_shards.commits:,} commits, {' and '.join(map(str, terms))} terms, {of_shards.term_violations} stamps not "
+                 f"above an earlier term's, {of_shards.equal_stamps} twice, {sum(missing)} acknowledged commits that a replica lacks")
         for what, number in (("commits are out of order", whole.violations), ("stamps were given twice", whole.equal_stamps),
                              ("stamps are not above an earlier term's", of_shards.term_violations), ("acknowledged commits are lost", sum(missing))):
             if number:
@@ -98,11 +103,13 @@ class ShardRun(Run):
                      f"{(broken.until - broken.since) / 1e9:.1f} s")
 
     def judge_epochs(self) -> None:
-        """Each life of a machine has a greater epoch than those before."""
+        """Each life of a machine has a greater epoch than those before, which its status tells."""
         for machine in self.fleet.machines.values():
             epochs = [int(fields["epoch"]) for fields in machine.said("started")]
-            self.say(f"{machine.name}: {len(epochs)} lives that have a log, epochs {epochs[0]} to {epochs[-1]}")
+            self.say(f"{machine.name}: {len(epochs)} lives with a log, epochs {epochs[0]} to {epochs[-1]}")
             self.wrong += [f"{machine.name}: epoch {second} behind {first}" for first, second in zip(epochs, epochs[1:]) if second <= first]
+            if (told := machine.sum_of("truetime_epoch")) != epochs[-1]:
+                self.wrong.append(f"{machine.name}: its status tells of the epoch {told}, and its log of {epochs[-1]}")
 
     def judge_memory(self) -> None:
         super().judge_memory()

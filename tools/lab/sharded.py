@@ -19,17 +19,21 @@ from lab.servers import path_of
 from lab.services import KeyFile, Machine, Master, OnHost, Source, wait_until
 from lab.shards import Etcd, Other, Shard, build, stop
 from lab.units import BROKEN, ServedMaster, Units, UnitMachine
-from lab.users import History, Users
+from lab.users import Commits, Users
 
 SERVED = {3: 30.0, 4: -25.0}
 MEMBERS = ("m0", "m1", "m2")
 ASKING = "u"
 #: The machine whose clock turns and whose host sleeps, and that with a small disk.
 TURNING, SMALL_DISK = "c", "b"
-FAST_PPM, STANDS_PPM = 100_000, -1_000_000
-SLEEP_S, LEAP_NS = 1.0, SECOND
-#: How long something stands still or is down, how soon a break has to be noticed, and how soon all has to be back.
-LEAST_STOP_S, MOST_STOP_S, NOTICED_S, BACK_S = 0.2, 2.2, 10.0, 20.0
+#: How fast a clock runs wild: so much that a round is out of the last one, and more where the host is so busy that readings are wide.
+WILD_PPM, STANDS_PPM = (100_000, 1_000_000), -1_000_000
+SLEEP_S, TWO_LIE_S, WILD_S = 1.0, 1.5, 3.0
+#: By how much a server's clock may be off that is honest.
+SLIGHT_NS = 500_000
+#: How long something stands still or is down, how soon a break has to be noticed, and how soon all has to be back: a start behind some breaks in a
+#: row pauses up to half a minute.
+LEAST_STOP_S, MOST_STOP_S, NOTICED_S, BACK_S = 0.2, 2.2, 10.0, 40.0
 NEXT_KEY = 100
 FOREVER = 2**64
 
@@ -57,25 +61,6 @@ class Break:
 
     def covers(self, host: str, began: int, ended: int) -> bool:
         return host in self.hosts and began <= self.until and ended >= self.since
-
-
-class Commits(History):
-    """Commits of all users in one file, which is judged when all have ended."""
-
-    def __init__(self, program: str, path: str):
-        super().__init__(program)
-        self.file = open(path, "w", encoding="ascii")
-
-    def add(self, began: int, ended: int, stamp: int, giver: str) -> None:
-        self.file.write(f"commit {began} {ended} {stamp} {giver}\n")
-        self.number += 1
-
-    def judge(self) -> None:
-        """Nothing yet: all is judged at once."""
-        self.file.flush()
-
-    def close(self) -> None:
-        self.file.close()
 
 
 class Sharded(Fleet):
@@ -122,7 +107,11 @@ class Sharded(Fleet):
                        Shard(self.etcd, self.failover, 2, machines[:2], False)]
         for shard in self.shards:
             shard.await_commit()
-            shard.start_users(4, "15ms")
+
+    def start_shard_users(self) -> None:
+        """Starts the users of shards, which end with their input: later than what is forked from this process, and would keep that open."""
+        for shard in self.shards:
+            shard.start_users(3, "40ms")
 
     def start_users(self, seconds: float, sessions: int = 2, stampers: int = 1, pause_ms: int = 20) -> Users:
         history = self.keep(Commits(self.program, os.path.join(self.room, "history")))
@@ -136,6 +125,10 @@ class Sharded(Fleet):
         return users
 
     @property
+    def served(self) -> list[ServedMaster]:
+        return [master for master in self.masters if isinstance(master, ServedMaster)]
+
+    @property
     def agents(self) -> list[Other]:
         return [agent for shard in self.shards for agent in shard.agents.values()]
 
@@ -144,10 +137,10 @@ class Sharded(Fleet):
         for child, name in ((self.router.child, "router"), (self.forger and self.forger.child, "forger")):
             if child and not child.process.is_alive():
                 yield f"the {name} has ended"
-        servers = [master.server for master in self.masters if isinstance(master, ServedMaster)]
-        others = [process for process in (*self.etcd.members, *self.agents, *(shard.users for shard in self.shards)) if not process.is_down]
-        for process in [*(master for master in self.masters if master not in self.down), *servers, *others]:
-            if process.has_ended():
+        others = [process for process in (*self.etcd.members, *self.agents, *(shard.users for shard in self.shards)) if process]
+        down = [*self.down, *(process for process in others if process.is_down)]
+        for process in [*self.masters, *(master.server for master in self.served), *others]:
+            if process.has_ended() and process not in down:
                 yield f"{process.name} ended with status {process.running.returncode}: {process.end_of_log()[-300:]}"
         for end in self.units.ends:
             if end.status != BROKEN or not self.is_excused(end.host, end.moment, end.moment):
@@ -163,13 +156,14 @@ class Sharded(Fleet):
     @contextlib.contextmanager
     def broken(self, what: str, names: typing.Sequence[str]) -> typing.Iterator[Break]:
         """An assumption is broken on these hosts until the block has ended and their machines, which nobody helps, are right again."""
+        self.await_right(names, f"{what}: not right before")
         self.breaks.append(Break(what, names, time.time_ns()))
         yield self.breaks[-1]
-        try:
-            wait_until(lambda: all(self.reads(name) == "right" for name in names), BACK_S, f"{what}: not right again")
-        except Fault as fault:
-            self.wrong.append(str(fault))
+        self.await_right(names, f"{what}: not right again")
         self.breaks[-1].until = time.time_ns()
+
+    def await_right(self, names: typing.Sequence[str], what: str) -> None:
+        self.wait(lambda: all(self.reads(name) == "right" for name in names), BACK_S, what)
 
     def reads(self, name: str) -> str:
         """Whether a machine gives a right or a wrong time now; nothing where it gives none."""
@@ -181,13 +175,19 @@ class Sharded(Fleet):
         except (OSError, truetime.Refused):
             return ""
 
-    def is_noticed(self, broken: Break, since: int = 0) -> bool:
-        """Whether the machine of each host has ended by it since it began, or since another time."""
-        return set(broken.hosts) <= {end.host for end in self.units.ends if end.status == BROKEN and end.moment >= max(since, broken.since)}
+    def noticed(self, broken: Break, since: int = 0) -> dict[str, int]:
+        """When the machine of each host ended by it first since it began, or since another time."""
+        ends = [end for end in list(self.units.ends) if end.status == BROKEN and end.moment >= (since or broken.since)]
+        return {end.host: end.moment for end in reversed(ends) if end.host in broken.hosts}
 
     def await_notice(self, broken: Break, since: int = 0) -> None:
+        self.wait(lambda: set(self.noticed(broken, since)) == set(broken.hosts), NOTICED_S, f"{broken.what}: not noticed")
+        broken.noticed_s.append((max(self.noticed(broken, since).values(), default=FOREVER) - (since or broken.since)) / SECOND)
+
+    def wait(self, holds: typing.Callable[[], object], seconds: float, what: str) -> None:
+        """Returns once this holds. Where it does not come to hold in time, that is wrong."""
         try:
-            broken.noticed_s.append(wait_until(lambda: self.is_noticed(broken, since), NOTICED_S, f"{broken.what}: not noticed"))
+            wait_until(holds, seconds, what)
         except Fault as fault:
             self.wrong.append(str(fault))
 
@@ -195,7 +195,11 @@ class Sharded(Fleet):
         """The clock of c runs far faster than its drift allows, until its machine has noticed."""
         clock, machine = self.hosts[TURNING].clock, self.machines[TURNING]
         with self.broken("a clock far beyond its drift", TURNING) as broken:
-            clock.run_by(FAST_PPM)
+            for rate in WILD_PPM:
+                clock.run_by(rate)
+                with contextlib.suppress(Fault):
+                    wait_until(lambda: self.noticed(broken), WILD_S, "not yet")
+                    break
             self.await_notice(broken)
             clock.run_by(0)
             machine.restart()  # a life that began meanwhile may be right by chance, and not be yet
@@ -214,17 +218,36 @@ class Sharded(Fleet):
                 call()
             self.await_notice(broken)
 
+    def step_all(self) -> None:
+        """One bad master, or one leap second, for all machines at once."""
+        self.chance.choice((self.leap, self.turn_bad))()
+
     def leap(self) -> None:
-        """Three of the five masters step back by a second at once, and later forth again: all machines break, and come back by themselves."""
+        """Three of the five masters step back by a second at once, and later forth again."""
         with self.broken("a second at three masters", "abc") as broken:
-            for master in self.masters[:3]:
-                master.behave(-LEAP_NS)
-            self.await_notice(broken)
-            wait_until(lambda: all(self.reads(name) == "wrong" for name in self.machines), BACK_S, "no reading by masters that stepped")
-            since = time.time_ns()
-            for master in self.masters[:3]:
-                master.behave(self.honest_offset())
-            self.await_notice(broken, since)
+            self.step(broken, self.masters[:3], -SECOND)
+
+    def turn_bad(self) -> None:
+        """Two masters are a second ahead, as they may be. Then it is three."""
+        self.wait(lambda: all(abs(master.server.clock.ahead_ns()) < SLIGHT_NS for master in self.served), BACK_S, "a server's clock is still off")
+        for master in self.masters[:2]:
+            master.behave(SECOND)
+        time.sleep(TWO_LIE_S)
+        with self.broken("one bad master more than may be", "abc") as broken:
+            self.step(broken, self.masters[2:3], SECOND)
+        for master in self.masters[:2]:
+            master.behave(self.honest_offset())
+
+    def step(self, broken: Break, masters: typing.Sequence[Master], offset: int) -> None:
+        """Masters of all machines step, until all follow them, and step back: all machines break twice, and come back by themselves."""
+        for master in masters:
+            master.behave(offset)
+        self.await_notice(broken)
+        self.wait(lambda: all(self.reads(name) == "wrong" for name in self.machines), BACK_S, "no reading by masters that stepped")
+        since = time.time_ns()
+        for master in masters:
+            master.behave(self.honest_offset())
+        self.await_notice(broken, since)
 
     # What is done to processes, and ends after a while.
 
@@ -354,8 +377,8 @@ PHASES = {
     "keys": (),
     "wild clock": (),
     "sleep": (),
-    "leap second": (),
+    "steps": (),
     "everything": (*ACTS, "kill_agent", "stop_agent", "end_agent", "kill_host", "stop_host", "kill_member", "stop_member", "stop_machine",
                    "stop_master", "cut_members", "close_pipe", "fill_disk"),
 }
-ONCE = {"keys": "rotate_key", "wild clock": "run_wild", "sleep": "sleep", "leap second": "leap"}
+ONCE = {"keys": "rotate_key", "wild clock": "run_wild", "sleep": "sleep", "steps": "step_all"}

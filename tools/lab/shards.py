@@ -106,6 +106,7 @@ class Shard:
                 host, f"agent-{number}-{host.name}", program, "agent", "-name", host.name, "-listen", host.at(AGENTS + number), "-shard", str(number),
                 "-etcd", etcd.urls, "-machine", by, "-sessions", "4", "-ttl", f"{TTL_S}s", "-span", f"{SPAN_S}s", *of_agents))
         self.history = os.path.join(self.asking.lab.room, f"history-{number}")
+        self.users: Other | None = None
 
     def start_users(self, users: int, pause: str, patience: str = "1s") -> None:
         self.users = self.asking.lab.keep(Other(

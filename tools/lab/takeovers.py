@@ -80,6 +80,7 @@ def tell(program: str, times: int, say: Say) -> list[str]:
     with Sharded(program) as fleet:
         fleet.start_masters()
         fleet.start_machines()
+        fleet.start_shard_users()
         killed, elections, members = list[Killed](), list[float](), list[Killed]()
         for turn in range(times):
             time.sleep(fleet.chance.uniform(LEAST_PAUSE_S, MOST_PAUSE_S))

@@ -52,6 +52,25 @@ class History:
         self.kept[:len(piece)] = [commit for commit in piece if commit[1] > since] + sorted(before, key=lambda commit: commit[2])[-1:]
 
 
+class Commits(History):
+    """Commits of all users in one file, which is judged when all have ended."""
+
+    def __init__(self, program: str, path: str):
+        super().__init__(program)
+        self.file = open(path, "w", encoding="ascii")
+
+    def add(self, began: int, ended: int, stamp: int, giver: str) -> None:
+        self.file.write(f"commit {began} {ended} {stamp} {giver}\n")
+        self.number += 1
+
+    def judge(self) -> None:
+        """Nothing yet: all is judged at once."""
+        self.file.flush()
+
+    def close(self) -> None:
+        self.file.close()
+
+
 @dataclasses.dataclass
 class Phase:
     """What users saw while something was done; times and widths in nanoseconds."""
