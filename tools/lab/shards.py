@@ -119,6 +119,15 @@ class Shard:
         address = max(terms, key=terms.get)
         return self.agents[address] if terms[address] else None
 
+    def await_leader(self, seconds: float = LONGEST_GAP_S) -> Other:
+        """The agent that leads, once one says so."""
+        end = time.monotonic() + seconds
+        while not (leader := self.leader()):
+            if time.monotonic() > end:
+                raise Fault(f"shard {self.number}: no leader in {seconds} seconds")
+            time.sleep(0.02)
+        return leader
+
     def await_commit(self, seconds: float = LONGEST_GAP_S) -> float:
         """Returns once a commit is acknowledged: after how many seconds."""
         began = time.monotonic()

@@ -17,6 +17,8 @@ from lab.users import table
 
 #: A leader's host is back in service within etcd's lease, the rest of the span, and so long.
 MORE_S = 0.2
+#: How often each member of etcd is asked for a span, and how long it may take.
+ASKED, ANSWER_S = 5, 2.0
 READY_S, LEAST_PAUSE_S, MOST_PAUSE_S = 20.0, 1.0, 2.0
 #: The control: masters of the machine b, which reads that wide, and how often leaders move.
 WIDE_NS, WIDE_POLLS, MOVES = SECOND, 5711, 8
@@ -34,8 +36,8 @@ class Killed(typing.NamedTuple):
 def rest_of_span_s(shard: Shard) -> float:
     """How far the span that was recorded last for a shard reaches ahead."""
     key = base64.b64encode(f"shard/{shard.number}/span".encode()).decode()
-    for member in shard.etcd.members:
-        said = ask(shard.asking, f"{member.host.at(CLIENTS)}/v3/kv/range", json.dumps({"key": key}).encode())
+    for member in shard.etcd.members * ASKED:
+        said = ask(shard.asking, f"{member.host.at(CLIENTS)}/v3/kv/range", json.dumps({"key": key}).encode(), ANSWER_S)
         for pair in json.loads(said or "{}").get("kvs", ()):
             return max(0.0, (int(base64.b64decode(pair["value"]).split()[0]) - time.time_ns()) / SECOND)
     raise Fault("no member of etcd answers")
@@ -43,9 +45,7 @@ def rest_of_span_s(shard: Shard) -> float:
 
 def kill_host(fleet: Sharded, shard: Shard) -> Killed:
     """Kills the host of the leader, whose machine and agents are started again when there is a commit."""
-    leader = shard.leader()
-    if not leader:
-        raise Fault(f"shard {shard.number} has no leader")
+    leader = shard.await_leader()
     processes, rest_s, moment = fleet.host_of(leader), rest_of_span_s(shard), time.time_ns()
     for process in processes:
         process.kill()
@@ -71,7 +71,7 @@ def kill_member(fleet: Sharded) -> float:
 def gap_s(killed: Killed, until: int, ended: list[int]) -> float:
     """How long after it was killed the shard's users were told of a commit again: behind the longest time without one."""
     inside = [killed.moment, *(moment for moment in ended if killed.moment < moment <= until)]
-    _, end = max((after - before, after) for before, after in zip(inside, inside[1:]))
+    _, end = max(((after - before, after) for before, after in zip(inside, inside[1:])), default=(0, until))
     return (end - killed.moment) / SECOND
 
 
@@ -153,14 +153,14 @@ def crossing(program: str, say: Say) -> bool:
         shard.start_users(100, "2s", "5s")
         for _ in range(MOVES):
             time.sleep(MOST_PAUSE_S)
-            if leader := shard.leader():
-                leader.terminate()
-                shard.await_commit()
-                try:
-                    leader.running.wait(READY_S)
-                except subprocess.TimeoutExpired as late:
-                    raise Fault(f"{leader.name} does not end") from late
-                leader.start()
+            leader = shard.await_leader()
+            leader.terminate()
+            shard.await_commit()
+            try:
+                leader.running.wait(READY_S)
+            except subprocess.TimeoutExpired as late:
+                raise Fault(f"{leader.name} does not end") from late
+            leader.start()
         shard.end()
         found = judge(program, shard.history)
         say(f"control: leaders without spans: {found}, in {terms_in(shard.history)} terms")
