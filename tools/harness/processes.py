@@ -129,12 +129,35 @@ class Process:
         self.kill()
         self.start()
 
+    def has_ended(self):
+        """Whether it ended on its own."""
+        return self.running.poll() is not None
+
     def end_of_log(self):
         return read_text(self.log)[-2000:]
 
     def said(self, event):
         """The fields of each line of the log that tells of this event, over all lives."""
         return [fields for fields in map(fields_of, read_text(self.log).splitlines(keepends=True)) if fields.get("event") == event]
+
+    def resources(self):
+        """Its memory in KiB, its descriptors and its threads: the least of some looks, since a file is open while it is written."""
+        looks = []
+        for _ in range(10):
+            looks.append(self.look_at_resources())
+            time.sleep(0.03)
+        return tuple(map(min, zip(*looks)))
+
+    def keeps_more(self, before, after):
+        """Both resources as text, and whether the later ones are more: descriptors, threads, or over 4 MiB of memory."""
+        said = (f"{name} {first}, then {then}" for name, first, then in zip(("KiB", "descriptors", "threads"), before, after))
+        return f"{self.name}: {'; '.join(said)}", after[1:] != before[1:] or after[0] > before[0] + MORE_MEMORY_KIB
+
+    def look_at_resources(self):
+        process = f"/proc/{self.running.pid}"
+        with open(f"{process}/status", encoding="ascii") as file:
+            values = {name: rest.split()[0] for name, _, rest in (line.partition(":") for line in file) if name in ("VmRSS", "Threads")}
+        return int(values["VmRSS"]), len(os.listdir(f"{process}/fd")), int(values["Threads"])
 
 
 class Master(Process):
@@ -198,22 +221,3 @@ class Machine(Process):
     def status(self):
         """The numbers of its status file by their names and labels, but for that of the machine."""
         return numbers_in(read_text(self.path("status")))
-
-    def resources(self):
-        """Its memory in KiB, its descriptors and its threads: the least of some looks, since a file is open while it is written."""
-        looks = []
-        for _ in range(10):
-            looks.append(self.look_at_resources())
-            time.sleep(0.03)
-        return tuple(map(min, zip(*looks)))
-
-    def keeps_more(self, before, after):
-        """Both resources as text, and whether the later ones are more: descriptors, threads, or over 4 MiB of memory."""
-        said = (f"{name} {first}, then {then}" for name, first, then in zip(("KiB", "descriptors", "threads"), before, after))
-        return f"machine {self.name}: {'; '.join(said)}", after[1:] != before[1:] or after[0] > before[0] + MORE_MEMORY_KIB
-
-    def look_at_resources(self):
-        process = f"/proc/{self.running.pid}"
-        with open(f"{process}/status", encoding="ascii") as file:
-            values = {name: rest.split()[0] for name, _, rest in (line.partition(":") for line in file) if name in ("VmRSS", "Threads")}
-        return int(values["VmRSS"]), len(os.listdir(f"{process}/fd")), int(values["Threads"])

@@ -27,6 +27,10 @@ def key_number(machine: int, source: int) -> int:
 class Fleet(Lab):
     """The masters m0 to m4 at 10.77.0.10 to 14 and fd77::1:0 to 4, the machines' hosts a, b and c at 10.77.0.20 to 22 and fd77::2:0 to 2, and the
     host x of the forger."""
+    shifts_s = SHIFTS_S
+    #: Hosts of nothing that the fleet itself starts, and those whose clocks change their rates.
+    others: dict[str, list[str]] = {FORGER: ["10.77.0.99", "fd77::99"]}
+    turning: typing.Sequence[str] = tuple(SHIFTS_S)
 
     def __init__(self, program: str, seed: int = 1, family: str = "four"):
         super().__init__(program, seed)
@@ -42,9 +46,10 @@ class Fleet(Lab):
     def build(self) -> None:
         for source in range(SOURCES):
             self.host(f"m{source}", [f"10.77.0.{10 + source}", f"fd77::1:{source}"])
-        for number, (name, shift_s) in enumerate(SHIFTS_S.items()):
+        for number, (name, shift_s) in enumerate(self.shifts_s.items()):
             self.host(name, [f"10.77.0.{20 + number}", f"fd77::2:{number}"], shift_s).add_clock()
-        self.host(FORGER, ["10.77.0.99", "fd77::99"])
+        for name, addresses in self.others.items():
+            self.host(name, addresses)
         self.join(FORGER)
 
     @property
@@ -53,25 +58,30 @@ class Fleet(Lab):
 
     def start_masters(self) -> None:
         """Starts the masters, each within its uncertainty, with keys for each machine."""
-        keys = [KeyFile(f"{self.room}/m{source}.keys") for source in range(SOURCES)]
-        self.key_files = {name: KeyFile(f"{self.room}/{name}.keys") for name in SHIFTS_S}
-        for number, name in enumerate(SHIFTS_S):
+        self.keys = keys = [KeyFile(f"{self.room}/m{source}.keys") for source in range(SOURCES)]
+        self.key_files = {name: KeyFile(f"{self.room}/{name}.keys") for name in self.shifts_s}
+        for number, name in enumerate(self.shifts_s):
             for source in range(SOURCES):
                 line = new_key(self.program, key_number(number, source), f"{name}-m{source}")
                 keys[source].add(line)
                 self.key_files[name].add(line)
-        self.masters = [self.keep(Master(self.hosts[f"m{source}"], source, UNCERTAINTY, keys[source], self.families[source % len(self.families)]))
-                        for source in range(SOURCES)]
+        self.masters = [self.keep(self.master(source, keys[source])) for source in range(SOURCES)]
         for master in self.masters:
             master.behave(self.honest_offset())
 
+    def master(self, source: int, keys: KeyFile) -> Master:
+        return Master(self.hosts[f"m{source}"], source, UNCERTAINTY, keys, self.families[source % len(self.families)])
+
     def start_machines(self, **settings) -> None:
         self.machines = {}
-        for number, name in enumerate(SHIFTS_S):
+        for number, name in enumerate(self.shifts_s):
             sources = [Source(master.address, (key_number(number, master.source), )) for master in self.masters]
-            self.machines[name] = self.keep(Machine(self.hosts[name], number, sources, self.key_files[name], **{**SETTINGS, **settings}))
+            self.machines[name] = self.keep(self.machine(name, number, sources, {**SETTINGS, **settings}))
         for machine in self.machines.values():
             machine.wait_until_ready()
+
+    def machine(self, name: str, number: int, sources: list[Source], settings: dict) -> Machine:
+        return Machine(self.hosts[name], number, sources, self.key_files[name], **settings)
 
     def start_users(self, seconds: float, sessions: int = 3, stampers: int = 1, pause_ms: int = 10) -> Users:
         """Starts users of all machines, whose first phase is `start`."""
@@ -82,7 +92,7 @@ class Fleet(Lab):
         return users
 
     def start_forger(self, rate: float = FORGED_A_SECOND, with_keys: bool = False) -> None:
-        addresses = [address for name in SHIFTS_S for address in self.hosts[name].addresses]
+        addresses = [address for name in self.shifts_s for address in self.hosts[name].addresses]
         keys = {number: secret for file in self.key_files.values() for number, secret in file.secrets().items()}
         self.forger = self.keep(Forger(self.hosts[FORGER], addresses, rate, self.seed, keys if with_keys else None))
 
@@ -129,11 +139,11 @@ class Fleet(Lab):
         """Does one of these, drawn by the seed."""
         name = self.chance.choice(names)
         self.did[name] += 1
-        ACTS[name](self)
+        getattr(self, name)()
 
     def some(self) -> tuple[list[str], ...]:
         """Some of the machines' hosts, and some of the masters'."""
-        return tuple(self.chance.sample(names, self.chance.randrange(1, len(names) + 1)) for names in (list(SHIFTS_S), self.master_hosts))
+        return tuple(self.chance.sample(names, self.chance.randrange(1, len(names) + 1)) for names in (list(self.shifts_s), self.master_hosts))
 
     def set_one_way(self, way: Way, back: Way | None) -> None:
         """The way from some machines to some masters, or from these to those; and back."""
@@ -187,7 +197,7 @@ class Fleet(Lab):
 
     def unplug(self) -> None:
         """The device of a machine's host is down: its packets have no way."""
-        self.unplugged.append(self.hosts[self.chance.choice(list(SHIFTS_S))])
+        self.unplugged.append(self.hosts[self.chance.choice(list(self.shifts_s))])
         self.unplugged[-1].ip("link", "set", DEVICE, "down")
 
     def heal(self) -> None:
@@ -198,11 +208,10 @@ class Fleet(Lab):
             self.unplugged.pop().set_up()
 
     def turn_clock(self) -> None:
-        self.hosts[self.chance.choice(list(SHIFTS_S))].clock.run_by(self.chance.randrange(-MOST_RATE_PPM, MOST_RATE_PPM + 1))
+        self.hosts[self.chance.choice(self.turning)].clock.run_by(self.chance.randrange(-MOST_RATE_PPM, MOST_RATE_PPM + 1))
 
 
-ACTS = {call.__name__: call for call in (Fleet.kill_machine, Fleet.kill_master, Fleet.lie, Fleet.be_honest, Fleet.delay, Fleet.lose, Fleet.cut,
-                                         Fleet.unplug, Fleet.heal, Fleet.turn_clock)}
+ACTS = ("kill_machine", "kill_master", "lie", "be_honest", "delay", "lose", "cut", "unplug", "heal", "turn_clock")
 #: What is done in each phase, again and again.
 PHASES = {
     "quiet": (),
@@ -212,5 +221,5 @@ PHASES = {
     "cuts": ("cut", "cut", "unplug", "heal"),
     "kills": ("kill_machine", "kill_master"),
     "clocks": ("turn_clock", ),
-    "everything": tuple(ACTS),
+    "everything": ACTS,
 }

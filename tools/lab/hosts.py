@@ -114,6 +114,12 @@ def left_behind(prefix: str) -> typing.Iterator[tuple[str, bool]]:
                 yield name, is_space
 
 
+def mounted_below(folder: str) -> list[str]:
+    """Where something is mounted below a folder."""
+    with open("/proc/mounts", encoding="ascii", errors="replace") as file:
+        return [words[1] for words in map(str.split, file) if words[1].startswith(f"{folder}/")]
+
+
 def clean(prefix: str = PREFIX) -> list[str]:
     """Removes what processes left that were killed: what that was."""
     removed = []
@@ -121,7 +127,10 @@ def clean(prefix: str = PREFIX) -> list[str]:
         if is_space:
             do("ip", "netns", "del", name)
         else:
-            shutil.rmtree(os.path.join(tempfile.gettempdir(), name))
+            folder = os.path.join(tempfile.gettempdir(), name)
+            for place in mounted_below(folder):
+                do("umount", place)
+            shutil.rmtree(folder)
         removed.append(name)
     return removed
 
@@ -142,10 +151,14 @@ class HostClock:
         since, shown, old = self.turns[-1]
         then = time.monotonic_ns() + self.shift_ns + self.AHEAD_NS
         self.turns = [self.turns[-1], (then, shown + then - since + (then - since) * old // 1_000_000, rate)]
-        draft = os.path.join(self.folder, "draft")
-        write(draft, "".join("%d %d %d\n" % turn for turn in self.turns).encode())
-        os.rename(draft, os.path.join(self.folder, "course"))
+        self.tell("course", "".join("%d %d %d\n" % turn for turn in self.turns))
         time.sleep(self.AHEAD_NS / SECOND)
+
+    def tell(self, kind: str, text: str) -> None:
+        """Calls of this kind show this from now on."""
+        draft = os.path.join(self.folder, "draft")
+        write(draft, text.encode())
+        os.rename(draft, os.path.join(self.folder, kind))
 
 
 class Host:

@@ -70,10 +70,6 @@ class OnHost(processes.Process):
         with open(self.log, "ab") as log:
             self.running = self.host.start([self.program, *self.words], stdout=log, stderr=log)
 
-    def has_ended(self) -> bool:
-        """Whether it ended on its own."""
-        return self.running.poll() is not None
-
 
 class Master(OnHost):
     """A master on a host, which answers what is sealed under a key of its file, or all where it has none."""
@@ -120,7 +116,6 @@ class Machine(processes.Machine):
         processes.Process.__init__(self, host.lab, f"machine-{host.name}", ["serve", self.path("node.toml")])
 
     start = OnHost.start
-    has_ended = OnHost.has_ended
 
     def write_settings(self) -> None:
         """Writes its settings with the sources of now."""

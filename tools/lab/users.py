@@ -10,6 +10,7 @@ import statistics
 import subprocess
 import threading
 import time
+import typing
 
 from harness.processes import SECOND, Fault
 from harness.program import WARNINGS, compile_c, run
@@ -51,6 +52,25 @@ class History:
         self.kept[:len(piece)] = [commit for commit in piece if commit[1] > since] + sorted(before, key=lambda commit: commit[2])[-1:]
 
 
+class Commits(History):
+    """Commits of all users in one file, which is judged when all have ended."""
+
+    def __init__(self, program: str, path: str):
+        super().__init__(program)
+        self.file = open(path, "w", encoding="ascii")
+
+    def add(self, began: int, ended: int, stamp: int, giver: str) -> None:
+        self.file.write(f"commit {began} {ended} {stamp} {giver}\n")
+        self.number += 1
+
+    def judge(self) -> None:
+        """Nothing yet: all is judged at once."""
+        self.file.flush()
+
+    def close(self) -> None:
+        self.file.close()
+
+
 @dataclasses.dataclass
 class Phase:
     """What users saw while something was done; times and widths in nanoseconds."""
@@ -72,9 +92,11 @@ class Users:
     """The users of machines, and a thread that takes what they print."""
     MOST_KEPT = 20
 
-    def __init__(self, lab: Lab):
+    def __init__(self, lab: Lab, history: History | None = None, is_excused: typing.Callable[[str, int, int], bool] = lambda *_: False):
         self.lab, self.made = lab, compile_c("fleet", lab.room, *WARNINGS, "-std=gnu11", "-pthread")
-        self.history, self.phases = History(lab.program), dict[str, Phase]()
+        self.history, self.phases = history or History(lab.program), dict[str, Phase]()
+        #: Whether what is seen on a host from one time to another may be wrong: it is counted, and not told.
+        self.is_excused = is_excused
         self.marks: list[tuple[int, str]] = []
         self.running: list[subprocess.Popen] = []
         self.selector, self.rest = selectors.DefaultSelector(), dict[int, bytes]()
@@ -88,15 +110,17 @@ class Users:
             self.marks.append((time.time_ns(), name))
             return self.phases.setdefault(name, Phase())
 
-    def start(self, machine: Machine, seconds: float, sessions: int, stampers: int, pause_ms: int) -> None:
-        """Starts users on a machine's host. There are no stampers where the clock is shifted, since nothing is shared there."""
+    def start(self, machine: Machine, seconds: float, sessions: int, stampers: int, pause_ms: int, program: typing.Sequence[str] = (), **how) -> None:
+        """Starts users on a machine's host, by another program than that in C where one is given. There are no stampers where the clock is
+        shifted, since nothing is shared there."""
         stampers = 0 if machine.host.shift_s else stampers
-        words = [self.made, f"{seconds:.0f}", str(SESSIONS), machine.path("socket"), machine.path("shared"), str(sessions), str(stampers),
-                 str(pause_ms), str(GIVERS * len(self.running))]
-        process = machine.host.start(words, stdin=subprocess.DEVNULL, stdout=subprocess.PIPE)
+        first = GIVERS * (1 + machine.settings["machine"])
+        words = [*(program or [self.made]), f"{seconds:.0f}", str(SESSIONS), machine.path("socket"), machine.path("shared"), str(sessions),
+                 str(stampers), str(pause_ms), str(first)]
+        process = machine.host.start(words, stdin=subprocess.DEVNULL, stdout=subprocess.PIPE, **how)
         self.running.append(process)
         os.set_blocking(process.stdout.fileno(), False)
-        self.selector.register(process.stdout, selectors.EVENT_READ)
+        self.selector.register(process.stdout, selectors.EVENT_READ, machine.host.name)
 
     def take_all(self) -> None:
         while not self.is_ended:
@@ -105,7 +129,7 @@ class Users:
                     *lines, self.rest[key.fd] = (self.rest.get(key.fd, b"") + piece).split(b"\n")
                     with self.lock:
                         for line in lines:
-                            self.take(line.decode().split())
+                            self.take(line.decode().split(), key.data)
                 else:
                     self.selector.unregister(key.fileobj)
 
@@ -113,8 +137,8 @@ class Users:
         place = bisect.bisect(self.marks, (moment, "\x7f")) - 1
         return self.phases[self.marks[max(0, place)][1]]
 
-    def take(self, words: list[str]) -> None:
-        """Takes a line of a user."""
+    def take(self, words: list[str], host: str) -> None:
+        """Takes a line of a user on a host."""
         if words[0] == "commit":
             began, ended, stamp = map(int, words[1:4])
             phase = self.phase_at(ended)
@@ -127,13 +151,15 @@ class Users:
             phase.readings, phase.lost = phase.readings + readings, phase.lost + lost
             if readings:
                 phase.widths.append(width)
+        elif "between" in words and self.is_excused(host, int(words[-3]), int(words[-1])):
+            self.phase_at(int(words[1])).counts["excused"] += 1
         else:
             phase = self.phase_at(int(words[1]))
             is_reading = words[2:4] == ["the", "reading"]
             phase.wrong_readings += is_reading
             phase.wrong_commits += not is_reading
             if len(phase.wrong) < self.MOST_KEPT:
-                phase.wrong.append(" ".join(words[2:]))
+                phase.wrong.append(f"host {host}: {' '.join(words[2:])}")
 
     def wait(self, seconds: float = 60) -> list[str]:
         """Waits until all users have ended, and judges all; what is wrong with their ends."""

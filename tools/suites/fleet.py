@@ -8,16 +8,21 @@ hold a time between two looks at the real-time clock around it, each stamp to li
 stamp may come twice, each machine has to count what the forger sent, no master may answer it, no process may end, and memory has to be that of a
 fresh start in the end.
 
+Then the same for a fleet with shards: two of its masters stand on chronyd, etcd elects the leaders of two shards, agents of these and users in C, Go
+and Python stamp by its machines, processes are killed and stopped, a disk is full, and once a clock runs wild, a host sleeps, and three masters step
+by a second. That has to be noticed, and wrong readings may come until then alone; stamps have to rise with the terms of their shard.
+
 Then a key is rolled over, one is revoked, and a host goes from open to sealed polls; nobody may be without a reading meanwhile but by the
 start of a machine. A master waits for its address, and an answer from another address is told of. The fleet of docs/OPERATING.md, five masters
 and sixty machines, runs as it is written there. With --long the controls of `tools/fleet
 control` are run, too: they have to be wrong.
 """
 from harness.suite import Suite, seeds, wrong_in
-from lab import addresses, controls, documented, rollover
+from lab import addresses, controls, documented, rollover, sharded, takeovers
 from lab.fleet import Fleet
 from lab.hosts import missing
 from lab.runs import Run
+from lab.shard_runs import ShardRun
 
 suite = Suite(__name__)
 
@@ -27,6 +32,13 @@ def across_hosts(trial):
     seconds = trial.options.seconds or 60
     with Fleet(trial.program, trial.seed(), "mixed") as fleet:
         yield from Run(fleet, seconds, trial.note).whole()
+
+
+@suite.case(missing=sharded.missing)
+def shards_that_move(trial):
+    seconds = trial.options.seconds or 60
+    with sharded.Sharded(trial.program, trial.seed()) as fleet:
+        yield from ShardRun(fleet, seconds, trial.note).whole()
 
 
 @suite.case(missing=missing)
@@ -47,6 +59,11 @@ def as_documented(trial):
 @suite.case(missing=missing, long=True)
 def faults_that_are_seen(trial):
     trial.holds(controls.tell_all(trial.program, trial.note), "what is wrong was not seen")
+
+
+@suite.case(missing=sharded.missing, long=True)
+def terms_that_cross(trial):
+    trial.holds(takeovers.crossing(trial.program, trial.note), "stamps of leaders without spans were not seen to cross")
 
 
 @suite.last_line
