@@ -322,7 +322,7 @@ class Booted(Host):
     @staticmethod
     def make_group():
         """A group of its own for the processes of that systemd."""
-        found = re.search(r"^cgroup2 (\S+) cgroup2 ", read_text("/proc/mounts"), re.MULTILINE)
+        found = re.search(r"^\S+ (\S+) cgroup2 ", read_text("/proc/mounts"), re.MULTILINE)
         if not found or not os.path.exists("/lib/systemd/systemd"):
             raise Fault("there is no systemd, or no group of version 2")
         group = f"{found[1]}/truetime-{os.getpid()}"
@@ -335,7 +335,7 @@ class Booted(Host):
             eventually(lambda folder=folder: os.rmdir(folder) is None)
 
     def systemctl(self, *words):
-        """The status that systemctl ends with, and what it says."""
+        """What systemctl says, and the status that it ends with."""
         ran = self.do("systemctl", *words)
         return ran.said.strip(), ran.status
 
