@@ -55,25 +55,51 @@ class Watch:
         self.thread.join()
 
 
+class Pace:
+    """How late this process is woken, where the host is busy: so long its readers may have missed readings, too."""
+
+    def __init__(self):
+        self.is_ended, self.latest = False, 0.0
+        self.thread = threading.Thread(target=self.run, daemon=True)
+        self.thread.start()
+
+    def run(self) -> None:
+        while not self.is_ended:
+            began = time.monotonic()
+            time.sleep(PAUSE_S)
+            self.latest = max(self.latest, time.monotonic() - began - PAUSE_S)
+
+    def longest(self) -> float:
+        """The most since the last call."""
+        latest, self.latest = self.latest, 0.0
+        return latest
+
+    def close(self) -> None:
+        self.is_ended = True
+        self.thread.join()
+
+
 class Steps:
     """Steps one after the other, each with the longest time without a reading of each machine."""
 
     def __init__(self, lab: Lab, machines: dict[str, Machine], say: Say):
         self.say, self.watches = say, {name: lab.keep(Watch(machine)) for name, machine in machines.items()}
+        self.pace = lab.keep(Pace())
         self.wrong: list[str] = []
 
     @contextlib.contextmanager
     def step(self, what: str, restarts: str = "") -> typing.Iterator[None]:
         """A step, which starts this machine again and lets all others be read on."""
-        for watch in self.watches.values():
+        for watch in (*self.watches.values(), self.pace):
             watch.longest()
         yield
         time.sleep(SETTLE_S)
-        longest = {name: watch.longest() for name, watch in self.watches.items()}
-        self.say(f"{what}: longest time without a reading, ms: {', '.join(f'{name} {gap * 1000:.0f}' for name, gap in longest.items())}")
+        longest, late = {name: watch.longest() for name, watch in self.watches.items()}, self.pace.longest()
+        gaps = ", ".join(f"{name} {gap * 1000:.0f}" for name, gap in longest.items())
+        self.say(f"{what}: longest time without a reading, ms: {gaps}; woken late by {late * 1000:.0f}")
         for name, gap in longest.items():
-            if gap > (RESTART_S if name == restarts else OUTAGE_S):
-                self.wrong.append(f"{what}: no reading of {name} for {gap:.2f} s")
+            if gap > (RESTART_S if name == restarts else OUTAGE_S) + late:
+                self.wrong.append(f"{what}: no reading of {name} for {gap:.2f} s, and late by {late:.2f} s")
 
     def end(self) -> list[str]:
         """What was wrong."""

@@ -56,7 +56,9 @@ class Upgrade:
         process.restart()
 
     def whole(self, old: str, new: str) -> None:
-        """There and back, masters first, and machines first on the way back."""
+        """There and back, masters first, and machines first on the way back; a while of the old version alone before and behind that."""
+        start = self.users.phases["start"]
+        wait_until(lambda: start.readings and start.commits, SOON_S, "users read and commit nothing")
         for call, program, version in ((self.masters, new, "new"), (self.machines, new, "new"), (self.machines, old, "old"),
                                        (self.masters, old, "old")):
             phase, began = self.users.begin(f"{call.__name__} to {version}"), time.monotonic()

@@ -14,7 +14,7 @@ from suites.packages import TRIES, UNITS, USER, Host, host_of, running, suite
 from suites.wiring_checks import eventually
 
 SETTINGS, STATUS, EPOCH = "etc/truetime/a.toml", "run/truetime/a/status.prom", "var/lib/truetime/a/epoch"
-WATCH = "ExecCondition", "ExecStart"
+TIMER, WATCH = "truetime-watch@a.timer", ("ExecCondition", "ExecStart")
 ASK = ["ttd", "ask", "127.0.0.1:5601", "now", "--retry", "0"]
 # The triggers are those of other packages, and take long.
 INSTALL = ["--no-triggers", "-i"]
@@ -222,9 +222,11 @@ def watched(trial):
 
 
 class Clients:
-    """A session and a stamper in a host, as long as a block lasts."""
+    """A session and a stamper in a host, as long as a block lasts; then `gaps` has the times without a reading of each, in milliseconds, and
+    `wrong` what was wrong."""
 
     def __init__(self, host):
+        self.gaps, self.wrong = {}, []
         self.running = {name: subprocess.Popen([*host.inside, "python3", "-c", CLIENT, name], stdin=subprocess.PIPE, stdout=subprocess.PIPE,
                                                text=True) for name in ("session", "stamper")}
 
@@ -232,9 +234,7 @@ class Clients:
         return self
 
     def __exit__(self, *_):
-        """Each ends; `gaps` has the times without a reading of each, in milliseconds, and `wrong` what was wrong."""
         time.sleep(0.5)
-        self.gaps, self.wrong = {}, []
         for name, process in self.running.items():
             lines = process.communicate(timeout=20)[0].splitlines()
             self.gaps[name] = [int(line.split()[1]) / 1e6 for line in lines if line.startswith("gap")][1:]
@@ -246,7 +246,7 @@ def try_clients(trial, clients, reloads):
     trial.equal("wrong readings and stamps, and stamps that were refused", clients.wrong, [])
     for name, gaps in clients.gaps.items():
         trial.equal(f"lives that the {name} saw", len(gaps), reloads)
-    if not any(len(gaps) != reloads for gaps in clients.gaps.values()):
+    if all(len(gaps) == reloads for gaps in clients.gaps.values()):
         trial.note(f"{reloads} reloads: without a reading for, median and most, "
                    + ", ".join(f"a {name} {statistics.median(gaps):.0f} and {max(gaps):.0f} ms" for name, gaps in clients.gaps.items()))
 
@@ -322,7 +322,7 @@ class Booted(Host):
     @staticmethod
     def make_group():
         """A group of its own for the processes of that systemd."""
-        found = re.search(r"^cgroup2 (\S+) cgroup2 ", read_text("/proc/mounts"), re.MULTILINE)
+        found = re.search(r"^\S+ (\S+) cgroup2 ", read_text("/proc/mounts"), re.MULTILINE)
         if not found or not os.path.exists("/lib/systemd/systemd"):
             raise Fault("there is no systemd, or no group of version 2")
         group = f"{found[1]}/truetime-{os.getpid()}"
@@ -335,7 +335,7 @@ class Booted(Host):
             eventually(lambda folder=folder: os.rmdir(folder) is None)
 
     def systemctl(self, *words):
-        """The status that systemctl ends with, and what it says."""
+        """What systemctl says, and the status that it ends with."""
         ran = self.do("systemctl", *words)
         return ran.said.strip(), ran.status
 
@@ -369,8 +369,7 @@ def by_systemd(trial):
     trial.equal("start", host.systemctl("start", "truetime@a"), ("", 0))
     trial.equal("asked then", host.do(*ASK).status, 0)
     trial.check("status of a master", eventually(lambda: host.exists("run/truetime-master/m2/status.prom")), "none is written")
-    timers = [f"truetime-watch@a.timer {word}" for word in ("active", "inactive")]
-    trial.equal("timer", f"truetime-watch@a.timer {host.systemctl('is-active', 'truetime-watch@a.timer')[0]}", timers[0])
+    trial.equal("timer", host.systemctl("is-active", TIMER)[0], "active")
     with Clients(host) as clients:
         time.sleep(0.5)
         trial.equal("reloads", {host.systemctl("reload", "truetime@a") for _ in range(RELOADS)}, {("", 0)})
@@ -386,7 +385,7 @@ def by_systemd(trial):
     age(host, 100)
     trial.equal("watch, stopped", host.systemctl("start", "truetime-watch@a"), ("", 0))
     trial.equal("stopped", host.systemctl("is-active", "truetime@a")[0], "inactive")
-    trial.equal("timer, stopped", f"truetime-watch@a.timer {host.systemctl('is-active', 'truetime-watch@a.timer')[0]}", timers[1])
+    trial.equal("timer, stopped", host.systemctl("is-active", TIMER)[0], "inactive")
 
 
 def try_standing(trial, host):
