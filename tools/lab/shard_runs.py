@@ -1,6 +1,7 @@
 """A fleet with shards under faults, as long as is wanted, and what was wrong in it."""
 import os
 import subprocess
+import time
 import typing
 
 from harness.processes import Fault, truetime
@@ -50,14 +51,22 @@ def judge(program: str, path: str) -> Judged:
     return Judged(*(int(said.get(name, 0)) for name in Judged._fields))
 
 
+def stamps_outside(path: str) -> int:
+    """How many stamps of a file of commits do not lie between the beginning and the end of theirs."""
+    with open(path, encoding="ascii") as file:
+        commits = (map(int, line.split(maxsplit=4)[1:4]) for line in file)
+        return sum(not began <= stamp < ended for began, ended, stamp in commits)
+
+
 def terms_in(path: str) -> int:
     """How many terms the commits of a shard have."""
     return len({line.split()[5] for line in read_text(path).splitlines()})
 
 
-def await_answers(master: Master | ServedMaster, before: int) -> None:
-    """Returns once the status of a master that has just been started tells of answers: fewer than in the life before."""
-    wait_until(lambda: 0 < master.sum_of(ANSWERS) < before, LOOKED_S, f"{master.name}: no answers")
+def await_answers(master: Master | ServedMaster) -> None:
+    """Returns once a master that has just been started has written that it answers."""
+    since = time.time()
+    wait_until(lambda: os.path.getmtime(master.status_path) > since and master.sum_of(ANSWERS), LOOKED_S, f"{master.name}: no answers")
 
 
 class ShardRun(Run):
@@ -82,16 +91,17 @@ class ShardRun(Run):
         for agent in fleet.agents:
             agent.kill()
         shards = [shard.history for shard in fleet.shards]
-        whole = judge(fleet.program, merge([os.path.join(room, "history"), *shards], os.path.join(room, "kept"), fleet.breaks))
+        kept = merge([os.path.join(room, "history"), *shards], os.path.join(room, "kept"), fleet.breaks)
+        whole = judge(fleet.program, kept)
         of_shards = judge(fleet.program, merge(shards, os.path.join(room, "of-shards")))
         terms = [terms_in(path) for path in shards]
         self.say(f"all but those under way while an assumption was broken: {whole}")
         self.say(f"shards 1 and 2: {of_shards.commits:,} commits, {' and '.join(map(str, terms))} terms, {of_shards.term_violations} stamps not "
                  f"above an earlier term's, {of_shards.equal_stamps} twice, {sum(missing)} acknowledged commits that a replica lacks")
-        for what, number in (("commits are out of order", whole.violations), ("stamps were given twice", whole.equal_stamps),
-                             ("stamps are not above an earlier term's", of_shards.term_violations), ("acknowledged commits are lost", sum(missing))):
-            if number:
-                self.wrong.append(f"{number} {what}")
+        found = {"stamps lie outside of their commits": stamps_outside(kept), "commits are out of order": whole.violations,
+                 "stamps were given twice": whole.equal_stamps, "stamps are not above an earlier term's": of_shards.term_violations,
+                 "acknowledged commits are lost": sum(missing)}
+        self.wrong += [f"{number} {what}" for what, number in found.items() if number]
         if whole.commits < FEW_COMMITS * self.seconds or min(terms) < FEW_TERMS:
             self.wrong.append(f"{whole.commits} commits and {terms} terms are few")
 
@@ -116,9 +126,9 @@ class ShardRun(Run):
         self.judge_epochs()
         for master in self.fleet.masters:
             try:
-                used, answered = master.resources(), master.sum_of(ANSWERS)
+                used = master.resources()
                 master.restart()
-                await_answers(master, answered)
+                await_answers(master)
                 said, is_more = master.keeps_more(master.resources(), used)
             except (Fault, OSError, truetime.Refused) as fault:
                 self.wrong.append(f"{master.name} after the run: {fault}")

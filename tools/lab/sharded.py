@@ -33,7 +33,7 @@ SLEEP_S, TWO_LIE_S, WILD_S = 1.0, 1.5, 3.0
 SLIGHT_NS = 500_000
 #: How long something stands still or is down, how soon a break has to be noticed, and how soon all has to be back: a start behind some breaks in a
 #: row pauses up to half a minute.
-LEAST_STOP_S, MOST_STOP_S, NOTICED_S, BACK_S = 0.2, 2.2, 10.0, 40.0
+LEAST_STOP_S, MOST_STOP_S, NOTICED_S, BACK_S = 0.2, 2.2, 30.0, 60.0
 NEXT_KEY = 100
 FOREVER = 2**64
 
