@@ -49,9 +49,11 @@ abbrev age_rules : List Rule
 age_rules = filled_from 1 (age_app.top.rules ++ help_rule ∷ [])
 
 age_rules_plain : Each (IsPlainRule age_rules) age_rules
+unfolding age_app
 age_rules_plain = ((refl, inl (record { action = refl; range = refl })), ((refl, inl (record { action = refl; range = refl })), ((refl, inl (record { action = refl; range = refl })), ((refl, inl (record { action = refl; range = refl })), ((refl, inr refl), tt)))))
 
 age_plain : (s : Shape) → s.rules ≡ age_rules → IsPlainShape s
+unfolding age_app
 age_plain s is = record {
   rules = subst (λ (c : List Rule). Each (IsPlainRule c) c) (sym is) age_rules_plain;
   no_positional = λ i. subst (λ (c : List Rule). arg_by_index c i ≡ None) (sym is) refl;
@@ -76,6 +78,7 @@ Asks s = (named : Text) (words : List Text) → answers_to named (label_of s) �
     → level_fault s [] nothing_held words false [] ≡ [] → IsJudged (Some (s.name, rows_after s.rules [] words))
 
 age_taken : (s : Shape) → s.name ≡ codes "age" → s.rules ≡ age_rules → s.subcommand_negates_reqs ≡ false → Asks s
+unfolding age_app
 age_taken s name is negates named words answers not_help e =
     let rows = rows_after s.rules [] words in
     let p = level_parts s [] words false [] e in
@@ -104,9 +107,11 @@ abbrev twin_rules : List Rule
 twin_rules = filled_from 1 (twin_app.top.rules ++ help_rule ∷ [])
 
 twin_rules_plain : Each (IsPlainRule twin_rules) twin_rules
+unfolding twin_app
 twin_rules_plain = ((refl, inl (record { action = refl; range = refl })), ((refl, inl (record { action = refl; range = refl })), ((refl, inr refl), tt)))
 
 twin_plain : (s : Shape) → s.rules ≡ twin_rules → IsPlainShape s
+unfolding twin_app
 twin_plain s is = record {
   rules = subst (λ (c : List Rule). Each (IsPlainRule c) c) (sym is) twin_rules_plain;
   no_positional = λ i. subst (λ (c : List Rule). arg_by_index c i ≡ None) (sym is) refl;
@@ -130,6 +135,7 @@ twin_asks event side e (inl is) = inl (record { command = Twin e.number is.0; is
 twin_asks event side e (inr is) = inr (rw (e.is, is) refl)
 
 twin_taken : (s : Shape) → s.name ≡ codes "twin" → s.rules ≡ twin_rules → s.subcommand_negates_reqs ≡ false → Asks s
+unfolding twin_app
 twin_taken s name is negates named words answers not_help e =
     let rows = rows_after s.rules [] words in
     let p = level_parts s [] words false [] e in

@@ -34,7 +34,7 @@ abbrev pub drift_rule : Rule
 drift_rule = record (number_rule (codes "drift") max_drift) { defaults = count_text default_drift ∷ [] }
 
 -- The command `age` with its four options.
-abbrev pub age_app : App
+unfoldable pub age_app : App
 age_app = with_rule (with_rule (with_rule (with_rule (new_app (codes "age")) drift_rule)
     (given_rule (codes "sent"))) (given_rule (codes "got"))) (given_rule (codes "clock"))
 
@@ -55,7 +55,7 @@ abbrev pub id_rule : Text → Rule
 id_rule name = number_rule name max_id
 
 -- The command `twin` with its two options.
-abbrev pub twin_app : App
+unfoldable pub twin_app : App
 twin_app = with_rule (with_rule (new_app (codes "twin")) (given_rule (codes "event"))) (text_rule (codes "side"))
 
 -- An option `--NAME N` with a number of at most `most`, which has to be given.
@@ -91,72 +91,73 @@ abbrev pub words_rule : Rule
 words_rule = record (new_rule (codes "words")) { value_names = 1; action = Some Append }
 
 -- The command `master` with the options that have to be given.
-abbrev pub plain_master_app : App
+unfoldable pub plain_master_app : App
 plain_master_app = with_rule (with_rule (new_app (codes "master")) (needed_rule (codes "source") max_source)) (text_rule (codes "listen"))
 
 -- The command `master` with these and the options of a stated uncertainty.
-abbrev pub stated_master_app : App
+unfoldable pub stated_master_app : App
 stated_master_app = with_rule (with_rule (with_rule plain_master_app (number_rule (codes "uncertainty") max_time)) (free_rule (codes "offset")))
     (many_rule (codes "act"))
 
 -- The command `master` with these and the servers, and which of them may be wrong by what.
-abbrev pub ntp_master_app : App
+unfoldable pub ntp_master_app : App
 ntp_master_app = with_rule (with_rule (with_rule stated_master_app (many_rule (codes "ntp"))) (number_rule (codes "faulty") max_faulty))
     (number_rule (codes "margin") max_time)
 
 -- The command `master` with these and how often and how long servers are trusted.
-abbrev pub paced_master_app : App
+unfoldable pub paced_master_app : App
 paced_master_app = with_rule (with_rule (with_rule ntp_master_app (free_rule (codes "every"))) (number_rule (codes "drift") max_drift))
     (free_rule (codes "max-age"))
 
 -- The command `master` with these and what more is asked of servers.
-abbrev pub asking_master_app : App
+unfoldable pub asking_master_app : App
 asking_master_app = with_rule (with_rule (with_rule paced_master_app (id_rule (codes "ntp-key"))) (free_rule (codes "ntp-keys")))
     (flag_rule (codes "local"))
 
 -- The command `master` with these, its warning, the form of its log, and its files.
-abbrev pub master_app : App
+unfoldable pub master_app : App
 master_app = with_rule (with_rule (with_rule (with_rule asking_master_app (number_rule (codes "warn-width") max_time)) log_rule) (free_rule (codes "keys")))
     (free_rule (codes "status"))
 
 -- The command `serve` with its file and its flags.
-abbrev pub serve_app : App
+unfoldable pub serve_app : App
 serve_app = with_rule (with_rule (with_rule (new_app (codes "serve")) (place_rule (codes "file"))) (flag_rule (codes "check"))) (flag_rule (codes "until-eof"))
 
 -- The command `ask` with its address, the words of a line, and its option.
-abbrev pub ask_app : App
+unfoldable pub ask_app : App
 ask_app = with_rule (with_rule (with_rule (new_app (codes "ask")) (place_rule (codes "address"))) words_rule) retry_rule
 
 -- The command `read` with its file.
-abbrev pub read_app : App
+unfoldable pub read_app : App
 read_app = with_rule (new_app (codes "read")) (place_rule (codes "file"))
 
 -- The command `key` with its options.
-abbrev pub key_app : App
+unfoldable pub key_app : App
 key_app = with_rule (with_rule (new_app (codes "key")) (id_rule (codes "id"))) (free_rule (codes "name"))
 
 -- The program with no command yet: its words begin with no name of the program, and one command has to be named.
-abbrev pub bare_app : App
+unfoldable pub bare_app : App
 bare_app = on_top (λ s. record s { has_version = true; no_binary_name = true; subcommand_required = true }) (new_app (codes "ttd"))
 
 -- The program with the commands that read what sources answered.
-abbrev pub sources_app : App
+unfoldable pub sources_app : App
 sources_app = with_subcommand (with_subcommand (with_subcommand bare_app age_app.top) (new_app (codes "fuse")).top) (new_app (codes "check")).top
 
 -- The program with these and the commands that tell of a script's run.
-abbrev pub runs_app : App
+unfoldable pub runs_app : App
 runs_app = with_subcommand (with_subcommand (with_subcommand sources_app (new_app (codes "run")).top) (new_app (codes "trace")).top) twin_app.top
 
 -- The program with these and all other commands that read their input and end.
-abbrev pub inputs_app : App
+unfoldable pub inputs_app : App
 inputs_app = with_subcommand (with_subcommand (with_subcommand runs_app (new_app (codes "picture")).top) (new_app (codes "live")).top) (new_app (codes "judge")).top
 
 -- The program with these and the services that run until they are ended.
-abbrev pub servers_app : App
+unfoldable pub servers_app : App
 servers_app = with_subcommand (with_subcommand inputs_app master_app.top) serve_app.top
 
 -- The program with all its commands.
 unfoldable pub ttd_app : App
+unfolding age_app twin_app plain_master_app stated_master_app ntp_master_app paced_master_app asking_master_app master_app serve_app ask_app read_app key_app bare_app sources_app runs_app inputs_app servers_app
 ttd_app = with_subcommand (with_subcommand (with_subcommand servers_app ask_app.top) read_app.top) key_app.top
 
 -- What clap finds wrong with the words: nothing where it takes them, and else the kinds of error that it may answer.

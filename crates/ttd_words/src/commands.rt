@@ -1,8 +1,8 @@
 //! The commands with their options, as they are given to clap.
 
 ghost use Rattle.std.specs.Prelude.{◌≡◌, IfOk, false};
-ghost use Rattle.clap.specs.Simple.{new_app};
-ghost use Rattle.clap.specs.Words.{app_of};
+ghost use Rattle.clap.specs.Simple.{new_app, with_rule};
+ghost use Rattle.clap.specs.Words.{app_of, rule_of};
 ghost use Rattle.clap.specs.declared.builder.command.Command.TheViews.{out-Command};
 ghost use Rattle.ttd_words.specs.CommandLine.{age_app, ask_app, asking_master_app, key_app, master_app, ntp_master_app, paced_master_app, plain_master_app, read_app, serve_app, stated_master_app, twin_app};
 
@@ -13,7 +13,7 @@ use crate::options::{
     time_option,
 };
 use crate::service_help::{ABOUT_ASK, ABOUT_KEY, ABOUT_MASTER, ABOUT_READ, ABOUT_SERVE};
-use clap::Command;
+use clap::{Arg, Command};
 use std::alloc::{AllocError, Global};
 
 /// A command without options, with the texts of its help before and after its usage.
@@ -29,7 +29,39 @@ pub(crate) fn plain_command<'a>(
     Command::new(alloc, name).about(about).after_help(after)
 }
 
+/// The command with these two options, in their order.
+fn with_two<'a>(
+    command: Command<'a>,
+    first: Arg<'a>,
+    second: Arg<'a>,
+) -> Result<Command<'a>, AllocError>
+    ensures app { first.entry.global ≡ false → second.entry.global ≡ false →
+        IfOk result (λ c. app_of c ≡ with_rule (with_rule (app_of command.entry) (rule_of first.entry)) (rule_of second.entry)) }
+    ensures local { (out-Command command.entry).has_globals ≡ false → first.entry.global ≡ false → second.entry.global ≡ false →
+        IfOk result (λ c. (out-Command c).has_globals ≡ false) }
+{
+    let with_first = command.arg(first)?;
+    with_first.arg(second)
+}
+
+/// The command with these three options, in their order.
+fn with_three<'a>(
+    command: Command<'a>,
+    first: Arg<'a>,
+    second: Arg<'a>,
+    third: Arg<'a>,
+) -> Result<Command<'a>, AllocError>
+    ensures app { first.entry.global ≡ false → second.entry.global ≡ false → third.entry.global ≡ false →
+        IfOk result (λ c. app_of c ≡ with_rule (with_rule (with_rule (app_of command.entry) (rule_of first.entry)) (rule_of second.entry)) (rule_of third.entry)) }
+    ensures local { (out-Command command.entry).has_globals ≡ false → first.entry.global ≡ false → second.entry.global ≡ false
+        → third.entry.global ≡ false → IfOk result (λ c. (out-Command c).has_globals ≡ false) }
+{
+    let with_both = with_two(command, first, second)?;
+    with_both.arg(third)
+}
+
 /// The command `age`.
+#[tactic(auto, unfolding(crate::specs::CommandLine::age_app))]
 pub(crate) fn age_command<'a>(alloc: Global) -> Result<Command<'a>, AllocError>
     ensures app { IfOk result (λ c. app_of c ≡ age_app) }
     ensures local { IfOk result (λ c. (out-Command c).has_globals ≡ false) }
@@ -40,16 +72,16 @@ pub(crate) fn age_command<'a>(alloc: Global) -> Result<Command<'a>, AllocError>
         "Ages the answer to a poll, which is read in hex",
         ABOUT_AGE,
     );
-    let with_drift = age.arg(drift_option(alloc))?;
+    let drift = drift_option(alloc);
     let sent = given_option(alloc, "sent", "N", "The clock when the poll was sent");
-    let with_sent = with_drift.arg(sent)?;
+    let with_sent = with_two(age, drift, sent)?;
     let got = given_option(alloc, "got", "N", "The clock when the answer came");
-    let with_got = with_sent.arg(got)?;
     let clock = given_option(alloc, "clock", "N", "The clock now");
-    with_got.arg(clock)
+    with_two(with_sent, got, clock)
 }
 
 /// The command `twin`.
+#[tactic(auto, unfolding(crate::specs::CommandLine::twin_app))]
 pub(crate) fn twin_command<'a>(alloc: Global) -> Result<Command<'a>, AllocError>
     ensures app { IfOk result (λ c. app_of c ≡ twin_app) }
     ensures local { IfOk result (λ c. (out-Command c).has_globals ≡ false) }
@@ -61,17 +93,17 @@ pub(crate) fn twin_command<'a>(alloc: Global) -> Result<Command<'a>, AllocError>
         ABOUT_TWIN,
     );
     let event = given_option(alloc, "event", "K", "The reading's event, counted from 0");
-    let with_event = twin.arg(event)?;
     let side = text_option(
         alloc,
         "side",
         "SIDE",
         "The end of the reading at which the true time lies: low or high",
     );
-    with_event.arg(side)
+    with_two(twin, event, side)
 }
 
 /// The command `master` with its required options.
+#[tactic(auto, unfolding(crate::specs::CommandLine::plain_master_app))]
 fn plain_master_command<'a>(alloc: Global) -> Result<Command<'a>, AllocError>
     ensures app { IfOk result (λ c. app_of c ≡ plain_master_app) }
     ensures local { IfOk result (λ c. (out-Command c).has_globals ≡ false) }
@@ -82,17 +114,18 @@ fn plain_master_command<'a>(alloc: Global) -> Result<Command<'a>, AllocError>
         "Runs a time master, which answers polls by this computer's clock or by NTP servers",
         ABOUT_MASTER,
     );
-    let with_source = bare.arg(source_option(alloc))?;
+    let source = source_option(alloc);
     let listen = text_option(
         alloc,
         "listen",
         "ADDRESS",
         "Where it is asked, over UDP: 127.0.0.1:PORT, or with --keys any address",
     );
-    with_source.arg(listen)
+    with_two(bare, source, listen)
 }
 
 /// The command `master` with these and the options of a stated uncertainty.
+#[tactic(auto, unfolding(crate::specs::CommandLine::stated_master_app))]
 fn stated_master_command<'a>(alloc: Global) -> Result<Command<'a>, AllocError>
     ensures app { IfOk result (λ c. app_of c ≡ stated_master_app) }
     ensures local { IfOk result (λ c. (out-Command c).has_globals ≡ false) }
@@ -103,24 +136,23 @@ fn stated_master_command<'a>(alloc: Global) -> Result<Command<'a>, AllocError>
         "uncertainty",
         "Answers by this computer's clock: what it may be wrong by, in nanoseconds",
     );
-    let with_uncertainty = plain.arg(uncertainty)?;
     let offset = free_option(
         alloc,
         "offset",
         "NS",
         "How far this clock is ahead, in nanoseconds; behind: --offset=-NS [default: 0]",
     );
-    let with_offset = with_uncertainty.arg(offset)?;
     let act = many_option(
         alloc,
         "act",
         "ACT",
         "What it does with a poll; the next --act with the next, and the last with all further ones",
     );
-    with_offset.arg(act)
+    with_three(plain, uncertainty, offset, act)
 }
 
 /// The command `master` with these and the servers, and which of them may be wrong by what.
+#[tactic(auto, unfolding(crate::specs::CommandLine::ntp_master_app))]
 fn ntp_master_command<'a>(alloc: Global) -> Result<Command<'a>, AllocError>
     ensures app { IfOk result (λ c. app_of c ≡ ntp_master_app) }
     ensures local { IfOk result (λ c. (out-Command c).has_globals ≡ false) }
@@ -132,17 +164,17 @@ fn ntp_master_command<'a>(alloc: Global) -> Result<Command<'a>, AllocError>
         "ADDRESS:PORT",
         "Answers by this NTP server; the next --ntp names a further one, up to 16",
     );
-    let with_ntp = stated.arg(ntp)?;
-    let with_faulty = with_ntp.arg(faulty_option(alloc))?;
+    let faulty = faulty_option(alloc);
     let margin = time_option(
         alloc,
         "margin",
         "NTP: what a server may be wrong by beyond what it says, in nanoseconds [default: 0]",
     );
-    with_faulty.arg(margin)
+    with_three(stated, ntp, faulty, margin)
 }
 
 /// The command `master` with these and how often and how long servers are trusted.
+#[tactic(auto, unfolding(crate::specs::CommandLine::paced_master_app))]
 fn paced_master_command<'a>(alloc: Global) -> Result<Command<'a>, AllocError>
     ensures app { IfOk result (λ c. app_of c ≡ paced_master_app) }
     ensures local { IfOk result (λ c. (out-Command c).has_globals ≡ false) }
@@ -154,18 +186,18 @@ fn paced_master_command<'a>(alloc: Global) -> Result<Command<'a>, AllocError>
         "TIME",
         "NTP: from one request to the next, 1ms to 86400s [default: 64s, on this host 1ms]",
     );
-    let with_every = ntp.arg(every)?;
-    let with_drift = with_every.arg(master_drift_option(alloc))?;
+    let drift = master_drift_option(alloc);
     let age = free_option(
         alloc,
         "max-age",
         "TIME",
         "NTP: how old a reply may become, 1ms to 86400s [default: 1024s]",
     );
-    with_drift.arg(age)
+    with_three(ntp, every, drift, age)
 }
 
 /// The command `master` with these and what more is asked of servers.
+#[tactic(auto, unfolding(crate::specs::CommandLine::asking_master_app))]
 fn asking_master_command<'a>(alloc: Global) -> Result<Command<'a>, AllocError>
     ensures app { IfOk result (λ c. app_of c ≡ asking_master_app) }
     ensures local { IfOk result (λ c. (out-Command c).has_globals ≡ false) }
@@ -176,23 +208,22 @@ fn asking_master_command<'a>(alloc: Global) -> Result<Command<'a>, AllocError>
         "ntp-key",
         "NTP: the number of the key of --ntp-keys that signs packets, up to 4294967295",
     );
-    let with_number = paced.arg(number)?;
     let keys = free_option(
         alloc,
         "ntp-keys",
         "FILE",
         "NTP: the file with this key, in the form of chrony's chrony.keys",
     );
-    let with_keys = with_number.arg(keys)?;
     let local = flag(
         alloc,
         "local",
         "NTP: takes a server whose time is that of its own clock alone",
     );
-    with_keys.arg(local)
+    with_three(paced, number, keys, local)
 }
 
 /// The command `master`.
+#[tactic(auto, unfolding(crate::specs::CommandLine::master_app))]
 pub(crate) fn master_command<'a>(alloc: Global) -> Result<Command<'a>, AllocError>
     ensures app { IfOk result (λ c. app_of c ≡ master_app) }
     ensures local { IfOk result (λ c. (out-Command c).has_globals ≡ false) }
@@ -203,20 +234,19 @@ pub(crate) fn master_command<'a>(alloc: Global) -> Result<Command<'a>, AllocErro
         "warn-width",
         "The width of an answer above which its log warns, in nanoseconds",
     );
-    let with_warning = asking.arg(warn_width)?;
-    let with_log = with_warning.arg(log_option(alloc))?;
+    let with_log = with_two(asking, warn_width, log_option(alloc))?;
     let keys = free_option(
         alloc,
         "keys",
         "FILE",
         "Its file of keys: it answers polls that are sealed under one of them, and no others",
     );
-    let with_keys = with_log.arg(keys)?;
     let status = free_option(alloc, "status", "FILE", "Where it writes its status");
-    with_keys.arg(status)
+    with_two(with_log, keys, status)
 }
 
 /// The command `serve`.
+#[tactic(auto, unfolding(crate::specs::CommandLine::serve_app))]
 pub(crate) fn serve_command<'a>(alloc: Global) -> Result<Command<'a>, AllocError>
     ensures app { IfOk result (λ c. app_of c ≡ serve_app) }
     ensures local { IfOk result (λ c. (out-Command c).has_globals ≡ false) }
@@ -227,12 +257,14 @@ pub(crate) fn serve_command<'a>(alloc: Global) -> Result<Command<'a>, AllocError
         "Runs a machine of the time service by its configuration",
         ABOUT_SERVE,
     );
-    let with_file = bare.arg(place(alloc, "file", "FILE", "Its configuration, in TOML"))?;
-    let with_check = with_file.arg(flag(alloc, "check", "Says what it would do, and ends"))?;
-    with_check.arg(flag(alloc, "until-eof", "Ends when standard input does"))
+    let file = place(alloc, "file", "FILE", "Its configuration, in TOML");
+    let check = flag(alloc, "check", "Says what it would do, and ends");
+    let until_eof = flag(alloc, "until-eof", "Ends when standard input does");
+    with_three(bare, file, check, until_eof)
 }
 
 /// The command `ask`.
+#[tactic(auto, unfolding(crate::specs::CommandLine::ask_app))]
 pub(crate) fn ask_command<'a>(alloc: Global) -> Result<Command<'a>, AllocError>
     ensures app { IfOk result (λ c. app_of c ≡ ask_app) }
     ensures local { IfOk result (λ c. (out-Command c).has_globals ≡ false) }
@@ -243,17 +275,17 @@ pub(crate) fn ask_command<'a>(alloc: Global) -> Result<Command<'a>, AllocError>
         "Asks a machine of the time service, and prints its replies",
         ABOUT_ASK,
     );
-    let with_address = bare.arg(place(
+    let address = place(
         alloc,
         "address",
         "ADDRESS|PATH",
         "Where the machine listens: 127.0.0.1:PORT, or its Unix socket",
-    ))?;
-    let with_words = with_address.arg(line_words(alloc))?;
-    with_words.arg(retry_option(alloc))
+    );
+    with_three(bare, address, line_words(alloc), retry_option(alloc))
 }
 
 /// The command `read`.
+#[tactic(auto, unfolding(crate::specs::CommandLine::read_app))]
 pub(crate) fn read_command<'a>(alloc: Global) -> Result<Command<'a>, AllocError>
     ensures app { IfOk result (λ c. app_of c ≡ read_app) }
     ensures local { IfOk result (λ c. (out-Command c).has_globals ≡ false) }
@@ -268,6 +300,7 @@ pub(crate) fn read_command<'a>(alloc: Global) -> Result<Command<'a>, AllocError>
 }
 
 /// The command `key`.
+#[tactic(auto, unfolding(crate::specs::CommandLine::key_app))]
 pub(crate) fn key_command<'a>(alloc: Global) -> Result<Command<'a>, AllocError>
     ensures app { IfOk result (λ c. app_of c ≡ key_app) }
     ensures local { IfOk result (λ c. (out-Command c).has_globals ≡ false) }
@@ -278,7 +311,6 @@ pub(crate) fn key_command<'a>(alloc: Global) -> Result<Command<'a>, AllocError>
         "id",
         "The number of the key, up to 4294967295; without it a random one",
     );
-    let with_id = bare.arg(id)?;
     let name = free_option(alloc, "name", "TEXT", "A name for the reader of the file");
-    with_id.arg(name)
+    with_two(bare, id, name)
 }

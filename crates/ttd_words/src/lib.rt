@@ -27,8 +27,9 @@
 //! - `ending`: how the program ends. `refusals`: what is written, and what is said of a refusal. `sentences`: what the
 //!   refusals of a machine mean.
 //!
-//! To add a command, add its options to `specs/CommandLine.antt`, `options` and `commands`, its meaning to
-//! `specs/Reading.antt` and `words`, and a place for it to `all_taken` of `proofs/TakenWords.antt`.
+//! To add a command, add its options to `specs/CommandLine.antt` (and its name to the line `unfolding` of `ttd_app`),
+//! `options` and `commands`, its meaning to `specs/Reading.antt` and `words`, and a place for it to `all_taken` of
+//! `proofs/TakenWords.antt`.
 #![tactic(auto)]
 
 mod commands;

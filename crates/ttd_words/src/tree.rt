@@ -19,6 +19,7 @@ use std::alloc::{AllocError, Global};
 const VERSION: &str = "0.2 (rattle-kit-13)";
 
 /// The program with no command yet.
+#[tactic(auto, unfolding(crate::specs::CommandLine::bare_app))]
 fn bare_command<'a>(alloc: Global) -> Result<Command<'a>, AllocError>
     ensures app { IfOk result (λ c. app_of c ≡ bare_app) }
 {

@@ -79,16 +79,19 @@ fn command_asked(matches: &ArgMatches<'_>) -> Result<Command, WordsFault>
     requires { HasNumbers (subcommand_rows_of matches.now) }
     ensures { result ≡ command_named (subcommand_rows_of matches.now) }
 {
-    match matches.subcommand() {
-        Some(("age", options)) => Ok(age_asked(options)),
-        Some(("fuse", _)) => Ok(Command::Fuse),
-        Some(("check", _)) => Ok(Command::Check),
-        Some(("run", _)) => Ok(Command::Run),
-        Some(("trace", _)) => Ok(Command::Trace),
-        Some(("twin", options)) => twin_asked(options),
-        Some(("picture", _)) => Ok(Command::Picture),
-        Some(("live", _)) => Ok(Command::Live),
-        Some(("judge", _)) => Ok(Command::Judge),
+    let Some((name, options)) = matches.subcommand() else {
+        return Err(WordsFault::BadWords);
+    };
+    match name {
+        "age" => Ok(age_asked(options)),
+        "fuse" => Ok(Command::Fuse),
+        "check" => Ok(Command::Check),
+        "run" => Ok(Command::Run),
+        "trace" => Ok(Command::Trace),
+        "twin" => twin_asked(options),
+        "picture" => Ok(Command::Picture),
+        "live" => Ok(Command::Live),
+        "judge" => Ok(Command::Judge),
         _ => Err(WordsFault::BadWords),
     }
 }
@@ -159,12 +162,15 @@ fn key_asked<'a>(matches: &ArgMatches<'a>) -> Result<Service<'a>, WordsFault>
 fn service_asked<'a>(alloc: Global, matches: &ArgMatches<'a>) -> Result<Service<'a>, WordsFault>
     ensures { IsMeant (service_named (subcommand_rows_of matches.now)) result }
 {
-    match matches.subcommand() {
-        Some(("master", options)) => master_asked(alloc, options),
-        Some(("serve", options)) => serve_asked(options),
-        Some(("ask", options)) => ask_asked(alloc, options),
-        Some(("read", options)) => read_asked(options),
-        Some(("key", options)) => key_asked(options),
+    let Some((name, options)) = matches.subcommand() else {
+        return Err(WordsFault::BadWords);
+    };
+    match name {
+        "master" => master_asked(alloc, options),
+        "serve" => serve_asked(options),
+        "ask" => ask_asked(alloc, options),
+        "read" => read_asked(options),
+        "key" => key_asked(options),
         _ => Err(WordsFault::BadWords),
     }
 }

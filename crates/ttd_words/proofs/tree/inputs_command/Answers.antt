@@ -1,10 +1,11 @@
 use Rattle.std.proofs.Common.{◌≡◌, ◌∙◌, ap, ap₂, codes}
 use Rattle.std.proofs.lemmas.Result.{IfOk-weaker}
 use Rattle.clap.specs.Simple.{App, Shape, app_of, new_app, with_subcommand}
-use Rattle.ttd_words.specs.CommandLine.{runs_app}
+use Rattle.ttd_words.specs.CommandLine.{inputs_app, runs_app}
 use Rattle.ttd_words.proofs.tree.inputs_command.Goals as goal
 
 pub returns : goal.returns
+unfolding inputs_app
 returns c =
     let top : App → Shape = λ a. a.top in
     let picture_added : App = with_subcommand runs_app (new_app (codes "picture")).top in

@@ -1,10 +1,11 @@
 use Rattle.std.proofs.Common.{◌≡◌, ◌∙◌, ap, ap₂, codes}
 use Rattle.std.proofs.lemmas.Result.{IfOk-weaker}
 use Rattle.clap.specs.Simple.{App, Shape, app_of, new_app, with_subcommand}
-use Rattle.ttd_words.specs.CommandLine.{sources_app}
+use Rattle.ttd_words.specs.CommandLine.{runs_app, sources_app}
 use Rattle.ttd_words.proofs.tree.runs_command.Goals as goal
 
 pub returns : goal.returns
+unfolding runs_app
 returns c =
     let top : App → Shape = λ a. a.top in
     let run_added : App = with_subcommand sources_app (new_app (codes "run")).top in

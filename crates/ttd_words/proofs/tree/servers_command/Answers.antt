@@ -1,10 +1,11 @@
 use Rattle.std.proofs.Common.{◌≡◌, ◌∙◌, ap, ap₂}
 use Rattle.std.proofs.lemmas.Result.{IfOk-weaker}
 use Rattle.clap.specs.Simple.{App, Shape, app_of, with_subcommand}
-use Rattle.ttd_words.specs.CommandLine.{inputs_app, master_app}
+use Rattle.ttd_words.specs.CommandLine.{inputs_app, master_app, servers_app}
 use Rattle.ttd_words.proofs.tree.servers_command.Goals as goal
 
 pub returns : goal.returns
+unfolding servers_app
 returns c =
     let top : App → Shape = λ a. a.top in
     let with_master : app_of c.in_ok-with_master.with_master ≡ with_subcommand inputs_app master_app.top =

@@ -1,10 +1,11 @@
 use Rattle.std.proofs.Common.{◌≡◌, ◌∙◌, ap, ap₂, codes}
 use Rattle.std.proofs.lemmas.Result.{IfOk-weaker}
 use Rattle.clap.specs.Simple.{App, Shape, app_of, new_app, with_subcommand}
-use Rattle.ttd_words.specs.CommandLine.{age_app, bare_app}
+use Rattle.ttd_words.specs.CommandLine.{age_app, bare_app, sources_app}
 use Rattle.ttd_words.proofs.tree.sources_command.Goals as goal
 
 pub returns : goal.returns
+unfolding sources_app
 returns c =
     let top : App → Shape = λ a. a.top in
     let age_added : App = with_subcommand bare_app age_app.top in
