@@ -374,6 +374,7 @@ def by_systemd(trial):
         time.sleep(0.5)
         trial.equal("reloads", {host.systemctl("reload", "truetime@a") for _ in range(RELOADS)}, {("", 0)})
     try_clients(trial, clients, RELOADS)
+    trial.equal("timer behind reloads", host.systemctl("is-active", TIMER)[0], "active")
     before = host.process()
     put(host, "machine = 9")
     trial.equal("reload of a bad file", (host.systemctl("reload", "truetime@a")[1], host.process()), (1, before))
