@@ -127,6 +127,8 @@ class Says:
     silent: bool = False
     packet: typing.Callable[[bytes], bytes] | None = None
     key: Key | None = None
+    #: What comes from another address before the reply.
+    elsewhere: typing.Optional["Says"] = None
 
 
 def kiss(code: str) -> Says:
@@ -163,6 +165,9 @@ class FakeServer(threading.Thread):
                 if len(packet) >= PACKET.size:
                     self.requests.append(packet)
                     self.times.append(time.monotonic())
+                    if self.says.elsewhere:
+                        with socket.socket(socket.AF_INET, socket.SOCK_DGRAM) as other:
+                            other.sendto(self.reply_to(packet, self.says.elsewhere), sender)
                     if reply := self.reply_to(packet, self.says):
                         self.door.sendto(reply, sender)
 

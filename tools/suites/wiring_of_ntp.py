@@ -129,11 +129,16 @@ def radius_ns(delay=0, dispersion=0):
 
 @suite.case()
 def servers_of_masters(trial):
-    """It answers what its server says, and nothing of its host's clock."""
+    """It answers what its server says, and nothing of its host's clock. Nobody can know the nonce of its first request."""
+    firsts = set()
     for ahead_ns, delay, dispersion in ((0, 0, 655), (7 * SECOND, 6554, 0), (-9 * SECOND, 655, 13107)):
         server, = servers_of(trial, Says(ahead_ns=ahead_ns, delay=delay, dispersion=dispersion))
         over = Over(trial, [server], every=[OFTEN])
         trial.check("option ntp", over.holds(ahead_ns, 2 * radius_ns(delay, dispersion)), f"{over.span()} of a server {ahead_ns} ns ahead")
+        firsts.add(PACKET.unpack(server.requests[0][:PACKET.size])[-1] >> 32)
+    trial.check("option ntp", len(firsts) == 3 and 0 not in firsts, f"the upper halves of the first nonces are {firsts}")
+    server, = servers_of(trial, Says(elsewhere=Says(ahead_ns=30 * SECOND)))
+    trial.check("option ntp", Over(trial, [server], every=[OFTEN]).holds(), "it takes what another address says")
     ran = trial.command("master", "--source", "0", "--listen", "127.0.0.1:1", "--ntp", "127.0.0.1:123", "--uncertainty", "5")
     trial.equal("option ntp", ran.status, 2)
 
@@ -371,16 +376,17 @@ def leap_seconds_of_servers(trial):
 
 @suite.case()
 def refusals_of_servers(trial):
-    """The log names why a reply is refused. What is no reply of the server to the request is counted, and awaited on."""
+    """The log names the second of two servers, and why its reply is refused. What is no reply of the server to the request is counted, and
+    awaited on."""
     later = stamp_of(time.time_ns() + 3600 * SECOND)
     refused = {2307: kiss("RATE"), 2308: kiss("DENY"), 2309: kiss("RSTR"), 2310: kiss("INIT"), 2311: Says(leap=3), 2312: Says(stratum=16),
                2314: Says(changed={"shown": 0}), 2315: Says(changed={"came": later}), 2316: Says(changed={"set": later}),
                2317: Says(dispersion=2 * SHORT)}
     strange = [Says(packet=lambda _: bytes(47)), Says(changed={"version": 3}), Says(changed={"mode": 3}), Says(changed={"origin": 5})]
-    made = {number: Over(trial, servers_of(trial, says), every=[OFTEN]).polled(trial) for number, says in refused.items()}
+    made = {number: Over(trial, servers_of(trial, Says(), says), every=[OFTEN]).polled(trial) for number, says in refused.items()}
     passed = [Over(trial, servers_of(trial, says), every=[OFTEN]).polled(trial) for says in strange]
     for number, over in made.items():
-        trial.logs(over.process, "server_refused", SOON_S, server=0, number=number)
+        trial.logs(over.process, "server_refused", SOON_S, server=1, number=number)
         trial.check("option ntp", over.is_silent(1), f"an answer by a reply that is refused by {number}")
     for over in passed:
         is_counted = eventually(lambda over=over: over.numbers()["server_refused_total"][0] > 1, SOON_S)
