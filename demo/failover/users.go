@@ -68,9 +68,11 @@ func (u *users) ask(method, url, given string) (string, error) {
 	return string(text), err
 }
 
-// missing gives how many of these versions an agent's replica does not have, once it has had some time.
+// missing gives how many of these versions an agent's replica does not have, once it has gained none for some time: an agent that was just
+// started follows all that was ever written.
 func (u *users) missing(agent, key string, stamps []uint64) (missing int) {
-	for try := 0; try < 100; try++ {
+	missing = len(stamps) + 1
+	for try := 0; try < 100 && missing > 0; try++ {
 		text, _ := u.ask(http.MethodGet, agent+"/versions/"+key, "")
 		has := map[uint64]bool{}
 		for _, line := range strings.Split(text, "\n") {
@@ -78,14 +80,14 @@ func (u *users) missing(agent, key string, stamps []uint64) (missing int) {
 			fmt.Sscan(line, &stamp)
 			has[stamp] = true
 		}
-		missing = 0
+		lacks := 0
 		for _, stamp := range stamps {
 			if !has[stamp] {
-				missing++
+				lacks++
 			}
 		}
-		if missing == 0 {
-			break
+		if lacks < missing {
+			missing, try = lacks, 0
 		}
 		time.Sleep(50 * time.Millisecond)
 	}

@@ -124,8 +124,8 @@ def is_heard(machine: Machine, source: int) -> bool:
     return answers(machine, source) > before
 
 
-def replace_key(steps: Steps, fleet: Fleet, old: int, new: int, is_revoked: bool) -> None:
-    """Machine a and master m0 go from one key to another one."""
+def replace_key(steps: Steps, fleet: Fleet, old: int, new: int, is_revoked: bool, soon_s: float = SOON_S) -> None:
+    """Machine a and master m0 go from one key to another one, each step within this time."""
     machine, master, line = fleet.machines["a"], fleet.masters[0], new_key(fleet.program, new, "a-m0")
     with steps.step(f"m0's file gets the key {new}"):
         master.keys.add(line)
@@ -135,7 +135,7 @@ def replace_key(steps: Steps, fleet: Fleet, old: int, new: int, is_revoked: bool
         machine.set_keys(0, new, old)
         machine.restart()
     with steps.step(f"m0 answers under {new}"):
-        wait_until(lambda: key_in_use(machine, 0) == new, SOON_S, f"no packet under the key {new}")
+        wait_until(lambda: key_in_use(machine, 0) == new, soon_s, f"no packet under the key {new}")
     with steps.step(f"a has key = {new} and starts again, and drops {old} from its file", restarts="a"):
         machine.set_keys(0, new)
         machine.restart()
@@ -145,7 +145,7 @@ def replace_key(steps: Steps, fleet: Fleet, old: int, new: int, is_revoked: bool
             master.keys.drop(old)
             time.sleep(SOON_S / 2)
     with steps.step("m0 is heard"):
-        wait_until(lambda: is_heard(machine, 0), SOON_S, "m0 is not heard")
+        wait_until(lambda: is_heard(machine, 0), soon_s, "m0 is not heard")
 
 
 def revoke(steps: Steps, fleet: Fleet, number: int) -> None:

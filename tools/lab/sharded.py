@@ -352,7 +352,7 @@ class Sharded(Fleet):
         """The key of a and m0 is rolled over."""
         old, self.key = self.key, self.key + NEXT_KEY
         try:
-            rollover.replace_key(Quickly(self, {}, lambda _: None), self, old, self.key, is_revoked=False)
+            rollover.replace_key(Quickly(self, {}, lambda _: None), self, old, self.key, is_revoked=False, soon_s=BACK_S)
         except Fault as fault:
             self.wrong.append(f"the key {old} is not rolled over: {fault}")
 

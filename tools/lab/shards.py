@@ -138,7 +138,7 @@ class Shard:
             time.sleep(0.02)
         return time.monotonic() - began
 
-    def end(self, seconds: float = 120) -> int:
+    def end(self, seconds: float = 240) -> int:
         """Ends the users, who then look whether all replicas have what was acknowledged: how much is missing."""
         self.users.running.stdin.close()
         self.users.is_down = True
