@@ -231,7 +231,7 @@ class Sharded(Fleet):
         """Two masters are a second ahead, as they may be. Then it is three. A server whose clock is still off by an earlier lie would be a fourth:
         then nothing is done, which is counted."""
         try:
-            wait_until(lambda: all(abs(master.server.clock.ahead_ns()) < SLIGHT_NS for master in self.served), BACK_S, "a server's clock is still off")
+            wait_until(lambda: all(abs(master.server.clock.ahead_ns()) < SLIGHT_NS for master in self.served), BACK_S, "a server is still off")
         except Fault:
             self.did["leave_bad_out"] += 1
             return
