@@ -59,7 +59,7 @@ class CaseItem(pytest.Item):
             shared = [result for result in results if not result.left_out]
         for _ in range(1 + suite.again):
             result = self.case.run(options, shared)
-            if not result.wrong:
+            if not suite.may_try_again(result):
                 break
         results.append(result)
         if result.left_out:

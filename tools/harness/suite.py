@@ -87,10 +87,12 @@ def time_limit(seconds: int):
 
 
 class Suite:
-    """Cases, how many of them run at once and how long, and how often one that was wrong is tried again when nothing runs beside it."""
+    """Cases, how many of them run at once and how long, and how often one that was wrong is tried again when nothing runs beside it,
+    unless one of these words stands in what is wrong: no busy host does that."""
 
-    def __init__(self, module: str, trial: type[Trial] = Trial, at_once: int = 1, longest_s: int = 0, again: int = 0):
+    def __init__(self, module: str, trial: type[Trial] = Trial, at_once: int = 1, longest_s: int = 0, again: int = 0, never: tuple[str, ...] = ()):
         self.name, self.trial, self.at_once, self.longest_s, self.again = module.rpartition(".")[2], trial, at_once, longest_s, again
+        self.never = never
         self.found: list[Case] = []
         self.families: list[typing.Callable] = []
         self.common = self.of_all = None
@@ -152,7 +154,7 @@ class Suite:
         chosen = sorted([case for case in cases if not case.left_out(options.long)] * times, key=lambda case: not case.quiet)
         results = self.run_once(chosen, options, self.at_once)
         for _ in range(self.again if times == 1 else 0):
-            if wrong := [case for case, result in zip(chosen, results) if result.wrong]:
+            if wrong := [case for case, result in zip(chosen, results) if self.may_try_again(result)]:
                 print(f"{self.name}: once more, one at a time: {' '.join(case.name for case in wrong)}", flush=True)
                 anew = dict(zip(wrong, self.run_once(wrong, options, 1)))
                 results = [anew.get(case, result) for case, result in zip(chosen, results)]
@@ -160,6 +162,9 @@ class Suite:
             results += self.tell([self.of_all.run(options, results)])
         print(f"{self.name}: {self.told(results)}", flush=True)
         return results + left_out
+
+    def may_try_again(self, result: Result) -> bool:
+        return bool(result.wrong) and not any(word in what for what in result.wrong for word in self.never)
 
     def run_once(self, cases: list[Case], options: Options, at_once: int) -> list[Result]:
         results = []

@@ -16,6 +16,8 @@ Then a key is rolled over, one is revoked, and a host goes from open to sealed p
 start of a machine. A master waits for its address, and an answer from another address is told of. The fleet of docs/OPERATING.md, five masters
 and sixty machines, runs as it is written there. With --long the controls of `tools/fleet
 control` are run, too: they have to be wrong.
+
+What was wrong is tried once more, since steps have their time and the host may be busy; but no wrong reading, order or stamp.
 """
 from harness.suite import Suite, seeds, wrong_in
 from lab import addresses, controls, documented, rollover, sharded, takeovers
@@ -24,7 +26,7 @@ from lab.hosts import missing
 from lab.runs import Run
 from lab.shard_runs import ShardRun
 
-suite = Suite(__name__)
+suite = Suite(__name__, again=1, never=("the reading", "out of order", "stamps"))
 
 
 @suite.case(missing=missing)
