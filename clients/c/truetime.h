@@ -86,7 +86,7 @@ typedef struct tt_reading {
     bool fresh;             /* false: the daemon is late or gone. The interval is right, and widens until it is back */
 } tt_reading;
 
-enum { TT_BYTES = 320, TT_INDEX_WORD = 2, TT_FIRST_SLOT = 8, TT_SLOT_WORDS = 16, TT_USED_WORDS = 9, TT_TRIES = 1000 };
+enum { TT_BYTES = 320, TT_INDEX_WORD = 2, TT_FIRST_SLOT = 8, TT_SLOT_WORDS = 16, TT_TRIES = 1000 };
 
 /* Whether CLOCK_MONOTONIC is here what it is to the daemon: the same boot, and no time namespace that shifts it. */
 static inline bool tt_is_same_clock(const char *boot) {
@@ -159,67 +159,98 @@ static inline void tt_close(tt_client *client) {
 }
 
 /* The word at which the slot begins that is current at this index. The publication's count is odd where an odd number of
- * the eight bytes of the index are odd. */
-static inline int tt_slot_of(uint64_t index) {
-    return TT_FIRST_SLOT + __builtin_parityll(index & UINT64_C(0x0101010101010101)) * TT_SLOT_WORDS;
+ * the eight bytes of the index are odd: the product has their number, at most 8, in its highest byte. */
+static inline size_t tt_slot_of(uint64_t index) {
+    const uint64_t low_bits = UINT64_C(0x0101010101010101);
+    return TT_FIRST_SLOT + ((index & low_bits) * low_bits >> 56 & 1) * TT_SLOT_WORDS;
+}
+
+/* A slot, as it was loaded. */
+typedef struct tt_slot {
+    uint64_t index; /* at which it is current */
+    tt_publication published;
+    uint64_t behind; /* the words behind it, or-ed: zeros fill the slot */
+} tt_slot;
+
+static inline uint64_t tt_load(const uint64_t *word) { return __atomic_load_n(word, __ATOMIC_ACQUIRE); }
+
+/* Loads the words of a slot. Inline, without a loop or an array, they stay in registers. */
+__attribute__((always_inline)) static inline void tt_load_slot(const uint64_t *words, tt_slot *slot) {
+    slot->index = tt_load(words);
+    slot->published.clock_ns = tt_load(words + 1);
+    slot->published.lo_ns = tt_load(words + 2);
+    slot->published.hi_ns = tt_load(words + 3);
+    slot->published.valid_until_ns = tt_load(words + 4);
+    slot->published.epoch = tt_load(words + 5);
+    slot->published.number = tt_load(words + 6);
+    slot->published.drift_ppm = tt_load(words + 7);
+    slot->published.usable_until_ns = tt_load(words + 8);
+    slot->behind = tt_load(words + 9) | tt_load(words + 10) | tt_load(words + 11) | tt_load(words + 12) |
+                   tt_load(words + 13) | tt_load(words + 14) | tt_load(words + 15);
 }
 
 /* Copies the slot of the index that is shown. Refuses with 1704 where the copy may not be whole. It is whole where the
  * index is the same before and after: a publication changes the index before the next one writes into this slot, and no
  * index comes twice, so no byte of the slot has changed in between. The loads stay in their order, since each one is an
  * acquire. */
-static inline int tt_copy(const tt_client *client, uint64_t *index, uint64_t copy[TT_SLOT_WORDS]) {
-    *index = __atomic_load_n(&client->words[TT_INDEX_WORD], __ATOMIC_ACQUIRE);
-    const uint64_t *words = client->words + tt_slot_of(*index);
-    for (int place = 0; place < TT_SLOT_WORDS; place++) copy[place] = __atomic_load_n(&words[place], __ATOMIC_ACQUIRE);
-    return __atomic_load_n(&client->words[TT_INDEX_WORD], __ATOMIC_ACQUIRE) == *index ? 0 : TT_BUSY;
+static inline int tt_copy(const tt_client *client, uint64_t *index, tt_slot *slot) {
+    *index = tt_load(client->words + TT_INDEX_WORD);
+    tt_load_slot(client->words + tt_slot_of(*index), slot);
+    return tt_load(client->words + TT_INDEX_WORD) == *index ? 0 : TT_BUSY;
 }
 
 /* The same of a file that is not mapped. Refuses with 1701, too: it is not open, cannot be read, or has become shorter. */
-static inline int tt_copy_unmapped(const tt_client *client, uint64_t *index, uint64_t copy[TT_SLOT_WORDS]) {
-    uint64_t again;
-    if (!client->is_unmapped || !tt_pread(client->file, index, 8, 8 * TT_INDEX_WORD) ||
-        !tt_pread(client->file, copy, 8 * TT_SLOT_WORDS, 8 * (size_t)tt_slot_of(*index)) ||
-        !tt_pread(client->file, &again, 8, 8 * TT_INDEX_WORD))
+static inline int tt_copy_unmapped(const tt_client *client, uint64_t *index, tt_slot *slot) {
+    uint64_t before, after, words[TT_SLOT_WORDS];
+    if (!client->is_unmapped || !tt_pread(client->file, &before, 8, 8 * TT_INDEX_WORD) ||
+        !tt_pread(client->file, words, sizeof words, 8 * tt_slot_of(before)) ||
+        !tt_pread(client->file, &after, 8, 8 * TT_INDEX_WORD))
         return TT_NO_FILE;
-    return again == *index ? 0 : TT_BUSY;
+    tt_load_slot(words, slot);
+    *index = before;
+    return after == before ? 0 : TT_BUSY;
+}
+
+/* Whether this is so, which it hardly ever is: the compiler makes the other way the shorter one. */
+static inline bool tt_rarely(bool is_so) { return __builtin_expect(is_so, false); }
+
+/* Whether a daemon may have written this slot for this index. */
+static inline bool tt_is_slot(uint64_t index, const tt_slot *slot) {
+    const tt_publication *published = &slot->published;
+    return !tt_rarely(slot->index != index) && !tt_rarely(slot->behind != 0) &&
+           !tt_rarely(published->clock_ns > TT_MAX_TIME_NS) && !tt_rarely(published->lo_ns > published->hi_ns) &&
+           !tt_rarely(published->hi_ns > TT_MAX_TIME_NS) && !tt_rarely(published->drift_ppm > TT_MAX_DRIFT_PPM);
 }
 
 /* The last publication. Refuses with 1701, 801, 1704 and 1703, and then with 801 where nothing is published any more. */
 static inline int tt_read(const tt_client *client, tt_publication *published) {
-    uint64_t index, word[TT_SLOT_WORDS];
+    uint64_t index;
+    tt_slot slot;
     for (int tries = 0;; tries++) {
-        int refused = client->words != NULL ? tt_copy(client, &index, word) : tt_copy_unmapped(client, &index, word);
+        int refused = client->words != NULL ? tt_copy(client, &index, &slot) : tt_copy_unmapped(client, &index, &slot);
         if (refused == 0) break;
-        if (refused == TT_NO_FILE || tries + 1 == TT_TRIES) return refused;
+        if (refused == TT_NO_FILE) return TT_NO_FILE;
+        if (tries + 1 == TT_TRIES) return TT_BUSY;
     }
-    if (index == 0) return TT_NOTHING;
-    uint64_t behind = 0; /* zeros fill the slot */
-    for (int place = TT_USED_WORDS; place < TT_SLOT_WORDS; place++) behind |= word[place];
-    if (word[0] != index || word[1] > TT_MAX_TIME_NS || word[2] > word[3] || word[3] > TT_MAX_TIME_NS ||
-        word[7] > TT_MAX_DRIFT_PPM || behind != 0)
-        return TT_NO_SLOT;
-    if (word[8] == 0) return TT_NOTHING;
-    published->clock_ns = word[1];
-    published->lo_ns = word[2];
-    published->hi_ns = word[3];
-    published->valid_until_ns = word[4];
-    published->epoch = word[5];
-    published->number = word[6];
-    published->drift_ppm = word[7];
-    published->usable_until_ns = word[8];
+    if (tt_rarely(index == 0)) return TT_NOTHING;
+    if (!tt_is_slot(index, &slot)) return TT_NO_SLOT;
+    if (tt_rarely(slot.published.usable_until_ns == 0)) return TT_NOTHING;
+    *published = slot.published;
     return 0;
 }
 
-/* What a clock may be wrong by after `elapsed` nanoseconds, at most TT_MAX_TIME_NS: rounded up. Nothing overflows. */
+/* What a clock may be wrong by after `elapsed` nanoseconds, at most TT_MAX_TIME_NS: rounded up. Nothing overflows: below
+ * 2^47, some 39 hours, the product with TT_MAX_DRIFT_PPM has 64 bits. */
 static inline uint64_t tt_widening(uint64_t drift_ppm, uint64_t elapsed_ns) {
-    return elapsed_ns / 1000000 * drift_ppm + (elapsed_ns % 1000000 * drift_ppm + 999999) / 1000000;
+    if (tt_rarely(elapsed_ns >= UINT64_C(1) << 47))
+        return elapsed_ns / 1000000 * drift_ppm + (elapsed_ns % 1000000 * drift_ppm + 999999) / 1000000;
+    return (elapsed_ns * drift_ppm + 999999) / 1000000;
 }
 
 /* The reading of a publication at a clock reading. Refuses with 802 and 1708, and then the reading stays as it was. */
 static inline int tt_read_at(const tt_publication *published, uint64_t clock_ns, tt_reading *reading) {
-    if (clock_ns < published->clock_ns || clock_ns > TT_MAX_TIME_NS) return TT_CLOCK_BACK;
-    if (clock_ns > published->usable_until_ns) return TT_TOO_WIDE;
+    if (tt_rarely(clock_ns < published->clock_ns) || tt_rarely(clock_ns > TT_MAX_TIME_NS)) return TT_CLOCK_BACK;
+    if (tt_rarely(clock_ns > published->usable_until_ns)) return TT_TOO_WIDE;
     uint64_t elapsed = clock_ns - published->clock_ns;
     uint64_t widening = tt_widening(published->drift_ppm, elapsed); /* at most elapsed */
     uint64_t low = published->lo_ns + (elapsed - widening), high = published->hi_ns + (elapsed + widening);
@@ -234,10 +265,10 @@ static inline int tt_read_at(const tt_publication *published, uint64_t clock_ns,
 /* The machine's clock in nanoseconds. Refuses with 803. */
 static inline int tt_clock(uint64_t *clock_ns) {
     struct timespec now;
-    if (clock_gettime(CLOCK_MONOTONIC, &now) != 0 || now.tv_sec < 0) return TT_CLOCK_FAILED;
+    if (clock_gettime(CLOCK_MONOTONIC, &now) != 0 || tt_rarely(now.tv_sec < 0)) return TT_CLOCK_FAILED;
     /* A clock past the greatest time shows one second more than that, which tt_read_at refuses. */
-    uint64_t seconds = (uint64_t)now.tv_sec <= 4000000000 ? (uint64_t)now.tv_sec : 4000000001;
-    *clock_ns = seconds * 1000000000 + (uint64_t)now.tv_nsec;
+    if (tt_rarely(now.tv_sec > 4000000000)) now.tv_sec = 4000000001;
+    *clock_ns = (uint64_t)now.tv_sec * 1000000000 + (uint64_t)now.tv_nsec;
     return 0;
 }
 

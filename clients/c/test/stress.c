@@ -170,18 +170,19 @@ typedef struct reader {
 
 /* One read: as tt_read, or, for the control, of a copy that may not be whole. */
 static int read_once(const tt_client *client, tt_publication *p) {
-    uint64_t index, word[TT_SLOT_WORDS];
+    uint64_t index;
+    tt_slot slot;
     if (chosen != UNCHECKED) return tt_read(client, p);
-    (void)tt_copy(client, &index, word);
+    (void)tt_copy(client, &index, &slot);
     if (index == 0) return TT_NOTHING;
-    *p = (tt_publication){word[1], word[2], word[3], word[4], word[8], word[5], word[6], word[7]};
+    *p = slot.published;
     return 0;
 }
 
 static void *read_on(void *given) {
     reader *me = (reader *)given;
     tt_client client;
-    tt_publication p;
+    tt_publication p = {0}; /* GCC 12 does not see that it is set where nothing was refused */
     uint64_t last = 0;
     if ((me->is_unmapped ? tt_open_unmapped : tt_open)(&client, path, geteuid()) != 0) fail("tt_open");
     for (uint64_t i = 0; i < (me->is_unmapped ? reads_each / 100 : reads_each); i++) {
