@@ -183,7 +183,7 @@ impl Publication {
             return Err(Refused::TooWide);
         }
         let elapsed = clock_ns - self.clock_ns;
-        let widening = elapsed / 1_000_000 * self.drift_ppm + (elapsed % 1_000_000 * self.drift_ppm).div_ceil(1_000_000);
+        let widening = widening(self.drift_ppm, elapsed);
         Ok(Reading {
             earliest_ns: (self.lo_ns + (elapsed - widening)).min(MAX_TIME_NS),
             latest_ns: (self.hi_ns + (elapsed + widening)).min(MAX_TIME_NS),
@@ -198,6 +198,17 @@ impl Publication {
             && self.lo_ns <= self.hi_ns
             && self.hi_ns <= MAX_TIME_NS
             && self.drift_ppm <= MAX_DRIFT_PPM
+    }
+}
+
+/// What a clock may be wrong by after `elapsed` nanoseconds, up to `MAX_TIME_NS`: rounded up, at most as many. Nothing
+/// overflows: below 2^47, some 39 hours, the product with `MAX_DRIFT_PPM` has 64 bits.
+#[inline]
+fn widening(drift_ppm: u64, elapsed: u64) -> u64 {
+    if elapsed < 1 << 47 {
+        (elapsed * drift_ppm + 999_999) / 1_000_000
+    } else {
+        elapsed / 1_000_000 * drift_ppm + (elapsed % 1_000_000 * drift_ppm + 999_999) / 1_000_000
     }
 }
 
@@ -266,8 +277,10 @@ type Copied = (u64, [u64; SLOT_WORDS], u64);
 /// The word at which the slot begins that is current at this index.
 #[inline]
 fn slot_of(index: u64) -> usize {
-    // The publication's count is odd where an odd number of the eight bytes of the index are odd.
-    FIRST_SLOT + SLOT_WORDS * ((index & LOWEST_BITS).count_ones() as usize & 1)
+    // The publication's count is odd where an odd number of the eight bytes of the index are odd: the product has their
+    // number, at most 8, in its highest byte.
+    let odd_bytes = (index & LOWEST_BITS).wrapping_mul(LOWEST_BITS) >> 56;
+    FIRST_SLOT + SLOT_WORDS * (odd_bytes & 1) as usize
 }
 
 /// The words of a mapped file.
