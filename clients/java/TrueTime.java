@@ -125,7 +125,7 @@ public final class TrueTime implements AutoCloseable {
                 throw new Refused(1708);
             }
             long elapsed = nowNs - clockNs;
-            long widening = elapsed / 1_000_000 * driftPpm + (elapsed % 1_000_000 * driftPpm + 999_999) / 1_000_000;
+            long widening = widening(elapsed);
             // The upper end may pass 2^63, and not 2^64.
             long latest = hiNs + elapsed + widening;
             if (Long.compareUnsigned(latest, MAX_TIME_NS) > 0) {
@@ -133,6 +133,17 @@ public final class TrueTime implements AutoCloseable {
             }
             long earliest = Math.min(loNs + (elapsed - widening), MAX_TIME_NS);
             return new Reading(earliest, latest, epoch, number, Long.compareUnsigned(nowNs, validUntilNs) <= 0);
+        }
+
+        /**
+         * What the clock may be wrong by after so long, at most MAX_TIME_NS: rounded up. Nothing overflows: below 2^46, some 19
+         * hours, the product with MAX_DRIFT_PPM is below 2^63.
+         */
+        private long widening(long elapsed) {
+            if (elapsed < 1L << 46) {
+                return (elapsed * driftPpm + 999_999) / 1_000_000;
+            }
+            return elapsed / 1_000_000 * driftPpm + (elapsed % 1_000_000 * driftPpm + 999_999) / 1_000_000;
         }
 
         private boolean isInRange() {
@@ -187,14 +198,17 @@ public final class TrueTime implements AutoCloseable {
             long index = index();
             // The publication's count is odd where an odd number of the eight bytes of the index are odd.
             int at = FIRST_SLOT_AT + SLOT_BYTES * (Long.bitCount(index & LOWEST_BITS) & 1);
-            ByteBuffer copy = mapped == null ? bytesAt(file, at, SLOT_BYTES) : null;
-            long echo = word(copy, at, 0);
-            Publication published = new Publication(word(copy, at, 8), word(copy, at, 16), word(copy, at, 24), word(copy, at, 32),
-                word(copy, at, 64), word(copy, at, 40), word(copy, at, 48), word(copy, at, 56));
+            ByteBuffer bytes = mapped == null ? bytesAt(file, at, SLOT_BYTES) : mapped;
+            int slot = mapped == null ? 0 : at;
+            long echo = word(bytes, slot);
+            Publication published = new Publication(word(bytes, slot + 8), word(bytes, slot + 16), word(bytes, slot + 24),
+                word(bytes, slot + 32), word(bytes, slot + 64), word(bytes, slot + 40), word(bytes, slot + 48), word(bytes, slot + 56));
             long behind = 0; // zeros fill the slot
             for (int place = USED_BYTES; place < SLOT_BYTES; place += Long.BYTES) {
-                behind |= word(copy, at, place);
+                behind |= word(bytes, slot + place);
             }
+            // The slot was read behind the index, and before the index again.
+            VarHandle.acquireFence();
             if (index() != index) {
                 continue;
             }
@@ -223,9 +237,9 @@ public final class TrueTime implements AutoCloseable {
         return mapped == null ? bytesAt(file, INDEX_AT, Long.BYTES).getLong(0) : (long) WORD.getAcquire(mapped, INDEX_AT);
     }
 
-    /** A word of the slot that begins here, from its copy, or where there is none from the mapped file. */
-    private long word(ByteBuffer copy, int slot, int at) {
-        return copy == null ? (long) WORD.getAcquire(mapped, slot + at) : copy.getLong(at);
+    /** A word of a slot. It need not be one step: {@link #read} takes it only where none of its bytes changed meanwhile. */
+    private static long word(ByteBuffer bytes, int at) {
+        return (long) WORD.get(bytes, at);
     }
 
     /** So many bytes of a file, before any that is read later. Refuses with 1701. */
