@@ -4,14 +4,16 @@ package truetime
 
 import "testing"
 
-// TestClocks has both ways to read the clock show the same one.
+// TestClocks has the clock of the runtime, where it is taken, show the same as the system call.
 func TestClocks(t *testing.T) {
-	t.Log("by the runtime:", isRuntimeClock())
+	byRuntime := isRuntimeClock()
+	t.Log("by the runtime:", byRuntime)
 	for try := 0; try < 1000; try++ {
-		before, ok := readClock(false)
-		now, also := readClock(isRuntimeClock())
-		after, again := readClock(false)
-		if !ok || !also || !again || now < before || now > after || before == 0 {
+		before, now, after := systemNanotime(), systemNanotime(), systemNanotime()
+		if byRuntime {
+			before, now, after = systemNanotime(), nanotime(), systemNanotime()
+		}
+		if before <= 0 || now < before || now > after {
 			t.Fatal(before, now, after)
 		}
 	}

@@ -42,20 +42,38 @@ type Publication struct {
 
 // At gives the reading of this publication at a clock reading. It refuses with ClockBack and TooWide.
 func (p *Publication) At(clock uint64) (Reading, error) {
+	if err := p.refusalAt(clock); err != nil {
+		return Reading{Interval: allTimes}, err
+	}
+	return Reading{p.aged(clock - p.Clock), p.Epoch, p.Number, p.isFreshAt(clock)}, nil
+}
+
+// The parts of At are small, so that Client.Now has them inlined.
+
+func (p *Publication) refusalAt(clock uint64) error {
 	if clock < p.Clock || clock > MaxTime {
-		return Reading{Interval: allTimes}, ClockBack
+		return ClockBack
 	}
 	if clock > p.UsableUntil {
-		return Reading{Interval: allTimes}, TooWide
+		return TooWide
 	}
-	elapsed := clock - p.Clock
-	widening := elapsed/1_000_000*p.Drift + (elapsed%1_000_000*p.Drift+999_999)/1_000_000 // rounded up; at most elapsed
-	return Reading{
-		Interval: Interval{cut(p.Lo + (elapsed - widening)), cut(p.Hi + (elapsed + widening))},
-		Epoch:    p.Epoch,
-		Number:   p.Number,
-		Fresh:    clock <= p.ValidUntil,
-	}, nil
+	return nil
+}
+
+func (p *Publication) isFreshAt(clock uint64) bool { return clock <= p.ValidUntil }
+
+func (p *Publication) aged(elapsed uint64) Interval {
+	widening := widened(elapsed, p.Drift)
+	return Interval{cut(p.Lo + (elapsed - widening)), cut(p.Hi + (elapsed + widening))}
+}
+
+// widened gives what a clock may be wrong by after a time up to MaxTime, rounded up: at most that time. Nothing overflows: below
+// 1<<47, some 39 hours, the product of the time and MaxDrift has 64 bits.
+func widened(elapsed, drift uint64) uint64 {
+	if elapsed < 1<<47 {
+		return (elapsed*drift + 999_999) / 1_000_000
+	}
+	return elapsed/1_000_000*drift + (elapsed%1_000_000*drift+999_999)/1_000_000
 }
 
 func cut(t uint64) uint64 {

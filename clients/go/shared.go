@@ -6,7 +6,6 @@ import (
 	"encoding/binary"
 	"errors"
 	"io/fs"
-	"math/bits"
 	"os"
 	"runtime"
 	"strings"
@@ -23,15 +22,16 @@ const (
 	slotWords = 16
 	usedWords = 9 // zeros follow
 	tries     = 1000
+	lowBits   = 0x0101_0101_0101_0101
 	// The format, the length, and the clock: 1 is CLOCK_MONOTONIC.
 	head = "TTS2\x40\x01\x00\x00\x01\x00\x00\x00\x00\x00\x00\x00"
 )
 
 // A Client reads the time from a file of a daemon. Any number of goroutines may use it.
 type Client struct {
-	mapped    atomic.Pointer[mapping]
-	file      *os.File // where it is not mapped
-	byRuntime bool     // whether the clock of the runtime is CLOCK_MONOTONIC
+	mapped    unsafe.Pointer // *mapping: a call of atomic.Pointer's Load is not inlined
+	file      *os.File       // where it is not mapped
+	byRuntime bool           // whether the clock of the runtime is CLOCK_MONOTONIC
 }
 
 // A mapping is the memory of a mapped file.
@@ -54,7 +54,7 @@ func Open(path string, owner uint32) (*Client, error) {
 	mapped := &mapping{(*[fileWords]uint64)(unsafe.Pointer(&bytes[0]))} // it begins at a page
 	runtime.SetFinalizer(mapped, func(*mapping) { syscall.Munmap(bytes) })
 	client := &Client{byRuntime: isRuntimeClock()}
-	client.mapped.Store(mapped)
+	atomic.StorePointer(&client.mapped, unsafe.Pointer(mapped))
 	return client, nil
 }
 
@@ -70,7 +70,7 @@ func OpenUnmapped(path string, owner uint32) (*Client, error) {
 // Close closes the client: later calls refuse with NoFile. It may come while others are in a call; the file is unmapped once
 // none is.
 func (c *Client) Close() error {
-	c.mapped.Store(nil)
+	atomic.StorePointer(&c.mapped, nil)
 	if c.file != nil {
 		return c.file.Close()
 	}
@@ -94,74 +94,109 @@ func (c *Client) Now() (Reading, error) {
 		return Reading{Interval: allTimes}, err
 	}
 	// The clock is read after the publication, so it is not below that of the publication.
-	clock, ok := readClock(c.byRuntime)
-	if !ok {
+	var now int64
+	if c.byRuntime {
+		now = nanotime()
+	} else {
+		now = systemNanotime()
+	}
+	if now < 0 {
 		return Reading{Interval: allTimes}, ClockFailed
 	}
-	return published.At(clock)
+	clock := uint64(now)
+	if err := published.refusalAt(clock); err != nil {
+		return Reading{Interval: allTimes}, err
+	}
+	return Reading{published.aged(clock - published.Clock), published.Epoch, published.Number, published.isFreshAt(clock)}, nil
 }
 
+// read is Read into a variable of the caller, which has no publication where it refuses.
+//
+// The copy of a slot is whole where the index is the same before and after: a publication changes the index before the next
+// one writes into this slot, and no index comes twice. Atomic loads of Go stay in their order.
 func (c *Client) read(published *Publication) error {
-	mapped := c.mapped.Load()
+	mapped := (*mapping)(atomic.LoadPointer(&c.mapped))
+	if mapped == nil {
+		return c.readUnmapped(published)
+	}
+	words := mapped.words
 	for try := 0; try < tries; try++ {
-		var index, again uint64
-		var word [slotWords]uint64
-		if mapped != nil {
-			index, again = mapped.copy(&word)
-		} else {
-			var err error
-			if index, again, err = copyUnmapped(c.file, &word); err != nil {
-				return NoFile
-			}
+		index := atomic.LoadUint64(&words[indexWord])
+		slot := (*[slotWords]uint64)(words[firstSlot:])
+		if isOdd(index) {
+			slot = (*[slotWords]uint64)(words[firstSlot+slotWords:])
 		}
-		if again != index {
-			continue
+		echo := atomic.LoadUint64(&slot[0])
+		published.Clock = atomic.LoadUint64(&slot[1])
+		published.Lo = atomic.LoadUint64(&slot[2])
+		published.Hi = atomic.LoadUint64(&slot[3])
+		published.ValidUntil = atomic.LoadUint64(&slot[4])
+		published.Epoch = atomic.LoadUint64(&slot[5])
+		published.Number = atomic.LoadUint64(&slot[6])
+		published.Drift = atomic.LoadUint64(&slot[7])
+		published.UsableUntil = atomic.LoadUint64(&slot[8])
+		behind := atomic.LoadUint64(&slot[9]) | atomic.LoadUint64(&slot[10]) | atomic.LoadUint64(&slot[11]) |
+			atomic.LoadUint64(&slot[12]) | atomic.LoadUint64(&slot[13]) | atomic.LoadUint64(&slot[14]) | atomic.LoadUint64(&slot[15])
+		again := atomic.LoadUint64(&words[indexWord])
+		runtime.KeepAlive(mapped) // it is not unmapped before
+		if again == index {
+			return published.refusal(index, echo, behind)
 		}
-		if index == 0 {
-			return Nothing
-		}
-		*published = Publication{word[1], word[2], word[3], word[4], word[8], word[5], word[6], word[7]}
-		if word[0] != index || !published.isInRange() || !isZero(word[usedWords:]) {
-			return NoSlot
-		}
-		if published.UsableUntil == 0 {
-			return Nothing
-		}
-		return nil
 	}
 	return Busy
 }
 
+// readUnmapped is read of a file that is not mapped.
+func (c *Client) readUnmapped(published *Publication) error {
+	for try := 0; try < tries; try++ {
+		var word [slotWords]uint64
+		index, again, err := copyUnmapped(c.file, &word)
+		if err != nil {
+			return NoFile
+		}
+		if again != index {
+			continue
+		}
+		var behind uint64
+		for _, zero := range word[usedWords:] {
+			behind |= zero
+		}
+		*published = Publication{word[1], word[2], word[3], word[4], word[8], word[5], word[6], word[7]}
+		return published.refusal(index, word[0], behind)
+	}
+	return Busy
+}
+
+// refusal is the refusal of what was read at this index, or nil: Nothing, NoSlot, and Nothing where nothing is published any
+// more. The slot has to have the index, too, and zeros behind the publication.
+func (p *Publication) refusal(index, echo, behind uint64) error {
+	if index == 0 {
+		return Nothing
+	}
+	if echo != index || !p.isInRange() || behind != 0 {
+		return NoSlot
+	}
+	if p.UsableUntil == 0 {
+		return Nothing
+	}
+	return nil
+}
+
+// isOdd says whether the count of publications is odd at this index: an odd number of its eight bytes are odd. The product has
+// their number, at most 8, in its highest byte.
+func isOdd(index uint64) bool {
+	return index&lowBits*lowBits>>56&1 != 0
+}
+
 // slotOf gives the word at which the slot begins that is current at this index.
 func slotOf(index uint64) int {
-	// The publication's count is odd where an odd number of the eight bytes of the index are odd.
-	return firstSlot + slotWords*(bits.OnesCount64(index&0x0101010101010101)&1)
-}
-
-func isZero(words []uint64) bool {
-	for _, word := range words {
-		if word != 0 {
-			return false
-		}
+	if isOdd(index) {
+		return firstSlot + slotWords
 	}
-	return true
+	return firstSlot
 }
 
-// copy copies the slot that is current at the index, and gives the index and the index again. The copy is whole where both
-// are the same: a publication changes the index before the next one writes into this slot, and no index comes twice. Atomic
-// loads of Go stay in their order.
-func (m *mapping) copy(word *[slotWords]uint64) (index, again uint64) {
-	index = atomic.LoadUint64(&m.words[indexWord])
-	slot := (*[slotWords]uint64)(m.words[slotOf(index):])
-	for place := range slot {
-		word[place] = atomic.LoadUint64(&slot[place])
-	}
-	again = atomic.LoadUint64(&m.words[indexWord])
-	runtime.KeepAlive(m) // it is not unmapped before
-	return index, again
-}
-
-// copyUnmapped is the same of a file that is not mapped.
+// copyUnmapped copies the slot that is current at the index, and gives the index and the index again.
 func copyUnmapped(file *os.File, word *[slotWords]uint64) (index, again uint64, err error) {
 	var one [1]uint64
 	if err = readWords(file, indexWord, one[:]); err != nil {

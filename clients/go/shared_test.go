@@ -13,6 +13,7 @@ import (
 	"sync/atomic"
 	"testing"
 	"time"
+	"unsafe"
 )
 
 // indexOf gives the index of a count: byte i of the count less byte i + 1, modulo 256.
@@ -81,14 +82,14 @@ func openFor(t testing.TB, way, path string) *Client {
 }
 
 func TestNow(t *testing.T) {
-	clock, _ := readSystemClock()
+	clock := uint64(systemNanotime())
 	const lo, hi = 1_000_000_000, 1_000_000_100
 	for way := range ways {
 		for _, until := range []uint64{0, MaxTime} {
 			client := openFor(t, way, makeFile(t, 1, Publication{Clock: clock, Lo: lo, Hi: hi, ValidUntil: until, UsableUntil: noLimit, Epoch: 7, Number: 9}))
-			before, _ := readSystemClock()
+			before := uint64(systemNanotime())
 			now, err := client.Now()
-			after, _ := readSystemClock()
+			after := uint64(systemNanotime())
 			elapsed := now.Earliest - lo
 			want := Reading{Interval{lo + elapsed, hi + elapsed}, 7, 9, until > 0}
 			if err != nil || now != want || elapsed < before-clock || elapsed > after-clock {
@@ -102,7 +103,7 @@ func TestNow(t *testing.T) {
 }
 
 func TestRefusals(t *testing.T) {
-	clock, _ := readSystemClock()
+	clock := uint64(systemNanotime())
 	for way, open := range ways {
 		for _, try := range []struct {
 			count uint64
@@ -246,7 +247,7 @@ func (p *page) publish(count uint64, published Publication) {
 
 func (p *page) client() *Client {
 	client := &Client{byRuntime: isRuntimeClock()}
-	client.mapped.Store(&mapping{(*[fileWords]uint64)(p)})
+	client.mapped = unsafe.Pointer(&mapping{(*[fileWords]uint64)(p)})
 	return client
 }
 
@@ -260,7 +261,7 @@ func TestBesideWriter(t *testing.T) {
 func TestNowBesideWriter(t *testing.T) {
 	var words page
 	publish := func(n uint64) {
-		clock, _ := readSystemClock()
+		clock := uint64(systemNanotime())
 		words.publish(n, Publication{Clock: clock, Hi: MaxTime, UsableUntil: noLimit, Number: n})
 	}
 	publish(1)
@@ -376,14 +377,12 @@ func BenchmarkRead(b *testing.B) {
 
 func BenchmarkClock(b *testing.B) {
 	for turn := 0; turn < b.N; turn++ {
-		clock, _ := readClock(true)
-		sum += clock
+		sum += uint64(nanotime())
 	}
 }
 
 func BenchmarkClockSyscall(b *testing.B) {
 	for turn := 0; turn < b.N; turn++ {
-		clock, _ := readClock(false)
-		sum += clock
+		sum += uint64(systemNanotime())
 	}
 }

@@ -15,7 +15,7 @@ const far = 500_000_000_000_000_000
 
 // publishNow publishes this interval as that of this moment, in life 70 + count, and overdue.
 func (p *page) publishNow(count, lo, hi, usableUntil uint64) {
-	clock, _ := readSystemClock()
+	clock := uint64(systemNanotime())
 	p.publish(count, Publication{Clock: clock, Lo: lo, Hi: hi, ValidUntil: clock, UsableUntil: usableUntil, Epoch: 70 + count, Number: 9})
 }
 
