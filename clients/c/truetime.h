@@ -174,8 +174,11 @@ typedef struct tt_slot {
 
 static inline uint64_t tt_load(const uint64_t *word) { return __atomic_load_n(word, __ATOMIC_ACQUIRE); }
 
-/* Loads the words of a slot. Inline, without a loop or an array, they stay in registers. */
-__attribute__((always_inline)) static inline void tt_load_slot(const uint64_t *words, tt_slot *slot) {
+/* Of what tt_now calls: inline, its words stay in registers. */
+#define TT_INLINE __attribute__((always_inline)) static inline
+
+/* Loads the words of a slot. */
+TT_INLINE void tt_load_slot(const uint64_t *words, tt_slot *slot) {
     slot->index = tt_load(words);
     slot->published.clock_ns = tt_load(words + 1);
     slot->published.lo_ns = tt_load(words + 2);
@@ -193,7 +196,7 @@ __attribute__((always_inline)) static inline void tt_load_slot(const uint64_t *w
  * index is the same before and after: a publication changes the index before the next one writes into this slot, and no
  * index comes twice, so no byte of the slot has changed in between. The loads stay in their order, since each one is an
  * acquire. */
-static inline int tt_copy(const tt_client *client, uint64_t *index, tt_slot *slot) {
+TT_INLINE int tt_copy(const tt_client *client, uint64_t *index, tt_slot *slot) {
     *index = tt_load(client->words + TT_INDEX_WORD);
     tt_load_slot(client->words + tt_slot_of(*index), slot);
     return tt_load(client->words + TT_INDEX_WORD) == *index ? 0 : TT_BUSY;
@@ -215,28 +218,48 @@ static inline int tt_copy_unmapped(const tt_client *client, uint64_t *index, tt_
 static inline bool tt_rarely(bool is_so) { return __builtin_expect(is_so, false); }
 
 /* Whether a daemon may have written this slot for this index. */
-static inline bool tt_is_slot(uint64_t index, const tt_slot *slot) {
+TT_INLINE bool tt_is_slot(uint64_t index, const tt_slot *slot) {
     const tt_publication *published = &slot->published;
-    return !tt_rarely(slot->index != index) && !tt_rarely(slot->behind != 0) &&
+    return !tt_rarely((slot->behind | (slot->index ^ index)) != 0) &&
            !tt_rarely(published->clock_ns > TT_MAX_TIME_NS) && !tt_rarely(published->lo_ns > published->hi_ns) &&
            !tt_rarely(published->hi_ns > TT_MAX_TIME_NS) && !tt_rarely(published->drift_ppm > TT_MAX_DRIFT_PPM);
 }
 
-/* The last publication. Refuses with 1701, 801, 1704 and 1703, and then with 801 where nothing is published any more. */
-static inline int tt_read(const tt_client *client, tt_publication *published) {
+/* The publication of a slot that was copied at this index. Refuses with 801, 1703, and 801 where nothing is published any
+ * more. */
+TT_INLINE int tt_take(uint64_t index, const tt_slot *slot, tt_publication *published) {
+    if (tt_rarely(index == 0)) return TT_NOTHING;
+    if (!tt_is_slot(index, slot)) return TT_NO_SLOT;
+    if (tt_rarely(slot->published.usable_until_ns == 0)) return TT_NOTHING;
+    *published = slot->published;
+    return 0;
+}
+
+/* tt_read of a file that is not mapped. */
+__attribute__((cold, noinline, unused)) static int tt_read_unmapped(const tt_client *client, tt_publication *published) {
     uint64_t index;
     tt_slot slot;
-    for (int tries = 0;; tries++) {
-        int refused = client->words != NULL ? tt_copy(client, &index, &slot) : tt_copy_unmapped(client, &index, &slot);
-        if (refused == 0) break;
-        if (refused == TT_NO_FILE) return TT_NO_FILE;
-        if (tries + 1 == TT_TRIES) return TT_BUSY;
+    for (int tries = 0; tries < TT_TRIES; tries++) {
+        int refused = tt_copy_unmapped(client, &index, &slot);
+        if (refused == 0) return tt_take(index, &slot, published);
+        if (refused != TT_BUSY) return refused;
     }
-    if (tt_rarely(index == 0)) return TT_NOTHING;
-    if (!tt_is_slot(index, &slot)) return TT_NO_SLOT;
-    if (tt_rarely(slot.published.usable_until_ns == 0)) return TT_NOTHING;
-    *published = slot.published;
-    return 0;
+    return TT_BUSY;
+}
+
+/* The last publication. Refuses with 1701, 801, 1704 and 1703, and then with 801 where nothing is published any more. */
+TT_INLINE int tt_read(const tt_client *client, tt_publication *published) {
+    uint64_t index;
+    tt_slot slot;
+    if (tt_rarely(client->words == NULL)) {
+        tt_publication there; /* no pointer to `published` leaves this function, so it may stay in registers */
+        int refused = tt_read_unmapped(client, &there);
+        if (refused == 0) *published = there;
+        return refused;
+    }
+    for (int tries = 0; tries < TT_TRIES; tries++)
+        if (tt_copy(client, &index, &slot) == 0) return tt_take(index, &slot, published);
+    return TT_BUSY;
 }
 
 /* What a clock may be wrong by after `elapsed` nanoseconds, at most TT_MAX_TIME_NS: rounded up. Nothing overflows: below
@@ -248,7 +271,7 @@ static inline uint64_t tt_widening(uint64_t drift_ppm, uint64_t elapsed_ns) {
 }
 
 /* The reading of a publication at a clock reading. Refuses with 802 and 1708, and then the reading stays as it was. */
-static inline int tt_read_at(const tt_publication *published, uint64_t clock_ns, tt_reading *reading) {
+TT_INLINE int tt_read_at(const tt_publication *published, uint64_t clock_ns, tt_reading *reading) {
     if (tt_rarely(clock_ns < published->clock_ns) || tt_rarely(clock_ns > TT_MAX_TIME_NS)) return TT_CLOCK_BACK;
     if (tt_rarely(clock_ns > published->usable_until_ns)) return TT_TOO_WIDE;
     uint64_t elapsed = clock_ns - published->clock_ns;
@@ -263,7 +286,7 @@ static inline int tt_read_at(const tt_publication *published, uint64_t clock_ns,
 }
 
 /* The machine's clock in nanoseconds. Refuses with 803. */
-static inline int tt_clock(uint64_t *clock_ns) {
+TT_INLINE int tt_clock(uint64_t *clock_ns) {
     struct timespec now;
     if (clock_gettime(CLOCK_MONOTONIC, &now) != 0 || tt_rarely(now.tv_sec < 0)) return TT_CLOCK_FAILED;
     /* A clock past the greatest time shows one second more than that, which tt_read_at refuses. */
@@ -292,6 +315,8 @@ static inline int tt_now(const tt_client *client, tt_reading *reading) {
 /* Whether time t has surely passed, and whether it has surely not arrived. */
 static inline bool tt_after(const tt_reading *reading, uint64_t t_ns) { return t_ns < reading->earliest_ns; }
 static inline bool tt_before(const tt_reading *reading, uint64_t t_ns) { return t_ns > reading->latest_ns; }
+
+#undef TT_INLINE
 
 #ifdef __cplusplus
 }
