@@ -27,6 +27,14 @@ def blocks_in(text: str) -> list[str]:
             for block in re.findall(r"(?:^(?:    .*)?\n)*(?:^    .*\n)(?:^(?:    .*)?\n)*", text, re.MULTILINE)]
 
 
+def one_block(text: str, begins: str) -> str:
+    """The one block of code that begins so."""
+    found = [block for block in blocks_in(text) if block.startswith(begins)]
+    if len(found) != 1:
+        raise Fault(f"there are {len(found)} blocks that begin with {begins!r}")
+    return found[0]
+
+
 def make_keys(program: str, commands: str, folder: str) -> None:
     """Runs the commands with this program as `ttd`."""
     shim = f'ttd() {{ "{program}" "$@"; }}\n'
@@ -47,7 +55,7 @@ def machine_of(shown: str, number: int, addresses: list[str]) -> str:
 def fill(program: str, folder: str) -> int:
     """Fills a folder of hosts, as lab.folders reads it; how many masters there are."""
     text = section()
-    commands, master, machine = blocks_in(text)
+    commands, master, machine = (one_block(text, begins) for begins in ("umask", "SOURCE=0\n", "machine = 0\n"))
     addresses = re.findall(r"10\.\d+\.0\.\d+", text.partition("**Keys.**")[0])
     keys = os.path.join(folder, "keys")
     os.mkdir(keys)

@@ -5,11 +5,10 @@ import tempfile
 import time
 import typing
 
-from harness.processes import Fault
 from harness.program import in_top, read_text, run, write
 from lab import wires
 from lab.clocks import OwnClock, Receivers, compile_clock
-from lab.documented import blocks_in
+from lab.documented import one_block
 from lab.folders import Folder, Site
 from lab.masters import RECEIVER
 from lab.servers import NO_CLOCK, Chronyd, path_of
@@ -35,10 +34,7 @@ status = "/run/truetime/db/truetime.prom"
 
 def block(begins: str) -> str:
     """The one block of code of the page that begins so."""
-    found = [text for text in blocks_in(read_text(in_top("docs/MASTERS.md"))) if text.startswith(begins)]
-    if len(found) != 1:
-        raise Fault(f"docs/MASTERS.md has {len(found)} blocks that begin with {begins!r}")
-    return found[0]
+    return one_block(read_text(in_top("docs/MASTERS.md")), begins)
 
 
 class PageLab(Folder):

@@ -134,7 +134,7 @@ def settings(trial):
                 "truetime:warn_width_seconds": "Inf"}
     trial.equal("defaults", settings_in(read_text(RULES)), defaults)
     try_rules(trial, "other settings", OTHER, [{"interval": "15s", "input_series": [
-        {"series": 'truetime_width_seconds{machine="0"}', "values": "0.8x40 0.81x40"},
+        {"series": 'truetime_width_seconds{machine="0"}', "values": "0.5x40 0.51x40"},
         {"series": 'truetime_master_width_seconds{source="1"}', "values": "0.1x40 0.11x40"},
         {"series": 'truetime_fusion_age_seconds{machine="0"}', "values": "30x40 30.1x40"},
         {"series": 'truetime_source_clock_rate_ratio{machine="0",source="1"}', "values": "0.0019x40 0.0021x40"},
@@ -179,13 +179,15 @@ def cut(trial):
 def metrics(trial):
     """What rules and dashboard name is in a status, and each alarm of docs/OPERATING.md in a rule."""
     of_machine, of_master = labels_of_metrics(trial)
-    known, alerts = of_machine | of_master, list(alerts_in(read_text(RULES)))
+    known, alerts, section = of_machine | of_master, list(alerts_in(read_text(RULES))), alarms()
     for alert in alerts:
         trial.check(alert.name, alert.metrics or "node_textfile_mtime_seconds" in alert.expr, "no metric of the status")
         trial.equal(f"{alert.name}: metrics that no status has", alert.metrics - known.keys(), set())
         labels = set.intersection(*(known[name] for name in alert.metrics & known.keys())) if alert.metrics else {"file"}
         named = set(re.findall(r"\$labels\.(\w+)", alert.text))
         trial.equal(f"{alert.name}: labels that it does not have", named - labels - {"instance"}, set())
+        runbook = re.search(r'runbook: "OPERATING\.md, section 3: ([a-z_ ]+)"', alert.text)
+        trial.check(alert.name, runbook and (f"`{runbook[1]}" in section or f"- {runbook[1]} " in section), "its runbook is no alarm of section 3")
         trial.equal(f"{alert.name}: metrics in its words", set(re.findall(r"\btruetime_\w+", alert.text)) - known.keys(), set())
     dashboard = json.loads(read_text(DASHBOARD))
     panels = [target["expr"] for panel in dashboard["panels"] for target in panel.get("targets", ())]
@@ -206,11 +208,15 @@ def try_hosts(trial, dashboard, of_machine, of_master):
     trial.equal("machines", variables["machine"], "label_values(truetime_epoch, machine)")
 
 
+def alarms():
+    """Section 3 of docs/OPERATING.md."""
+    return read_text("docs/OPERATING.md").split("\n## 3.")[1].split("\n## 4.")[0]
+
+
 def try_operating(trial, known, alerts):
     """Each alarm of section 3 has its rule, and each rule its alarm."""
-    section = read_text("docs/OPERATING.md").split("\n## 3.")[1].split("\n## 4.")[0]
     in_rules, in_section = set().union(*(alert.metrics for alert in alerts)), set()
-    for line in re.findall("^- (.*)", section, re.MULTILINE):
+    for line in re.findall("^- (.*)", alarms(), re.MULTILINE):
         what = f"docs/OPERATING.md, {line[:40]}.."
         alarm, named = (metrics_in(text, known) for text in (line.partition(": ")[0], line))
         in_section |= named

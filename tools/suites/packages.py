@@ -33,6 +33,7 @@ TRIES = (*BUILDS, "unshare", "nsenter", "ip", "setpriv", "systemd-sysusers", "sy
 UNITS = "lib/systemd/system"
 MODULE, SHARED = "usr/lib/python3/dist-packages/truetime", "usr/share/truetime"
 PYTHON_CLIENT = "clients/python/truetime"
+DOCUMENTS = ("OPERATING", "UPGRADES", "MASTERS", "FORMATS", "THREATS", "EMBEDDING", "PEERS")
 # Where each file of a package is from. What has no place in the repository is made; of the program only the symbols are missing.
 FILES = {
     "libtruetime-dev": {
@@ -52,12 +53,12 @@ FILES = {
         "usr/lib/sysusers.d/truetime.conf": "packaging/truetime.sysusers", "usr/lib/tmpfiles.d/truetime.conf": "packaging/truetime.tmpfiles",
         **{f"{SHARED}/{name}": f"packaging/{name}" for name in ("alerts.yml", "dashboard.json")},
         **{f"usr/share/doc/truetime/examples/{name}": f"packaging/{name}" for name in ("node.toml", "time.master")},
-        **{f"usr/share/doc/truetime/{name}.md": f"docs/{name}.md" for name in ("OPERATING", "UPGRADES", "MASTERS", "FORMATS", "THREATS")},
+        **{f"usr/share/doc/truetime/{name}.md": f"docs/{name}.md" for name in DOCUMENTS},
     },
 }
 PROGRAMS = {"usr/bin/ttd", "usr/libexec/truetime/await", "usr/libexec/truetime/stands-still"}
 # What packaging/install leaves to the packages.
-NOT_BY_INSTALL = re.compile(r"usr/share/(pkgconfig|cmake|doc/truetime/[A-Z])|usr/lib/python3")
+NOT_BY_INSTALL = re.compile(r"usr/share/(pkgconfig|cmake)/|usr/lib/python3")
 
 
 def build(trial, folder, **env):
