@@ -121,6 +121,33 @@ Refused:
   1704  each try met another publication
   1708  the reading is wider than the machine allows";
 
+/// What `top` does.
+pub(crate) const ABOUT_TOP: &str = "\
+Shows the status of a machine or a master as a table, and again each second until it is ended: how
+wide its readings are and how old the last fusion is, each of its sources with its answers, its round
+trips, its width and how far its middle is off, and what was refused. --once shows one table, and
+ends. Without --columns it is as wide as 80 columns.
+
+The status is read from the file that `status` of the configuration names (for a master --status),
+or asked over HTTP at 127.0.0.1 and the port that `http` of the configuration names: a text with a
+slash, or without a colon, is the path of a file. A status that is late is shown as it is, with how
+late it is.
+
+With --svg it draws one picture of the intervals of the sources and of the reading in place of the
+table, as SVG on standard output, and ends.
+
+Examples:
+  ttd top /run/truetime/status
+  ttd top 127.0.0.1:7201 --once --columns 120
+  ttd top /run/truetime/status --svg > now.svg
+
+Refused:
+  1601  invalid arguments, and columns outside 40 to 300
+  1805  the text has a colon and no slash, and is not 127.0.0.1: and a port
+  1604  the file can't be read; the status is 4
+  1603  the file is too long, not UTF-8, or not a status
+  1501  the status can't be had over HTTP; the status is 4";
+
 /// What `key` does.
 pub(crate) const ABOUT_KEY: &str = "\
 Prints a line for a file of keys: a number, 32 random bytes of the system in hexadecimal digits, and
