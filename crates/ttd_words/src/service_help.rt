@@ -58,7 +58,9 @@ Refused:
 pub(crate) const ABOUT_SERVE: &str = "\
 Runs one machine by its configuration, at most 1048576 bytes of TOML: it polls its masters, fuses
 their answers, and serves clients, until it is ended. With --until-eof it ends in order when
-standard input ends. With --check it prints what it would do, and ends.
+standard input ends. With --check it prints what it would do and what it finds, the keys and the
+addresses of names among it, refuses what a start would refuse of these files, and ends. It changes
+nothing, and the machine may be running.
 
 When it notices that one of its assumptions is broken, it says so and ends itself; the status is 3.
 With `on_break = \"warn\"` in the configuration it only says so.
@@ -75,7 +77,8 @@ Refused:
   1817, 1818    the configuration: a path with two purposes, a master that is named twice
   1807 to 1816  the server does not start: its sockets, epoch or threads; the status is 4 for 1807
                 to 1809, 1811 and 1812
-  1819          what is at the path of the Unix socket is not a socket";
+  1819          what is at the path of the Unix socket is not a socket
+  2211 to 2216  the file of keys, as with `ttd master`; 1827: it has no key with a number of `key`";
 
 /// What `ask` does.
 pub(crate) const ABOUT_ASK: &str = "\

@@ -44,6 +44,22 @@ path_line word None = []
 abbrev pub growth_of : Pauses → ℕ → ℕ
 growth_of pauses drift = 2 * widening drift (period_of pauses)
 
+-- how wide a reading is just before the next publication, beside what the master states: the round trip of its answer, widened by the drift, and the growth
+abbrev pub width_beyond : Pauses → ℕ → ℕ → ℕ
+width_beyond pauses drift trip = trip + widening drift trip + growth_of pauses drift
+
+-- the line of a round trip and this width
+abbrev pub width_line : Pauses → ℕ → ℕ → List ℕ
+width_line pauses drift trip = line_of (codes "width") (trip ∷ width_beyond pauses drift trip ∷ [])
+
+-- the widths behind round trips of 100 us, 1 ms, 10 ms and 100 ms
+unfoldable pub widths_text : Pauses → ℕ → List ℕ
+widths_text pauses drift =
+    width_line pauses drift 100000
+    ++ width_line pauses drift 1000000
+    ++ width_line pauses drift 10000000
+    ++ width_line pauses drift 100000000
+
 -- one thread, where there is something to do
 abbrev pub one_if : Bool → ℕ
 one_if true = 1
@@ -76,10 +92,11 @@ config_text c =
     ++ line_of (codes "workers") (c.workers ∷ [])
     ++ line_of (codes "drift") (c.drift ∷ [])
 
--- how its readings grow, its threads, and its memory
+-- how its readings grow and how wide they become, its threads, and its memory
 unfoldable pub sums_text : Pauses → Configuration → ℕ → List ℕ
 sums_text p c helpers =
     line_of (codes "growth") (growth_of p c.drift ∷ [])
+    ++ widths_text p c.drift
     ++ line_of (codes "threads") (threads_of c.workers helpers ∷ [])
     ++ line_of (codes "memory") (memory_of c.workers ∷ [])
 
