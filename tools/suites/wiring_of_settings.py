@@ -342,16 +342,17 @@ def outline(trial):
     ports = [free_port(socket.SOCK_DGRAM) for _ in range(4)]
     masters = [f"127.0.0.1:{port}" for port in ports]
     node = trial.node(masters, machine=6, faulty=0, workers=7, drift=321, poll="31ms", wait="32ms", floor_ahead="33ms", idle="34s",
-                      lease_lo=35, lease_hi=36, stampers=[38, 39], on_break="warn", max_width="37ms", evidence="evidence", vmclock="vmclock")
+                      lease_lo=35, lease_hi=36, stampers=[38, 39], on_break="warn", max_width="37ms", evidence="evidence", vmclock="vmclock",
+                      http="127.0.0.1:40")
     growth = 2 * -(-63_000_000 * 321 // 1_000_000)
     widths = [f"width {trip} {trip + -(-trip * 321 // 1_000_000) + growth}" for trip in (100_000, 1_000_000, 10_000_000, 100_000_000)]
     numbers = {"faulty": 0, "workers": 7, "drift": 321, "poll": 31_000_000, "wait": 32_000_000, "floor_ahead": 33_000_000,
                "idle": 34 * SECOND, "lease": "35 36", "stampers": "38 39", "on_break": "warn", "max_width": 37_000_000, "growth": growth,
-               "threads": 13, "memory": 4_194_304 + 7 * 131_072}
-    lines = ["machine 6", f"listen 127.0.0.1:{node.address[1]}", *(f"master {master}" for master in masters),
+               "threads": 14, "memory": 4_194_304 + 7 * 131_072}
+    lines = ["machine 6", f"listen 127.0.0.1:{node.address[1]}", "http 127.0.0.1:40", *(f"master {master}" for master in masters),
              *(f"{name} {value}" for name, value in numbers.items()),
              *(f"{name} {node.path(name)}" for name in ("state", "socket", "shared", "status")), "evidence evidence", "vmclock vmclock"]
-    place = lines.index("threads 13")
+    place = lines.index("threads 14")
     lines[place:place] = widths
     said, status = trial.command("serve", "--check", node.path("node.toml")).answer
     trial.equal("--check", (status, said.splitlines()), (0, lines))

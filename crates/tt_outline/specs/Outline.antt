@@ -65,9 +65,9 @@ abbrev pub one_if : Bool → ℕ
 one_if true = 1
 one_if false = 0
 
--- the threads for what only some settings have: one for the file of the status, one for that of the evidence, and one for the names of masters
-abbrev pub helpers_of : Bool → Bool → Bool → ℕ
-helpers_of has_status has_evidence has_names = one_if has_status + one_if has_evidence + one_if has_names
+-- the threads for what only some settings have: one for the file of the status, one for that of the evidence, one for pages, and one for the names of masters
+abbrev pub helpers_of : Bool → Bool → Bool → Bool → ℕ
+helpers_of has_status has_evidence has_http has_names = one_if has_status + one_if has_evidence + one_if has_http + one_if has_names
 
 -- the threads of so many workers and helpers, and of the daemon, the acceptor, the log, and the end of standard input
 abbrev pub threads_of : ℕ → ℕ → ℕ
@@ -119,6 +119,11 @@ abbrev pub width_text : Option ℕ → List ℕ
 width_text (Some width) = line_of (codes "max_width") (width ∷ [])
 width_text None = []
 
+-- where it serves pages, if it does
+abbrev pub http_text : Option ℕ → List ℕ
+http_text (Some port) = address_text (codes "http") port
+http_text None = []
+
 -- its numbers
 unfoldable pub numbers_text : Meaning → List ℕ
 numbers_text s =
@@ -128,7 +133,7 @@ numbers_text s =
     ++ stampers_text s.stampers
     ++ word_line (codes "on_break") (break_word s.on_break)
     ++ width_text s.max_width
-    ++ sums_text s.pauses s.config (helpers_of (is_some s.status) (is_some s.evidence) (has_names s.masters))
+    ++ sums_text s.pauses s.config (helpers_of (is_some s.status) (is_some s.evidence) (is_some s.http) (has_names s.masters))
 
 -- its files
 unfoldable pub files_text : Meaning → List ℕ
@@ -146,6 +151,7 @@ abbrev pub outline_text : Meaning → List ℕ
 outline_text s =
     line_of (codes "machine") (s.machine ∷ [])
     ++ address_text (codes "listen") s.listen
+    ++ http_text s.http
     ++ flat_map master_line s.masters
     ++ numbers_text s
     ++ files_text s

@@ -3,7 +3,7 @@
 ghost use Rattle.std.specs.Prelude.{◌≡◌, ◌++◌, OnOk, IfOk, string_bytes, option_copied, ◌≤◌, ◌*◌};
 ghost use Rattle.std.specs.List.{flat_map};
 ghost use Rattle.tt_span.specs.Time.{max_time};
-ghost use Rattle.tt_outline.specs.Outline.{outline_text, word_line, path_line, master_line, address_text, keys_text, numbers_text, files_text, growth_of, threads_of, memory_of, pauses_text, config_text, sums_text, lease_text, stampers_text, width_text, break_word, helpers_of, width_beyond, width_line, widths_text};
+ghost use Rattle.tt_outline.specs.Outline.{outline_text, word_line, path_line, master_line, address_text, keys_text, numbers_text, files_text, growth_of, threads_of, memory_of, pauses_text, config_text, sums_text, lease_text, stampers_text, width_text, break_word, helpers_of, http_text, width_beyond, width_line, widths_text};
 
 use std::alloc::{AllocError, Global};
 use tt_daemon::Config;
@@ -125,20 +125,20 @@ fn push_widths(text: &mut String, pauses: &Pauses, drift: Drift) -> Result<(), A
 }
 
 /// How many threads there are for what only some settings have: one for the file of the status, one for that of the
-/// evidence, and one for the names of masters.
-fn helpers_of(has_status: bool, has_evidence: bool, has_names: bool) -> u64
-    ensures value { result ≡ helpers_of has_status has_evidence has_names }
-    ensures few { result ≤ 3 }
+/// evidence, one for pages, and one for the names of masters.
+fn helpers_of(has_status: bool, has_evidence: bool, has_http: bool, has_names: bool) -> u64
+    ensures value { result ≡ helpers_of has_status has_evidence has_http has_names }
+    ensures few { result ≤ 4 }
 {
-    u64::from(has_status) + u64::from(has_evidence) + u64::from(has_names)
+    u64::from(has_status) + u64::from(has_evidence) + u64::from(has_http) + u64::from(has_names)
 }
 
 /// The most threads of a machine with `workers` workers: those of the workers, the thread of the daemon, the one that
-/// accepts connections, the one that writes the log, those that write the status and the evidence and look up names, and
-/// one that waits for the end of standard input.
+/// accepts connections, the one that writes the log, those that write the status and the evidence, serve pages and look up
+/// names, and one that waits for the end of standard input.
 fn threads_of(workers: u64, helpers: u64) -> u64
     requires few { workers ≤ 32 }
-    requires few_helpers { helpers ≤ 3 }
+    requires few_helpers { helpers ≤ 4 }
     ensures { result ≡ threads_of workers helpers }
 {
     workers + helpers + 4
@@ -182,7 +182,7 @@ fn push_sums(
     config: &Config,
     helpers: u64,
 ) -> Result<(), AllocError>
-    requires few { helpers ≤ 3 }
+    requires few { helpers ≤ 4 }
     ensures { OnOk result (string_bytes text.new ≡ string_bytes text.old ++ sums_text pauses.now config.now helpers) }
 {
     let growth = growth_of(pauses, config.drift());
@@ -207,6 +207,16 @@ fn push_stampers(text: &mut String, stampers: Option<Span>) -> Result<(), AllocE
 {
     match stampers {
         Some(stampers) => push_line(text, "stampers", &[stampers.lo(), stampers.hi()]),
+        None => Ok(()),
+    }
+}
+
+/// Adds the line of the address at which pages are served, if they are.
+fn push_http(text: &mut String, http: Option<u16>) -> Result<(), AllocError>
+    ensures { OnOk result (string_bytes text.new ≡ string_bytes text.old ++ http_text http) }
+{
+    match http {
+        Some(port) => push_address(text, "http", port),
         None => Ok(()),
     }
 }
@@ -247,6 +257,7 @@ fn push_numbers(text: &mut String, settings: &Settings) -> Result<(), AllocError
     let helpers = helpers_of(
         settings.status().is_some(),
         settings.evidence().is_some(),
+        settings.http().is_some(),
         has_names(settings.masters()),
     );
     push_sums(text, &pauses, &config, helpers)
@@ -266,11 +277,12 @@ fn push_files(text: &mut String, settings: &Settings) -> Result<(), AllocError>
     push_path(text, "keys", settings.keys())
 }
 
-/// What a machine with these settings would do, as text. There is one line for each of `machine`, `listen`, `master`
-/// (one for each master, in the order of the sources: its address, and behind the word `key` the numbers of its keys, if it
-/// has some), `faulty`, `workers`, `drift`, `poll`, `wait`, `floor_ahead`,
-/// `idle`, `lease`, `stampers` (if there are some), `on_break`, `max_width` (if there is a limit), `growth`,
-/// `width` (four times), `threads`, `memory`, `state`, and for each of `socket`, `shared`, `status`, `evidence`, `vmclock` and `keys` that the settings have. Times are in nanoseconds.
+/// What a machine with these settings would do, as text. There is one line for each of `machine`, `listen`, `http` (if there
+/// is an address), `master` (one for each master, in the order of the sources: its address, and behind the word `key` the
+/// numbers of its keys, if it has some), `faulty`, `workers`, `drift`, `poll`, `wait`, `floor_ahead`, `idle`, `lease`,
+/// `stampers` (if there are some), `on_break`, `max_width` (if there is a limit), `growth`, `width` (four times), `threads`,
+/// `memory`, `state`, and for each of `socket`, `shared`, `status`, `evidence`, `vmclock` and `keys` that the settings have.
+/// Times are in nanoseconds.
 ///
 /// A reading is as wide as what the masters state, plus the time that the poll took. Until the next publication it
 /// grows wider by at most `growth`, if no master fails. A line `width` has a round trip, of 100 us, 1 ms, 10 ms or 100 ms,
@@ -282,6 +294,7 @@ pub fn outline(alloc: Global, settings: &Settings) -> Result<String, AllocError>
     let mut text = String::new(alloc);
     push_line(&mut text, "machine", &[u64::from(settings.machine())])?;
     push_address(&mut text, "listen", settings.listen())?;
+    push_http(&mut text, settings.http())?;
     push_masters(&mut text, settings.masters())?;
     push_numbers(&mut text, settings)?;
     push_files(&mut text, settings)?;
