@@ -54,12 +54,14 @@ fn folder_fault(found: Option<Facts>, user: u32) -> Option<FolderFault>
     match found {
         None => Some(FolderFault::Missing),
         Some(facts) => {
-            if facts.mode / 4096 != 4 {
-                Some(FolderFault::NotFolder)
-            } else if may_write(facts.mode, facts.owner, user) {
-                None
+            if facts.mode / 4096 == 4 {
+                if may_write(facts.mode, facts.owner, user) {
+                    None
+                } else {
+                    Some(FolderFault::Unwritable)
+                }
             } else {
-                Some(FolderFault::Unwritable)
+                Some(FolderFault::NotFolder)
             }
         }
     }
