@@ -122,7 +122,7 @@ Refused:
   1702  it is not a shared file of this boot
   1703  no machine wrote what it holds
   1704  each try met another publication
-  1708  the reading is wider than the machine allows";
+  1708  the clock is past the last reading at which the publication may be used";
 
 /// What `top` does.
 pub(crate) const ABOUT_TOP: &str = "\
