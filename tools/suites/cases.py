@@ -74,6 +74,10 @@ def try_command(trial, case):
     trial.count(commands=1)
 
 
+# The numbers of refusals after which the status is 4, since a file can't be read.
+OF_DEVICES = [2211]
+
+
 def rows_of(table):
     """The words and the text of each row of a table, with the number that refuses them, or 0."""
     head, tail = table.get("head", ""), table.get("tail", "")
@@ -96,7 +100,7 @@ def try_table(trial, table):
     for words, text, number in rows_of(table):
         ran = run_on_file(trial.program, words, text.encode()) if "FILE" in words else run([trial.program, *words], text.encode(), 120)
         if number:
-            is_right = ran[:2] == (f"refused {number}\n".encode(), 2)
+            is_right = ran[:2] == (f"refused {number}\n".encode(), 4 if number in OF_DEVICES else 2)
         else:
             is_right = ran.out != b"" and ran.status == status_of(ran.out) != 2
         trial.holds(is_right, f"`ttd {' '.join(words)}` of {text[-300:]!r} ends with status {ran.status}, "

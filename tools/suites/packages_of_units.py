@@ -23,6 +23,9 @@ RELOADS = 20
 BAD = {"machine = 9": "refused 1804", "machin = 0": "refused 1802", "machine = ": "refused 1801", "": "refused 1803",
        "machine = 0\nfaulty = 2": "refused 1806", "machine = 0\nkeys = \"/run/truetime/a/time\"": "refused 1817"}
 GOOD = "machine = 0"
+# The same of what a start finds, with the lines of the file of keys.
+KEYS = "run/truetime/a/keys"
+BAD_KEYS = {"7 short\n": "refused 2215", f"7 {'ab' * 32}\n7 {'cd' * 32}\n": "refused 2216", f"8 {'ab' * 32}\n": "refused 1827"}
 # Reads again and again until its input ends: by a session, or by stamps over the shared file. Prints what is wrong, and the longest time
 # without a reading whenever a session is there again, or the stamps are of another life.
 CLIENT = """
@@ -142,6 +145,17 @@ def put(host, line, *more):
     """The example of settings, with another line in place of its first one, and more."""
     text = read_text("packaging/node.toml").replace(GOOD, line).replace("\nlisten = ", "\n".join(["", *more, "listen = "]))
     write(f"{host.root}/{SETTINGS}", text.encode())
+
+
+def put_keys(host, lines):
+    """The example of settings with masters whose polls are sealed under the key 7, and these lines in their file of keys."""
+    text = read_text("packaging/node.toml")
+    masters = re.search(r'^masters = \["(.*?)".*$', text, re.MULTILINE)
+    text = text.replace(masters[0], f'keys = "/{KEYS}"') + f'[[master]]\naddress = "{masters[1]}"\nkey = 7\n'
+    write(f"{host.root}/{SETTINGS}", text.encode())
+    write(f"{host.root}/{KEYS}", lines.encode())
+    host.do("chown", "truetime:truetime", f"/{KEYS}")
+    host.do("chmod", "0600", f"/{KEYS}")
 
 
 def installed(trial):
@@ -268,6 +282,12 @@ def reloaded(trial):
                 ran, told = machine.reload()
                 trial.equal(f"{line!r}", (ran.said.strip(), ran.status, told, machine.main is before), (refusal, 2, [], True))
                 trial.equal(f"{line!r}: asked then", host.do(*ASK).status, 0)
+            for lines, refusal in BAD_KEYS.items():
+                before = machine.main
+                put_keys(host, lines)
+                ran, told = machine.reload()
+                trial.equal(f"{lines!r}", (ran.said.strip(), ran.status, told, machine.main is before), (refusal, 2, [], True))
+            trial.equal("keys: asked then", host.do(*ASK).status, 0)
             for turn in range(RELOADS):
                 put(host, GOOD, f"workers = {4 + turn % 2}")
                 trial.equal("told", machine.reload()[1], ["--no-block restart truetime@a.service"])

@@ -52,7 +52,8 @@ SERVE = {
 MASTER = {"REFUSE": {1, 1816}, "FAIL_OPEN": {1604}, "FAIL_SOCKET": {1501}, "FAIL_BIND": {1501}, "FAIL_GETSOCKNAME": {1501},
           "FAIL_SETSOCKOPT": {1501}, "FAIL_PTHREAD_CREATE": {1816}}
 ASK = {"REFUSE": {1}, "FAIL_READ": {1604}, "FAIL_OPEN": {1604}, "FAIL_WRITE": (), "else": {1501}}
-CHECK = {"REFUSE": {1}, "FAIL_WRITE": (), "else": {1604}}
+CHECK = {"REFUSE": {1}, "FAIL_WRITE": (), "FAIL_OPEN": {1604, 1811, 1812}, "FAIL_STATX": {1604, 1809, 1811, 1812}, "FAIL_READ": {1604, 1811},
+         "else": {1604}}
 READ = {"REFUSE": {1}, "FAIL_OPEN": {1604, 1701}, "FAIL_CLOCK_GETTIME": {803}, "FAIL_WRITE": (), "else": {1701}}
 # What a client of a life may be told, beside 801 before the first publication.
 TOLD = {"REFUSE": {1}, "FAIL_CLOCK_GETTIME": {803}}
@@ -401,7 +402,8 @@ def run(trying):
         running.kill()
         status = running.wait()
     (output, errors), after = trying.written(), time.time_ns()
-    replies = output.splitlines(keepends=True)
+    # Of a folder that can't be looked at there is a warning.
+    replies = [line for line in output.splitlines(keepends=True) if not line.startswith(b"warning ")]
     right = 0
     while right < min(len(replies), len(lines)) and is_reply(replies[right], lines[right], before, after):
         right += 1

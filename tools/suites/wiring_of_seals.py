@@ -149,9 +149,11 @@ def names_of_masters(trial):
     trial.check("setting master", eventually(lambda: local.polls), "the master with a name is not asked")
     trial.numbers(node, key=[7, None, 4294967295], known=2)
     said, status = trial.command("serve", "--check", node.path("node.toml")).answer
-    lines = [line for line in said.splitlines() if line.split()[0] in ("master", "threads", "keys")]
+    lines = [line for line in said.splitlines() if line.split()[0] in ("master", "threads", "keys", "key", "resolved", "unresolved", "warning")]
     wanted = [f"master {masters[0]['address']} key 7", "master nowhere.invalid:5701 key 8", f"master {last.address} key 4294967295",
-              "threads 10", f"keys {keys_at(trial)}"]
+              "threads 10", f"keys {keys_at(trial)}", "key 7", "key 8", "key 4294967295", f"resolved localhost {local.address}", "unresolved nowhere.invalid"]
+    # A name may have further addresses.
+    lines = [" ".join(line.split()[:3]) if line.startswith("resolved ") else line for line in lines]
     trial.equal("--check", (status, lines), (0, wanted))
     for fault in node.ends(2):
         trial.check("log ended", False, fault)

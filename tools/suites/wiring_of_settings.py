@@ -342,16 +342,83 @@ def outline(trial):
     ports = [free_port(socket.SOCK_DGRAM) for _ in range(4)]
     masters = [f"127.0.0.1:{port}" for port in ports]
     node = trial.node(masters, machine=6, faulty=0, workers=7, drift=321, poll="31ms", wait="32ms", floor_ahead="33ms", idle="34s",
-                      lease_lo=35, lease_hi=36, stampers=[38, 39], on_break="warn", max_width="37ms", evidence="evidence", vmclock="vmclock")
+                      lease_lo=35, lease_hi=36, stampers=[38, 39], on_break="warn", max_width="37ms", evidence="evidence", vmclock="vmclock",
+                      http="127.0.0.1:40")
     growth = 2 * -(-63_000_000 * 321 // 1_000_000)
+    widths = [f"width {trip} {trip + -(-trip * 321 // 1_000_000) + growth}" for trip in (100_000, 1_000_000, 10_000_000, 100_000_000)]
     numbers = {"faulty": 0, "workers": 7, "drift": 321, "poll": 31_000_000, "wait": 32_000_000, "floor_ahead": 33_000_000,
                "idle": 34 * SECOND, "lease": "35 36", "stampers": "38 39", "on_break": "warn", "max_width": 37_000_000, "growth": growth,
-               "threads": 13, "memory": 4_194_304 + 7 * 131_072}
-    lines = ["machine 6", f"listen 127.0.0.1:{node.address[1]}", *(f"master {master}" for master in masters),
+               "threads": 14, "memory": 4_194_304 + 7 * 131_072}
+    lines = ["machine 6", f"listen 127.0.0.1:{node.address[1]}", "http 127.0.0.1:40", *(f"master {master}" for master in masters),
              *(f"{name} {value}" for name, value in numbers.items()),
              *(f"{name} {node.path(name)}" for name in ("state", "socket", "shared", "status")), "evidence evidence", "vmclock vmclock"]
+    place = lines.index("threads 14")
+    lines[place:place] = widths
     said, status = trial.command("serve", "--check", node.path("node.toml")).answer
     trial.equal("--check", (status, said.splitlines()), (0, lines))
+
+
+# What is found at a start and refused: what is done in the folder of the machine, more settings, and the number with the statuses.
+KEY = "ab" * 32
+SEALED = {"keys": "keys", "masters": [{"address": "127.0.0.1:5701", "key": [7]}]}
+FOUND = [
+    ({}, SEALED, 2211, 4), ({"keys/a": b""}, SEALED, 2211, 4), ({"keys": (0o644, f"7 {KEY}\n")}, SEALED, 2212, 2),
+    ({"keys": (0o600, f"# {'a' * 65_536}\n")}, SEALED, 2214, 2), ({"keys": (0o600, f"\n7 {KEY[2:]}\n")}, SEALED, 2215, 2),
+    ({"keys": (0o400, f"7 {KEY}\n7 {KEY}\n")}, SEALED, 2216, 2), ({"keys": (0o600, f"8 {KEY}\n")}, SEALED, 1827, 2),
+    ({"flat": b""}, {"state": "flat"}, 1812, 4), ({"state/lock/a": b""}, {}, 1812, 4),
+    ({"socket": b"keep"}, {}, 1819, 2), ({"socket/a": b""}, {}, 1819, 2), ({"at": b""}, {"socket": "at/socket"}, 1809, 4),
+    ({"state/epoch/a": b""}, {}, 1811, 4), ({"state/epoch": b"tt-epoch 2 7\n"}, {}, 1813, 2),
+    ({"state/epoch": b"tt-epoch 1 18446744073709551615\n"}, {}, 1814, 2),
+    # The first of them is refused.
+    ({"flat": b"", "socket": b"keep"}, {**SEALED, "state": "flat"}, 2211, 4), ({"state/lock/a": b"", "socket": b"keep"}, {}, 1812, 4),
+    ({"state/epoch": b"", "socket": b"keep"}, {}, 1819, 2),
+]
+
+
+def contents_of(folder):
+    """Each file below a folder with its mode and its bytes."""
+    return {path: (os.stat(path).st_mode, read(path)) for root, _, names in os.walk(folder) for path in (os.path.join(root, name) for name in names)}
+
+
+def put(folder, name, what):
+    """Writes a file, with a mode or not, and makes its folder."""
+    mode, content = what if isinstance(what, tuple) else (0o644, what)
+    path = os.path.join(folder, name)
+    os.makedirs(os.path.dirname(path), exist_ok=True)
+    write(path, content.encode() if isinstance(content, str) else content)
+    os.chmod(path, mode)
+
+
+@suite.case()
+def found(trial):
+    """`--check` refuses what a start refuses of the files that it finds, with the same number, and changes nothing."""
+    for place, (files, settings, number, status) in enumerate(FOUND):
+        settings = dict(settings)
+        node = trial.node(settings.pop("masters", ["127.0.0.1:5701"]), f"found-{place}", **settings)
+        for name, what in files.items():
+            put(node.folder, name, what)
+        before = contents_of(node.folder)
+        for words in (["--check"], ["--until-eof"]):
+            ran = trial.command("serve", node.path("node.toml"), *words, cwd=node.folder)
+            trial.equal(f"{words[0]} with {sorted(files)}", ran.answer, (f"refused {number}\n", status))
+            if words == ["--check"]:
+                trial.check("--check", contents_of(node.folder) == before, f"it changes files with {sorted(files)}")
+
+
+@suite.case()
+def found_beside_machine(trial):
+    """While the machine runs, `--check` with its settings refuses nothing and changes nothing, and names the folders that are missing."""
+    node = trial.running_node(trial.scripts(honest))
+    epoch = read(node.path("state/epoch"))
+    ran = trial.command("serve", "--check", node.path("node.toml"), cwd=node.folder)
+    trial.equal("--check", (ran.status, ran.error, [line for line in ran.said.splitlines() if line.startswith("warning")]), (0, "", []))
+    trial.equal("--check", read(node.path("state/epoch")), epoch)
+    other = trial.node(["127.0.0.1:5701"], "B", status="none/status", shared="node.toml/time")
+    before = contents_of(other.folder)
+    ran = trial.command("serve", "--check", other.path("node.toml"), cwd=other.folder)
+    trial.equal("--check", [line for line in ran.said.splitlines() if line.startswith("warning")],
+                ["warning shared node.toml: it is not a folder", "warning status none: there is no such folder"])
+    trial.equal("--check", (ran.status, contents_of(other.folder)), (0, before))
 
 
 # The keys that have to be there, each with a value as a file writes it.
@@ -420,6 +487,11 @@ REFUSED = [
     ({"stampers": "[5, 4]", "lease_lo": "36", "lease_hi": "35"}, 1804, "lease_hi: 35 is below lease_lo"),
     ({"stampers": "[5, 4]", "listen": '"10.0.0.1:1"'}, 1804, f"stampers: [5, 4]: {ENDS}"),
     ({"listen": '"10.0.0.1:1"'}, 1805, 'listen: "10.0.0.1:1": an address of this host, as 127.0.0.1:7001'),
+    ({"http": '"10.0.0.1:1"'}, 1805, 'http: "10.0.0.1:1": an address of this host, as 127.0.0.1:7001'),
+    ({"http": '"127.0.0.1:0"'}, 1804, 'http: "127.0.0.1:0": an address of this host, as 127.0.0.1:7001, with a port from 1'),
+    ({"http": "7001"}, 1804, "http: 7001: an address of this host, as 127.0.0.1:7001, in quotes, with a port from 1"),
+    ({"http": '"127.0.0.1:0"', "log": '"Json"'}, 1804, 'http: "127.0.0.1:0": an address of this host, as 127.0.0.1:7001, with a port from 1'),
+    ({"listen": '"10.0.0.1:1"', "http": '"127.0.0.1:0"'}, 1805, 'listen: "10.0.0.1:1": an address of this host, as 127.0.0.1:7001'),
     ({"log": '"Json"'}, 1804, 'log: "Json": "text" or "json"'),
     ({"on_break": '"End"'}, 1804, 'on_break: "End": "end" or "warn"'),
     ({"max_width": '"3601s"'}, 1804, 'max_width: "3601s" is above 3600s'),

@@ -9,7 +9,7 @@ use crate::faults::EpochFault;
 use crate::stores::{ReadFault, Store};
 
 /// The number in a file, or 0 if there is no file.
-fn last_of(file: Option<u64>) -> u64
+pub(crate) fn last_of(file: Option<u64>) -> u64
     ensures { result ≡ number_of file }
 {
     match file {
@@ -19,7 +19,7 @@ fn last_of(file: Option<u64>) -> u64
 }
 
 /// One more than this number, if it is below 2^64.
-fn after(last: u64) -> Option<u64>
+pub(crate) fn after(last: u64) -> Option<u64>
     ensures { MatchOption result (next_of last ≡ Over EpochFault.UsedUp) (λ next. next_of last ≡ Writes next) }
 {
     if last == u64::MAX {
@@ -30,7 +30,7 @@ fn after(last: u64) -> Option<u64>
 }
 
 /// The refusal of a start that could not read.
-fn unread(fault: &ReadFault) -> EpochFault
+pub(crate) fn unread(fault: &ReadFault) -> EpochFault
     ensures { step_of Reads (gave_as (Err fault.now)) ≡ Over result }
 {
     match fault {

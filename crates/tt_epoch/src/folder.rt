@@ -1,5 +1,6 @@
 //! The store in a folder of files, which one process holds at a time.
 
+use crate::epochs::{after, last_of, unread};
 use crate::faults::EpochFault;
 use crate::stores::{ReadFault, Store, WriteFault};
 use crate::text::{epoch_of, epoch_text};
@@ -7,10 +8,15 @@ use std::alloc::Global;
 use std::fs::{self, DirBuilder, File, Files, OpenFile, OpenOptions, TryLockError};
 use std::io::{self, ErrorKind, Read, Write};
 use std::os::unix::fs::DirBuilderExt;
-use tt_files::{create_new, lock_at, open_regular};
+use tt_files::{Kind, create_new, facts_at, link_facts_at, lock_at, open_regular};
 
 /// The greatest length of an epoch file, in bytes.
 const MAX_LEN: usize = 32;
+
+/// The part of a mode that is the type of the file, and that of a folder.
+const TYPE: u32 = 0o170000;
+
+const FOLDER: u32 = 0o040000;
 
 /// A folder with the file `epoch`, its draft `epoch.new`, and the file `lock`. The lock is held as long as the store
 /// lives, so no other process takes an epoch from this folder. `epoch` and `lock` are opened only where they are regular
@@ -48,16 +54,7 @@ impl<'a, R: Files<File = File>> FolderStore<'a, R> {
 
     /// The number in the file. None if there is no file.
     fn load(&self) -> Result<Option<u64>, ReadFault> {
-        match open_regular(self.rt, self.path.as_str(), &reading()) {
-            Ok(mut file) => number_in(&mut file),
-            Err(error) => {
-                if error.kind() == ErrorKind::NotFound {
-                    Ok(None)
-                } else {
-                    Err(ReadFault::Failed)
-                }
-            }
-        }
+        number_at(self.rt, self.path.as_str())
     }
 
     /// Writes the draft.
@@ -77,6 +74,71 @@ impl<'a, R: Files<File = File>> FolderStore<'a, R> {
     fn fix_folder(&self) -> io::Result<()> {
         let file = File::open(self.rt, self.folder)?;
         file.sync_all()
+    }
+}
+
+/// Refuses a folder that [`FolderStore::open`] would refuse, as far as that shows without a change: with 1812 `WriteFailed`
+/// where its path is not a folder's, or `lock` in it is not a regular file that can be opened for writing; and with 1
+/// `Memory`. A missing folder and a missing `lock` would be made. It locks nothing, so another process may hold the folder.
+pub fn check_folder<R: Files<File = File>>(
+    rt: &R,
+    alloc: Global,
+    folder: &str,
+) -> Result<(), EpochFault> {
+    let lock = path_in(alloc, folder, "lock")?;
+    let Ok(found) = facts_at(rt, folder) else {
+        return Err(EpochFault::WriteFailed);
+    };
+    if let Some(facts) = found {
+        if facts.mode & TYPE != FOLDER {
+            return Err(EpochFault::WriteFailed);
+        }
+    }
+    check_lock(rt, lock.as_str())
+}
+
+/// Refuses what is at the path of a lock file and is not a regular file that can be opened for writing.
+fn check_lock<R: Files<File = File>>(rt: &R, path: &str) -> Result<(), EpochFault> {
+    let mut how = OpenOptions::new();
+    how.write(true);
+    match link_facts_at(rt, path) {
+        Ok(None) => Ok(()),
+        Ok(Some(facts)) if facts.kind == Kind::Regular => match open_regular(rt, path, &how) {
+            Ok(_) => Ok(()),
+            Err(_) => Err(EpochFault::WriteFailed),
+        },
+        _ => Err(EpochFault::WriteFailed),
+    }
+}
+
+/// Refuses an epoch file in this folder after which [`next_epoch`](crate::next_epoch) would give none: with 1811
+/// `ReadFailed` where it can't be read, 1813 `NotAnEpochFile`, 1814 `UsedUp`, and 1 `Memory`. It locks and changes nothing.
+pub fn check_epoch<R: Files<File = File>>(
+    rt: &R,
+    alloc: Global,
+    folder: &str,
+) -> Result<(), EpochFault> {
+    let path = path_in(alloc, folder, "epoch")?;
+    match number_at(rt, path.as_str()) {
+        Err(fault) => Err(unread(&fault)),
+        Ok(file) => match after(last_of(file)) {
+            Some(_) => Ok(()),
+            None => Err(EpochFault::UsedUp),
+        },
+    }
+}
+
+/// The number of the epoch file at this path. None if there is no file.
+fn number_at<R: Files<File = File>>(rt: &R, path: &str) -> Result<Option<u64>, ReadFault> {
+    match open_regular(rt, path, &reading()) {
+        Ok(mut file) => number_in(&mut file),
+        Err(error) => {
+            if error.kind() == ErrorKind::NotFound {
+                Ok(None)
+            } else {
+                Err(ReadFault::Failed)
+            }
+        }
     }
 }
 

@@ -12,7 +12,8 @@
 //! - `epochs`: `next_epoch`, over any store, and the law of all lives and all crashes.
 //! - `stores`: `Store`, what a store has to do.
 //! - `text`: the text of the file.
-//! - `folder`: `FolderStore`, the store in a folder of files, which one process holds at a time.
+//! - `folder`: `FolderStore`, the store in a folder of files, which one process holds at a time; and whether a folder would
+//!   be refused.
 //! - `memory`: `MemoryStore`, a store in memory, for tests, which fails at the call that it is told to.
 //! - `faults`: why there is no next epoch.
 #![tactic(auto)]
@@ -26,7 +27,7 @@ mod text;
 
 pub use epochs::{epoch_laws, next_epoch};
 pub use faults::EpochFault;
-pub use folder::FolderStore;
+pub use folder::{FolderStore, check_epoch, check_folder};
 pub use memory::MemoryStore;
 pub use stores::{ReadFault, Store, WriteFault};
 pub use text::{epoch_of, epoch_text};

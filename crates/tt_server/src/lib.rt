@@ -6,7 +6,7 @@
 //! ```text
 //! let settings = tt_settings::read(alloc, text)?;    // the text of the configuration file
 //! if check {
-//!     let would = outline(alloc, &settings)?;        // `ttd serve --check`: what the machine would do, as text
+//!     check_start(rt, alloc, &settings)?;            // `ttd serve --check`: whether a start would refuse what it finds
 //! } else {
 //!     serve(rt, &settings, until_eof)?;              // runs the machine
 //! }
@@ -22,16 +22,16 @@
 //! round.
 //!
 //! - `servers`: [`serve`], which starts the threads and ends them. `lives`: [`LifeEnd`], how a life of a machine ended.
-//!   `starts`: the parts of a machine. `links`: the link to the masters. `rings`: the keys that are shared with them.
+//!   `starts`: the parts of a machine. `checks`: [`check_start`], which judges what a start would find. `links`: the link to the masters. `rings`: the keys that are shared with them.
 //!   `owns`: the address of its own of the socket for polls. `names`: the thread that looks up names. `states`: what the threads share.
 //! - `rounds`: the thread of the daemon. `paces`: the pauses between rounds.
 //! - `records`: what is counted, logged, shown and shared of a round. `notices`: what is noticed of it. `statuses`: the status.
 //! - `signs`: whether the host slept. `breaks`: what is recorded of a break, and [`break_laws`]. `evidence`: the evidence of a
 //!   publication. `shares`: what is shared. `sharing`: the
 //!   shared file, and when it is tried again. `modes`: who may write the files.
-//! - `workers`: the threads of the workers. `outlines`: [`outline`]. `faults`: why a machine does not serve.
+//! - `workers`: the threads of the workers. `faults`: why a machine does not serve.
 //!
-//! The functions over values are proved: the outline, the numbers of faults, statuses, file modes, what is shared and until
+//! The functions over values are proved: the numbers of faults, statuses, file modes, what is shared and until
 //! when, and how long the pauses are before a round, before a socket is made anew and before a shared file is tried again.
 //! So are all records of a round, the writing of what is shared, over any place, and what a reading of it means
 //! ([`shared_laws`]).
@@ -44,6 +44,7 @@
 #![tactic(auto)]
 
 mod breaks;
+mod checks;
 mod evidence;
 mod faults;
 mod links;
@@ -51,7 +52,6 @@ mod lives;
 mod modes;
 mod names;
 mod notices;
-mod outlines;
 mod owns;
 mod paces;
 mod records;
@@ -67,10 +67,10 @@ mod statuses;
 mod workers;
 
 pub use breaks::break_laws;
+pub use checks::check_start;
 pub use faults::ServerFault;
 pub use lives::{LifeEnd, WorkerEnd};
-pub use names::{HostNames, MAX_FOUND};
-pub use outlines::outline;
+pub use names::{HostNames, MAX_FOUND, has_names};
 pub use servers::{EndOfInput, serve};
-pub use shares::shared_laws;
+pub use shares::{folder_and_name, period_of, shared_laws};
 pub use tt_connections::MachineClock;

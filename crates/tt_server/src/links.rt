@@ -20,7 +20,7 @@ use std::sync::Arc;
 use std::time::{Clock as SystemClock, Duration};
 use tt_rounds::RoundLink;
 use tt_settings::{MasterSettings, Settings};
-use tt_wire::Wire;
+use tt_wire::{Ring, Wire};
 
 /// Whether sockets of IPv6 reach no address of IPv4.
 const SIX_ONLY: &str = "/proc/sys/net/ipv6/bindv6only";
@@ -105,6 +105,42 @@ fn names_of(
     }
 }
 
+/// What the socket for polls is to reach.
+fn reach_of<R: Files<File = File>>(rt: &R, settings: &Settings) -> Reach {
+    Reach {
+        own: own_of(settings.masters()),
+        six_only: is_six_only(rt),
+    }
+}
+
+/// The keys that the settings name for each of the masters. Refuses the file of keys, and masters that the socket for polls
+/// does not reach.
+fn rings_in_file<R: Files<File = File>>(
+    rt: &R,
+    alloc: Global,
+    settings: &Settings,
+    reach: Reach,
+) -> Result<Vec<Ring>, ServerFault> {
+    let keys = keys_in_file(rt, alloc, settings)?;
+    let masters = settings.masters();
+    let rings = rings_of(alloc, keys.as_slice(), masters)?;
+    check_families(reach, masters)?;
+    Ok(rings)
+}
+
+/// Refuses what [`link_to`] would refuse of the files that it reads: the file of keys, and masters of both families.
+pub(crate) fn check_rings<R: Files<File = File>>(
+    rt: &R,
+    alloc: Global,
+    settings: &Settings,
+) -> Result<(), ServerFault> {
+    let reach = reach_of(rt, settings);
+    match rings_in_file(rt, alloc, settings, reach) {
+        Ok(_) => Ok(()),
+        Err(fault) => Err(fault),
+    }
+}
+
 /// The wire to the masters: the keys that the settings name for each of them, and nonces that are ahead by a number of
 /// this life.
 fn wire_of<R: Files<File = File> + RandomSource>(
@@ -113,10 +149,7 @@ fn wire_of<R: Files<File = File> + RandomSource>(
     settings: &Settings,
     reach: Reach,
 ) -> Result<Wire, ServerFault> {
-    let keys = keys_in_file(rt, alloc, settings)?;
-    let masters = settings.masters();
-    let rings = rings_of(alloc, keys.as_slice(), masters)?;
-    check_families(reach, masters)?;
+    let rings = rings_in_file(rt, alloc, settings, reach)?;
     let ahead = draw_ahead(rt)?;
     Ok(Wire::new(rings, ahead))
 }
@@ -128,10 +161,7 @@ pub(crate) fn link_to<'a, R: SystemClock + Net + Files<File = File> + RandomSour
     settings: &Settings,
 ) -> Result<(Polling<'a, R>, Waker), ServerFault> {
     let masters = settings.masters();
-    let reach = Reach {
-        own: own_of(masters),
-        six_only: is_six_only(rt),
-    };
+    let reach = reach_of(rt, settings);
     let wire = wire_of(rt, alloc, settings, reach)?;
     let (socket, reach) = match socket_of(rt, reach) {
         Ok(bound) => bound,

@@ -97,7 +97,7 @@ fn is_lookup_due(tried: Option<u64>, answered: Option<u64>, now: u64) -> bool
 }
 
 /// Whether one of the masters has a name.
-pub(crate) fn has_names(masters: &[MasterSettings]) -> bool
+pub fn has_names(masters: &[MasterSettings]) -> bool
     ensures value { result ≡ has_names masters.now }
 {
     for master in masters {

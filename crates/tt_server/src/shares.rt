@@ -24,7 +24,7 @@ use tt_span::{Drift, MAX_TIME, Span};
 
 /// The longest time from one publication to the next, in nanoseconds, if the round between them waits as long as it
 /// may.
-pub(crate) fn period_of(pauses: &Pauses) -> u64
+pub fn period_of(pauses: &Pauses) -> u64
     ensures value { result ≡ period_of pauses.now }
     ensures in_time { result ≤ max_time }
 {
@@ -112,7 +112,7 @@ pub(crate) fn withdrawn(epoch: u64, number: u64, drift: Drift) -> SharedSpan
 }
 
 /// The folder of a path, and the name of the file in it.
-pub(crate) fn folder_and_name(path: &str) -> (&str, &str) {
+pub fn folder_and_name(path: &str) -> (&str, &str) {
     match path.rsplit_once('/') {
         Some((folder, name)) => {
             if folder.is_empty() {

@@ -1,13 +1,15 @@
 -- Addresses of this host, by their ports.
-use Rattle.std.specs.Prelude.{codes, ℕ, nat_eq, if◌then◌else◌, List, ◌++◌, length, drop, Option, None, ok_or, Result}
+use Rattle.std.specs.Prelude.{codes, ℕ, nat_eq, if◌then◌else◌, List, ◌++◌, length, drop, Option, None, ok_or, Result, Ok, Err}
 use Rattle.std.specs.Cmp.Lexicographic.{pointwise}
-use Rattle.toml.specs.Data.{Members, as_str}
+use Rattle.toml.specs.Data.{Data, Members, get_member, as_str}
 use Rattle.tt_settings.specs.declared.keys.Key.{Key}
+use Rattle.tt_settings.specs.declared.keys.Key.TheVariants.{Http}
 use Rattle.tt_settings.specs.declared.faults.SettingsFault.{SettingsFault}
-use Rattle.tt_settings.specs.declared.faults.SettingsFault.TheVariants.{NotLocal}
+use Rattle.tt_settings.specs.declared.faults.SettingsFault.TheVariants.{WrongValue, NotLocal}
 use Rattle.tt_settings.specs.Fault.{◌>>=◌}
 use Rattle.tt_settings.specs.Numeral.{number_of}
-use Rattle.tt_settings.specs.Lookup.{value_at, typed_value}
+use Rattle.tt_settings.specs.Key.{text_of}
+use Rattle.tt_settings.specs.Lookup.{value_at, typed_value, optional}
 
 -- the port of the address that a text writes
 abbrev pub port_of : List ℕ → Option ℕ
@@ -15,9 +17,24 @@ port_of text =
     let digits = drop (length (codes "127.0.0.1:")) text in
     if pointwise nat_eq text (codes "127.0.0.1:" ++ digits) then number_of 65535 digits else None
 
+-- the port of the address that a value is
+abbrev pub address_in : Key → Data → Result ℕ SettingsFault
+address_in key d = do
+  text ← typed_value key (as_str d)
+  ok_or (port_of text) (NotLocal key)
+
 -- the port of the address at a key
 abbrev pub address_at : Key → Members → Result ℕ SettingsFault
 address_at key t = do
   d ← value_at key t
-  text ← typed_value key (as_str d)
-  ok_or (port_of text) (NotLocal key)
+  address_in key d
+
+-- the port of an address at which others connect: no one could know which port 0 became
+abbrev pub fixed_in : Key → Data → Result ℕ SettingsFault
+fixed_in key d = do
+  port ← address_in key d
+  if nat_eq port 0 then Err (WrongValue key) else Ok port
+
+-- the port of the address for pages over HTTP, where one is given
+abbrev pub http_in : Members → Result (Option ℕ) SettingsFault
+http_in t = optional (fixed_in Http) (get_member (text_of Http) t)

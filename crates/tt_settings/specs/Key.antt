@@ -7,7 +7,7 @@ use Rattle.tt_span.specs.Time.{max_time}
 use Rattle.tt_poll.specs.Message.{max_machine}
 use Rattle.tt_daemon.specs.Config.{max_workers}
 use Rattle.tt_settings.specs.declared.keys.Key.{Key}
-use Rattle.tt_settings.specs.declared.keys.Key.TheVariants.{Machine, Masters, Faulty, Workers, Drift, Poll, Wait, FloorAhead, Idle, LeaseLo, LeaseHi, Stampers, Listen, Log, OnBreak, MaxWidth, Socket, State, Shared, Status, Evidence, Vmclock, Keys, Master, MasterAddress, MasterKey}
+use Rattle.tt_settings.specs.declared.keys.Key.TheVariants.{Machine, Masters, Faulty, Workers, Drift, Poll, Wait, FloorAhead, Idle, LeaseLo, LeaseHi, Stampers, Listen, Http, Log, OnBreak, MaxWidth, Socket, State, Shared, Status, Evidence, Vmclock, Keys, Master, MasterAddress, MasterKey}
 use Rattle.tt_settings.specs.declared.keys.ValueKind.{ValueKind}
 use Rattle.tt_settings.specs.declared.keys.ValueKind.TheVariants as kind
 
@@ -33,6 +33,7 @@ entry_of LeaseLo = (codes "lease_lo", kind.Number 0 max_time)
 entry_of LeaseHi = (codes "lease_hi", kind.Number 0 max_time)
 entry_of Stampers = (codes "stampers", kind.Ends)
 entry_of Listen = (codes "listen", kind.Address)
+entry_of Http = (codes "http", kind.Address)
 entry_of Log = (codes "log", kind.Form (codes "text", codes "json"))
 entry_of OnBreak = (codes "on_break", kind.Form (codes "end", codes "warn"))
 entry_of MaxWidth = (codes "max_width", kind.Duration 0 (3600 * second))
@@ -56,7 +57,7 @@ kind_of key = (entry_of key).1
 -- all keys of a document
 abbrev pub all_keys : List Key
 all_keys =
-    Machine ∷ Masters ∷ Faulty ∷ Workers ∷ Drift ∷ Poll ∷ Wait ∷ FloorAhead ∷ Idle ∷ LeaseLo ∷ LeaseHi ∷ Stampers ∷ Listen ∷ Log ∷ OnBreak
+    Machine ∷ Masters ∷ Faulty ∷ Workers ∷ Drift ∷ Poll ∷ Wait ∷ FloorAhead ∷ Idle ∷ LeaseLo ∷ LeaseHi ∷ Stampers ∷ Listen ∷ Http ∷ Log ∷ OnBreak
     ∷ MaxWidth ∷ Socket ∷ State ∷ Shared ∷ Status ∷ Evidence ∷ Vmclock ∷ Keys ∷ Master ∷ []
 
 -- all keys of the table of a master

@@ -15,7 +15,7 @@ use Rattle.tt_settings.specs.declared.texts.Paths.{Paths}
 use Rattle.tt_settings.specs.Fault.{◌>>=◌}
 use Rattle.tt_settings.specs.Key.{first_unknown}
 use Rattle.tt_settings.specs.Lookup.{amount_at, count_of}
-use Rattle.tt_settings.specs.Address.{address_at}
+use Rattle.tt_settings.specs.Address.{address_at, http_in}
 use Rattle.tt_settings.specs.Master.{Master, keys_if, listed_in, masters_of}
 use Rattle.tt_settings.specs.Plan.{configuration_in, pauses_in, lease_in, stampers_in}
 use Rattle.tt_settings.specs.Form.{conduct_in}
@@ -30,6 +30,7 @@ pub record Meaning : Type 0 where
   pub lease : Interval
   pub stampers : Option Interval
   pub listen : ℕ
+  pub http : Option ℕ
   pub log : LogFormat
   pub on_break : OnBreak
   pub max_width : Option ℕ
@@ -43,14 +44,15 @@ pub record Meaning : Type 0 where
   pub keys : Option (List ℕ)
 
 -- what the parts of a document mean
-abbrev pub meaning_of : ℕ → Configuration → Pauses → Interval → Option Interval → ℕ → Conduct → List Master → Paths → Meaning
-meaning_of machine config pauses lease stampers listen conduct masters paths = record {
+abbrev pub meaning_of : ℕ → Configuration → Pauses → Interval → Option Interval → ℕ → Option ℕ → Conduct → List Master → Paths → Meaning
+meaning_of machine config pauses lease stampers listen http conduct masters paths = record {
   machine = machine;
   config = config;
   pauses = pauses;
   lease = lease;
   stampers = stampers;
   listen = listen;
+  http = http;
   log = conduct.log;
   on_break = conduct.on_break;
   max_width = conduct.max_width;
@@ -75,10 +77,11 @@ keys_of t = do
   lease ← lease_in t
   stampers ← stampers_in t
   listen ← address_at Listen t
+  http ← http_in t
   conduct ← conduct_in t
   masters ← masters_of listed
   paths ← paths_in t
-  Ok (meaning_of machine config pauses lease stampers listen conduct masters paths)
+  Ok (meaning_of machine config pauses lease stampers listen http conduct masters paths)
 
 -- the paths of a machine
 abbrev pub paths_of : Meaning → Paths

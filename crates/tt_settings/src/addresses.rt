@@ -1,14 +1,14 @@
 //! Addresses of this host.
 
 ghost use Rattle.std.specs.Prelude.{◌≡◌};
-ghost use Rattle.toml.specs.View.{table_view};
-ghost use Rattle.tt_settings.specs.Address.{port_of, address_at};
+ghost use Rattle.toml.specs.View.{view, table_view};
+ghost use Rattle.tt_settings.specs.Address.{port_of, address_in, address_at, fixed_in, http_in};
 
 use crate::faults::SettingsFault;
 use crate::keys::Key;
-use crate::lookups::{text_in, value_at};
+use crate::lookups::{found_at, text_in, value_at};
 use crate::numerals::number_of;
-use toml::Table;
+use toml::{Table, Value};
 
 /// The port of an address of this host. The text is `127.0.0.1:` and the port, from 0 to 65535, in decimal digits
 /// without leading zeros. None for any other text.
@@ -24,12 +24,44 @@ pub fn port_of(text: &str) -> Option<u16>
     }
 }
 
+/// The port of the address that a value is.
+fn address_in(key: Key, value: &Value) -> Result<u16, SettingsFault>
+    ensures { result ≡ address_in key (view value.now) }
+{
+    match port_of(text_in(key, value)?) {
+        Some(port) => Ok(port),
+        None => Err(SettingsFault::NotLocal(key)),
+    }
+}
+
 /// The port of the address at a key.
 pub(crate) fn address_at(table: &Table, key: Key) -> Result<u16, SettingsFault>
     ensures { result ≡ address_at key (table_view table.now) }
 {
-    match port_of(text_in(key, value_at(table, key)?)?) {
-        Some(port) => Ok(port),
-        None => Err(SettingsFault::NotLocal(key)),
+    address_in(key, value_at(table, key)?)
+}
+
+/// The port of the address that a value is. Refuses port 0 with 1804 `WrongValue` of this key, since no one could know
+/// which port it became.
+fn fixed_in(key: Key, value: &Value) -> Result<u16, SettingsFault>
+    ensures { result ≡ fixed_in key (view value.now) }
+{
+    let port = address_in(key, value)?;
+    if port == 0 {
+        return Err(SettingsFault::WrongValue(key));
+    }
+    Ok(port)
+}
+
+/// The port of the address for pages over HTTP, if one is given.
+pub(crate) fn http_in(table: &Table) -> Result<Option<u16>, SettingsFault>
+    ensures { result ≡ http_in (table_view table.now) }
+{
+    match found_at(table, Key::Http) {
+        Some(value) => {
+            let port = fixed_in(Key::Http, value)?;
+            Ok(Some(port))
+        }
+        None => Ok(None),
     }
 }

@@ -36,6 +36,7 @@ pub enum Key {
     LeaseHi,
     Stampers,
     Listen,
+    Http,
     Log,
     OnBreak,
     MaxWidth,
@@ -52,7 +53,7 @@ pub enum Key {
 }
 
 /// All keys of a document.
-pub(crate) const KEYS: [Key; 24] = [
+pub(crate) const KEYS: [Key; 25] = [
     Key::Machine,
     Key::Masters,
     Key::Faulty,
@@ -66,6 +67,7 @@ pub(crate) const KEYS: [Key; 24] = [
     Key::LeaseHi,
     Key::Stampers,
     Key::Listen,
+    Key::Http,
     Key::Log,
     Key::OnBreak,
     Key::MaxWidth,
@@ -198,6 +200,7 @@ impl Key {
             Key::LeaseHi => number("lease_hi", 0, MAX_TIME),
             Key::Stampers => plain("stampers", ValueKind::Ends),
             Key::Listen => plain("listen", ValueKind::Address),
+            Key::Http => plain("http", ValueKind::Address),
             Key::Log => form("log", "text", "json"),
             Key::OnBreak => form("on_break", "end", "warn"),
             Key::MaxWidth => duration("max_width", 0, HOUR),

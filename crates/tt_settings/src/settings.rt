@@ -7,7 +7,7 @@ ghost use Rattle.tt_settings.specs.Fault.{IsRefusal};
 ghost use Rattle.tt_settings.specs.Check.{all_fit};
 ghost use Rattle.tt_settings.specs.Settings.{keys_of, paths_of, settings_of, settings_in};
 
-use crate::addresses::address_at;
+use crate::addresses::{address_at, http_in};
 use crate::checks::{check_masters, check_paths, check_workers};
 use crate::faults::SettingsFault;
 use crate::forms::{Conduct, OnBreak, conduct_in};
@@ -33,6 +33,7 @@ pub struct Settings {
     lease: Span,
     stampers: Option<Span>,
     listen: u16,
+    http: Option<u16>,
     conduct: Conduct,
     masters: Vec<MasterSettings>,
     paths: Paths,
@@ -45,7 +46,7 @@ impl Model for Settings {
 
     ghost Value = { Meaning };
 
-    ghost view = { λ s. meaning_of s.machine s.config s.pauses s.lease s.stampers s.listen s.conduct s.masters.items s.paths };
+    ghost view = { λ s. meaning_of s.machine s.config s.pauses s.lease s.stampers s.listen s.http s.conduct s.masters.items s.paths };
 
     ghost invariant = { λ s. s.machine ≤ max_machine };
 }
@@ -93,6 +94,13 @@ impl Settings {
         ensures value { result ≡ self.now.listen }
     {
         self.listen
+    }
+
+    /// The port of 127.0.0.1 at which it gives its status over HTTP, from 1. None if it does not.
+    pub fn http(&self) -> Option<u16>
+        ensures value { result ≡ self.now.http }
+    {
+        self.http
     }
 
     /// The form of its log.
@@ -184,7 +192,8 @@ impl Settings {
 /// `stampers` (the two ends of an interval, as `[5, 6]`, in nanoseconds; default: none), `log` (`"text"` or `"json"`;
 /// default `"text"`), `on_break` (`"end"` or `"warn"`; default `"end"`), `max_width` (from 0 to an hour, as `"10ms"`;
 /// default: no limit), `socket`, `shared`, `status`, `evidence`, `vmclock` and `keys` (paths; default: none). `listen` is
-/// `127.0.0.1:` and a port; a length of time is as [`duration_of`](crate::duration_of) reads it.
+/// `127.0.0.1:` and a port, and so is `http` (default: none), with a port from 1; a length of time is as
+/// [`duration_of`](crate::duration_of) reads it.
 ///
 /// In the short form `masters` lists addresses. In the long form there is a table `[[master]]` for each, with `address` and,
 /// for polls that are sealed, `key`: a number from 0 to 4294967295, or from one to four different ones in an array. An
@@ -197,8 +206,8 @@ impl Settings {
 /// - 1801 `NotToml`: the text is not TOML.
 /// - 1802 `UnknownKey`: a key has another name.
 /// - Of the keys, in the order `machine`, `masters` or `master` (their number), `faulty`, `workers`, `drift`, `poll`, `wait`,
-///   `floor_ahead`, `idle`, `lease_lo`, `lease_hi`, `stampers`, `listen`, `log`, `on_break`, `max_width`, `masters` or
-///   `master` (each of them), `state`, `socket`, `shared`, `status`, `evidence`, `vmclock`, `keys`: 1803 `MissingKey` where
+///   `floor_ahead`, `idle`, `lease_lo`, `lease_hi`, `stampers`, `listen`, `http`, `log`, `on_break`, `max_width`, `masters`
+///   or `master` (each of them), `state`, `socket`, `shared`, `status`, `evidence`, `vmclock`, `keys`: 1803 `MissingKey` where
 ///   the key is absent, 1804 `WrongValue` where its value has another type or is out of range, 1805 `NotLocal` where a text
 ///   is not an address of this host and has to be; before their number, 1825 `BothForms` where there are `masters` and
 ///   `master`, and 1803 of `masters` where there is neither; and behind `drift`, 1806 `TooManyFaulty` where fewer than
@@ -271,6 +280,7 @@ fn keys_of(alloc: Global, table: &Table) -> Result<Settings, SettingsFault>
     let lease = lease_in(table)?;
     let stampers = stampers_in(table)?;
     let listen = address_at(table, Key::Listen)?;
+    let http = http_in(table)?;
     let conduct = conduct_in(table)?;
     let masters = masters_of(alloc, key, items)?;
     let paths = paths_in(alloc, table)?;
@@ -281,6 +291,7 @@ fn keys_of(alloc: Global, table: &Table) -> Result<Settings, SettingsFault>
         lease,
         stampers,
         listen,
+        http,
         conduct,
         masters,
         paths,

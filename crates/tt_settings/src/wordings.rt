@@ -58,6 +58,10 @@ pub(crate) fn words_of(
         (None, SettingsFault::MissingKey(Key::Keys)) => {
             words.push_str("missing: a path, since a master has a key")?;
         }
+        (Some(value), SettingsFault::WrongValue(Key::Http)) => {
+            push_wrong(&mut words, alloc, key, value)?;
+            words.push_str(", with a port from 1")?;
+        }
         (Some(value), _) => push_wrong(&mut words, alloc, key, value)?,
         (None, _) => {
             words.push_str("missing: ")?;

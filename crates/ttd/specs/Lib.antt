@@ -3,3 +3,4 @@ pub mod Answer
 pub mod Standard
 pub mod Asking
 pub mod Keys
+pub mod Checking

@@ -6,12 +6,14 @@ ghost use Rattle.ttd.specs.Asking.{ending_of, worse};
 use crate::faults::ServiceFault;
 use crate::lines::{Line, end, keep, read_line};
 use crate::services::Stop;
+use std::fmt::Display;
 use std::io::{self, Eprint};
 use std::net::{Ipv4Addr, Net, SocketAddr, TcpStream};
 use std::os::fd::OwnedFd;
 use std::os::unix::net::UnixStream;
 use std::thread;
 use std::time::{Clock as SystemClock, Duration};
+use thiserror::Error;
 use tt_live::{Meaning, Reply, exchange, meaning_of, refusal_in};
 use tt_publish::Clock;
 use tt_session::{Deadline, DeadlineReader, DeadlineWriter, Timed};
@@ -34,6 +36,33 @@ const READ_WAIT: u64 = 100;
 /// How long it waits before it sends a line again while nothing is published, in milliseconds.
 const PAUSE: u64 = 100;
 
+/// Why no reply came. It is shown as a person reads it.
+#[derive(Clone, Copy, Debug, PartialEq, Eq, Error)]
+enum ReplyFault {
+    #[error("no whole reply within 30 seconds")]
+    Late,
+    #[error("the connection was closed or failed, or a reply has more than 128 bytes")]
+    Broken,
+    #[error("the clock can't be read")]
+    NoClock,
+}
+
+/// A connection to a machine, and how often a line is sent again while nothing is published.
+#[derive(Drop)]
+struct Link<'a> {
+    peer: Peer<'a>,
+    stream: TcpStream,
+    retry: u64,
+}
+
+/// Says on standard error why a machine does not reply, behind its address or path.
+fn say_unreached<H: Eprint, S: Display>(rt: &H, peer: Peer<'_>, why: &S) {
+    let _ = match peer {
+        Peer::Port(port) => eprint!(rt; "ttd: 127.0.0.1:{port}: {why}\n"),
+        Peer::Path(path) => eprint!(rt; "ttd: {path}: {why}\n"),
+    };
+}
+
 /// Sends lines to the machine at this address or Unix socket: the lines of `text`, or the lines of the input if there
 /// is no text. It writes each reply as soon as it comes. Standard error says what a reply `refused N` means.
 ///
@@ -48,12 +77,21 @@ pub(crate) fn ask<H: SystemClock + Eprint + Net<Stream = TcpStream>, I: ByteRead
     input: &mut I,
     output: &mut O,
 ) -> Result<(), Stop> {
-    let Ok(stream) = connect(rt, peer) else {
-        return Err(Stop::Refused(ServiceFault::LinkFailed));
+    let stream = match connect(rt, peer) {
+        Ok(stream) => stream,
+        Err(error) => {
+            say_unreached(rt, peer, &error);
+            return Err(Stop::Refused(ServiceFault::LinkFailed));
+        }
+    };
+    let link = Link {
+        peer,
+        stream,
+        retry,
     };
     let ended = match text {
-        Some(text) => ask_text(rt, &stream, text, retry, output)?,
-        None => ask_input(rt, &stream, input, retry, output)?,
+        Some(text) => ask_text(rt, &link, text, output)?,
+        None => ask_input(rt, &link, input, output)?,
     };
     match ended {
         Status::Fine => Ok(()),
@@ -82,9 +120,8 @@ fn connect<H: Net<Stream = TcpStream>>(rt: &H, peer: Peer<'_>) -> io::Result<Tcp
 /// Sends the lines of a text. Answers how the program ends.
 fn ask_text<H: SystemClock + Eprint, O: ByteWriter>(
     rt: &H,
-    stream: &TcpStream,
+    link: &Link<'_>,
     text: &str,
-    retry: u64,
     output: &mut O,
 ) -> Result<Status, Stop> {
     let mut ended = Status::Fine;
@@ -94,7 +131,7 @@ fn ask_text<H: SystemClock + Eprint, O: ByteWriter>(
             keep(&mut line, *byte);
         }
         end(&mut line);
-        ended = worse(ended, ask_line(rt, stream, &line, retry, output)?);
+        ended = worse(ended, ask_line(rt, link, &line, output)?);
     }
     Ok(ended)
 }
@@ -102,21 +139,21 @@ fn ask_text<H: SystemClock + Eprint, O: ByteWriter>(
 /// Sends the lines of the input. Answers how the program ends.
 fn ask_input<H: SystemClock + Eprint, I: ByteReader, O: ByteWriter>(
     rt: &H,
-    stream: &TcpStream,
+    link: &Link<'_>,
     input: &mut I,
-    retry: u64,
     output: &mut O,
 ) -> Result<Status, Stop> {
     let mut ended = Status::Fine;
     for _ in 0..u64::MAX {
         let Ok(read) = read_line(input) else {
+            let _ = eprint!(rt; "ttd: standard input can't be read\n");
             return Err(Stop::Refused(ServiceFault::ReadFailed));
         };
         let Some(mut line) = read else {
             break;
         };
         end(&mut line);
-        ended = worse(ended, ask_line(rt, stream, &line, retry, output)?);
+        ended = worse(ended, ask_line(rt, link, &line, output)?);
     }
     Ok(ended)
 }
@@ -146,13 +183,16 @@ fn ending_of(meaning: Meaning, refusal: Option<u64>) -> Status
 /// Sends one line, and writes its last reply. Answers how the program ends after it.
 fn ask_line<H: SystemClock + Eprint, O: ByteWriter>(
     rt: &H,
-    stream: &TcpStream,
+    link: &Link<'_>,
     line: &[u8],
-    retry: u64,
     output: &mut O,
 ) -> Result<Status, Stop> {
-    let Ok(reply) = last_reply(rt, stream, line, retry) else {
-        return Err(Stop::Refused(ServiceFault::LinkFailed));
+    let reply = match last_reply(rt, &link.stream, line, link.retry) {
+        Ok(reply) => reply,
+        Err(fault) => {
+            say_unreached(rt, link.peer, &fault);
+            return Err(Stop::Refused(ServiceFault::LinkFailed));
+        }
     };
     let refusal = refusal_in(&reply);
     if let Some(number) = refusal {
@@ -171,7 +211,7 @@ fn last_reply<H: SystemClock>(
     stream: &TcpStream,
     line: &[u8],
     retry: u64,
-) -> Result<Reply, DeviceFault> {
+) -> Result<Reply, ReplyFault> {
     let mut left = retry;
     for _ in 1..MAX_ASKS {
         let reply = reply_to(rt, stream, line)?;
@@ -191,10 +231,10 @@ fn last_reply<H: SystemClock>(
 }
 
 /// Sends a line, and takes its reply, which has to come whole in 30 seconds.
-fn reply_to<H: SystemClock>(rt: &H, stream: &TcpStream, line: &[u8]) -> Result<Reply, DeviceFault> {
+fn reply_to<H: SystemClock>(rt: &H, stream: &TcpStream, line: &[u8]) -> Result<Reply, ReplyFault> {
     let mut clock = Monotonic::new(rt);
     let Ok(now) = clock.read() else {
-        return Err(DeviceFault);
+        return Err(ReplyFault::NoClock);
     };
     let deadline = Deadline {
         at: now.saturating_add(REPLY_WAIT),
@@ -202,5 +242,12 @@ fn reply_to<H: SystemClock>(rt: &H, stream: &TcpStream, line: &[u8]) -> Result<R
     };
     let mut writer = DeadlineWriter::new(Timed::new(stream), Monotonic::new(rt), deadline);
     let mut reader = DeadlineReader::new(Timed::new(stream), clock, deadline);
-    exchange(&mut reader, &mut writer, line)
+    match exchange(&mut reader, &mut writer, line) {
+        Ok(reply) => Ok(reply),
+        Err(DeviceFault) => match Monotonic::new(rt).read() {
+            Ok(after) if after < deadline.at => Err(ReplyFault::Broken),
+            Ok(_) => Err(ReplyFault::Late),
+            Err(_) => Err(ReplyFault::NoClock),
+        },
+    }
 }

@@ -9,12 +9,13 @@
 //! - `commands`: what is said of a command that has ended. `services`: the services, and how each ended.
 //! - `making`: the service `key`.
 //! - `lines`: lines from a device. `asking`: the service `ask`.
-//! - `reading`: the service `read`. `serving`: the service `serve`. `standard`: the descriptors 0 to 2.
+//! - `reading`: the service `read`. `serving`: the service `serve`. `checking`: `serve --check`. `standard`: the descriptors 0 to 2.
 //! - `faults`: why a service refuses.
 #![tactic(auto)]
 
 mod arguments;
 mod asking;
+mod checking;
 mod commands;
 mod faults;
 mod lines;

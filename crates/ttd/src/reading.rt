@@ -5,7 +5,7 @@ use crate::services::Stop;
 use std::fs::{File, Files};
 use std::io::Eprint;
 use std::time::Clock as SystemClock;
-use tt_shared::open_view;
+use tt_shared::{SharedFault, open_view};
 use tt_stream::ByteWriter;
 use tt_text::short_line;
 use ttd_masters::Monotonic;
@@ -22,7 +22,7 @@ pub(crate) fn read<H: Files<File = File> + SystemClock + Eprint, O: ByteWriter>(
 ) -> Result<(), Stop> {
     let mut reader = match open_view(rt, file) {
         Ok(reader) => reader,
-        Err(fault) => return Err(Stop::Refused(ServiceFault::Shared(fault))),
+        Err(fault) => return Err(refused(rt, file, fault)),
     };
     match reader.now(&mut Monotonic::new(rt)) {
         Ok(seen) => {
@@ -33,6 +33,12 @@ pub(crate) fn read<H: Files<File = File> + SystemClock + Eprint, O: ByteWriter>(
             }
             write(output, line.as_str().as_bytes()).map_err(|_| Stop::Unwritten)
         }
-        Err(fault) => Err(Stop::Refused(ServiceFault::Shared(fault))),
+        Err(fault) => Err(refused(rt, file, fault)),
     }
+}
+
+/// Says on standard error why a shared file gives no reading, behind its path.
+fn refused<H: Eprint>(rt: &H, file: &str, fault: SharedFault) -> Stop {
+    let _ = eprint!(rt; "ttd: {file}: {fault}\n");
+    Stop::Refused(ServiceFault::Shared(fault))
 }

@@ -130,6 +130,7 @@ fn run_service<
             ask(rt, *peer, text, *retry, input, output)
         }
         Service::Read { file } => read(rt, file, output),
+        Service::Top { .. } => Err(Stop::Refused(ServiceFault::LinkFailed)),
         Service::Key { id, name } => make_key(rt, *id, *name, output),
     }
 }

@@ -1,5 +1,6 @@
 //! The service `serve`.
 
+use crate::checking::check as check_settings;
 use crate::faults::ServiceFault;
 use crate::services::Stop;
 use std::alloc::Global;
@@ -11,12 +12,13 @@ use std::str;
 use std::sync::Wait;
 use std::thread::Threads;
 use std::time::Clock;
+use tt_epoch::EpochFault;
 use tt_report::Disk;
-use tt_server::{ServerFault, outline, serve};
-use tt_settings::{Refusal, Settings, SettingsFault};
+use tt_server::{ServerFault, serve};
+use tt_settings::{FilePath, Refusal, Settings, SettingsFault};
 use tt_stream::ByteWriter;
-use ttd_masters::bytes_of;
-use ttd_words::{Status, write};
+use ttd_masters::{StartFault, bytes_of};
+use ttd_words::Status;
 
 /// The settings in a file. If the configuration is refused, standard error says why, and at which line.
 fn settings_of<H: Files<File = File> + Eprint>(
@@ -24,8 +26,15 @@ fn settings_of<H: Files<File = File> + Eprint>(
     alloc: Global,
     path: &str,
 ) -> Result<Settings, ServiceFault> {
-    let bytes = bytes_of(rt, alloc, path)?;
+    let bytes = match bytes_of(rt, alloc, path) {
+        Ok(bytes) => bytes,
+        Err(fault) => {
+            say_file(rt, path, fault);
+            return Err(ServiceFault::from(fault));
+        }
+    };
     let Ok(text) = str::from_utf8(bytes.as_slice()) else {
+        let _ = eprint!(rt; "ttd: {path}: it is not UTF-8\n");
         return Err(ServiceFault::BadFile);
     };
     match tt_settings::read(alloc, text) {
@@ -40,6 +49,17 @@ fn settings_of<H: Files<File = File> + Eprint>(
     }
 }
 
+/// Says on standard error why there are no bytes of a file, behind its path.
+fn say_file<H: Eprint>(rt: &H, path: &str, fault: StartFault) {
+    let _ = match fault {
+        StartFault::ReadFailed => {
+            eprint!(rt; "ttd: {path}: there is no regular file, or it can't be read\n")
+        }
+        StartFault::BadFile => eprint!(rt; "ttd: {path}: it is longer than 1048576 bytes\n"),
+        _ => Ok(()),
+    };
+}
+
 /// Says on standard error why a configuration is refused, behind its path and the line.
 fn say_refusal<H: Eprint>(rt: &H, path: &str, refusal: &Refusal) {
     let _ = match refusal.line() {
@@ -48,27 +68,70 @@ fn say_refusal<H: Eprint>(rt: &H, path: &str, refusal: &Refusal) {
     };
 }
 
-/// Says on standard error why a file of keys gives none, behind its path and the line, or that it has no key of a number.
-fn say_keys<H: Eprint>(rt: &H, settings: &Settings, fault: ServerFault) {
-    let Some(path) = settings.keys() else {
-        return;
-    };
-    match fault {
-        ServerFault::Keys(fault) => ttd_masters::say_refusal(rt, path.as_str(), fault),
-        ServerFault::NoKey(_) => {
-            let path = path.as_str();
-            let _ = eprint!(rt; "{path}: {fault}\n");
-        }
-        _ => {}
+/// The text of a path, if there is one.
+fn text_of(path: Option<&FilePath>) -> &str {
+    match path {
+        Some(path) => path.as_str(),
+        None => "",
     }
 }
 
-/// Runs the machine of a configuration until it is ended. With `check` it only writes what the machine would do. Where the
+/// The file in the folder of the state that a fault of the epoch is about.
+fn file_of(fault: EpochFault) -> &'static str {
+    match fault {
+        EpochFault::WriteFailed => "",
+        EpochFault::Locked => "/lock",
+        _ => "/epoch",
+    }
+}
+
+/// Says on standard error what a refusal of a machine is about, and why: an address, a path, or a path and a line.
+pub(crate) fn say_place<H: Eprint>(rt: &H, settings: &Settings, fault: ServerFault) {
+    let _ = match fault {
+        ServerFault::CannotListen => {
+            let port = settings.listen();
+            eprint!(rt; "ttd: 127.0.0.1:{port}: {fault}\n")
+        }
+        ServerFault::CannotListenSocket | ServerFault::NotSocket => {
+            let path = text_of(settings.socket());
+            eprint!(rt; "ttd: {path}: {fault}\n")
+        }
+        ServerFault::Epoch(inner) => {
+            let (folder, file) = (settings.state(), file_of(inner));
+            eprint!(rt; "ttd: {folder}{file}: {inner}\n")
+        }
+        ServerFault::Keys(inner) => {
+            ttd_masters::say_refusal(rt, text_of(settings.keys()), inner);
+            Ok(())
+        }
+        ServerFault::NoKey(number) => {
+            say_no_key(rt, settings, number);
+            Ok(())
+        }
+        _ => Ok(()),
+    };
+}
+
+/// Says on standard error that the file of keys has no key with this number, behind its path, and which masters have it.
+fn say_no_key<H: Eprint>(rt: &H, settings: &Settings, number: u32) {
+    let path = text_of(settings.keys());
+    for master in settings.masters() {
+        if master.keys().contains(&number) {
+            let address = master.address().as_str();
+            let _ = eprint!(rt;
+                "ttd: {path}: no key has the number {number}, which {address} has in the settings\n"
+            );
+        }
+    }
+}
+
+/// Runs the machine of a configuration until it is ended. With `check` it only writes what the machine would do and what a
+/// start would find. Where the
 /// machine ends because it knows that an assumption is broken, the program ends with status 3.
 ///
 /// Refuses with 1604 `ReadFailed` where the file is not a regular one or can't be read, with 1603 `BadFile` where it is
 /// longer than 1 MiB or is not UTF-8, with 1801 to 1806, 1810, 1817 or 1818 where the configuration is refused, and with
-/// what ended the server.
+/// what ended the server, or would refuse its start.
 pub(crate) fn run_server<
     S: Read + Send + Drop,
     H: AllocGlobal
@@ -99,13 +162,10 @@ pub(crate) fn run_server<
             }
             Err(ServerFault::Memory) => Err(Stop::Refused(ServiceFault::Memory)),
             Err(fault) => {
-                say_keys(rt, &settings, fault);
+                say_place(rt, &settings, fault);
                 Err(Stop::Refused(ServiceFault::Server(fault)))
             }
         };
     }
-    match outline(rt.alloc(), &settings) {
-        Ok(text) => write(output, text.as_str().as_bytes()).map_err(|_| Stop::Unwritten),
-        Err(_) => Err(Stop::Refused(ServiceFault::Memory)),
-    }
+    check_settings(rt, &settings, output)
 }

@@ -18,9 +18,9 @@ use Rattle.tt_settings.specs.Socket.{address_of, is_loopback}
 use Rattle.tt_keys.specs.Line.{is_name}
 use Rattle.tt_settings.specs.Form.{log_format_of}
 use Rattle.tt_settings.specs.Numeral.{number_of as amount_of}
-use Rattle.ttd_words.specs.CommandLine.{max_faulty, max_id}
+use Rattle.ttd_words.specs.CommandLine.{max_columns, max_faulty, max_id, min_columns}
 use Rattle.ttd_words.specs.Fault.{◌>>=◌, id_of}
-use Rattle.ttd_words.specs.Reading.{AtPath, refuse_if, act_of, age_at, drift_at, duration_at, duration_if, faulty_at, faulty_of, has_twice, flag_at, key_at, key_of_both, no_ntp_option, no_ntp_options, no_stated_option, ntp_of, number_if, number_or, offset_if, server_if, servers_fit, servers_in, stated_of, time_by, time_of, acts_at, acts_in, ask_of, has_byte, id_at, id_if, key_of, listen_at, listen_if, log_at, master_of, name_at, name_if, number_at, number_to, offset_by, place_at, place_by, place_in, read_of, serve_of, service_of, text_at, time_behind, up_to}
+use Rattle.ttd_words.specs.Reading.{AtPath, refuse_if, act_of, age_at, drift_at, duration_at, duration_if, faulty_at, faulty_of, has_twice, flag_at, key_at, key_of_both, no_ntp_option, no_ntp_options, no_stated_option, ntp_of, number_if, number_or, offset_if, server_if, servers_fit, servers_in, stated_of, time_by, time_of, acts_at, acts_in, ask_of, has_byte, id_at, id_if, key_of, listen_at, listen_if, log_at, master_of, name_at, name_if, number_at, number_to, offset_by, place_at, place_by, place_in, read_of, serve_of, service_of, text_at, time_behind, top_of, columns_if, up_to}
 use Rattle.ttd_words.specs.declared.faults.Given.{Given}
 use Rattle.ttd_words.specs.declared.faults.Given.TheVariants as given
 use Rattle.ttd_words.specs.declared.faults.TimeOption.{TimeOption}
@@ -262,6 +262,20 @@ serve_fair rows = then_fair (text_at (codes "file") rows) _ (text_fair (codes "f
 read_fair : (rows : List Row) → IsFair (read_of rows)
 read_fair rows = then_fair (text_at (codes "file") rows) _ (text_fair (codes "file") rows) (λ file. tt)
 
+columns_fair : (o : Option ℕ) → IsFair (columns_if o)
+columns_fair None = tt
+columns_fair (Some n) = go (nat_le min_columns n && nat_le n max_columns)
+  where
+    go : (b : Bool) → IsFair (cond b (Ok (Some n)) (Err BadWords))
+    go true = tt
+    go false = bad_words
+
+top_fair : (rows : List Row) → IsFair (top_of rows)
+unfolding top_of
+top_fair rows =
+    then_fair (place_at (codes "place") rows) _ (then_fair (text_at (codes "place") rows) _ (text_fair (codes "place") rows) place_in_fair) (λ place.
+    then_fair (columns_if (number_at (codes "columns") rows)) _ (columns_fair (number_at (codes "columns") rows)) (λ columns. tt))
+
 key_fair : (rows : List Row) → IsFair (key_of rows)
 key_fair rows =
     then_fair (id_at (codes "id") rows) _ (id_fair (number_at (codes "id") rows)) (λ id.
@@ -269,12 +283,13 @@ key_fair rows =
 
 -- what is asked of a service is never refused for want of memory
 pub service_fair : (name : Text) (rows : List Row) → IsFair (service_of name rows)
-service_fair name rows = go (bytes_eq name (codes "master")) (bytes_eq name (codes "serve")) (bytes_eq name (codes "ask")) (bytes_eq name (codes "read")) (bytes_eq name (codes "key"))
+service_fair name rows = go (bytes_eq name (codes "master")) (bytes_eq name (codes "serve")) (bytes_eq name (codes "ask")) (bytes_eq name (codes "read")) (bytes_eq name (codes "top")) (bytes_eq name (codes "key"))
   where
-    go : (a b c d e : Bool) → IsFair (cond a (master_of rows) (cond b (serve_of rows) (cond c (ask_of rows) (cond d (read_of rows) (cond e (key_of rows) (Err BadWords))))))
-    go true b c d e = master_fair rows
-    go false true c d e = serve_fair rows
-    go false false true d e = ask_fair rows
-    go false false false true e = read_fair rows
-    go false false false false true = key_fair rows
-    go false false false false false = bad_words
+    go : (a b c d e f : Bool) → IsFair (cond a (master_of rows) (cond b (serve_of rows) (cond c (ask_of rows) (cond d (read_of rows) (cond e (top_of rows) (cond f (key_of rows) (Err BadWords)))))))
+    go true b c d e f = master_fair rows
+    go false true c d e f = serve_fair rows
+    go false false true d e f = ask_fair rows
+    go false false false true e f = read_fair rows
+    go false false false false true f = top_fair rows
+    go false false false false false true = key_fair rows
+    go false false false false false false = bad_words

@@ -211,7 +211,7 @@ all_taken = (
                       service_taken _ refl (λ rows. refl) refl refl,
                       (
                         service_taken _ refl (λ rows. refl) refl refl,
-                        (service_taken _ refl (λ rows. refl) refl refl, (service_taken _ refl (λ rows. refl) refl refl, (help_taken _ refl refl, tt))),
+                        (service_taken _ refl (λ rows. refl) refl refl, (service_taken _ refl (λ rows. refl) refl refl, (service_taken _ refl (λ rows. refl) refl refl, (help_taken _ refl refl, tt)))),
                       ),
                     ),
                   ),

@@ -135,6 +135,30 @@ read_app = with_rule (new_app (codes "read")) (place_rule (codes "file"))
 unfoldable pub key_app : App
 key_app = with_rule (with_rule (new_app (codes "key")) (id_rule (codes "id"))) (free_rule (codes "name"))
 
+-- The least number of columns of a table.
+abbrev pub min_columns : ℕ
+min_columns = 40
+
+-- The greatest number of columns of a table.
+abbrev pub max_columns : ℕ
+max_columns = 300
+
+-- The option `--columns N` with a number of columns, which may be left out.
+abbrev pub columns_rule : Rule
+columns_rule = record (new_rule (codes "columns")) {
+  long = Some (codes "columns");
+  value_names = 1;
+  parser = Some (vp.Unsigned min_columns max_columns);
+}
+
+-- The command `top` with its place and whether it shows one table.
+unfoldable pub plain_top_app : App
+plain_top_app = with_rule (with_rule (new_app (codes "top")) (place_rule (codes "place"))) (flag_rule (codes "once"))
+
+-- The command `top` with these, its columns, and whether it draws.
+unfoldable pub top_app : App
+top_app = with_rule (with_rule plain_top_app columns_rule) (flag_rule (codes "svg"))
+
 -- The program with no command yet: its words begin with no name of the program, and one command has to be named.
 unfoldable pub bare_app : App
 bare_app = on_top (λ s. record s { has_version = true; no_binary_name = true; subcommand_required = true }) (new_app (codes "ttd"))
@@ -157,8 +181,8 @@ servers_app = with_subcommand (with_subcommand inputs_app master_app.top) serve_
 
 -- The program with all its commands.
 unfoldable pub ttd_app : App
-unfolding age_app twin_app plain_master_app stated_master_app ntp_master_app paced_master_app asking_master_app master_app serve_app ask_app read_app key_app bare_app sources_app runs_app inputs_app servers_app
-ttd_app = with_subcommand (with_subcommand (with_subcommand servers_app ask_app.top) read_app.top) key_app.top
+unfolding age_app twin_app plain_master_app stated_master_app ntp_master_app paced_master_app asking_master_app master_app serve_app ask_app read_app plain_top_app top_app key_app bare_app sources_app runs_app inputs_app servers_app
+ttd_app = with_subcommand (with_subcommand (with_subcommand (with_subcommand servers_app ask_app.top) read_app.top) top_app.top) key_app.top
 
 -- What clap finds wrong with the words: nothing where it takes them, and else the kinds of error that it may answer.
 unfoldable pub faults_of : List Text → Kinds
@@ -171,7 +195,7 @@ named_by words = subcommand_of ttd_app words
 -- A word names a service.
 abbrev pub is_service : Text → Bool
 is_service word = bytes_eq word (codes "master") || (bytes_eq word (codes "serve")
-    || (bytes_eq word (codes "ask") || (bytes_eq word (codes "read") || bytes_eq word (codes "key"))))
+    || (bytes_eq word (codes "ask") || (bytes_eq word (codes "read") || (bytes_eq word (codes "top") || bytes_eq word (codes "key")))))
 
 -- The command that is named is a service.
 abbrev pub names_service : Option (Text × List Row) → Bool

@@ -27,7 +27,7 @@ use Rattle.tt_settings.specs.Form.{log_format_of}
 use Rattle.tt_settings.specs.Numeral.{number_of as amount_of}
 use Rattle.tt_settings.specs.Socket.{address_of, is_loopback}
 use Rattle.tt_keys.specs.Line.{is_name}
-use Rattle.ttd_words.specs.CommandLine.{faults_of, max_faulty, max_id, max_number, named_by, names_service}
+use Rattle.ttd_words.specs.CommandLine.{faults_of, max_columns, max_faulty, max_id, max_number, min_columns, named_by, names_service}
 use Rattle.ttd_words.specs.Fault.{◌>>=◌, id_of}
 use Rattle.ttd_words.specs.declared.requests.Asked.{Asked}
 use Rattle.ttd_words.specs.declared.requests.Asked.TheVariants as asks
@@ -43,6 +43,8 @@ use Rattle.ttd_words.specs.declared.requests.Service.{Service}
 use Rattle.ttd_words.specs.declared.requests.Service.TheVariants as service
 use Rattle.ttd_words.specs.declared.requests.Side.{Side}
 use Rattle.ttd_words.specs.declared.requests.Side.TheVariants.{Low, High}
+use Rattle.ttd_words.specs.declared.requests.TopPlace.{TopPlace}
+use Rattle.ttd_words.specs.declared.requests.TopPlace.TheVariants as shown
 use Rattle.ttd_words.specs.declared.faults.Given.{Given}
 use Rattle.ttd_words.specs.declared.faults.Given.TheVariants as given
 use Rattle.ttd_words.specs.declared.faults.TimeOption.{TimeOption}
@@ -77,6 +79,11 @@ pub data Place : Type 0 where
 abbrev pub place_of : Peer → Place
 place_of (peer.Port port) = AtPort port
 place_of (peer.Path path) = AtPath path.now
+
+-- Where the status that is shown comes from: a machine that is asked for it, or a file.
+abbrev pub top_place_of : TopPlace → Place
+top_place_of (shown.Port port) = AtPort port
+top_place_of (shown.File path) = AtPath path.now
 
 -- How a master stands on NTP servers, without its memory.
 pub record NtpPlan : Type 0 where
@@ -116,6 +123,7 @@ pub data Meaning : Type 0 where
   Serve : Text → Bool → Bool → Meaning
   Ask : Place → Option Text → ℕ → Meaning
   Read : Text → Meaning
+  Top : Place → Bool → Option ℕ → Bool → Meaning
   Key : Option ℕ → Option Text → Meaning
 
 -- What a service is to do.
@@ -125,6 +133,7 @@ meaning_of (service.Master source listen time warn_width log keys status) =
 meaning_of (service.Serve file check until_eof) = Serve file.now check until_eof
 meaning_of (service.Ask peer line retry) = Ask (place_of peer) (option_map string_bytes line) retry
 meaning_of (service.Read file) = Read file.now
+meaning_of (service.Top place once columns svg) = Top (top_place_of place) once columns svg
 meaning_of (service.Key id name) = Key id (option_map (λ text. text.now) name)
 
 -- A number of at most `most`, where there is one.
@@ -428,6 +437,18 @@ read_of rows = do
   file ← text_at (codes "file") rows
   Ok (Read file)
 
+-- A number of columns, where one was given.
+abbrev pub columns_if : Option ℕ → Result (Option ℕ) WordsFault
+columns_if None = Ok None
+columns_if (Some n) = if nat_le min_columns n && nat_le n max_columns then Ok (Some n) else Err BadWords
+
+-- The command `top` by what was found: a drawing is one table as well.
+unfoldable pub top_of : List Row → Result Meaning WordsFault
+top_of rows = do
+  place ← place_at (codes "place") rows
+  columns ← columns_if (number_at (codes "columns") rows)
+  Ok (Top place (flag_at (codes "once") rows || flag_at (codes "svg") rows) columns (flag_at (codes "svg") rows))
+
 -- The command `key` by what was found.
 abbrev pub key_of : List Row → Result Meaning WordsFault
 key_of rows = do
@@ -441,7 +462,8 @@ service_of name rows = if bytes_eq name (codes "master") then master_of rows
     else (if bytes_eq name (codes "serve") then serve_of rows
     else (if bytes_eq name (codes "ask") then ask_of rows
     else (if bytes_eq name (codes "read") then read_of rows
-    else (if bytes_eq name (codes "key") then key_of rows else Err BadWords))))
+    else (if bytes_eq name (codes "top") then top_of rows
+    else (if bytes_eq name (codes "key") then key_of rows else Err BadWords)))))
 
 -- The side that a text names.
 abbrev pub side_in : Text → Result Side WordsFault

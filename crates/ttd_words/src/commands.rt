@@ -4,15 +4,15 @@ ghost use Rattle.std.specs.Prelude.{◌≡◌, IfOk, false};
 ghost use Rattle.clap.specs.Simple.{new_app, with_rule};
 ghost use Rattle.clap.specs.Words.{app_of, rule_of};
 ghost use Rattle.clap.specs.declared.builder.command.Command.TheViews.{out-Command};
-ghost use Rattle.ttd_words.specs.CommandLine.{age_app, ask_app, asking_master_app, key_app, master_app, ntp_master_app, paced_master_app, plain_master_app, read_app, serve_app, stated_master_app, twin_app};
+ghost use Rattle.ttd_words.specs.CommandLine.{age_app, ask_app, asking_master_app, key_app, master_app, ntp_master_app, paced_master_app, plain_master_app, plain_top_app, read_app, serve_app, stated_master_app, top_app, twin_app};
 
 use crate::help::{ABOUT_AGE, ABOUT_TWIN};
 use crate::options::{
-    drift_option, faulty_option, flag, free_option, given_option, id_option, line_words,
-    log_option, many_option, master_drift_option, place, retry_option, source_option, text_option,
-    time_option,
+    columns_option, drift_option, faulty_option, flag, free_option, given_option, id_option,
+    line_words, log_option, many_option, master_drift_option, place, retry_option, source_option,
+    text_option, time_option,
 };
-use crate::service_help::{ABOUT_ASK, ABOUT_KEY, ABOUT_MASTER, ABOUT_READ, ABOUT_SERVE};
+use crate::service_help::{ABOUT_ASK, ABOUT_KEY, ABOUT_MASTER, ABOUT_READ, ABOUT_SERVE, ABOUT_TOP};
 use clap::{Arg, Command};
 use std::alloc::{AllocError, Global};
 
@@ -297,6 +297,43 @@ pub(crate) fn read_command<'a>(alloc: Global) -> Result<Command<'a>, AllocError>
         ABOUT_READ,
     );
     bare.arg(place(alloc, "file", "FILE", "The shared file"))
+}
+
+/// The command `top` with its place and whether it shows one table.
+#[tactic(auto, unfolding(crate::specs::CommandLine::plain_top_app))]
+fn plain_top_command<'a>(alloc: Global) -> Result<Command<'a>, AllocError>
+    ensures app { IfOk result (λ c. app_of c ≡ plain_top_app) }
+    ensures local { IfOk result (λ c. (out-Command c).has_globals ≡ false) }
+{
+    let bare = plain_command(
+        alloc,
+        "top",
+        "Shows the status of a machine or a master, once a second",
+        ABOUT_TOP,
+    );
+    let place = place(
+        alloc,
+        "place",
+        "FILE|ADDRESS",
+        "Its status file, or where it serves its status: 127.0.0.1:PORT",
+    );
+    let once = flag(alloc, "once", "Shows it once, and ends");
+    with_two(bare, place, once)
+}
+
+/// The command `top`.
+#[tactic(auto, unfolding(crate::specs::CommandLine::top_app))]
+pub(crate) fn top_command<'a>(alloc: Global) -> Result<Command<'a>, AllocError>
+    ensures app { IfOk result (λ c. app_of c ≡ top_app) }
+    ensures local { IfOk result (λ c. (out-Command c).has_globals ≡ false) }
+{
+    let plain = plain_top_command(alloc)?;
+    let svg = flag(
+        alloc,
+        "svg",
+        "Draws it once as SVG, with the intervals of the sources, and ends",
+    );
+    with_two(plain, columns_option(alloc), svg)
 }
 
 /// The command `key`.

@@ -102,8 +102,8 @@ pub enum Given {
     /// `--name` of `key`.
     #[error("invalid arguments: --name is printable characters of ASCII without blanks")]
     Name,
-    /// The machine that `ask` asks.
-    #[error("not an address of this host, as 127.0.0.1:7101, nor the path of a Unix socket")]
+    /// The machine that `ask` asks, or the place of the status that `top` shows.
+    #[error("neither an address of this host, as 127.0.0.1:7101, nor a path: a text with a slash, or without a colon")]
     Address,
 }
 

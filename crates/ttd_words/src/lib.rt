@@ -50,7 +50,7 @@ pub mod words;
 pub use ending::Status;
 pub use faults::{Given, TimeOption, WordsFault};
 pub use refusals::{end_with, explain, explain_unwritten, refuse, write};
-pub use requests::{Asked, Command, MasterTime, NtpTime, Offset, Peer, Service, Side};
+pub use requests::{Asked, Command, MasterTime, NtpTime, Offset, Peer, Service, Side, TopPlace};
 pub use sentences::sentence_of;
 pub use texts::{help_text, mistake_text, usage_text};
 pub use words::{is_service, read_words, word_laws};

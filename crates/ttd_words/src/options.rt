@@ -7,10 +7,10 @@ ghost use Rattle.tt_span.specs.Drift.{max_drift};
 ghost use Rattle.tt_span.specs.Time.{max_time};
 ghost use Rattle.tt_poll.specs.Message.{max_source};
 ghost use Rattle.tt_daemon.specs.Config.{default_drift};
-ghost use Rattle.ttd_words.specs.CommandLine.{drift_rule, flag_rule, free_rule, given_rule, id_rule, log_rule, many_rule, max_faulty, needed_rule, number_rule, place_rule, retry_rule, text_rule, words_rule};
+ghost use Rattle.ttd_words.specs.CommandLine.{columns_rule, drift_rule, flag_rule, free_rule, given_rule, id_rule, log_rule, many_rule, max_faulty, needed_rule, number_rule, place_rule, retry_rule, text_rule, words_rule};
 
 use crate::masters::MOST_FAULTY;
-use crate::values::MOST_ID;
+use crate::values::{LEAST_COLUMNS, MOST_COLUMNS, MOST_ID};
 use crate::words::MOST_RETRY;
 use clap::{Arg, ArgAction, value_parser};
 use std::alloc::Global;
@@ -191,6 +191,18 @@ pub(crate) fn retry_option<'a>(alloc: Global) -> Arg<'a>
         .default_value("50")
         .help("How often a line is sent again while nothing is published, 100 ms apart; up to 9999")
         .value_parser(value_parser!(u64).range(..=MOST_RETRY as i64))
+}
+
+/// The option `--columns N`: from [`LEAST_COLUMNS`] to [`MOST_COLUMNS`].
+pub(crate) fn columns_option<'a>(alloc: Global) -> Arg<'a>
+    ensures rule { rule_of result ≡ columns_rule }
+    ensures local { result.global ≡ false }
+{
+    Arg::new(alloc, "columns")
+        .long("columns")
+        .value_name("N")
+        .help("The width of the table in columns, from 40 to 300")
+        .value_parser(value_parser!(u64).range(LEAST_COLUMNS as i64..=MOST_COLUMNS as i64))
 }
 
 /// A flag `--NAME`.

@@ -69,6 +69,15 @@ pub enum Peer<'a> {
     Path(&'a str),
 }
 
+/// Where the status comes from that is shown.
+#[derive(Clone, Copy, Debug, PartialEq, Eq)]
+pub enum TopPlace<'a> {
+    /// From this port of 127.0.0.1, at which a machine serves it over HTTP.
+    Port(u16),
+    /// From the file with this path.
+    File(&'a str),
+}
+
 /// What a master's answers stand on.
 #[derive(Debug, Drop)]
 pub enum MasterTime<'a> {
@@ -152,6 +161,17 @@ pub enum Service<'a> {
     Read {
         /// The path of the file.
         file: &'a str,
+    },
+    /// `top`: shows the status of a machine or a master.
+    Top {
+        /// Where the status comes from.
+        place: TopPlace<'a>,
+        /// Whether it is shown once. A drawing is.
+        once: bool,
+        /// The columns of the table, from 40 to 300. None: they were not given.
+        columns: Option<u64>,
+        /// Whether it is drawn, as SVG.
+        svg: bool,
     },
     /// `key`: makes a line for a file of keys.
     Key {

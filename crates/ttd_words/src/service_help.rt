@@ -58,7 +58,9 @@ Refused:
 pub(crate) const ABOUT_SERVE: &str = "\
 Runs one machine by its configuration, at most 1048576 bytes of TOML: it polls its masters, fuses
 their answers, and serves clients, until it is ended. With --until-eof it ends in order when
-standard input ends. With --check it prints what it would do, and ends.
+standard input ends. With --check it prints what it would do and what it finds, the keys and the
+addresses of names among it, refuses what a start would refuse of these files, and ends. It changes
+nothing, and the machine may be running.
 
 When it notices that one of its assumptions is broken, it says so and ends itself; the status is 3.
 With `on_break = \"warn\"` in the configuration it only says so.
@@ -75,7 +77,8 @@ Refused:
   1817, 1818    the configuration: a path with two purposes, a master that is named twice
   1807 to 1816  the server does not start: its sockets, epoch or threads; the status is 4 for 1807
                 to 1809, 1811 and 1812
-  1819          what is at the path of the Unix socket is not a socket";
+  1819          what is at the path of the Unix socket is not a socket
+  2211 to 2216  the file of keys, as with `ttd master`; 1827: it has no key with a number of `key`";
 
 /// What `ask` does.
 pub(crate) const ABOUT_ASK: &str = "\
@@ -119,7 +122,34 @@ Refused:
   1702  it is not a shared file of this boot
   1703  no machine wrote what it holds
   1704  each try met another publication
-  1708  the reading is wider than the machine allows";
+  1708  the clock is past the last reading at which the publication may be used";
+
+/// What `top` does.
+pub(crate) const ABOUT_TOP: &str = "\
+Shows the status of a machine or a master as a table, and again each second until it is ended: how
+wide its readings are and how old the last fusion is, each of its sources with its answers, its round
+trips, its width and how far its middle is off, and what was refused. --once shows one table, and
+ends. Without --columns it is as wide as 80 columns.
+
+The status is read from the file that `status` of the configuration names (for a master --status),
+or asked over HTTP at 127.0.0.1 and the port that `http` of the configuration names: a text with a
+slash, or without a colon, is the path of a file. A status that is late is shown as it is, with how
+late it is.
+
+With --svg it draws one picture of the intervals of the sources and of the reading in place of the
+table, as SVG on standard output, and ends.
+
+Examples:
+  ttd top /run/truetime/status
+  ttd top 127.0.0.1:7201 --once --columns 120
+  ttd top /run/truetime/status --svg > now.svg
+
+Refused:
+  1601  invalid arguments, and columns outside 40 to 300
+  1805  the text has a colon and no slash, and is not 127.0.0.1: and a port
+  1604  the file can't be read; the status is 4
+  1603  the file is too long, not UTF-8, or not a status
+  1501  the status can't be had over HTTP; the status is 4";
 
 /// What `key` does.
 pub(crate) const ABOUT_KEY: &str = "\

@@ -69,8 +69,8 @@ fn given_mistake(
     }
 }
 
-/// The argument with such a value, as the help names it, and its name.
-fn named_by(given: Given) -> (&'static str, &'static str) {
+/// The argument with such a value of this command, as the help names it, and its name.
+fn named_by(given: Given, command: &str) -> (&'static str, &'static str) {
     match given {
         Given::Side => ("--side <SIDE>", "side"),
         Given::Listen | Given::NotLocal => ("--listen <ADDRESS>", "listen"),
@@ -82,6 +82,7 @@ fn named_by(given: Given) -> (&'static str, &'static str) {
         Given::Faulty => ("--faulty <N>", "faulty"),
         Given::Every => ("--every <TIME>", "every"),
         Given::MaxAge => ("--max-age <TIME>", "max-age"),
+        _ if command == "top" => ("<FILE|ADDRESS>", "place"),
         _ => ("<ADDRESS|PATH>", "address"),
     }
 }
@@ -92,10 +93,10 @@ fn value_mistake(
     matches: &ArgMatches<'_>,
     given: Given,
 ) -> Result<String, AllocError> {
-    let Some((_, options)) = matches.subcommand() else {
+    let Some((command, options)) = matches.subcommand() else {
         return Err(AllocError);
     };
-    let (name, id) = named_by(given);
+    let (name, id) = named_by(given, command);
     let value = match options.get_strs(id) {
         Some(values) => refused_of(given, values),
         None => "",

@@ -6,7 +6,7 @@ ghost use Rattle.ttd_words.specs.CommandLine.{bare_app, inputs_app, runs_app, se
 
 use crate::commands::{
     age_command, ask_command, key_command, master_command, plain_command, read_command,
-    serve_command, twin_command,
+    serve_command, top_command, twin_command,
 };
 use crate::help::{
     ABOUT_ANSWERS, ABOUT_CHECK, ABOUT_FUSE, ABOUT_JUDGE, ABOUT_LIVE, ABOUT_PICTURE, ABOUT_RUN,
@@ -117,7 +117,7 @@ fn servers_command<'a>(alloc: Global) -> Result<Command<'a>, AllocError>
     with_master.subcommand(serve)
 }
 
-/// The whole command line: these commands, `ask`, `read` and `key`.
+/// The whole command line: these commands, `ask`, `read`, `top` and `key`.
 pub(crate) fn ttd_command<'a>(alloc: Global) -> Result<Command<'a>, AllocError>
     ensures app { IfOk result (λ c. app_of c ≡ ttd_app) }
 {
@@ -126,6 +126,8 @@ pub(crate) fn ttd_command<'a>(alloc: Global) -> Result<Command<'a>, AllocError>
     let with_ask = servers.subcommand(ask)?;
     let read = read_command(alloc)?;
     let with_read = with_ask.subcommand(read)?;
+    let top = top_command(alloc)?;
+    let with_top = with_read.subcommand(top)?;
     let key = key_command(alloc)?;
-    with_read.subcommand(key)
+    with_top.subcommand(key)
 }

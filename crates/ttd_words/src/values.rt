@@ -6,11 +6,11 @@ ghost use Rattle.clap.specs.Words.{found_of, rows_of};
 ghost use Rattle.tt_span.specs.Time.{max_time};
 ghost use Rattle.tt_settings.specs.Numeral.{number_of as number_in};
 ghost use Rattle.tt_settings.specs.Socket.{address_of as address_in};
-ghost use Rattle.ttd_words.specs.Reading.{act_of, acts_at, acts_in, flag_at, id_at, line_at, listen_at, listen_if, log_at, name_at, number_at, number_to, number_if, number_or, offset_by, offset_if, offset_in, place_at, place_in, place_of, side_at, side_in, text_at, time_behind};
+ghost use Rattle.ttd_words.specs.Reading.{act_of, acts_at, acts_in, flag_at, id_at, line_at, listen_at, listen_if, log_at, name_at, number_at, number_to, number_if, number_or, offset_by, offset_if, offset_in, place_at, place_in, place_of, columns_if, side_at, side_in, text_at, time_behind, top_place_of};
 ghost use Rattle.tt_script.specs.Acts.{act_in as act_in_script};
 
 use crate::faults::{Given, WordsFault};
-use crate::requests::{Offset, Peer, Side};
+use crate::requests::{Offset, Peer, Side, TopPlace};
 use clap::ArgMatches;
 use std::alloc::Global;
 use std::net::SocketAddr;
@@ -20,6 +20,12 @@ use tt_script::act_in;
 use tt_settings::{address_of, is_loopback, log_format_of, number_of, port_of};
 use tt_span::MAX_TIME;
 use tt_status::LogFormat;
+
+/// The least number of columns of a table.
+pub(crate) const LEAST_COLUMNS: u64 = 40;
+
+/// The greatest number of columns of a table.
+pub(crate) const MOST_COLUMNS: u64 = 300;
 
 /// The greatest number of a key.
 pub(crate) const MOST_ID: u64 = 4_294_967_295;
@@ -176,6 +182,32 @@ pub(crate) fn peer_at<'a>(matches: &ArgMatches<'a>, id: &str) -> Result<Peer<'a>
         MatchResult result (λ peer. defined ≡ Ok (place_of peer)) (λ fault. defined ≡ Err fault) }
 {
     peer_in(text_at(matches, id)?)
+}
+
+/// The place of a status that was given.
+pub(crate) fn top_place_at<'a>(
+    matches: &ArgMatches<'a>,
+    id: &str,
+) -> Result<TopPlace<'a>, WordsFault>
+    ensures { let defined = place_at id.now (rows_of (found_of matches.now)) in
+        MatchResult result (λ place. defined ≡ Ok (top_place_of place)) (λ fault. defined ≡ Err fault) }
+{
+    match peer_at(matches, id) {
+        Ok(Peer::Port(port)) => Ok(TopPlace::Port(port)),
+        Ok(Peer::Path(path)) => Ok(TopPlace::File(path)),
+        Err(fault) => Err(fault),
+    }
+}
+
+/// The number of columns that was given for an option. None if it was left out.
+pub(crate) fn columns_at(matches: &ArgMatches<'_>, id: &str) -> Result<Option<u64>, WordsFault>
+    ensures { result ≡ columns_if (number_at id.now (rows_of (found_of matches.now))) }
+{
+    match number_given(matches, id) {
+        Some(number) if LEAST_COLUMNS <= number && number <= MOST_COLUMNS => Ok(Some(number)),
+        Some(_) => Err(WordsFault::BadWords),
+        None => Ok(None),
+    }
 }
 
 /// The side with this name.

@@ -6,15 +6,15 @@ ghost use Rattle.clap.specs.Words.{FailsBy, found_of, rows_of, subcommand_rows_o
 ghost use Rattle.tt_span.specs.Drift.{max_drift};
 ghost use Rattle.tt_daemon.specs.Config.{default_drift};
 ghost use Rattle.ttd_words.specs.CommandLine.{faults_of, is_service as names_one, named_by, names_service};
-ghost use Rattle.ttd_words.specs.Reading.{AreForHelp, AreMistaken, AreTaken, HasAge, HasNumbers, IsMeant, IsRefused, IsUnlessMemory, Meaning, Request, age_of, ask_of, asked_of, command_named, key_of, master_of, number_at, read_of, request_in, request_named, serve_of, service_named, twin_of};
+ghost use Rattle.ttd_words.specs.Reading.{AreForHelp, AreMistaken, AreTaken, HasAge, HasNumbers, IsMeant, IsRefused, IsUnlessMemory, Meaning, Request, age_of, ask_of, asked_of, command_named, key_of, master_of, number_at, read_of, request_in, request_named, serve_of, service_named, top_of, twin_of};
 
 use crate::faults::{Given, WordsFault};
 use crate::masters::time_asked;
 use crate::requests::{Asked, Command, Service};
 use crate::tree::ttd_command;
 use crate::values::{
-    flag_at, id_at, line_at, listen_at, log_at, name_at, number_given, number_if, number_to,
-    path_at, peer_at, side_at, text_at,
+    columns_at, flag_at, id_at, line_at, listen_at, log_at, name_at, number_given, number_if,
+    number_to, path_at, peer_at, side_at, text_at, top_place_at,
 };
 use clap::error::ErrorKind;
 use clap::{ArgMatches, Error};
@@ -29,7 +29,7 @@ pub(crate) const MOST_RETRY: u64 = 9999;
 pub fn is_service(word: &str) -> bool
     ensures { result ≡ names_one word.now }
 {
-    matches!(word, "master" | "serve" | "ask" | "read" | "key")
+    matches!(word, "master" | "serve" | "ask" | "read" | "top" | "key")
 }
 
 /// The number that was given for an option, or its default. It is there.
@@ -149,6 +149,23 @@ fn read_asked<'a>(matches: &ArgMatches<'a>) -> Result<Service<'a>, WordsFault>
     Ok(Service::Read { file })
 }
 
+/// The service `top` with these options.
+#[tactic(auto, unfolding(crate::specs::Reading::top_of))]
+fn top_asked<'a>(matches: &ArgMatches<'a>) -> Result<Service<'a>, WordsFault>
+    ensures { IsMeant (top_of (rows_of (found_of matches.now))) result }
+{
+    let place = top_place_at(matches, "place")?;
+    let columns = columns_at(matches, "columns")?;
+    let svg = flag_at(matches, "svg");
+    let once = flag_at(matches, "once") || svg;
+    Ok(Service::Top {
+        place,
+        once,
+        columns,
+        svg,
+    })
+}
+
 /// The service `key` with these options.
 fn key_asked<'a>(matches: &ArgMatches<'a>) -> Result<Service<'a>, WordsFault>
     ensures { IsMeant (key_of (rows_of (found_of matches.now))) result }
@@ -170,6 +187,7 @@ fn service_asked<'a>(alloc: Global, matches: &ArgMatches<'a>) -> Result<Service<
         "serve" => serve_asked(options),
         "ask" => ask_asked(alloc, options),
         "read" => read_asked(options),
+        "top" => top_asked(options),
         "key" => key_asked(options),
         _ => Err(WordsFault::BadWords),
     }
@@ -219,8 +237,9 @@ pub(crate) fn parsed<'a>(alloc: Global, words: &'a [&'a str]) -> Result<ArgMatch
 /// A number is read as `u64` reads it: decimal digits, with one `+` in front or none; leading zeros are allowed. An
 /// offset is decimal digits without leading zeros, behind a `+`, a `-` or nothing. An act is as in a script. The address
 /// at which a master listens is one of IPv4 or IPv6 with a port, in the one spelling in which it is printed; without a
-/// file of keys it is on the loopback. The address of a machine that is asked is `127.0.0.1:` and a port. Where `ask` is given a text with a `/`, or one that has no `:` and is not empty, that is
-/// the path of a Unix socket.
+/// file of keys it is on the loopback. The address of a machine that is asked, or whose status is shown, is `127.0.0.1:`
+/// and a port. Where `ask` or `top` is given a text with a `/`, or one that has no `:` and is not empty, that is the path
+/// of a Unix socket, or of a status file. The columns of `top` are from 40 to 300.
 ///
 /// A master has exactly one of an uncertainty and NTP servers, and no option of the other. The address of a server is as
 /// that at which a master listens, of any host, with a port above 0. There are at most 16, none twice, and more than

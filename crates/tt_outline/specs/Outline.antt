@@ -44,14 +44,30 @@ path_line word None = []
 abbrev pub growth_of : Pauses → ℕ → ℕ
 growth_of pauses drift = 2 * widening drift (period_of pauses)
 
+-- how wide a reading is just before the next publication, beside what the master states: the round trip of its answer, widened by the drift, and the growth
+abbrev pub width_beyond : Pauses → ℕ → ℕ → ℕ
+width_beyond pauses drift trip = trip + widening drift trip + growth_of pauses drift
+
+-- the line of a round trip and this width
+abbrev pub width_line : Pauses → ℕ → ℕ → List ℕ
+width_line pauses drift trip = line_of (codes "width") (trip ∷ width_beyond pauses drift trip ∷ [])
+
+-- the widths behind round trips of 100 us, 1 ms, 10 ms and 100 ms
+unfoldable pub widths_text : Pauses → ℕ → List ℕ
+widths_text pauses drift =
+    width_line pauses drift 100000
+    ++ width_line pauses drift 1000000
+    ++ width_line pauses drift 10000000
+    ++ width_line pauses drift 100000000
+
 -- one thread, where there is something to do
 abbrev pub one_if : Bool → ℕ
 one_if true = 1
 one_if false = 0
 
--- the threads for what only some settings have: one for the file of the status, one for that of the evidence, and one for the names of masters
-abbrev pub helpers_of : Bool → Bool → Bool → ℕ
-helpers_of has_status has_evidence has_names = one_if has_status + one_if has_evidence + one_if has_names
+-- the threads for what only some settings have: one for the file of the status, one for that of the evidence, one for pages, and one for the names of masters
+abbrev pub helpers_of : Bool → Bool → Bool → Bool → ℕ
+helpers_of has_status has_evidence has_http has_names = one_if has_status + one_if has_evidence + one_if has_http + one_if has_names
 
 -- the threads of so many workers and helpers, and of the daemon, the acceptor, the log, and the end of standard input
 abbrev pub threads_of : ℕ → ℕ → ℕ
@@ -76,10 +92,11 @@ config_text c =
     ++ line_of (codes "workers") (c.workers ∷ [])
     ++ line_of (codes "drift") (c.drift ∷ [])
 
--- how its readings grow, its threads, and its memory
+-- how its readings grow and how wide they become, its threads, and its memory
 unfoldable pub sums_text : Pauses → Configuration → ℕ → List ℕ
 sums_text p c helpers =
     line_of (codes "growth") (growth_of p c.drift ∷ [])
+    ++ widths_text p c.drift
     ++ line_of (codes "threads") (threads_of c.workers helpers ∷ [])
     ++ line_of (codes "memory") (memory_of c.workers ∷ [])
 
@@ -102,6 +119,11 @@ abbrev pub width_text : Option ℕ → List ℕ
 width_text (Some width) = line_of (codes "max_width") (width ∷ [])
 width_text None = []
 
+-- where it serves pages, if it does
+abbrev pub http_text : Option ℕ → List ℕ
+http_text (Some port) = address_text (codes "http") port
+http_text None = []
+
 -- its numbers
 unfoldable pub numbers_text : Meaning → List ℕ
 numbers_text s =
@@ -111,7 +133,7 @@ numbers_text s =
     ++ stampers_text s.stampers
     ++ word_line (codes "on_break") (break_word s.on_break)
     ++ width_text s.max_width
-    ++ sums_text s.pauses s.config (helpers_of (is_some s.status) (is_some s.evidence) (has_names s.masters))
+    ++ sums_text s.pauses s.config (helpers_of (is_some s.status) (is_some s.evidence) (is_some s.http) (has_names s.masters))
 
 -- its files
 unfoldable pub files_text : Meaning → List ℕ
@@ -129,6 +151,7 @@ abbrev pub outline_text : Meaning → List ℕ
 outline_text s =
     line_of (codes "machine") (s.machine ∷ [])
     ++ address_text (codes "listen") s.listen
+    ++ http_text s.http
     ++ flat_map master_line s.masters
     ++ numbers_text s
     ++ files_text s

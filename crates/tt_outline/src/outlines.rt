@@ -1,13 +1,13 @@
 //! What a machine with these settings would do, as text.
 
-ghost use Rattle.std.specs.Prelude.{◌≡◌, ◌++◌, OnOk, IfOk, string_bytes, option_copied, ◌≤◌};
+ghost use Rattle.std.specs.Prelude.{◌≡◌, ◌++◌, OnOk, IfOk, string_bytes, option_copied, ◌≤◌, ◌*◌};
 ghost use Rattle.std.specs.List.{flat_map};
-ghost use Rattle.tt_server.specs.Outline.{outline_text, word_line, path_line, master_line, address_text, keys_text, numbers_text, files_text, growth_of, threads_of, memory_of, pauses_text, config_text, sums_text, lease_text, stampers_text, width_text, break_word, helpers_of};
+ghost use Rattle.tt_span.specs.Time.{max_time};
+ghost use Rattle.tt_outline.specs.Outline.{outline_text, word_line, path_line, master_line, address_text, keys_text, numbers_text, files_text, growth_of, threads_of, memory_of, pauses_text, config_text, sums_text, lease_text, stampers_text, width_text, break_word, helpers_of, http_text, width_beyond, width_line, widths_text};
 
-use crate::names::has_names;
-use crate::shares::period_of;
 use std::alloc::{AllocError, Global};
 use tt_daemon::Config;
+use tt_server::{has_names, period_of};
 use tt_settings::{FilePath, MasterSettings, OnBreak, Pauses, Settings};
 use tt_span::{Drift, Span};
 use tt_text::push_line;
@@ -85,26 +85,60 @@ fn push_path(text: &mut String, word: &str, path: Option<&FilePath>) -> Result<(
 
 /// The most by which a reading grows wider from one publication to the next, in nanoseconds.
 fn growth_of(pauses: &Pauses, drift: Drift) -> u64
-    ensures { result ≡ growth_of pauses.now drift }
+    ensures value { result ≡ growth_of pauses.now drift }
+    ensures most { result ≤ 2 * max_time }
 {
     2 * drift.widen(period_of(pauses))
 }
 
-/// How many threads there are for what only some settings have: one for the file of the status, one for that of the
-/// evidence, and one for the names of masters.
-fn helpers_of(has_status: bool, has_evidence: bool, has_names: bool) -> u64
-    ensures value { result ≡ helpers_of has_status has_evidence has_names }
-    ensures few { result ≤ 3 }
+/// How wide a reading is just before the next publication, beside what the master states: where the answer took `trip`
+/// nanoseconds, at most 100 ms, that is the round trip, what the clock may be wrong by in it, and the growth.
+fn width_beyond(pauses: &Pauses, drift: Drift, trip: u64) -> u64
+    requires short { trip ≤ 100000000 }
+    ensures { result ≡ width_beyond pauses.now drift trip }
 {
-    u64::from(has_status) + u64::from(has_evidence) + u64::from(has_names)
+    trip + drift.widen(trip) + growth_of(pauses, drift)
+}
+
+/// Adds the line of the width behind a round trip.
+fn push_width_behind(
+    text: &mut String,
+    pauses: &Pauses,
+    drift: Drift,
+    trip: u64,
+) -> Result<(), AllocError>
+    requires short { trip ≤ 100000000 }
+    ensures { OnOk result (string_bytes text.new ≡ string_bytes text.old ++ width_line pauses.now drift trip) }
+{
+    push_line(text, "width", &[trip, width_beyond(pauses, drift, trip)])
+}
+
+/// Adds the lines of the widths behind round trips of 100 us, 1 ms, 10 ms and 100 ms.
+#[tactic(auto, unfolding(crate::specs::Outline::widths_text))]
+fn push_widths(text: &mut String, pauses: &Pauses, drift: Drift) -> Result<(), AllocError>
+    ensures { OnOk result (string_bytes text.new ≡ string_bytes text.old ++ widths_text pauses.now drift) }
+{
+    push_width_behind(text, pauses, drift, 100_000)?;
+    push_width_behind(text, pauses, drift, 1_000_000)?;
+    push_width_behind(text, pauses, drift, 10_000_000)?;
+    push_width_behind(text, pauses, drift, 100_000_000)
+}
+
+/// How many threads there are for what only some settings have: one for the file of the status, one for that of the
+/// evidence, one for pages, and one for the names of masters.
+fn helpers_of(has_status: bool, has_evidence: bool, has_http: bool, has_names: bool) -> u64
+    ensures value { result ≡ helpers_of has_status has_evidence has_http has_names }
+    ensures few { result ≤ 4 }
+{
+    u64::from(has_status) + u64::from(has_evidence) + u64::from(has_http) + u64::from(has_names)
 }
 
 /// The most threads of a machine with `workers` workers: those of the workers, the thread of the daemon, the one that
-/// accepts connections, the one that writes the log, those that write the status and the evidence and look up names, and
-/// one that waits for the end of standard input.
+/// accepts connections, the one that writes the log, those that write the status and the evidence, serve pages and look up
+/// names, and one that waits for the end of standard input.
 fn threads_of(workers: u64, helpers: u64) -> u64
     requires few { workers ≤ 32 }
-    requires few_helpers { helpers ≤ 3 }
+    requires few_helpers { helpers ≤ 4 }
     ensures { result ≡ threads_of workers helpers }
 {
     workers + helpers + 4
@@ -139,7 +173,8 @@ fn push_config(text: &mut String, config: &Config) -> Result<(), AllocError>
     push_line(text, "drift", &[u64::from(config.drift().ppm())])
 }
 
-/// Adds the lines that are computed from the settings: how readings grow, the threads, and the memory.
+/// Adds the lines that are computed from the settings: how readings grow and how wide they become, the threads, and the
+/// memory.
 #[tactic(auto, unfolding(crate::specs::Outline::sums_text))]
 fn push_sums(
     text: &mut String,
@@ -147,12 +182,13 @@ fn push_sums(
     config: &Config,
     helpers: u64,
 ) -> Result<(), AllocError>
-    requires few { helpers ≤ 3 }
+    requires few { helpers ≤ 4 }
     ensures { OnOk result (string_bytes text.new ≡ string_bytes text.old ++ sums_text pauses.now config.now helpers) }
 {
     let growth = growth_of(pauses, config.drift());
     let workers = config.workers() as u64;
     push_line(text, "growth", &[growth])?;
+    push_widths(text, pauses, config.drift())?;
     push_line(text, "threads", &[threads_of(workers, helpers)])?;
     push_line(text, "memory", &[memory_of(workers)])
 }
@@ -171,6 +207,16 @@ fn push_stampers(text: &mut String, stampers: Option<Span>) -> Result<(), AllocE
 {
     match stampers {
         Some(stampers) => push_line(text, "stampers", &[stampers.lo(), stampers.hi()]),
+        None => Ok(()),
+    }
+}
+
+/// Adds the line of the address at which pages are served, if they are.
+fn push_http(text: &mut String, http: Option<u16>) -> Result<(), AllocError>
+    ensures { OnOk result (string_bytes text.new ≡ string_bytes text.old ++ http_text http) }
+{
+    match http {
+        Some(port) => push_address(text, "http", port),
         None => Ok(()),
     }
 }
@@ -211,6 +257,7 @@ fn push_numbers(text: &mut String, settings: &Settings) -> Result<(), AllocError
     let helpers = helpers_of(
         settings.status().is_some(),
         settings.evidence().is_some(),
+        settings.http().is_some(),
         has_names(settings.masters()),
     );
     push_sums(text, &pauses, &config, helpers)
@@ -230,21 +277,24 @@ fn push_files(text: &mut String, settings: &Settings) -> Result<(), AllocError>
     push_path(text, "keys", settings.keys())
 }
 
-/// What a machine with these settings would do, as text. There is one line for each of `machine`, `listen`, `master`
-/// (one for each master, in the order of the sources: its address, and behind the word `key` the numbers of its keys, if it
-/// has some), `faulty`, `workers`, `drift`, `poll`, `wait`, `floor_ahead`,
-/// `idle`, `lease`, `stampers` (if there are some), `on_break`, `max_width` (if there is a limit), `growth`, `threads`,
-/// `memory`, `state`, and for each of `socket`, `shared`, `status`, `evidence`, `vmclock` and `keys` that the settings have. Times are in nanoseconds.
+/// What a machine with these settings would do, as text. There is one line for each of `machine`, `listen`, `http` (if there
+/// is an address), `master` (one for each master, in the order of the sources: its address, and behind the word `key` the
+/// numbers of its keys, if it has some), `faulty`, `workers`, `drift`, `poll`, `wait`, `floor_ahead`, `idle`, `lease`,
+/// `stampers` (if there are some), `on_break`, `max_width` (if there is a limit), `growth`, `width` (four times), `threads`,
+/// `memory`, `state`, and for each of `socket`, `shared`, `status`, `evidence`, `vmclock` and `keys` that the settings have.
+/// Times are in nanoseconds.
 ///
 /// A reading is as wide as what the masters state, plus the time that the poll took. Until the next publication it
-/// grows wider by at most `growth`, if no master fails. `memory` is an estimate, in bytes. Refuses if it is out of
-/// memory.
+/// grows wider by at most `growth`, if no master fails. A line `width` has a round trip, of 100 us, 1 ms, 10 ms or 100 ms,
+/// and how wide a reading is just before the next publication, beside what the master states: the round trip, what the
+/// clock may be wrong by in it, and `growth`. `memory` is an estimate, in bytes. Refuses if it is out of memory.
 pub fn outline(alloc: Global, settings: &Settings) -> Result<String, AllocError>
     ensures written { IfOk result (λ text. string_bytes text ≡ outline_text settings.now) }
 {
     let mut text = String::new(alloc);
     push_line(&mut text, "machine", &[u64::from(settings.machine())])?;
     push_address(&mut text, "listen", settings.listen())?;
+    push_http(&mut text, settings.http())?;
     push_masters(&mut text, settings.masters())?;
     push_numbers(&mut text, settings)?;
     push_files(&mut text, settings)?;
