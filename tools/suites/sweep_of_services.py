@@ -39,7 +39,7 @@ LEASE = "0 4000000000000000000"
 COUNT = struct.Struct("24sQ")
 POLL, ANSWER = struct.Struct(">4s4BQQ"), struct.Struct(">4s4BQQQQ")
 LOG_LINE = re.compile(rb"time=[-0-9]{10}T[:0-9]{8}\.[0-9]{9}Z level=(info|warn|error) event=[a-z_]+( [a-z_]+=[0-9]+)*\Z|ttd: ")
-DEVICES = {803, 1501, 1604, 1605, 1701, 1807, 1808, 1809, 1811, 1812}
+DEVICES = {803, 1501, 1604, 1605, 1701, 1807, 1808, 1809, 1811, 1812, 1830}
 
 # What may be refused at the start where a call of this kind fails. Memory that a thread wants may show as 1816.
 SERVE = {

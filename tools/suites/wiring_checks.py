@@ -17,7 +17,7 @@ from harness.trouble import REQUEST, SPAN, Fake, Spoils, honest
 
 # The names. One that changes is changed here; that of a setting or of an event also where a scenario gives or awaits it.
 
-SETTINGS = """machine masters faulty workers drift poll wait floor_ahead idle lease_lo lease_hi stampers listen log on_break max_width state socket
+SETTINGS = """machine masters faulty workers drift poll wait floor_ahead idle lease_lo lease_hi stampers listen http log on_break max_width state socket
 shared status evidence vmclock keys master""".split()
 OPTIONS = """source listen uncertainty offset act log keys status id name ntp faulty margin every drift max-age ntp-key ntp-keys local
 warn-width""".split()
@@ -54,10 +54,12 @@ LAST = {
     "busy": "truetime_workers_busy", "commits_waiting": "truetime_commits_waiting",
     "commits_waited": "truetime_commit_wait_seconds_sum", "commits_released": "truetime_commit_wait_seconds_count",
     "round_trips": "truetime_round_trip_seconds_sum", "answers": "truetime_round_trip_seconds_count",
+    "widths": "truetime_reading_width_seconds_sum", "widths_counted": "truetime_reading_width_seconds_count",
     "sharing": "truetime_sharing", "left_out": "truetime_records_left_out_total",
 }
 # The buckets of histograms, which stand before their sums.
-BUCKETS = {"commit_buckets": "truetime_commit_wait_seconds_bucket", "answer_buckets": "truetime_round_trip_seconds_bucket"}
+BUCKETS = {"commit_buckets": "truetime_commit_wait_seconds_bucket", "answer_buckets": "truetime_round_trip_seconds_bucket",
+           "width_buckets": "truetime_reading_width_seconds_bucket"}
 
 # What the status of a master tells of its turns and of its servers, by the names that the checks use; those by reason have its number.
 UNANSWERED = ["301", "302", "303", "2401", "2402", "2403", "2404", "2405", "2406", "2407", "2408"]

@@ -189,6 +189,20 @@ def round_trips(trial):
         trial.between("status answer_buckets", surely, counted, perhaps)
 
 
+@suite.case(quiet=True)
+def widths(trial):
+    """The one source is 200 ms wide: each publication is that wide, and wider by no more than the round trip."""
+    node = trial.running_node(trial.scripts(spans(100_000_000, 100_000_000)), poll="50ms")
+    status = eventually(lambda: (seen := status_of(node))["publications"] > 5 and seen) or status_of(node)
+    number = status["publications"]
+    trial.equal("status widths_counted", status["widths_counted"], number)
+    trial.between("status widths", number * SECOND // 5, status["widths"], number * SECOND // 4)
+    trial.equal("status width_buckets", list(status["width_buckets"].values()), [0] * 10 + [number] * 2)
+    trial.equal("status width_buckets", list(status["width_buckets"]), [
+        100_000, 250_000, 500_000, SECOND // 1000, SECOND // 400, SECOND // 200, SECOND // 100, SECOND // 40, SECOND // 20, SECOND // 10,
+        SECOND, 10 * SECOND])
+
+
 # How far the spans of sources reach below and above this host's clock, and by how much the ends that are seen may differ, in milliseconds.
 SPANS, NEAR = [(100, 100), (300, 500), (200, 200)], 20
 

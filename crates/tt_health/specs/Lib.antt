@@ -5,3 +5,4 @@ pub mod Uptime
 pub mod Pause
 pub mod Guest
 pub mod Rate
+pub mod Width

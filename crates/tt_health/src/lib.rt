@@ -18,7 +18,7 @@
 //! - `pauses`: what is kept of a life that ended by a break, and how long the next start waits.
 //! - `rates`: how fast the time of a source goes against the clock of the machine.
 //! - `sleeps`: how long the host slept. `uptimes`: the text of `/proc/uptime`.
-//! - `trips`: classes of round trips.
+//! - `trips`: classes of round trips. `widths`: classes of widths of readings.
 #![tactic(auto)]
 
 mod answers;
@@ -29,6 +29,7 @@ mod rates;
 mod sleeps;
 mod trips;
 mod uptimes;
+mod widths;
 
 pub use answers::{Answer, answer_laws, answers_after, nth_newest};
 pub use breaks::{aged_last, meets_last};
@@ -40,3 +41,4 @@ pub use rates::{Rate, Sample, Track};
 pub use sleeps::{Lead, Look, is_wide, narrowed, sleep_laws, slept_between};
 pub use trips::{TRIP_BOUNDS, trip_place};
 pub use uptimes::{uptime_in, uptime_laws};
+pub use widths::{WIDTH_BOUNDS, width_place};

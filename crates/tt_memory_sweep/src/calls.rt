@@ -30,12 +30,13 @@ pub(crate) enum Call {
     ReadSettings,
     NextEpoch,
     PushEvent,
+    PushAnswer,
     NewQueue,
     ServeAtPost,
 }
 
 /// All calls, in the order in which they are made.
-pub(crate) const CALLS: [Call; 23] = [
+pub(crate) const CALLS: [Call; 24] = [
     Call::WriteText,
     Call::ReadScript,
     Call::Audit,
@@ -57,6 +58,7 @@ pub(crate) const CALLS: [Call; 23] = [
     Call::ReadSettings,
     Call::NextEpoch,
     Call::PushEvent,
+    Call::PushAnswer,
     Call::NewQueue,
     Call::ServeAtPost,
 ];
@@ -86,6 +88,7 @@ impl Call {
             Call::ReadSettings => "tt_settings::read",
             Call::NextEpoch => "tt_epoch::next_epoch",
             Call::PushEvent => "tt_status::push_event",
+            Call::PushAnswer => "tt_pages::push_answer",
             Call::NewQueue => "tt_connections::Queue::new",
             Call::ServeAtPost => "tt_connections::Post::serve",
         }
@@ -119,6 +122,7 @@ impl Call {
             Call::ReadSettings => services::settings(alloc),
             Call::NextEpoch => services::epoch(),
             Call::PushEvent => services::event(alloc),
+            Call::PushAnswer => services::answer(alloc),
             Call::NewQueue => services::queue(alloc),
             Call::ServeAtPost => services::session(rt, alloc),
         }

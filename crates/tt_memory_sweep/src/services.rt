@@ -8,6 +8,7 @@ use std::alloc::{AllocError, Global};
 use std::sync::Wait;
 use tt_connections::{AlwaysThere, Post, Queue, Terms};
 use tt_epoch::{MemoryStore, next_epoch};
+use tt_pages::{Asked, Limits, Page, View, Wanted, push_answer};
 use tt_publish::MemoryClock;
 use tt_session::Turns;
 use tt_settings::read;
@@ -40,6 +41,12 @@ address = \"[::1]:5701\"
 /// The line of a log.
 const LINE: &str =
     "time=1970-01-01T00:00:00.000000005Z level=warn event=fusion_refused number=504 left_out=2\n";
+
+/// What is answered to who asks whether a machine is well that has made no round so far.
+const UNWELL: &str =
+    "HTTP/1.1 503 Service Unavailable\r\nContent-Type: text/plain; charset=utf-8\r\n\
+Content-Length: 100\r\nConnection: close\r\n\r\n801: nothing is published\n\
+sources_stale: fewer than n - f sources have answered within three rounds\n";
 
 /// What a client sends.
 const LINES: &[u8] = b"now\ncommit 1 0\nnow\n";
@@ -118,6 +125,29 @@ fn write_event(alloc: Global) -> Result<bool, u16> {
         2,
     ) {
         Ok(()) => Ok(text.as_str() == LINE),
+        Err(AllocError) => Err(MEMORY),
+    }
+}
+
+/// Writes the answer to a request over HTTP.
+pub(crate) fn answer(alloc: Global) -> Outcome {
+    match Outcome::at_once(write_answer(alloc)) {
+        Some(outcome) => outcome,
+        None => Outcome::again(write_answer(alloc)),
+    }
+}
+
+fn write_answer(alloc: Global) -> Result<bool, u16> {
+    let mut text = String::new(alloc);
+    let view = View {
+        status: &None,
+        age: 0,
+        evidence: &None,
+        limits: Limits::of(None, 1, 1),
+    };
+    let asked = Asked::Wants(Wanted::Whole(Page::Health));
+    match push_answer(&mut text, alloc, asked, &view) {
+        Ok(()) => Ok(text.as_str() == UNWELL),
         Err(AllocError) => Err(MEMORY),
     }
 }

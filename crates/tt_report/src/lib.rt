@@ -1,4 +1,5 @@
-//! The log, the status file and the evidence of a running machine or master, written by threads of their own.
+//! The log, the status file and the evidence of a running machine or master, written by threads of their own, and pages of
+//! them over HTTP.
 //!
 //! A machine's threads never wait for standard error or for a file system. They hand what is to be written to a
 //! [`Reporter`] and go on:
@@ -6,6 +7,7 @@
 //! ```text
 //! // three threads, which are never joined
 //! let reporter = Reporter::start(rt, alloc, LogFormat::Text, Some("/run/truetime/status"), Some("/run/truetime/evidence"))?;
+//! reporter.give_pages(rt, alloc, Pages { listener, limits })?; // one more
 //! reporter.watch_for(1_000_000_000);
 //! reporter.log(rt, event);             // a line of the log
 //! reporter.show(rt, status);           // the newest status; show_master that of a master
@@ -22,12 +24,16 @@
 //! counted: [`Reporter::left_out`] has the count of all, and the next line of a kind says how many lines of its kind were
 //! left out before it. A line of a kind follows the one before it after ten seconds at the earliest.
 //!
+//! The pages have a thread of their own as well ([`Pages`]). It answers one connection after another, only from loopback:
+//! it waits for the head of a request for at most a second, and as long for its answer to be received, and then ends the
+//! connection. A client that takes its time costs the others no more than that.
+//!
 //! Lines of one thread are written in the order in which that thread logged them. Lines of several threads come in the
 //! order in which they found their places.
 //!
 //! - `reporters`: [`Reporter`]. `records`: what its threads share with those that log. `writers`: its threads.
 //! - `limits`: which lines are logged, and how many were left out. `watches`: when a publication is slow.
-//! - `lanes`: the queues. `files`: the files that are replaced, and [`Disk`]. `clocks`: readings of the system's clocks. `faults`: why there is no reporter.
+//! - `pages`: the thread of the pages, which `tt_pages` says. `lanes`: the queues. `files`: the files that are replaced, and [`Disk`]. `clocks`: readings of the system's clocks. `faults`: why there is no reporter.
 //!
 //! The functions over values are proved: the kinds of lines and their limits, the counts of lines that were left out,
 //! and when a publication is slow. Nothing is claimed of the threads, of what a queue holds, and of what the system
@@ -39,6 +45,7 @@ mod faults;
 mod files;
 mod lanes;
 mod limits;
+mod pages;
 mod records;
 mod reporters;
 mod watches;
@@ -46,5 +53,6 @@ mod writers;
 
 pub use faults::ReporterFault;
 pub use files::Disk;
+pub use pages::Pages;
 pub use records::CAPACITY;
 pub use reporters::Reporter;

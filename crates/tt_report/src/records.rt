@@ -8,7 +8,7 @@ use std::alloc::{AllocError, Global};
 use std::sync::atomic::{AtomicU64, Ordering};
 use std::sync::{Mutex, Wait};
 use std::time::Clock as SystemClock;
-use tt_status::LogEvent;
+use tt_status::{LogEvent, Status};
 
 /// How many lines may wait to be written.
 pub const CAPACITY: usize = 256;
@@ -40,6 +40,32 @@ impl EvidenceLanes {
     }
 }
 
+/// A status, and the reading of the monotonic clock at which it was handed over, in nanoseconds.
+#[derive(Clone, Copy)]
+pub(crate) struct PageStatus {
+    pub(crate) status: Status,
+    pub(crate) at: u64,
+}
+
+/// What waits to be shown over HTTP. What gives its place to a newer one is not counted as left out.
+#[derive(Drop)]
+pub(crate) struct PageLanes {
+    /// One place, for the newest status.
+    pub(crate) status: Lane<PageStatus>,
+    /// One place, for the newest evidence.
+    pub(crate) evidence: Lane<String>,
+}
+
+impl PageLanes {
+    /// Nothing was handed over so far.
+    fn new(alloc: Global) -> Result<PageLanes, AllocError> {
+        Ok(PageLanes {
+            status: Lane::new(alloc, 1)?,
+            evidence: Lane::new(alloc, 1)?,
+        })
+    }
+}
+
 /// The records that wait to be written, and what is kept of those that were handed over.
 #[derive(Drop)]
 pub(crate) struct Records {
@@ -47,6 +73,7 @@ pub(crate) struct Records {
     /// One place, for the newest status.
     pub(crate) statuses: Lane<Shown>,
     pub(crate) evidence: Box<EvidenceLanes, Global>,
+    pub(crate) pages: Box<PageLanes, Global>,
     /// The clock reading at which the publication began that is made now, in nanoseconds; 0 for none.
     pub(crate) since: AtomicU64,
     /// How long a publication may last, in nanoseconds.
@@ -62,12 +89,14 @@ impl Records {
     /// No record was handed over so far.
     pub(crate) fn new(alloc: Global) -> Result<Records, AllocError> {
         let evidence = boxed_lanes(alloc)?;
+        let pages = boxed_pages(alloc)?;
         let lines = Lane::new(alloc, CAPACITY)?;
         let statuses = Lane::new(alloc, 1)?;
         Ok(Records {
             lines,
             statuses,
             evidence,
+            pages,
             since: AtomicU64::new(0),
             most: AtomicU64::new(u64::MAX),
             limits: Mutex::new(LogLimits::new()),
@@ -114,6 +143,17 @@ impl Records {
         }
     }
 
+    /// Hands over a status for pages. One that still waits gives its place to it.
+    pub(crate) fn show_page<R: Wait + SystemClock>(&self, rt: &R, status: Status) {
+        let at = clock_of(rt);
+        let _ = self.pages.status.push_newest(rt, PageStatus { status, at });
+    }
+
+    /// Hands over the newest evidence for pages. A text that still waits gives its place to it.
+    pub(crate) fn prove_page<R: Wait>(&self, rt: &R, text: String) {
+        let _ = self.pages.evidence.push_newest(rt, text);
+    }
+
     /// Hands over the evidence of a break. That of a break before, which still waits, gives its place to it, and is left
     /// out. It writes nothing itself.
     pub(crate) fn keep_break<R: Wait>(&self, rt: &R, of: Break) {
@@ -149,5 +189,11 @@ impl Records {
 /// Lanes of evidence, on the heap.
 fn boxed_lanes(alloc: Global) -> Result<Box<EvidenceLanes, Global>, AllocError> {
     let lanes = Box::new(alloc, EvidenceLanes::new(alloc)?)?;
+    Ok(lanes)
+}
+
+/// Lanes of pages, on the heap.
+fn boxed_pages(alloc: Global) -> Result<Box<PageLanes, Global>, AllocError> {
+    let lanes = Box::new(alloc, PageLanes::new(alloc)?)?;
     Ok(lanes)
 }

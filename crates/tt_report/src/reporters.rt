@@ -3,6 +3,7 @@
 use crate::clocks::clock_of;
 use crate::faults::ReporterFault;
 use crate::files::{Break, Disk, EvidenceFiles, Shown, WholeFile};
+use crate::pages::{Pages, give_pages};
 use crate::records::Records;
 use crate::writers::{write_evidence, write_lines, write_statuses};
 use std::alloc::{AllocError, Global};
@@ -23,13 +24,14 @@ const LOOKS: u32 = 200;
 /// The pause between two looks, in milliseconds.
 const PAUSE: u64 = 2;
 
-/// Writes the log, the status file and the evidence by threads of its own. No call of it waits for what they write to,
+/// Writes the log, the status file and the evidence, and gives pages over HTTP, by threads of its own. No call of it waits for what they write to,
 /// and only [`Reporter::end`] waits for them, for a bounded time. Threads use it by reference.
 #[derive(Drop)]
 pub struct Reporter {
     records: Arc<Records, Global>,
     has_file: bool,
     has_evidence: bool,
+    has_pages: bool,
 }
 
 impl Reporter {
@@ -72,7 +74,30 @@ impl Reporter {
             records,
             has_file,
             has_evidence,
+            has_pages: false,
         })
+    }
+
+    /// Starts one more thread, which gives pages over HTTP at this address. It runs until the process ends, and is never
+    /// joined.
+    ///
+    /// Refuses with 1816 `NoThread` if the thread can't be started, and with 1 `Memory`.
+    pub fn give_pages<R>(
+        &mut self,
+        rt: &R,
+        alloc: Global,
+        pages: Pages,
+    ) -> Result<(), ReporterFault>
+    where
+        R: Threads + Wait + SystemClock + Copy + Send + 'static,
+    {
+        let rt = *rt;
+        let theirs = Arc::try_clone(&self.records)?;
+        if thread::spawn(&rt, move || give_pages(&rt, alloc, &theirs, &pages)).is_err() {
+            return Err(ReporterFault::NoThread);
+        }
+        self.has_pages = true;
+        Ok(())
     }
 
     /// Another handle of this reporter, for a thread that owns what it uses.
@@ -81,6 +106,7 @@ impl Reporter {
             records: Arc::try_clone(&self.records)?,
             has_file: self.has_file,
             has_evidence: self.has_evidence,
+            has_pages: self.has_pages,
         })
     }
 
@@ -90,9 +116,12 @@ impl Reporter {
         self.records.log(rt, event)
     }
 
-    /// Hands over the newest status, if there is a status file. A status that still waits gives its place to it. It
-    /// writes nothing itself and never waits for the file.
-    pub fn show<R: Wait>(&self, rt: &R, status: Status) {
+    /// Hands over the newest status, if there is a status file or an address for pages. A status that still waits gives
+    /// its place to it. It writes nothing itself and never waits for the file or for a client.
+    pub fn show<R: Wait + SystemClock>(&self, rt: &R, status: Status) {
+        if self.has_pages {
+            self.records.show_page(rt, status)
+        }
         if self.has_file {
             self.records.show(rt, Shown::Machine(status))
         }
@@ -105,11 +134,19 @@ impl Reporter {
         }
     }
 
-    /// Hands over the newest evidence, if there is a path for it. A text that still waits gives its place to it. It
-    /// writes nothing itself and never waits for the file.
+    /// Hands over the newest evidence, if there is a path for it or an address for pages. A text that still waits gives
+    /// its place to it. It writes nothing itself and never waits for the file or for a client. If there are both and it is
+    /// out of memory, the pages keep the evidence before.
     pub fn prove<R: Wait>(&self, rt: &R, text: String) {
+        if self.has_pages && self.has_evidence {
+            if let Ok(copy) = text.clone() {
+                self.records.prove_page(rt, copy)
+            }
+        }
         if self.has_evidence {
             self.records.prove(rt, text)
+        } else if self.has_pages {
+            self.records.prove_page(rt, text)
         }
     }
 

@@ -6,11 +6,12 @@ use Rattle.tt_publish.specs.Fault.{publish_number_of}
 use Rattle.tt_report.specs.Fault.{number_of as reporter_number_of}
 use Rattle.tt_report.specs.declared.faults.ReporterFault.TheVariants as reporter
 use Rattle.tt_server.specs.declared.faults.ServerFault.{ServerFault}
-use Rattle.tt_server.specs.declared.faults.ServerFault.TheVariants.{CannotListen, CannotPoll, CannotListenSocket, NotSocket, Epoch, Publish, NoThread, Keys, NoKey, MixedFamilies, NoRandom, Memory}
+use Rattle.tt_server.specs.declared.faults.ServerFault.TheVariants.{CannotListen, CannotServePages, CannotPoll, CannotListenSocket, NotSocket, Epoch, Publish, NoThread, Keys, NoKey, MixedFamilies, NoRandom, Memory}
 
 -- the number of each refusal
 abbrev pub number_of : ServerFault → ℕ
 number_of CannotListen = 1807
+number_of CannotServePages = 1830
 number_of CannotPoll = 1808
 number_of CannotListenSocket = 1809
 number_of NotSocket = 1819

@@ -1,11 +1,13 @@
 -- What the daemon notices: publications that do not meet, and answers that are too old.
-use Rattle.std.specs.Prelude.{◌≡◌, ℕ, ◌-◌, nat_lt, Bool, true, List, take, Option, Some, None}
+use Rattle.std.specs.Prelude.{◌≡◌, ℕ, ◌+◌, ◌-◌, ◌^◌, min, nat_lt, Bool, true, List, slice_index_or, slice_set, take, Option, Some, None}
 use Rattle.tt_daemon.specs.Config.{Configuration}
 use Rattle.tt_publish.specs.Reading.{reading_at}
 use Rattle.tt_publish.specs.declared.readings.FusedSpan.{FusedSpan}
 use Rattle.tt_health.specs.declared.answers.Answer.{Answer}
 use Rattle.tt_health.specs.Answers.{nth_newest}
 use Rattle.tt_health.specs.Break.{IsUnmet}
+use Rattle.tt_health.specs.Width.{width_place}
+use Rattle.tt_status.specs.declared.histograms.Histogram.{Histogram}
 use Rattle.tt_status.specs.declared.lines.LogEvent.{LogEvent}
 use Rattle.tt_status.specs.declared.lines.LogEvent.TheVariants.{AssumptionBroken}
 use Rattle.tt_server.specs.Share.{fresh_until}
@@ -34,3 +36,15 @@ needed_by answers config = nth_newest (take config.sources answers) (config.sour
 abbrev pub is_stale : Option ℕ → ℕ → ℕ → Bool
 is_stale (Some clock) period now = nat_lt (fresh_until clock period) now
 is_stale None period now = true
+
+-- one more of a count, which stays below 2^64
+abbrev pub one_more_of : ℕ → ℕ
+one_more_of count = min (count + 1) (2 ^ 64 - 1)
+
+-- widths of publications, with one more
+abbrev pub with_width : Histogram → ℕ → Histogram
+with_width widths width = record {
+  bounds = widths.bounds;
+  counts = slice_set widths.counts (width_place width) (one_more_of (slice_index_or widths.counts (width_place width) 0));
+  sum = min (widths.sum + width) (2 ^ 64 - 1);
+}

@@ -167,6 +167,7 @@ status_of machine t shown notices unsent seals strangers work now = record {
   no_point = t.no_point;
   too_few = t.too_few;
   round_trips = notices.trips;
+  reading_widths = notices.widths;
   strangers = strangers;
   breaks = notices.breaks;
   slept = notices.slept;

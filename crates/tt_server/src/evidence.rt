@@ -56,7 +56,7 @@ fn push_evidence(text: &mut String, fused: &Fused, certificate: &str) -> Result<
     text.push_str(certificate)
 }
 
-/// Hands the evidence of a publication to the reporter, if the settings name a file for it.
+/// Hands the evidence of a publication to the reporter, if the settings name a file or pages for it.
 pub(crate) fn show_evidence<R: Wait + SystemClock>(context: ThreadContext<'_, R>, fused: &Fused) {
     let server = context.server;
     if !server.has_evidence {
@@ -67,7 +67,7 @@ pub(crate) fn show_evidence<R: Wait + SystemClock>(context: ThreadContext<'_, R>
     }
 }
 
-/// Hands the evidence of two publications that do not meet to the reporter, if the settings name a file for it.
+/// Hands the evidence of two publications that do not meet to the reporter, which keeps it if the settings name a file.
 pub(crate) fn keep_break<R: Wait + SystemClock>(
     context: ThreadContext<'_, R>,
     last: &Option<Fused>,

@@ -14,6 +14,8 @@ use tt_report::ReporterFault;
 pub enum ServerFault {
     #[error("the address can't be listened at")]
     CannotListen,
+    #[error("the address for pages can't be listened at")]
+    CannotServePages,
     #[error("the socket for polls can't be opened")]
     CannotPoll,
     #[error("the Unix socket can't be listened at")]
@@ -39,7 +41,7 @@ pub enum ServerFault {
 }
 
 impl ServerFault {
-    /// The number of the fault: 1807 `CannotListen`, 1808 `CannotPoll`, 1809 `CannotListenSocket`, 1819 `NotSocket`, the
+    /// The number of the fault: 1807 `CannotListen`, 1830 `CannotServePages`, 1808 `CannotPoll`, 1809 `CannotListenSocket`, 1819 `NotSocket`, the
     /// number of the inner fault for `Epoch` (1811 to 1815, 1), `Publish` and `Keys` (2211 to 2216), 1816 `NoThread`, 1827
     /// `NoKey`, 1828 `MixedFamilies`, 1829 `NoRandom`, 1 `Memory`.
     pub fn number(&self) -> u16
@@ -47,6 +49,7 @@ impl ServerFault {
     {
         match self {
             ServerFault::CannotListen => 1807,
+            ServerFault::CannotServePages => 1830,
             ServerFault::CannotPoll => 1808,
             ServerFault::CannotListenSocket => 1809,
             ServerFault::NotSocket => 1819,

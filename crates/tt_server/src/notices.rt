@@ -1,20 +1,20 @@
 //! What the daemon has noticed so far: when its sources answered, how their time goes against its clock, and signs that an
 //! assumption is broken.
 
-ghost use Rattle.std.specs.Prelude.{◌≡◌, ◌≤◌, MatchOption};
+ghost use Rattle.std.specs.Prelude.{◌≡◌, ◌≤◌, ◌-◌, MatchOption};
 ghost use Rattle.tt_span.specs.Time.{max_time};
 ghost use Rattle.tt_span.specs.Sources.{max_sources};
 ghost use Rattle.tt_health.specs.Answers.{answers_after};
 ghost use Rattle.tt_health.specs.Break.{IsUnmet};
-ghost use Rattle.tt_server.specs.Notice.{TellsApart, TellsUnmet, is_stale, needed_by};
+ghost use Rattle.tt_server.specs.Notice.{TellsApart, TellsUnmet, is_stale, needed_by, with_width};
 ghost use Rattle.tt_server.specs.declared.notices.Unmet.{Unmet as TheUnmet};
 
 use crate::records::Shown;
 use crate::shares::fresh_until;
 use tt_daemon::{Config, Fused, MAX_SOURCES};
 use tt_health::{
-    Answer, Sample, TRIP_BOUNDS, Track, aged_last, answers_after, meets_last, nth_newest,
-    trip_place,
+    Answer, Sample, TRIP_BOUNDS, Track, WIDTH_BOUNDS, aged_last, answers_after, meets_last,
+    nth_newest, trip_place, width_place,
 };
 use tt_publish::FusedSpan;
 use tt_rounds::{SourceOutcome, SourceReport};
@@ -110,11 +110,27 @@ const NO_TRIPS: Histogram = Histogram {
     sum: 0,
 };
 
+/// No width is counted.
+const NO_WIDTHS: Histogram = Histogram {
+    bounds: WIDTH_BOUNDS,
+    counts: [0; 13],
+    sum: 0,
+};
+
 /// Counts one more round trip.
 fn count_trip(trips: &mut Histogram, trip: u64) {
     let place = trip_place(trip);
     trips.counts[place] = trips.counts[place].saturating_add(1);
     trips.sum = trips.sum.saturating_add(trip);
+}
+
+/// Counts one more width.
+fn count_width(widths: &mut Histogram, width: u64)
+    ensures value { widths.new ≡ with_width widths.old width }
+{
+    let place = width_place(width);
+    widths.counts[place] = widths.counts[place].saturating_add(1);
+    widths.sum = widths.sum.saturating_add(width);
 }
 
 /// What the daemon has noticed so far in this life.
@@ -126,6 +142,8 @@ pub(crate) struct Notices {
     pub(crate) tracks: [Track; MAX_SOURCES],
     /// The round trips of the answers.
     pub(crate) trips: Histogram,
+    /// The widths of the publications.
+    pub(crate) widths: Histogram,
     /// The rounds after which fewer than n - f sources had answered within three periods.
     pub(crate) stale_rounds: u64,
     /// The signs that an assumption is broken.
@@ -146,6 +164,7 @@ impl Notices {
             answers: [None; MAX_SOURCES],
             tracks: [Track::new(); MAX_SOURCES],
             trips: NO_TRIPS,
+            widths: NO_WIDTHS,
             stale_rounds: 0,
             breaks: 0,
             slept: 0,
@@ -164,6 +183,13 @@ impl Notices {
                 }
             }
         }
+    }
+
+    /// A publication with this span is noticed: its width is counted, and nothing else is changed.
+    pub(crate) fn measure(&mut self, span: &Span)
+        ensures value { self.new ≡ record self.old { widths = with_width self.old.widths (span.now.hi - span.now.lo) } }
+    {
+        count_width(&mut self.widths, span.hi() - span.lo());
     }
 
     /// The spans of the sources that answered in a round with this report, and this fusion, are noticed.

@@ -444,6 +444,7 @@ fn settle<R: Wait + SystemClock + Files<File = File>>(
     hand_on(context, poller, records, now);
     count_stale(context, poller, now);
     if let Some(fused) = published {
+        poller.notices.measure(&fused.span());
         poller.notices.track(&poller.report.sources, &fused);
         show_evidence(context, &fused);
         poller.last = Some(fused);

@@ -16,7 +16,8 @@ use crate::modes::Loose;
 use crate::names::{HostNames, Names, start_names};
 use crate::rounds::{Polled, Poller, run_daemon};
 use crate::starts::{
-    acceptor_of, front_of, poller_of, publications_of, reporter_of, side_of, sights_of, watch_all,
+    acceptor_of, front_of, pages_of, poller_of, publications_of, reporter_of, shows_evidence,
+    side_of, sights_of, watch_all,
 };
 use crate::states::{Ending, Life, ServerState, ThreadContext, say};
 use crate::workers::{WorkerHandle, WorkerSeat, start_worker, worker_seats_of};
@@ -33,7 +34,7 @@ use std::time::Clock as SystemClock;
 use tt_connections::{Acceptor, Listeners, MachineClock, Sight, reading_of};
 use tt_epoch::{FolderStore, Store, next_epoch};
 use tt_publish::{Teller, Told, Watch};
-use tt_report::Disk;
+use tt_report::{Disk, Pages};
 use tt_settings::Settings;
 use tt_stamp::Sequencer;
 use tt_status::LogEvent;
@@ -437,6 +438,7 @@ struct Start<'a> {
     listeners: &'a Listeners,
     waker: Waker,
     until_eof: bool,
+    pages: Option<Pages>,
 }
 
 /// Starts the reporter, takes the next epoch from this store, and runs the machine of this life.
@@ -475,8 +477,9 @@ fn run_life<
         listeners,
         waker,
         until_eof,
+        pages,
     } = start;
-    let reporter = reporter_of(rt, alloc, settings)?;
+    let reporter = reporter_of(rt, alloc, settings, pages)?;
     let loose = Loose::found(rt, alloc, settings);
     let Some(ending) = Ending::shared(alloc, waker) else {
         return Err(ServerFault::Memory);
@@ -488,7 +491,7 @@ fn run_life<
     };
     let life = Life::of(settings, epoch);
     reporter.watch_for(life.pauses.wait.saturating_add(SLOW));
-    let has_evidence = settings.evidence().is_some();
+    let has_evidence = shows_evidence(settings);
     let server = ServerState::new(life, listeners, reporter, has_evidence, ending);
     let context = ThreadContext {
         rt,
@@ -566,7 +569,7 @@ fn run_behind<
 /// `until_eof` it ends the machine in order after the end of standard input, and returns. Otherwise it goes on until
 /// the process is ended.
 ///
-/// The start, in this order: it listens at the TCP address, reads the file of keys if the settings name one, draws how far
+/// The start, in this order: it listens at the TCP address and at that of the pages if the settings name one, reads the file of keys if the settings name one, draws how far
 /// the nonces of this life are ahead on the wire, opens the socket for polls, locks the folder of the epoch for as long as
 /// it runs, listens at the Unix socket if the settings name one, takes the memory, opens the publications,
 /// starts the reporter's threads, pauses where a break is recorded that is less than a minute old, and takes the next epoch. Then it opens the shared file and starts the other threads:
@@ -574,7 +577,7 @@ fn run_behind<
 /// first publication, or two seconds after the start. If there is a Unix socket, half of the workers serve its clients,
 /// and the other workers serve the clients of the TCP address.
 ///
-/// Refuses, in this order: 1807 `CannotListen`, `Keys` (2211 to 2216), 1827 `NoKey`, 1828 `MixedFamilies`, 1829 `NoRandom`,
+/// Refuses, in this order: 1807 `CannotListen`, 1830 `CannotServePages`, `Keys` (2211 to 2216), 1827 `NoKey`, 1828 `MixedFamilies`, 1829 `NoRandom`,
 /// 1808 `CannotPoll`, `Epoch` (1815 where another process holds the folder,
 /// 1812), 1819 `NotSocket`, 1809 `CannotListenSocket`, `Publish`, 1816 `NoThread` for the reporter, `Epoch` (1811 to 1814),
 /// 1816 `NoThread`, and 1 `Memory` in place of each. No epoch is taken before all of them but the last `NoThread` have
@@ -614,6 +617,7 @@ pub fn serve<
     let alloc = rt.alloc();
     let front = front_of(rt, alloc, settings)?;
     let (acceptor, waker) = acceptor_of(rt, alloc)?;
+    let pages = pages_of(rt, settings)?;
     let (polling, link_waker) = link_to(rt, alloc, settings)?;
     let mut store = match FolderStore::open(rt, alloc, settings.state()) {
         Ok(store) => store,
@@ -626,6 +630,7 @@ pub fn serve<
         listeners: &listeners,
         waker: link_waker,
         until_eof,
+        pages,
     };
     let ended = run_behind(rt, alloc, start, acceptor, polling, &mut store);
     if let (Some(side), Some(path)) = (&listeners.side, settings.socket()) {

@@ -16,7 +16,7 @@ use mio::Waker;
 use std::alloc::Global;
 use std::fs::{File, Files};
 use std::io::{Eprint, ErrorKind};
-use std::net::{Net, TcpListener, TcpStream};
+use std::net::{Ipv4Addr, Net, TcpListener, TcpStream};
 use std::sync::Wait;
 use std::thread::Threads;
 use std::time::Clock as SystemClock;
@@ -24,8 +24,9 @@ use tt_connections::{
     Acceptor, Backlog, Listener, ListenerFault, Listeners, MachineClock, Queue, Sight,
 };
 use tt_daemon::Daemon;
+use tt_pages::Limits;
 use tt_publish::{Clock, Teller, Watch, open};
-use tt_report::{Disk, Reporter, ReporterFault};
+use tt_report::{Disk, Pages, Reporter, ReporterFault};
 use tt_settings::Settings;
 
 /// The acceptor of connections, and what ends its waits.
@@ -60,6 +61,24 @@ pub(crate) fn front_of<R: Net<Listener = TcpListener, Stream = TcpStream>>(
     match Queue::new(alloc) {
         Ok(queue) => Ok(Backlog { listener, queue }),
         Err(_) => Err(ServerFault::Memory),
+    }
+}
+
+/// Where pages are given over HTTP, if the settings say so.
+pub(crate) fn pages_of<R: Net<Listener = TcpListener, Stream = TcpStream>>(
+    rt: &R,
+    settings: &Settings,
+) -> Result<Option<Pages>, ServerFault> {
+    let Some(port) = settings.http() else {
+        return Ok(None);
+    };
+    match TcpListener::bind(rt, (Ipv4Addr::LOCALHOST, port)) {
+        Ok(listener) => {
+            let pauses = settings.pauses();
+            let limits = Limits::of(settings.max_width(), pauses.poll, pauses.wait);
+            Ok(Some(Pages { listener, limits }))
+        }
+        Err(error) => Err(fault_of(error.kind(), ServerFault::CannotServePages)),
     }
 }
 
@@ -114,11 +133,25 @@ pub(crate) fn sights_of<R: Net>(
     Ok(sights)
 }
 
-/// The reporter. Its threads are started here.
+/// Whether the settings name a file or pages for the evidence.
+pub(crate) fn shows_evidence(settings: &Settings) -> bool {
+    settings.evidence().is_some() || settings.http().is_some()
+}
+
+/// A fault of the reporter, as one of the machine.
+fn fault_of_reporter(fault: ReporterFault) -> ServerFault {
+    match fault {
+        ReporterFault::NoThread => ServerFault::NoThread,
+        ReporterFault::Memory => ServerFault::Memory,
+    }
+}
+
+/// The reporter, which gives pages if there is an address for them. Its threads are started here.
 pub(crate) fn reporter_of<R>(
     rt: &R,
     alloc: Global,
     settings: &Settings,
+    pages: Option<Pages>,
 ) -> Result<Reporter, ServerFault>
 where
     R: Threads + Wait + SystemClock + Eprint + Disk + Copy + Send + 'static,
@@ -131,11 +164,16 @@ where
         Some(path) => Some(path.as_str()),
         None => None,
     };
-    match Reporter::start(rt, alloc, settings.log(), path, evidence) {
-        Ok(reporter) => Ok(reporter),
-        Err(ReporterFault::NoThread) => Err(ServerFault::NoThread),
-        Err(ReporterFault::Memory) => Err(ServerFault::Memory),
+    let mut reporter = match Reporter::start(rt, alloc, settings.log(), path, evidence) {
+        Ok(reporter) => reporter,
+        Err(fault) => return Err(fault_of_reporter(fault)),
+    };
+    if let Some(pages) = pages {
+        if let Err(fault) = reporter.give_pages(rt, alloc, pages) {
+            return Err(fault_of_reporter(fault));
+        }
     }
+    Ok(reporter)
 }
 
 /// The publications of a machine, none so far, with a reader for each worker.

@@ -94,7 +94,7 @@ pub(crate) struct ServerState<'a> {
     pub(crate) counts: Counts,
     /// Writes the log, the status and the evidence, in threads of its own.
     pub(crate) reporter: Reporter,
-    /// Whether the settings name a file for the evidence.
+    /// Whether the settings name a file or pages for the evidence.
     pub(crate) has_evidence: bool,
     /// Makes the pauses of the daemon, and ends them at the end of the machine.
     pub(crate) ending: Arc<Ending, Global>,

@@ -313,6 +313,7 @@ pub(crate) fn status_of(machine: &Machine, account: &Account<'_>, work: &Work, n
         no_point: totals.no_point,
         too_few: totals.too_few,
         round_trips: notices.trips,
+        reading_widths: notices.widths,
         strangers: account.strangers,
         breaks: notices.breaks,
         slept: notices.slept,

@@ -211,9 +211,13 @@ commit_waits_metric s = histogram_metric (codes "truetime_commit_wait_seconds") 
 abbrev pub round_trips_metric : Status → Metric
 round_trips_metric s = histogram_metric (codes "truetime_round_trip_seconds") (codes "The round trips of accepted answers.") s.round_trips
 
+-- how wide the publications were
+abbrev pub reading_widths_metric : Status → Metric
+reading_widths_metric s = histogram_metric (codes "truetime_reading_width_seconds") (codes "The widths of the publications.") s.reading_widths
+
 -- the histograms
 abbrev pub histogram_metrics : Status → List Metric
-histogram_metrics s = commit_waits_metric s ∷ round_trips_metric s ∷ []
+histogram_metrics s = commit_waits_metric s ∷ round_trips_metric s ∷ reading_widths_metric s ∷ []
 
 -- what is written for others
 abbrev pub written_metrics : Status → List Metric

@@ -169,6 +169,8 @@ pub struct Status {
     pub commit_waits: Histogram,
     /// The round trips of accepted answers.
     pub round_trips: Histogram,
+    /// The widths of the publications.
+    pub reading_widths: Histogram,
     /// How many lines of the log, statuses and texts of evidence were left out because no place was free for them.
     pub left_out: u64,
 }
@@ -721,6 +723,13 @@ fn push_histograms(text: &mut String, status: &Status) -> Result<(), AllocError>
         "truetime_round_trip_seconds",
         "The round trips of accepted answers.",
         &status.round_trips,
+    )?;
+    push_histogram(
+        text,
+        status.machine,
+        "truetime_reading_width_seconds",
+        "The widths of the publications.",
+        &status.reading_widths,
     )
 }
 

@@ -89,10 +89,11 @@ abbrev pub status_of_publish : PublishFault → Status
 status_of_publish publish.Memory = NoMemory
 status_of_publish _ = Bad
 
--- How the program ends where a machine does not serve: as at a failed device where it has not its sockets (1807 to 1809) or no random
+-- How the program ends where a machine does not serve: as at a failed device where it has not its sockets (1807 to 1809, 1830) or no random
 -- bytes (1829), and by what is wrong with its keys, its epoch and its publications.
 abbrev pub status_of_server : ServerFault → Status
 status_of_server server.CannotListen = Device
+status_of_server server.CannotServePages = Device
 status_of_server server.CannotPoll = Device
 status_of_server server.CannotListenSocket = Device
 status_of_server server.NoRandom = Device

@@ -176,6 +176,7 @@ fn status_of_server(fault: ServerFault) -> Status
 {
     match fault {
         ServerFault::CannotListen
+        | ServerFault::CannotServePages
         | ServerFault::CannotPoll
         | ServerFault::CannotListenSocket
         | ServerFault::NoRandom => Status::Device,

@@ -1,0 +1,59 @@
+-- Whether a machine is well.
+use Rattle.std.specs.Prelude.{codes, ℕ, ◌+◌, ◌*◌, ◌-◌, ◌^◌, min, nat_eq, nat_lt, Bool, true, false, not, ◌&&◌, if◌then◌else◌, List, [], ◌++◌, Option, Some, None}
+use Rattle.tt_status.specs.declared.statuses.Status.{Status}
+use Rattle.tt_pages.specs.declared.healths.Limits.{Limits}
+use Rattle.tt_pages.specs.declared.healths.Health.{Health}
+
+-- so many times a time, which stays below 2^64
+abbrev pub times : ℕ → ℕ → ℕ
+times n time = min (time * n) (2 ^ 64 - 1)
+
+-- the longest time from one round to the next
+abbrev pub period_of : ℕ → ℕ → ℕ
+period_of poll wait = min (poll + wait) (2 ^ 64 - 1)
+
+-- the limits of a machine: three rounds for answers, ten rounds and a second for a status
+abbrev pub limits_of : Option ℕ → ℕ → ℕ → Limits
+limits_of max_width poll wait = record {
+  max_width = max_width;
+  fresh = times 3 (period_of poll wait);
+  recent = min (times 10 (period_of poll wait) + 1000000000) (2 ^ 64 - 1);
+}
+
+-- a reading is wider than the limit
+abbrev pub is_wide : Option ℕ → Option ℕ → Bool
+is_wide (Some width) (Some most) = nat_lt most width
+is_wide _ _ = false
+
+-- enough sources have not answered within this time
+abbrev pub is_stale : Option ℕ → ℕ → Bool
+is_stale (Some age) fresh = nat_lt fresh age
+is_stale None fresh = true
+
+-- what a status says, and how old it is
+abbrev pub health_of : Option Status → ℕ → Limits → Health
+health_of (Some s) age limits = record {
+  unpublished = nat_eq s.published 0;
+  broken = nat_lt 0 s.breaks;
+  wide = is_wide s.width limits.max_width;
+  stale = is_stale s.needed limits.fresh;
+  still = nat_lt limits.recent age;
+}
+health_of None age limits = record { unpublished = true; broken = false; wide = false; stale = true; still = nat_lt limits.recent age }
+
+-- there is no reason
+abbrev pub is_well : Health → Bool
+is_well h = not h.unpublished && not h.broken && not h.wide && not h.stale && not h.still
+
+-- a line, where it is so
+abbrev pub line_if : Bool → List ℕ → List ℕ
+line_if is_so line = if is_so then line else []
+
+-- a line for each reason
+unfoldable pub reasons_text : Health → List ℕ
+reasons_text h =
+    line_if h.unpublished (codes "801: nothing is published\n")
+    ++ line_if h.broken (codes "1823: an assumption is broken\n")
+    ++ line_if h.wide (codes "1824: readings are wider than max_width\n")
+    ++ line_if h.stale (codes "sources_stale: fewer than n - f sources have answered within three rounds\n")
+    ++ line_if h.still (codes "status_old: the last round was made ten rounds ago\n")

@@ -1,0 +1,253 @@
+//! The bytes of an answer.
+
+ghost use Rattle.std.specs.Prelude.{◌≡◌, ◌++◌, OnOk, IfOk, option_map, string_bytes};
+ghost use Rattle.tt_pages.specs.Answer.{answer_text, content_of, end_text, evidence_content, health_content, length_text, line_text, metrics_content, more_of, page_text, reply_text, shown_of, type_of, type_text, wanted_text, words_of, words_text};
+ghost use Rattle.tt_pages.specs.Health.{health_of};
+
+use crate::healths::{Health, Limits, health_of, push_reasons};
+use crate::requests::{Asked, Page, Wanted};
+use std::alloc::{AllocError, Global};
+use tt_status::{Status, push_status};
+
+/// What a machine was when it told of itself last.
+#[derive(Drop)]
+pub struct View<'a> {
+    /// Its last status, if there was one.
+    pub status: &'a Option<Status>,
+    /// How old that is, in nanoseconds.
+    pub age: u64,
+    /// The evidence of its last publication, if there is any.
+    pub evidence: &'a Option<String>,
+    /// By what it is judged.
+    pub limits: Limits,
+}
+
+/// How a request is answered.
+#[derive(Clone, Copy, Debug, PartialEq, Eq)]
+enum Code {
+    Found,
+    FoundMetrics,
+    Invalid,
+    Unknown,
+    OtherMethod,
+    TooLong,
+    NotReady,
+}
+
+impl Code {
+    /// The code and its words.
+    fn words(self) -> &'static str
+        ensures { result.now ≡ words_of self }
+    {
+        match self {
+            Code::Found | Code::FoundMetrics => "200 OK",
+            Code::Invalid => "400 Bad Request",
+            Code::Unknown => "404 Not Found",
+            Code::OtherMethod => "405 Method Not Allowed",
+            Code::TooLong => "431 Request Header Fields Too Large",
+            Code::NotReady => "503 Service Unavailable",
+        }
+    }
+
+    /// The type of the text.
+    fn kind(self) -> &'static str
+        ensures { result.now ≡ type_of self }
+    {
+        match self {
+            Code::FoundMetrics => "text/plain; version=0.0.4; charset=utf-8",
+            _ => "text/plain; charset=utf-8",
+        }
+    }
+
+    /// A field of its own.
+    fn more(self) -> &'static str
+        ensures { result.now ≡ more_of self }
+    {
+        match self {
+            Code::OtherMethod => "Allow: GET, HEAD\r\n",
+            _ => "",
+        }
+    }
+}
+
+/// The code and the text of an answer.
+#[derive(Drop)]
+struct Content {
+    code: Code,
+    text: String,
+}
+
+/// These words as the text of an answer.
+fn content_with(alloc: Global, code: Code, words: &str) -> Result<Content, AllocError>
+    ensures code { IfOk result (λ content. content.code ≡ code) }
+    ensures text { IfOk result (λ content. string_bytes content.text ≡ words.now) }
+{
+    let text = String::from_str(alloc, words)?;
+    Ok(Content { code, text })
+}
+
+/// The status.
+fn metrics_content(alloc: Global, status: &Option<Status>) -> Result<Content, AllocError>
+    ensures { IfOk result (λ content. (content.code, string_bytes content.text) ≡ metrics_content status.now) }
+{
+    let Some(status) = status else {
+        return content_with(alloc, Code::NotReady, "no status yet\n");
+    };
+    let mut text = String::new(alloc);
+    push_status(&mut text, status)?;
+    Ok(Content {
+        code: Code::FoundMetrics,
+        text,
+    })
+}
+
+/// The evidence.
+fn evidence_content(alloc: Global, evidence: &Option<String>) -> Result<Content, AllocError>
+    ensures { IfOk result (λ content. (content.code, string_bytes content.text) ≡ evidence_content (option_map string_bytes evidence.now)) }
+{
+    match evidence {
+        Some(text) => content_with(alloc, Code::Found, text.as_str()),
+        None => content_with(alloc, Code::Unknown, "no evidence\n"),
+    }
+}
+
+/// Whether the machine is well.
+fn health_content(alloc: Global, health: &Health) -> Result<Content, AllocError>
+    ensures { IfOk result (λ content. (content.code, string_bytes content.text) ≡ health_content health.now) }
+{
+    if health.is_well() {
+        return content_with(alloc, Code::Found, "ok\n");
+    }
+    let mut text = String::new(alloc);
+    push_reasons(&mut text, health)?;
+    Ok(Content {
+        code: Code::NotReady,
+        text,
+    })
+}
+
+/// The code and the text of a page.
+fn page_content(alloc: Global, page: Page, view: &View<'_>) -> Result<Content, AllocError>
+    ensures { IfOk result (λ content. (content.code, string_bytes content.text) ≡ content_of page view.now.status.now (health_of view.now.status.now view.now.age view.now.limits) (option_map string_bytes view.now.evidence.now)) }
+{
+    match page {
+        Page::Metrics => metrics_content(alloc, view.status),
+        Page::Evidence => evidence_content(alloc, view.evidence),
+        Page::Health => {
+            let health = health_of(view.status, view.age, &view.limits);
+            health_content(alloc, &health)
+        }
+    }
+}
+
+/// Adds a line of two parts.
+fn push_line(text: &mut String, first: &str, second: &str) -> Result<(), AllocError>
+    ensures { OnOk result (string_bytes text.new ≡ string_bytes text.old ++ line_text first.now second.now) }
+{
+    write!(text, "{first}{second}\r\n")
+}
+
+/// Adds the first line of an answer.
+fn push_words(text: &mut String, code: Code) -> Result<(), AllocError>
+    ensures { OnOk result (string_bytes text.new ≡ string_bytes text.old ++ words_text code) }
+{
+    push_line(text, "HTTP/1.1 ", code.words())
+}
+
+/// Adds the field that says the type of the text.
+fn push_type(text: &mut String, code: Code) -> Result<(), AllocError>
+    ensures { OnOk result (string_bytes text.new ≡ string_bytes text.old ++ type_text code) }
+{
+    push_line(text, "Content-Type: ", code.kind())
+}
+
+/// Adds the field that says how long the text is.
+fn push_length(text: &mut String, length: u64) -> Result<(), AllocError>
+    ensures { OnOk result (string_bytes text.new ≡ string_bytes text.old ++ length_text length) }
+{
+    write!(text, "Content-Length: {length}\r\n")
+}
+
+/// Adds the last fields.
+fn push_end(text: &mut String, code: Code) -> Result<(), AllocError>
+    ensures { OnOk result (string_bytes text.new ≡ string_bytes text.old ++ end_text code) }
+{
+    push_line(text, code.more(), "Connection: close\r\n")
+}
+
+/// Adds the text, or nothing if only the head is asked for.
+fn push_shown(text: &mut String, content: &str, is_whole: bool) -> Result<(), AllocError>
+    ensures { OnOk result (string_bytes text.new ≡ string_bytes text.old ++ shown_of content.now is_whole) }
+{
+    if is_whole {
+        text.push_str(content)
+    } else {
+        Ok(())
+    }
+}
+
+/// Adds an answer with this text, or its head alone.
+fn push_reply(
+    text: &mut String,
+    code: Code,
+    content: &str,
+    is_whole: bool,
+) -> Result<(), AllocError>
+    ensures { OnOk result (string_bytes text.new ≡ string_bytes text.old ++ reply_text code content.now is_whole) }
+{
+    push_words(text, code)?;
+    push_type(text, code)?;
+    push_length(text, content.len() as u64)?;
+    push_end(text, code)?;
+    push_shown(text, content, is_whole)
+}
+
+/// Adds the answer with a page, or its head alone.
+fn push_page(
+    text: &mut String,
+    alloc: Global,
+    page: Page,
+    view: &View<'_>,
+    is_whole: bool,
+) -> Result<(), AllocError>
+    ensures { OnOk result (string_bytes text.new ≡ string_bytes text.old
+        ++ page_text page view.now.status.now (health_of view.now.status.now view.now.age view.now.limits) (option_map string_bytes view.now.evidence.now) is_whole) }
+{
+    let content = page_content(alloc, page, view)?;
+    push_reply(text, content.code, content.text.as_str(), is_whole)
+}
+
+/// Adds the answer to a request.
+fn push_wanted(
+    text: &mut String,
+    alloc: Global,
+    wanted: Wanted,
+    view: &View<'_>,
+) -> Result<(), AllocError>
+    ensures { OnOk result (string_bytes text.new ≡ string_bytes text.old
+        ++ wanted_text wanted view.now.status.now (health_of view.now.status.now view.now.age view.now.limits) (option_map string_bytes view.now.evidence.now)) }
+{
+    match wanted {
+        Wanted::Whole(page) => push_page(text, alloc, page, view, true),
+        Wanted::Head(page) => push_page(text, alloc, page, view, false),
+        Wanted::Unknown => push_reply(text, Code::Unknown, "no such page\n", true),
+        Wanted::OtherMethod => push_reply(text, Code::OtherMethod, "only GET and HEAD\n", true),
+    }
+}
+
+/// Adds the answer of a machine to what is asked. If it is out of memory, the text has a part of it.
+pub fn push_answer(
+    text: &mut String,
+    alloc: Global,
+    asked: Asked,
+    view: &View<'_>,
+) -> Result<(), AllocError>
+    ensures answer { OnOk result (string_bytes text.new ≡ string_bytes text.old
+        ++ answer_text asked view.now.status.now (health_of view.now.status.now view.now.age view.now.limits) (option_map string_bytes view.now.evidence.now)) }
+{
+    match asked {
+        Asked::Wants(wanted) => push_wanted(text, alloc, wanted, view),
+        Asked::Invalid => push_reply(text, Code::Invalid, "not a request\n", true),
+        Asked::TooLong => push_reply(text, Code::TooLong, "the head is too long\n", true),
+    }
+}

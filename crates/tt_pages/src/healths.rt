@@ -1,0 +1,136 @@
+//! Whether a machine is well.
+
+ghost use Rattle.std.specs.Prelude.{◌≡◌, ◌++◌, OnOk, string_bytes, nat_lt};
+ghost use Rattle.tt_pages.specs.Health.{health_of, is_stale, is_well, is_wide, limits_of, line_if, reasons_text};
+
+use std::alloc::AllocError;
+use tt_status::Status;
+
+/// A second, in nanoseconds.
+const SECOND: u64 = 1_000_000_000;
+
+/// By what a machine is judged.
+#[derive(Clone, Copy, Debug, PartialEq, Eq)]
+pub struct Limits {
+    /// The widest reading that clients are given, in nanoseconds, if there is a limit.
+    pub max_width: Option<u64>,
+    /// Within what time n - f sources have to have answered, in nanoseconds.
+    pub fresh: u64,
+    /// How old a status may be, in nanoseconds.
+    pub recent: u64,
+}
+
+impl Limits {
+    /// The limits of a machine with this greatest width of a reading, if there is one, that pauses for `poll` between its
+    /// rounds, each of which waits for `wait`, all in nanoseconds: three rounds for answers, and ten rounds and a second
+    /// for a status.
+    pub fn of(max_width: Option<u64>, poll: u64, wait: u64) -> Limits
+        ensures value { result ≡ limits_of max_width poll wait }
+    {
+        let period = poll.saturating_add(wait);
+        Limits {
+            max_width,
+            fresh: period.saturating_mul(3),
+            recent: period.saturating_mul(10).saturating_add(SECOND),
+        }
+    }
+}
+
+/// Why a machine is not well.
+#[derive(Clone, Copy, Debug, PartialEq, Eq)]
+pub struct Health {
+    /// It has published nothing: its clients are refused with 801.
+    pub unpublished: bool,
+    /// It has seen a sign that an assumption is broken: 1823.
+    pub broken: bool,
+    /// Its readings are wider than its limit: its clients are refused with 1824.
+    pub wide: bool,
+    /// Fewer than n - f of its sources have answered within three rounds.
+    pub stale: bool,
+    /// Its status is older than ten rounds and a second: the thread of its rounds stands still.
+    pub still: bool,
+}
+
+/// Whether a reading of this width, if there is one, is wider than this limit, if there is one.
+fn is_wide(width: Option<u64>, most: Option<u64>) -> bool
+    ensures { result ≡ is_wide width most }
+{
+    match width {
+        Some(width) => match most {
+            Some(most) => most < width,
+            None => false,
+        },
+        None => false,
+    }
+}
+
+/// Whether enough sources have not answered within this time. They answered last so long ago, if they ever did.
+fn is_stale(needed: Option<u64>, fresh: u64) -> bool
+    ensures { result ≡ is_stale needed fresh }
+{
+    match needed {
+        Some(age) => fresh < age,
+        None => true,
+    }
+}
+
+/// Whether a machine is well whose last status is this one, if there is one, and `age` nanoseconds old.
+pub fn health_of(status: &Option<Status>, age: u64, limits: &Limits) -> Health
+    ensures value { result ≡ health_of status.now age limits.now }
+{
+    match status {
+        Some(status) => Health {
+            unpublished: status.published == 0,
+            broken: status.breaks > 0,
+            wide: is_wide(status.width, limits.max_width),
+            stale: is_stale(status.needed, limits.fresh),
+            still: age > limits.recent,
+        },
+        None => Health {
+            unpublished: true,
+            broken: false,
+            wide: false,
+            stale: true,
+            still: age > limits.recent,
+        },
+    }
+}
+
+impl Health {
+    /// Whether there is no reason for which it is not well.
+    pub fn is_well(&self) -> bool
+        ensures value { result ≡ is_well self.now }
+    {
+        !self.unpublished && !self.broken && !self.wide && !self.stale && !self.still
+    }
+}
+
+/// Adds a line, if it is so.
+fn push_if(text: &mut String, is_so: bool, line: &str) -> Result<(), AllocError>
+    ensures { OnOk result (string_bytes text.new ≡ string_bytes text.old ++ line_if is_so line.now) }
+{
+    if is_so { text.push_str(line) } else { Ok(()) }
+}
+
+/// Adds a line for each reason.
+pub(crate) fn push_reasons(text: &mut String, health: &Health) -> Result<(), AllocError>
+    ensures { OnOk result (string_bytes text.new ≡ string_bytes text.old ++ reasons_text health.now) }
+{
+    push_if(text, health.unpublished, "801: nothing is published\n")?;
+    push_if(text, health.broken, "1823: an assumption is broken\n")?;
+    push_if(
+        text,
+        health.wide,
+        "1824: readings are wider than max_width\n",
+    )?;
+    push_if(
+        text,
+        health.stale,
+        "sources_stale: fewer than n - f sources have answered within three rounds\n",
+    )?;
+    push_if(
+        text,
+        health.still,
+        "status_old: the last round was made ten rounds ago\n",
+    )
+}

@@ -1,0 +1,226 @@
+"""Scenarios of the suite `wiring`: what a machine answers over HTTP."""
+import contextlib
+import os
+import shutil
+import socket
+import time
+import typing
+
+from harness.metrics import faults_in
+from harness.processes import free_port
+from harness.program import read_text, run, write
+from harness.trouble import disrupt, honest, page, silent
+from suites.wiring import suite
+from suites.wiring_checks import eventually, spans
+
+PLAIN = "text/plain; charset=utf-8"
+METRICS = "text/plain; version=0.0.4; charset=utf-8"
+
+
+class Answer(typing.NamedTuple):
+    """An answer: the words behind its version, its fields, and its text."""
+    words: str
+    fields: dict
+    text: str
+
+
+def ask(port, request, seconds=5.0):
+    """What a machine answers to these bytes, up to the end of the connection."""
+    with socket.create_connection(("127.0.0.1", port), seconds) as door:
+        door.sendall(request)
+        return answer_of(door)
+
+
+def answer_of(door):
+    """The answer that comes there, up to the end of the connection. One that is not whole is an error."""
+    taken = b"".join(iter(lambda: door.recv(65536), b""))
+    head, end, text = taken.decode().partition("\r\n\r\n")
+    version, _, words = head.split("\r\n")[0].partition(" ")
+    if not end or version != "HTTP/1.1":
+        raise ValueError(f"no answer: {taken!r}")
+    return Answer(words, dict(line.split(": ", 1) for line in head.split("\r\n")[1:]), text)
+
+
+def get(port, path):
+    return ask(port, f"GET {path} HTTP/1.1\r\nHost: here\r\n\r\n".encode())
+
+
+def with_pages(trial, masters, **settings):
+    """A machine that gives pages, not yet started, and the port of them."""
+    port = free_port(socket.SOCK_STREAM)
+    return trial.node(masters, http=f"127.0.0.1:{port}", **settings), port
+
+
+def reasons_of(answer):
+    """For which reasons a machine is not well, by the words before the colons; None where it is well."""
+    if (answer.words, answer.text) == ("200 OK", "ok\n"):
+        return None
+    if answer.words != "503 Service Unavailable":
+        raise ValueError(f"{answer}")
+    return [line.partition(":")[0] for line in answer.text.splitlines()]
+
+
+def comes_to(trial, port, wanted, seconds=6.0):
+    """Its health comes to be that."""
+    seen = []
+
+    def look():
+        seen.append(reasons_of(get(port, "/health")))
+        return seen[-1] == wanted
+
+    trial.check("setting http", eventually(look, seconds), f"the health is {seen[-1:]}, and {wanted} is wanted")
+
+
+@suite.case()
+def pages(trial):
+    """They are what the files are, and each has the fields that say how long it is."""
+    node, port = with_pages(trial, trial.scripts(honest), evidence="evidence", poll="300ms")
+    node.run(cwd=node.folder)
+    node.wait_until_ready()
+    for path, name, kind in (("/metrics", "status", METRICS), ("/evidence", "evidence", PLAIN)):
+        seen = {}
+
+        def look():
+            seen["page"], seen["file"] = get(port, path), read_text(node.path(name))
+            return seen["page"].text == seen["file"]
+
+        trial.check("setting http", eventually(look), f"at {path} is {seen.get('page')}, and in the file {seen.get('file')!r}")
+        answer = seen["page"]
+        wanted = {"Content-Type": kind, "Content-Length": str(len(answer.text)), "Connection": "close"}
+        trial.equal("setting http", (answer.words, answer.fields), ("200 OK", wanted))
+        trial.equal("setting http", get(port, f"{path}?a=/health").words, "200 OK")
+    text = get(port, "/metrics").text
+    trial.equal("setting http", faults_in(text), [])
+    if shutil.which("promtool"):
+        ran = run(["promtool", "check", "metrics"], text.encode())
+        trial.equal("setting http", ran.said + ran.error, "")
+    trial.equal("setting http", run([trial.program, "check"], get(port, "/evidence").text.encode()).answer, ("valid\n", 0))
+    head = ask(port, b"HEAD /evidence HTTP/1.0\r\n\r\n")
+    trial.equal("setting http", (head.words, head.fields | {"Content-Length": "0"}, head.text),
+                ("200 OK", {"Content-Type": PLAIN, "Content-Length": "0", "Connection": "close"}, ""))
+    trial.check("setting http", int(head.fields["Content-Length"]) > 0, "the length is that of nothing")
+    comes_to(trial, port, None)
+
+
+@suite.case()
+def pages_without_files(trial):
+    """A machine whose settings name no file for status and evidence gives both."""
+    node, port = with_pages(trial, trial.scripts(honest), status=None, workers=5)
+    node.run()
+    node.wait_until_ready()
+    trial.equal("setting http", node.look_at_resources()[2], 5 + 6 - 1)
+    answer = eventually(lambda: (seen := get(port, "/metrics")).words == "200 OK" and seen)
+    trial.check("setting http", answer and 'truetime_publications_total{machine="0"} ' in answer.text, f"the status is {answer}")
+    answer = eventually(lambda: (seen := get(port, "/evidence")).words == "200 OK" and seen)
+    trial.check("setting http", answer and answer.text.startswith("faulty 0\nspan "), f"the evidence is {answer}")
+    trial.check("setting http", not os.path.exists(node.path("status")), "there is a file")
+
+
+@suite.case()
+def other_requests(trial):
+    """What is no page, no method and no request."""
+    node, port = with_pages(trial, trial.scripts(honest))
+    node.run()
+    eventually(lambda: get(port, "/metrics").words == "200 OK")
+    for request, words in [
+            (b"GET / HTTP/1.1\r\n\r\n", "404 Not Found"), (b"GET /metrics/ HTTP/1.1\r\n\r\n", "404 Not Found"),
+            (b"GET /Health HTTP/1.1\r\n\r\n", "404 Not Found"), (b"HEAD /?/health HTTP/1.1\r\n\r\n", "404 Not Found"),
+            (b"GET http://127.0.0.1/metrics HTTP/1.1\r\n\r\n", "404 Not Found"),
+            (b"POST /metrics HTTP/1.1\r\nContent-Length: 2\r\n\r\nhi", "405 Method Not Allowed"),
+            (b"get /metrics HTTP/1.1\r\n\r\n", "405 Method Not Allowed"), (b"DELETE /nothing HTTP/1.1\r\n\r\n", "405 Method Not Allowed"),
+            (b"GET /metrics HTTP/2.0\r\n\r\n", "400 Bad Request"), (b"GET /metrics\r\n\r\n", "400 Bad Request"),
+            (b"\x16\x03\x01\x02\x00\x01\x00", "400 Bad Request"), (b"GET /health HTTP/1.1\r\na b: c\r\n\r\n", "400 Bad Request"),
+            (b"GET /health HTTP/1.1\r\nA: " + b"a" * 4096 + b"\r\n\r\n", "431 Request Header Fields Too Large"),
+            (b"GET /health HTTP/1.1\r\n" + b"A: a\r\n" * 65 + b"\r\n", "431 Request Header Fields Too Large"),
+            (b"GET /metrics HTTP/1.1\r\n" + b"A: a\r\n" * 64 + b"\r\n", "200 OK"),
+            (b"\r\nGET /metrics HTTP/1.1\n\n", "200 OK")]:
+        answer = ask(port, request)
+        trial.equal("setting http", (request[:40], answer.words), (request[:40], words))
+        trial.equal("setting http", answer.fields.get("Allow"), "GET, HEAD" if words.startswith("405") else None)
+
+
+@suite.case(quiet=True)
+def clients_that_take_their_time(trial):
+    """One that sends nothing, one that sends a byte now and then, and one that takes nothing keep another away for two seconds at most."""
+    node, port = with_pages(trial, trial.scripts(honest))
+    node.run()
+    node.wait_until_ready()
+    for given in (b"", b"GET /metr", b"GET /metrics HTTP/1.1\r\n\r\n"):
+        with socket.create_connection(("127.0.0.1", port), 5) as door:
+            began = time.monotonic()
+            with contextlib.suppress(OSError):
+                door.sendall(given)
+            trial.equal("setting http", get(port, "/").words, "404 Not Found")
+            trial.between("setting http", 0, time.monotonic() - began, 2.3)
+    with socket.create_connection(("127.0.0.1", port), 5) as door:
+        began, gone = time.monotonic(), None
+        for byte in b"GET /metrics HTTP/1.1\r\nHost: here\r\n":
+            try:
+                door.sendall(bytes([byte]))
+            except OSError:
+                gone = time.monotonic() - began
+                break
+            time.sleep(0.1)
+        trial.between("setting http", 0.9, gone, 2.0)
+    comes_to(trial, port, None)
+
+
+@suite.case()
+def pages_before_a_publication(trial):
+    """Clients get 801, and so does who asks whether the machine is well."""
+    node, port = with_pages(trial, trial.scripts(silent))
+    node.run()
+    comes_to(trial, port, ["801", "sources_stale"])
+    trial.equal("setting http", get(port, "/evidence").words, "404 Not Found")
+
+
+@suite.case()
+def readings_too_wide(trial):
+    """Masters are 200 ms wide, and readings may be 100."""
+    node, port = with_pages(trial, trial.scripts(spans(100_000_000, 100_000_000)), max_width="100ms")
+    node.run()
+    comes_to(trial, port, ["1824"])
+
+
+@suite.case()
+def sources_that_end(trial):
+    """Once no master answers any more the machine is not well, and before it was."""
+    masters = trial.scripts([honest, honest, honest, honest, silent])
+    node, port = with_pages(trial, masters, poll="200ms", wait="100ms")
+    node.run()
+    comes_to(trial, port, None)
+    comes_to(trial, port, ["sources_stale"])
+
+
+@suite.case()
+def broken_assumption(trial):
+    """With `on_break = "warn"` a machine that has noticed a break goes on, and is not well."""
+    path = os.path.join(trial.room, "vmclock0")
+    write(path, page(1))
+    node, port = with_pages(trial, trial.scripts(honest), on_break="warn", vmclock=path)
+    node.run()
+    comes_to(trial, port, None)
+    disrupt(path, 2)
+    comes_to(trial, port, ["1823"])
+
+
+@suite.case()
+def rounds_that_stand_still(trial):
+    """Sending a poll lasts: the status is as it was, and grows old. Once the rounds go on, the machine is well again."""
+    port = free_port(socket.SOCK_STREAM)
+    node, spoils = trial.spoilable(trial.scripts(honest), http=f"127.0.0.1:{port}", poll="50ms", wait="100ms")
+    comes_to(trial, port, None)
+    with spoils.spoiled("sending"):
+        comes_to(trial, port, ["status_old"])
+        trial.check("setting http", node.running.poll() is None, "it has ended")
+    comes_to(trial, port, None)
+
+
+@suite.case()
+def port_of_pages_in_use(trial):
+    """It is refused before an epoch is taken."""
+    node, port = with_pages(trial, trial.scripts(honest))
+    with socket.create_server(("127.0.0.1", port)):
+        ran = trial.command("serve", node.path("node.toml"), "--until-eof")
+    trial.equal("setting http", ran.answer, ("refused 1830\n", 4))
+    trial.equal("setting http", os.listdir(node.path("state")), [])
