@@ -3,6 +3,9 @@
  *     shared PATH
  *
  * Prints `clock NS`, `seqlock NS` and `reading NS`: the least of 500 batches of 1,000 calls, by the call.
+ *
+ * By GCC 12 at -O2 a reading has 121 instructions without those of clock_gettime, the seqlock 61 (valgrind --tool=callgrind).
+ * Beside the clock's 22.9 ns it takes 10: without the tests of the slot 2.4 less, without ageing 1.3 less, without both 4.2.
  */
 #include "../clients/c/truetime.h"
 
