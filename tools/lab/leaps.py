@@ -154,6 +154,9 @@ def go_through(fleet: Leap, users: Users, say: Say) -> None:
 
 def judged(fleet: Leap, users: Users, say: Say) -> typing.Iterator[str]:
     """What was wrong with what users saw, but for what was under way from the leap second on until all machines were right again."""
+    ends = [since for since, _ in users.marks[1:]] + [time.time_ns()]
+    for (since, name), until in zip(users.marks, ends):
+        users.phases[name].seconds += (until - since) / SECOND
     say(table(rows_of(users.phases, ("excused", ))))
     kept = merge([os.path.join(fleet.room, "history")], os.path.join(fleet.room, "kept"), [fleet.broken])
     whole, outside = judge(fleet.program, kept), stamps_outside(kept)

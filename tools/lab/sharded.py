@@ -38,7 +38,7 @@ SLIGHT_NS = 500_000
 LEAST_STOP_S, MOST_STOP_S, NOTICED_S, BACK_S = 0.2, 2.2, 30.0, 60.0
 #: How soon a client is answered that closed its half, how soon a machine says what it cannot write, and how soon it shares its time again, which
 #: it tries at least every half a minute; how often that is looked at, and how often where all else waits for it.
-ANSWERED_S, SAID_S, SHARED_S, WAIT_S, LOOK_S = 25.0, 10, 40.0, 0.1, 0.02
+ANSWERED_S, SAID_S, SHARED_S, WAIT_S, LOOK_S = 25.0, 30, 60.0, 0.1, 0.02
 UNWRITTEN = ("status_unwritten", "evidence_unwritten")
 NEXT_KEY = 100
 FOREVER = 2**64
@@ -426,8 +426,11 @@ class Sharded(Fleet):
             self.after_a_while(functools.partial(self.free_disk, machine, machine.running, since, unwritten))
 
     def free_disk(self, machine: UnitMachine, running: subprocess.Popen, since: int, unwritten: typing.Sequence[str]) -> None:
-        """Where it lives on with a log, it says what it could not write; and when there is room again it shares its time again."""
+        """Where it lives on with a log, it says what it could not write, the status alone where too few masters may answer; and when there is room
+        again it shares its time again."""
         disk, lives_on = self.disks[machine.host.name], self.lives_on(machine, running)
+        if not self.router.is_plain or self.unplugged or self.down or any(master.lies for master in self.masters):
+            unwritten = unwritten[:1]
         if lives_on and not machine.pipe and (unsaid := [event for event in unwritten if not machine.said_since(event, since)]):
             if time.time_ns() < since + SAID_S * SECOND:
                 disk.fill()
