@@ -18,7 +18,7 @@
 #include <time.h>
 #include <unistd.h>
 
-enum { PAGE = 4096, STEP_BY_ADJTIME = 0x8001, LOOK_AT_ADJTIME = 0xa001 };
+enum { PAGE = 4096, STEP_BY_ADJTIME = 0x8001, LOOK_AT_ADJTIME = 0xa001, GREATEST_ERROR = 16000000 };
 
 static const int64_t SECOND = 1000000000, THOUSAND = 1000;
 
@@ -32,6 +32,9 @@ struct own {
 };
 
 static volatile struct own *own;
+
+/* What the server says of its error, which a step makes unknown: by that chronyd sees that steps are done. */
+static long error = GREATEST_ERROR;
 
 static struct timespec time_of(int64_t nanoseconds) {
     return (struct timespec){nanoseconds / SECOND, nanoseconds % SECOND};
@@ -98,13 +101,15 @@ int adjtimex(struct timex *asked) {
     int64_t step = 0;
     if (asked->modes != STEP_BY_ADJTIME && asked->modes != LOOK_AT_ADJTIME) {
         if (asked->modes & ADJ_SETOFFSET) step = asked->time.tv_sec * SECOND + asked->time.tv_usec * (asked->modes & ADJ_NANO ? 1 : THOUSAND);
+        if (asked->modes & ADJ_MAXERROR) error = asked->maxerror;
+        if (asked->modes & ADJ_SETOFFSET) error = GREATEST_ERROR;
         if (asked->modes & ADJ_TICK) own->tick = asked->tick;
         if (asked->modes & ADJ_FREQUENCY) own->frequency = asked->freq;
     }
     turn(step);
     int status = asked->modes & ADJ_STATUS ? asked->status : STA_UNSYNC;
-    *asked = (struct timex){.modes = asked->modes, .tick = own->tick, .freq = own->frequency, .status = status, .maxerror = 16000000,
-                            .esterror = 16000000, .constant = 2, .precision = 1, .tolerance = 32768000, .tai = 37,
+    *asked = (struct timex){.modes = asked->modes, .tick = own->tick, .freq = own->frequency, .status = status, .maxerror = error,
+                            .esterror = GREATEST_ERROR, .constant = 2, .precision = 1, .tolerance = 32768000, .tai = 37,
                             .time = {now.tv_sec, now.tv_nsec / THOUSAND}};
     return TIME_OK;
 }

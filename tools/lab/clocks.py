@@ -11,9 +11,9 @@ from harness.processes import SECOND
 from harness.program import WARNINGS, compile_c, write
 from lab.hosts import Lab
 
-#: The fields of `struct own` in tools/own_clock.c, and where the last one is.
-FIELDS, WANTED = struct.Struct("=Qqqddqqd"), struct.Struct("=d")
-WANTED_AT = FIELDS.size - WANTED.size
+#: The fields of `struct own` in tools/own_clock.c, and where the third and the last one are.
+FIELDS, SHOWN, WANTED = struct.Struct("=Qqqddqqd"), struct.Struct("=q"), struct.Struct("=d")
+SHOWN_AT, WANTED_AT = 16, FIELDS.size - WANTED.size
 NO_TICK = 10_000
 #: A sample for chronyd: its time in seconds and microseconds, by how much the true time is ahead, three words, and a magic.
 SAMPLE = struct.Struct("=qqdiiii")
@@ -40,6 +40,11 @@ class OwnClock:
         """Its oscillator is wrong by so much from the next time on that the server looks at it."""
         WANTED.pack_into(self.page, WANTED_AT, rate)
 
+    def step(self, nanoseconds: int) -> None:
+        """It shows so much more from now on."""
+        shown, = SHOWN.unpack_from(self.page, SHOWN_AT)
+        SHOWN.pack_into(self.page, SHOWN_AT, shown + nanoseconds)
+
     def ahead_ns(self) -> int:
         """How far it is ahead of the true time."""
         while True:
@@ -50,10 +55,11 @@ class OwnClock:
 
 
 class Receiver:
-    """A receiver of the true time, or of one that is so far ahead of it, that tells a chronyd of it: `refclock SOCK PATH`."""
+    """A receiver of the true time, or of one that is so far ahead of it, that tells a chronyd of it: `refclock SOCK PATH`. It may announce a leap
+    second by a 1."""
 
-    def __init__(self, path: str, clock: OwnClock):
-        self.path, self.clock, self.ahead_s, self.is_heard = path, clock, 0.0, True
+    def __init__(self, path: str, clock: OwnClock, ahead_s: float = 0.0):
+        self.path, self.clock, self.ahead_s, self.leap, self.is_heard = path, clock, ahead_s, 0, True
         self.door = socket.socket(socket.AF_UNIX, socket.SOCK_DGRAM)
 
     def close(self) -> None:
@@ -62,9 +68,10 @@ class Receiver:
     def tell(self) -> None:
         ahead_ns = self.clock.ahead_ns()
         seconds, rest = divmod(time.time_ns() + ahead_ns, SECOND)
+        sample = SAMPLE.pack(seconds, rest // 1000, self.ahead_s - ahead_ns / SECOND, 0, self.leap, 0, MAGIC)
         if self.is_heard:
             try:
-                self.door.sendto(SAMPLE.pack(seconds, rest // 1000, self.ahead_s - ahead_ns / SECOND, 0, 0, 0, MAGIC), socket.MSG_DONTWAIT, self.path)
+                self.door.sendto(sample, socket.MSG_DONTWAIT, self.path)
             except OSError:  # its chronyd is not there
                 pass
 
@@ -78,8 +85,8 @@ class Receivers(threading.Thread):
         self.ended = threading.Event()
         self.start()
 
-    def add(self, path: str, clock: OwnClock) -> Receiver:
-        self.all.append(Receiver(path, clock))
+    def add(self, path: str, clock: OwnClock, ahead_s: float = 0.0) -> Receiver:
+        self.all.append(Receiver(path, clock, ahead_s))
         return self.all[-1]
 
     def run(self) -> None:

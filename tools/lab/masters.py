@@ -14,7 +14,7 @@ from harness.program import read_text
 from harness.trouble import REQUEST, SPAN
 from lab.hosts import Host, inside
 from lab.servers import PORT, Chronyd, Ntpd, Servers
-from lab.services import POLLS, KeyFile, Machine, OnHost, Source, new_key, wait_until
+from lab.services import POLLS, KeyFile, Machine, OnHost, Source, new_key, sum_in, wait_until
 from lab.users import Users
 
 SOURCES = 5
@@ -66,6 +66,10 @@ class NtpMaster(OnHost):
     def of_server(self, what: str, server: int = 0):
         """A number of its status about a server, by the end of its name."""
         return self.numbers().get(f'truetime_master_server_{what}{{server="{server}"}}')
+
+    def of_all(self, what: str) -> int:
+        """The sum of a number of its status over its labels, by the end of its name."""
+        return sum_in(self.numbers(), f"truetime_master_{what}")
 
     def said_all(self) -> list[dict]:
         """The fields of each line of its log."""

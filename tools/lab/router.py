@@ -64,6 +64,7 @@ class Router:
 
     def __init__(self, doors: dict[str, int], addresses: dict[bytes, str], tap: str | None, seed: int):
         self.control, there = FORKED.Pipe()
+        self.is_plain = True
         self.child = Child(Forwarding(doors, addresses, tap, seed, there).run)
         there.close()
         for door in doors.values():
@@ -75,11 +76,12 @@ class Router:
 
     def set(self, sources: typing.Iterable[str], targets: typing.Iterable[str], way: Way) -> None:
         """From now on packets from these hosts to these go this way."""
-        targets = list(targets)
+        targets, self.is_plain = list(targets), False
         self.control.send({(source, target): way for source in sources for target in targets})
 
     def heal(self) -> None:
         """From now on all packets go at once."""
+        self.is_plain = True
         self.control.send(None)
 
     def counts(self) -> collections.Counter:

@@ -9,7 +9,7 @@ import typing
 
 from harness import processes
 from harness.ntp import Refused, Reply, ask
-from harness.processes import Fault
+from harness.processes import SECOND, Fault
 from harness.program import run, write
 from lab.clocks import OwnClock, Receiver, Receivers, compile_clock
 from lab.hosts import Host, inside
@@ -30,6 +30,13 @@ def path_of(program: str) -> str:
 
 
 @functools.cache
+def no_chronyd() -> str:
+    """Why chronyd cannot be run here, or nothing."""
+    path = path_of("chronyd")
+    return "" if path and run([path, "-v"]).status == 0 else "it wants chronyd, which tools/prepare unpacks"
+
+
+@functools.cache
 def missing() -> str:
     """Why no servers can be run here, or nothing."""
     if lacking := [program for program in ("chronyd", "chronyc", "ntpd") if not path_of(program)]:
@@ -43,10 +50,10 @@ def missing() -> str:
 class Server(processes.Process):
     """A server of NTP on a host, with a folder of its own."""
 
-    def __init__(self, host: Host, name: str, rate: float):
+    def __init__(self, host: Host, name: str, rate: float, ahead_ns: int = 0):
         self.host, self.folder = host, os.path.join(host.lab.room, name)
         os.mkdir(self.folder, 0o700)
-        self.clock = OwnClock(self.path("clock"), host.lab.clock_library, rate)
+        self.clock = OwnClock(self.path("clock"), host.lab.clock_library, rate, ahead_ns)
         super().__init__(host.lab, name, [])
 
     def path(self, name: str) -> str:
@@ -75,11 +82,12 @@ class Server(processes.Process):
 
 
 class Chronyd(Server):
-    """A chronyd by these lines of its file. With `@receiver` among its words a line has the path of a receiver."""
+    """A chronyd by these lines of its file. With `@receiver` among its words a line has the path of a receiver. All of them may show a time that is
+    ahead."""
 
-    def __init__(self, host: Host, name: str, lines: typing.Sequence[str], rate: float = 0.0):
-        self.lines, self.receivers = list(lines), list[Receiver]()
-        super().__init__(host, name, rate)
+    def __init__(self, host: Host, name: str, lines: typing.Sequence[str], rate: float = 0.0, ahead_ns: int = 0):
+        self.lines, self.receivers, self.ahead_ns = list(lines), list[Receiver](), ahead_ns
+        super().__init__(host, name, rate, ahead_ns)
 
     def start(self) -> None:
         if not os.path.isfile(self.path("chrony.conf")):
@@ -93,7 +101,7 @@ class Chronyd(Server):
 
     def add_receiver(self, _: re.Match) -> str:
         path = self.path(f"receiver-{len(self.receivers)}")
-        self.receivers.append(self.host.lab.receivers.add(path, self.clock))
+        self.receivers.append(self.host.lab.receivers.add(path, self.clock, self.ahead_ns / SECOND))
         return path
 
     def poll_every(self, exponent: int) -> None:

@@ -10,6 +10,7 @@ from harness.metrics import numbers_in
 from harness.processes import Fault
 from harness.program import read_text, run, write
 from lab.hosts import Host
+from lab.pipes import Pipe
 
 POLLS, SESSIONS = 5701, 5601
 SECRET_BYTES = 32
@@ -60,15 +61,22 @@ def new_key(program: str, number: int, name: str) -> str:
 
 
 class OnHost(processes.Process):
-    """A process of the program on a host, that can be killed and started again."""
+    """A process of the program on a host, that can be killed and started again. What it prints goes to its log, or to a pipe from the next start
+    on."""
+    pipe: Pipe | None = None
 
     def __init__(self, host: Host, name: str, words: typing.Sequence[str]):
         self.host = host
         super().__init__(host.lab, name, list(words))
 
     def start(self) -> None:
+        self.start_program(self.program)
+
+    def start_program(self, program: str) -> None:
+        pipe = self.pipe
         with open(self.log, "ab") as log:
-            self.running = self.host.start([self.program, *self.words], stdout=log, stderr=log)
+            output = pipe.writing if pipe else log
+            self.running = self.host.start([program, *self.words], stdout=output, stderr=output)
 
 
 class Master(OnHost):
@@ -89,7 +97,6 @@ class Master(OnHost):
         self.words = [*self.fixed, f"--offset={offset}", *(word for act in acts for word in ("--act", act))]
         self.restart()
 
-
     def sum_of(self, metric: str) -> int:
         """The sum of a metric of its status over its labels."""
         return sum_in(numbers_in(read_text(self.status_path)), metric) if os.path.isfile(self.status_path) else 0
@@ -101,7 +108,7 @@ class Source(typing.NamedTuple):
     keys: tuple[int, ...] = ()
 
 
-class Machine(processes.Machine):
+class Machine(OnHost, processes.Machine):
     """A machine on a host, with all files of its own in one folder, which is asked at its Unix socket from outside of the host."""
 
     def __init__(self, host: Host, number: int, sources: typing.Sequence[Source], keys: KeyFile | None, **settings):
@@ -114,8 +121,6 @@ class Machine(processes.Machine):
         self.settings = {key: value for key, value in settings.items() if value is not None}
         self.write_settings()
         processes.Process.__init__(self, host.lab, f"machine-{host.name}", ["serve", self.path("node.toml")])
-
-    start = OnHost.start
 
     def write_settings(self) -> None:
         """Writes its settings with the sources of now."""

@@ -5,7 +5,7 @@ import time
 import typing
 
 from harness.processes import Fault, truetime
-from harness.program import read_text
+from harness.program import read, read_text, run
 from lab.runs import Run
 from lab.services import Master, wait_until
 from lab.sharded import ONCE, PHASES, Break, Sharded
@@ -121,9 +121,18 @@ class ShardRun(Run):
             if (told := machine.sum_of("truetime_epoch")) != epochs[-1]:
                 self.wrong.append(f"{machine.name}: its status tells of the epoch {told}, and its log of {epochs[-1]}")
 
+    def judge_evidence(self) -> None:
+        """What a machine leaves proves how its last round, and both of a break, were fused."""
+        for machine in self.fleet.machines.values():
+            for path in filter(os.path.isfile, (machine.path("evidence") + end for end in ("", ".break-1", ".break-2"))):
+                checked = run([self.fleet.program, "check"], read(path))
+                if checked.status != 0:
+                    self.wrong.append(f"{machine.name}: {os.path.basename(path)} proves nothing: {checked.said}{checked.error}")
+
     def judge_memory(self) -> None:
         super().judge_memory()
         self.judge_epochs()
+        self.judge_evidence()
         for master in self.fleet.masters:
             try:
                 used = master.resources()

@@ -10,15 +10,17 @@ import time
 import typing
 
 from harness.processes import SECOND, Fault, truetime
-from harness.program import in_top, read, run
+from harness.program import in_top, read
 from lab import hosts, rollover
 from lab.clocks import Receivers, compile_clock
+from lab.disks import Disk
 from lab.fleet import ACTS, Fleet, key_number
+from lab.pipes import HalfClosed, Pipe
 from lab.router import Way
-from lab.servers import path_of
-from lab.services import KeyFile, Machine, Master, OnHost, Source, wait_until
-from lab.shards import Etcd, Other, Shard, build, stop
-from lab.units import BROKEN, ServedMaster, Units, UnitMachine
+from lab.servers import no_chronyd
+from lab.services import SESSIONS, KeyFile, Machine, Master, OnHost, Source, wait_until
+from lab.shards import Etcd, Other, Shard, build, is_stopped, stop
+from lab.units import BROKEN, DISK, ServedMaster, Units, UnitMachine
 from lab.users import Commits, Users
 
 SERVED = {3: 30.0, 4: -25.0}
@@ -34,6 +36,10 @@ SLIGHT_NS = 500_000
 #: How long something stands still or is down, how soon a break has to be noticed, and how soon all has to be back: a start behind some breaks in a
 #: row pauses up to half a minute.
 LEAST_STOP_S, MOST_STOP_S, NOTICED_S, BACK_S = 0.2, 2.2, 30.0, 60.0
+#: How soon a client is answered that closed its half, how soon a machine says what it cannot write, and how soon it shares its time again, which
+#: it tries at least every half a minute; how often that is looked at, and how often where all else waits for it.
+ANSWERED_S, SAID_S, SHARED_S, WAIT_S, LOOK_S = 25.0, 30, 60.0, 0.1, 0.02
+UNWRITTEN = ("status_unwritten", "evidence_unwritten")
 NEXT_KEY = 100
 FOREVER = 2**64
 
@@ -45,9 +51,7 @@ def missing() -> str:
         return why
     if lacking := [program for program in ("go", "etcd", "setpriv") if not shutil.which(program)]:
         return f"it wants {' and '.join(lacking)}"
-    if not path_of("chronyd") or run([path_of("chronyd"), "-v"]).status != 0:
-        return "it wants chronyd, which tools/prepare unpacks"
-    return ""
+    return no_chronyd()
 
 
 @dataclasses.dataclass
@@ -76,16 +80,16 @@ class Sharded(Fleet):
         self.wrong: list[str] = []
         #: What is done later, and when.
         self.later: list[tuple[float, typing.Callable[[], None]]] = []
+        #: The lives of machines that have to share their time again by some moment.
+        self.sharing: list[tuple[UnitMachine, subprocess.Popen, float]] = []
         self.slept_ns, self.key, self.shards = 0, key_number(0, 0), list[Shard]()
         self.users_of: dict[str, list[subprocess.Popen]] = {}
 
     def build(self) -> None:
         super().build()
         self.clock_library, self.receivers = compile_clock(self), self.keep(Receivers())
-        self.disk = os.path.join(self.room, SMALL_DISK, "state")
-        os.makedirs(self.disk)
-        hosts.do("mount", "-t", "tmpfs", "-o", "size=64k,mode=700", "none", self.disk)
-        self.stack.callback(hosts.do, "umount", self.disk)
+        self.state_disk = Disk(self, os.path.join(self.room, SMALL_DISK, "state"), 64, "700")
+        self.disks = {name: Disk(self, os.path.join(self.room, name, DISK), 128, "755") for name in self.shifts_s}
 
     # What is started.
 
@@ -93,7 +97,7 @@ class Sharded(Fleet):
         return ServedMaster(self.hosts[f"m{source}"], source, keys, SERVED[source]) if source in SERVED else super().master(source, keys)
 
     def machine(self, name: str, number: int, sources: list[Source], settings: dict) -> Machine:
-        return UnitMachine(self.hosts[name], number, sources, self.key_files[name], **settings)
+        return UnitMachine(self.hosts[name], number, sources, self.key_files[name], **settings, evidence=self.disks[name].path("evidence"))
 
     def start_machines(self, **settings) -> None:
         """Starts machines and their units, etcd, and both shards, each with a leader."""
@@ -138,7 +142,7 @@ class Sharded(Fleet):
             if child and not child.process.is_alive():
                 yield f"the {name} has ended"
         others = [process for process in (*self.etcd.members, *self.agents, *(shard.users for shard in self.shards)) if process]
-        down = [*self.down, *(process for process in others if process.is_down)]
+        down = [*self.down, *(process for process in others if process.is_down or process.ended_by_pipe())]
         for process in [*self.masters, *(master.server for master in self.served), *others]:
             if process.has_ended() and process not in down:
                 yield f"{process.name} ended with status {process.running.returncode}: {process.end_of_log()[-300:]}"
@@ -260,12 +264,13 @@ class Sharded(Fleet):
         self.later.append((time.monotonic() + self.chance.uniform(LEAST_STOP_S, MOST_STOP_S), call))
 
     def go_on(self, is_end: bool = False) -> None:
-        """Does what was put off until now, or all of it."""
-        now = time.monotonic()
-        due = [call for moment, call in self.later if is_end or moment <= now]
-        self.later = [] if is_end else [put_off for put_off in self.later if put_off[0] > now]
-        for call in due:
-            call()
+        """Does what was put off until now, or all of it, and what that puts off."""
+        while due := [put_off for put_off in self.later if is_end or put_off[0] <= time.monotonic()]:
+            self.later = [put_off for put_off in self.later if put_off not in due]
+            for _, call in due:
+                call()
+            time.sleep(LOOK_S)
+        self.sharing = [awaited for awaited in self.sharing if self.is_awaited(*awaited)]
 
     def heal(self) -> None:
         self.go_on(is_end=True)
@@ -330,28 +335,120 @@ class Sharded(Fleet):
 
     # What is done to files and keys.
 
-    def close_pipe(self) -> None:
-        """A machine has a log that nobody reads any more."""
-        machine = self.chance.choice(list(self.machines.values()))
-        machine.restart_with_closed_pipe()
-        self.after_a_while(machine.restart)
+    def give_pipe(self, process: OnHost) -> Pipe:
+        """What a process prints goes to a pipe from a new start on."""
+        process.pipe = Pipe(process.log)
+        process.restart()
+        return process.pipe
 
-    def fill_disk(self) -> None:
+    def take_pipe(self, process: OnHost, pipe: Pipe, running: subprocess.Popen) -> None:
+        """A machine or a master that lives on without a reader of its log goes on with its work."""
+        if self.lives_on(process, running) and not is_stopped(running) and not isinstance(process, Other):
+            since = time.time()
+            self.wait(lambda: is_at_work(process, since), ANSWERED_S, f"{process.name} does nothing without a reader of its log")
+        process.pipe = None
+        process.restart()
+        pipe.close()
+
+    def spoil_pipe(self, process: OnHost, pipe: Pipe, is_full: bool) -> None:
+        pipe.spoil(is_full)
+        self.after_a_while(functools.partial(self.take_pipe, process, pipe, process.running))
+
+    def close_pipe(self) -> None:
+        """A machine, a master or an agent prints to a pipe that nobody reads any more from some moment on."""
+        self.lose_reader(is_full=False)
+
+    def fill_pipe(self) -> None:
+        """A machine, a master or an agent prints to a pipe that is full from some moment on."""
+        self.lose_reader(is_full=True)
+
+    def lose_reader(self, is_full: bool) -> None:
+        process = self.chance.choice(self.chance.choice((list(self.machines.values()), self.masters, self.agents)))
+        self.after_a_while(functools.partial(self.spoil_pipe, process, self.give_pipe(process), is_full))
+
+    def close_half(self) -> None:
+        """A client of a machine and one of an agent say behind what they ask that they will ask no more. The machine answers that."""
+        machine, (listens, _, port) = self.chance.choice(list(self.machines.values())), self.agent().listens.partition(":")
+        address, running = self.chance.choice((machine.address, ("127.0.0.1", SESSIONS))), machine.running
+        with contextlib.suppress(OSError), hosts.inside(machine.host.space):  # it may be down
+            self.await_answer(machine, running, HalfClosed(address, b"now\nnow\n"), time.monotonic() + ANSWERED_S)
+        with contextlib.suppress(OSError), hosts.inside(self.hosts[ASKING].space):
+            client = HalfClosed((listens, int(port)), b"PUT /keys/half HTTP/1.0\r\nContent-Length: 1\r\n\r\n1")
+            self.after_a_while(client.close)
+
+    def await_answer(self, machine: UnitMachine, running: subprocess.Popen, client: HalfClosed, last: float) -> None:
+        """Both lines of a client that has closed its half are answered, and the connection ends, where the machine lives on."""
+        client.look()
+        is_answered = client.is_over and client.answer.count(b"\n") == 2
+        if not is_answered and self.lives_on(machine, running) and time.monotonic() < last:
+            self.later.append((time.monotonic() + WAIT_S, functools.partial(self.await_answer, machine, running, client, last)))
+            return
+        client.close()
+        if not is_answered and self.lives_on(machine, running):
+            self.wrong.append(f"{machine.name}: a client that closed its half has {client.answer!r}, and the end {client.is_over}")
+
+    @staticmethod
+    def lives_on(process: OnHost, running: subprocess.Popen) -> bool:
+        """Whether a process is still in this life."""
+        return process.running is running and running.poll() is None
+
+    def fill_state(self) -> None:
         """The machine on the small disk is started again while that is full. Where it ends, its epoch has to stand as it was."""
-        machine, fill, epoch = self.machines[SMALL_DISK], os.path.join(self.disk, "fill"), os.path.join(self.disk, "epoch")
+        machine, epoch = self.machines[SMALL_DISK], self.state_disk.path("epoch")
         with machine.lock:
             machine.kill()
             before = read(epoch)
-            with open(fill, "wb", buffering=0) as file, contextlib.suppress(OSError):
-                while file.write(bytes(512)):
-                    pass
+            self.state_disk.fill()
             machine.start()
             with contextlib.suppress(subprocess.TimeoutExpired):
                 machine.running.wait(1)
             if machine.has_ended() and read(epoch) != before:
                 self.wrong.append(f"the epoch {before} became {read(epoch)} on a full disk")
-            os.remove(fill)
+            self.state_disk.free()
             machine.restart()
+
+    def fill_disk(self) -> None:
+        """There is no room for a machine's status, evidence and shared file for a while. It may be started there without that file, and is where
+        the same life has told of that before: it tells again after 10 seconds."""
+        name, machine = self.chance.choice(list(self.machines.items()))
+        disk, since, unwritten = self.disks[name], time.time_ns(), UNWRITTEN
+        if disk.is_full:
+            return
+        with machine.lock:
+            if self.chance.random() < 0.5 or disk.life is machine.running:
+                machine.kill()
+                with contextlib.suppress(FileNotFoundError):
+                    os.remove(machine.path("shared"))
+                unwritten = (*UNWRITTEN, "sharing_ended")
+            disk.fill()
+            machine.start()
+            disk.life = machine.running
+            self.after_a_while(functools.partial(self.free_disk, machine, machine.running, since, unwritten))
+
+    def free_disk(self, machine: UnitMachine, running: subprocess.Popen, since: int, unwritten: typing.Sequence[str]) -> None:
+        """Where it lives on with a log, it says what it could not write, the status alone where too few masters may answer; and when there is room
+        again it shares its time again."""
+        disk, lives_on = self.disks[machine.host.name], self.lives_on(machine, running)
+        if not self.router.is_plain or self.unplugged or self.down or any(master.lies for master in self.masters):
+            unwritten = unwritten[:1]
+        if lives_on and not machine.pipe and (unsaid := [event for event in unwritten if not machine.said_since(event, since)]):
+            if time.time_ns() < since + SAID_S * SECOND:
+                disk.fill()
+                self.later.append((time.monotonic() + WAIT_S, functools.partial(self.free_disk, machine, running, since, unwritten)))
+                return
+            self.wrong.append(f"{machine.name} does not say {' and '.join(unsaid)} on a full disk")
+        disk.free()
+        if lives_on:
+            self.sharing.append((machine, running, time.monotonic() + SHARED_S))
+
+    def is_awaited(self, machine: UnitMachine, running: subprocess.Popen, last: float) -> bool:
+        """Whether a life goes on that does not share its time yet."""
+        if not self.lives_on(machine, running) or machine.sum_of("truetime_sharing"):
+            return False
+        if time.monotonic() > last:
+            self.wrong.append(f"{machine.name} does not share its time, though there is room again")
+            return False
+        return True
 
     def rotate_key(self) -> None:
         """The key of a and m0 is rolled over."""
@@ -360,6 +457,17 @@ class Sharded(Fleet):
             rollover.replace_key(Quickly(self, {}, lambda _: None), self, old, self.key, is_revoked=False, soon_s=BACK_S)
         except Fault as fault:
             self.wrong.append(f"the key {old} is not rolled over: {fault}")
+
+
+def is_at_work(process: OnHost, since: float) -> bool:
+    """Whether a machine answers, or a master has written its status since then."""
+    if not isinstance(process, Machine):
+        return os.path.getmtime(process.status_path) > since
+    with contextlib.suppress(OSError), truetime.Session(process.address, 5) as session:
+        with contextlib.suppress(truetime.Refused):
+            session.now()
+        return True
+    return False
 
 
 class Quickly(rollover.Steps):
@@ -378,12 +486,12 @@ PHASES = {
     "kills": ("kill_machine", "kill_master", "kill_agent", "kill_host", "kill_member", "end_agent"),
     "stops": ("stop_machine", "stop_master", "stop_agent", "stop_host", "stop_member"),
     "clocks": ("turn_clock", ),
-    "files": ("close_pipe", "fill_disk", "end_agent"),
+    "files": ("close_pipe", "fill_pipe", "close_half", "fill_state", "fill_disk", "end_agent"),
     "keys": (),
     "wild clock": (),
     "sleep": (),
     "steps": (),
     "everything": (*ACTS, "kill_agent", "stop_agent", "end_agent", "kill_host", "stop_host", "kill_member", "stop_member", "stop_machine",
-                   "stop_master", "cut_members", "close_pipe", "fill_disk"),
+                   "stop_master", "cut_members", "close_pipe", "fill_pipe", "close_half", "fill_state", "fill_disk"),
 }
 ONCE = {"keys": "rotate_key", "wild clock": "run_wild", "sleep": "sleep", "steps": "step_all"}

@@ -40,21 +40,24 @@ def ask(host: Host, url: str, given: bytes | None = None, seconds: float = 0.3, 
 class Other(OnHost):
     """Another program on a host. It is down from when it was killed until it is started."""
 
-    def __init__(self, host: Host, name: str, program: str, *words: str):
-        self.other, self.is_down = program, False
+    def __init__(self, host: Host, name: str, program: str, *words: str, listens: str = ""):
+        self.other, self.is_down, self.listens = program, False, listens
         super().__init__(host, name, words)
 
     def start(self) -> None:
         """Starts it, where it does not run."""
         if self.running and self.running.poll() is None:
             return
-        with open(self.log, "ab") as log:
-            self.running = self.host.start([self.other, *self.words], stdout=log, stderr=log)
+        self.start_program(self.other)
         self.is_down = False
 
     def kill(self) -> None:
         self.is_down = True
         super().kill()
+
+    def ended_by_pipe(self) -> bool:
+        """Whether it printed to a pipe that nobody reads any more, which ends programs."""
+        return bool(self.pipe) and self.running.poll() == -signal.SIGPIPE
 
     def terminate(self) -> None:
         """Lets it end in order."""
@@ -104,7 +107,8 @@ class Shard:
             by = f"127.0.0.1:{SESSIONS}" if by_sessions else machine.path("shared")
             self.agents[host.at(AGENTS + number)] = host.lab.keep(Other(
                 host, f"agent-{number}-{host.name}", program, "agent", "-name", host.name, "-listen", host.at(AGENTS + number), "-shard", str(number),
-                "-etcd", etcd.urls, "-machine", by, "-sessions", "4", "-ttl", f"{TTL_S}s", "-span", f"{SPAN_S}s", *of_agents))
+                "-etcd", etcd.urls, "-machine", by, "-sessions", "4", "-ttl", f"{TTL_S}s", "-span", f"{SPAN_S}s", *of_agents,
+                listens=host.at(AGENTS + number)))
         self.history = os.path.join(self.asking.lab.room, f"history-{number}")
         self.users: Other | None = None
 
@@ -154,3 +158,9 @@ def stop(running: subprocess.Popen) -> typing.Callable[[], None]:
     """Stops a process; what lets it go on."""
     running.send_signal(signal.SIGSTOP)
     return lambda: running.send_signal(signal.SIGCONT)
+
+
+def is_stopped(running: subprocess.Popen) -> bool:
+    with contextlib.suppress(OSError):  # it may have ended
+        return read_text(f"/proc/{running.pid}/stat").rpartition(")")[2].split()[0] == "T"
+    return False

@@ -1,6 +1,5 @@
 """Machines that are started again once they have ended by a break, as their units do, and masters over a server of NTP that can lie."""
 import os
-import subprocess
 import threading
 import time
 import typing
@@ -14,14 +13,18 @@ from lab.services import KeyFile, Machine, sum_in
 #: The status with which a machine ends that has noticed that an assumption was broken.
 BROKEN = 3
 EVERY, MOST_AHEAD_S = "500ms", 0.5
+#: A folder of a machine, and what it has there.
+DISK, ON_DISK = "disk", ("status", "evidence", "shared")
 
 
 class UnitMachine(Machine):
-    """A machine with a unit. It is down from when it was killed until it is started; starting one that runs does nothing."""
+    """A machine with a unit. It is down from when it was killed until it is started; starting one that runs does nothing. Its status, evidence and
+    shared file are in a folder of theirs."""
 
-    def __init__(self, *words, **settings):
+    def __init__(self, host: Host, *words, **settings):
         self.lock, self.is_down = threading.RLock(), False
-        super().__init__(*words, **settings)
+        os.makedirs(os.path.join(host.lab.room, host.name, DISK), exist_ok=True)
+        super().__init__(host, *words, **settings)
 
     def start(self) -> None:
         with self.lock:
@@ -38,15 +41,12 @@ class UnitMachine(Machine):
         with self.lock:
             super().restart()
 
-    def restart_with_closed_pipe(self) -> None:
-        """Starts it again with a standard error that nobody reads any more."""
-        with self.lock:
-            self.kill()
-            reading, writing = os.pipe()
-            os.close(reading)
-            self.running = self.host.start([self.program, *self.words], stdin=subprocess.DEVNULL, stdout=writing, stderr=writing)
-            os.close(writing)
-            self.is_down = False
+    def path(self, name: str) -> str:
+        return super().path(os.path.join(DISK, name) if name in ON_DISK else name)
+
+    def said_since(self, event: str, since: int) -> list[dict]:
+        """The fields of each line of the log that tells of this event from some time since 1970 on."""
+        return [fields for fields in self.said(event) if fields["time"] >= since]
 
 
 class Ended(typing.NamedTuple):

@@ -143,7 +143,7 @@ class Users:
             began, ended, stamp = map(int, words[1:4])
             phase = self.phase_at(ended)
             phase.commits += 1
-            phase.waits.append(ended - began)
+            phase.waits.append(max(0, ended - began))  # less where the true time has stepped
             self.history.add(began, ended, stamp, " ".join(words[4:]))
         elif words[0] == "seen":
             moment, readings, width, lost = map(int, words[1:])

@@ -9,18 +9,20 @@ stamp may come twice, each machine has to count what the forger sent, no master 
 fresh start in the end.
 
 Then the same for a fleet with shards: two of its masters stand on chronyd, etcd elects the leaders of two shards, agents of these and users in C, Go
-and Python stamp by its machines, processes are killed and stopped, a disk is full, and once a clock runs wild, a host sleeps, and three masters step
-by a second. That has to be noticed, and wrong readings may come until then alone; stamps have to rise with the terms of their shard.
+and Python stamp by its machines, processes are killed and stopped, disks are full, pipes for logs are full or closed, clients close half of their
+connection, and once a clock runs wild, a host sleeps, and three masters step by a second. That has to be noticed, and wrong readings may come until
+then alone; stamps have to rise with the terms of their shard.
 
 Then a key is rolled over, one is revoked, and a host goes from open to sealed polls; nobody may be without a reading meanwhile but by the
 start of a machine. A master waits for its address, and an answer from another address is told of. The fleet of docs/OPERATING.md, five masters
 and sixty machines, runs as it is written there. With --long the controls of `tools/fleet
-control` are run, too: they have to be wrong.
+control` are run, too: they have to be wrong; and a leap second that chronyd announces comes over a whole fleet: masters are silent from a minute
+before it, nobody reads wrongly till then, and the fleet comes back by itself.
 
 What was wrong is tried once more, since steps have their time and the host may be busy; but no wrong reading, order or stamp.
 """
 from harness.suite import Suite, seeds, wrong_in
-from lab import addresses, controls, documented, rollover, sharded, takeovers
+from lab import addresses, controls, documented, leaps, rollover, sharded, takeovers
 from lab.fleet import Fleet
 from lab.hosts import missing
 from lab.runs import Run
@@ -66,6 +68,11 @@ def faults_that_are_seen(trial):
 @suite.case(missing=sharded.missing, long=True)
 def terms_that_cross(trial):
     trial.holds(takeovers.crossing(trial.program, trial.note), "stamps of leaders without spans were not seen to cross")
+
+
+@suite.case(missing=leaps.missing, long=True)
+def leap_second(trial):
+    yield from leaps.tell(trial.program, trial.note)
 
 
 @suite.last_line
