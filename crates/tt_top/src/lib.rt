@@ -1,0 +1,23 @@
+//! What a machine sees at a look: the spans of its sources as bars on one scale, the fused one, the width over time, and
+//! what an operator may have to act on.
+//!
+//! All of it is functions over values: no file, no terminal and no socket is used here.
+//!
+//! - `views`: [`View`] and [`SourceView`], what is shown.
+//! - `pictures`: [`push_view`], the picture as text.
+//! - `forms`: [`Form`], how it is drawn. `heads`, `rows`, `signs`: its lines. `bars`, `sparks`, `pieces`: what a line is made of.
+#![tactic(auto)]
+
+mod bars;
+mod forms;
+mod heads;
+mod pictures;
+mod pieces;
+mod rows;
+mod signs;
+mod sparks;
+mod views;
+
+pub use forms::{Form, MAX_COLUMNS, MIN_COLUMNS};
+pub use pictures::push_view;
+pub use views::{SignCounts, SourceView, View};
