@@ -18,8 +18,8 @@ faulty_text (Some n) = join (codes "  f " ∷ decimal n ∷ codes "\n" ∷ [])
 -- the front of the line of a machine's life
 abbrev pub life_text : View → List ℕ
 life_text view = join (
-    codes "machine " ∷ decimal view.machine ∷ codes "  epoch " ∷ decimal view.epoch ∷ codes "  rounds " ∷ decimal view.rounds
-    ∷ codes "  sources " ∷ decimal (length view.sources.items) ∷ codes "  known " ∷ decimal view.known ∷ [])
+    codes "machine " ∷ decimal view.life.machine ∷ codes "  epoch " ∷ decimal view.life.epoch ∷ codes "  rounds " ∷ decimal view.life.rounds
+    ∷ codes "  sources " ∷ decimal (length view.sources.items) ∷ codes "  known " ∷ decimal view.life.known ∷ [])
 
 -- the line of a machine's life
 unfoldable pub head_text : View → List ℕ
@@ -67,6 +67,6 @@ sharing_word sharing = if sharing then codes "yes" else codes "no"
 -- the line of the commits
 abbrev pub commits_text : View → List ℕ
 commits_text view = join (
-    codes "commits waiting " ∷ decimal view.commits_waiting ∷ codes "  waited " ∷ decimal view.commits
-    ∷ codes "  mean wait " ∷ piece_text (piece.Length (mean_of view.commit_wait view.commits))
+    codes "commits waiting " ∷ decimal view.commits.waiting ∷ codes "  waited " ∷ decimal view.commits.waited
+    ∷ codes "  mean wait " ∷ piece_text (piece.Length (mean_of view.commits.together view.commits.waited))
     ∷ codes "  shared " ∷ sharing_word view.sharing ∷ codes "\n" ∷ [])

@@ -6,3 +6,6 @@ pub mod Row
 pub mod Head
 pub mod Sign
 pub mod Picture
+pub mod Fault
+pub mod Field
+pub mod View

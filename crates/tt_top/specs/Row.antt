@@ -42,7 +42,7 @@ mark_if suspect (Some span) (Some fused) = if suspect then Suspect else Source
 abbrev pub bar_mark : SourceView → Option Interval → Mark
 bar_mark source fused = mark_if source.suspect source.span fused
 
--- which ends of the fused span the certificate says that a source holds
+-- which ends of the fused span a source holds
 abbrev pub ends_word : SourceView → List ℕ
 ends_word source =
     if source.holds_lower then (if source.holds_upper then codes "[]" else codes "[ ") else if source.holds_upper then codes " ]" else codes "  "

@@ -5,19 +5,26 @@
 //!
 //! - `views`: [`View`] and [`SourceView`], what is shown.
 //! - `pictures`: [`push_view`], the picture as text.
+//! - `reading`: [`read_view`], a view from the texts of the status and of the evidence. `fields`: numbers in these texts. `faults`: why
+//!   there is no view.
 //! - `forms`: [`Form`], how it is drawn. `heads`, `rows`, `signs`: its lines. `bars`, `sparks`, `pieces`: what a line is made of.
 #![tactic(auto)]
 
 mod bars;
+mod faults;
+mod fields;
 mod forms;
 mod heads;
 mod pictures;
 mod pieces;
+mod reading;
 mod rows;
 mod signs;
 mod sparks;
 mod views;
 
+pub use faults::ViewFault;
 pub use forms::{Form, MAX_COLUMNS, MIN_COLUMNS};
 pub use pictures::push_view;
-pub use views::{SignCounts, SourceView, View};
+pub use reading::read_view;
+pub use views::{CommitCounts, Life, SignCounts, SourceView, View};

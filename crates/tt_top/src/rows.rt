@@ -63,7 +63,7 @@ impl SourceView {
         }
     }
 
-    /// Which ends of the fused span the certificate says that it holds.
+    /// Which ends of the fused span it holds.
     fn ends(&self) -> &'static str
         ensures { result.now ≡ ends_word self.now }
     {

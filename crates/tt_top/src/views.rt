@@ -16,9 +16,9 @@ pub struct SourceView {
     pub age: Option<u64>,
     /// The round trip of that answer, in nanoseconds.
     pub round_trip: Option<u64>,
-    /// Whether the certificate names it as one that holds the lower end of the fused span.
+    /// Whether its span holds the lower end of the fused one.
     pub holds_lower: bool,
-    /// Whether the certificate names it as one that holds the upper end of the fused span.
+    /// Whether its span holds the upper end of the fused one.
     pub holds_upper: bool,
     /// How many packets to it could not be sent.
     pub unsent: u64,
@@ -41,9 +41,9 @@ pub struct SignCounts {
     pub left_out: u64,
 }
 
-/// What a machine shows of itself at one moment.
-#[derive(Debug, Drop)]
-pub struct View {
+/// Which life of which machine is shown, and how far it is.
+#[derive(Clone, Copy, Debug, Default, PartialEq, Eq)]
+pub struct Life {
     /// The number of the machine.
     pub machine: u64,
     /// The epoch of this life.
@@ -52,7 +52,25 @@ pub struct View {
     pub rounds: u64,
     /// How many of the sources have answered in this life.
     pub known: u64,
-    /// How many of them may be wrong; none where there is no evidence.
+}
+
+/// The commits of a machine.
+#[derive(Clone, Copy, Debug, Default, PartialEq, Eq)]
+pub struct CommitCounts {
+    /// How many wait.
+    pub waiting: u64,
+    /// How many have waited.
+    pub waited: u64,
+    /// How long these have waited together, in nanoseconds.
+    pub together: u64,
+}
+
+/// What a machine shows of itself at one moment.
+#[derive(Debug, Drop)]
+pub struct View {
+    /// Which life of which machine it is, and how far that is.
+    pub life: Life,
+    /// How many of the sources may be wrong; none where there is no evidence.
     pub faulty: Option<u64>,
     /// What is shown of each source, by number.
     pub sources: ArrayVec<SourceView, 16>,
@@ -60,12 +78,8 @@ pub struct View {
     pub fused: Option<Span>,
     /// The width of a reading now, in nanoseconds; none before the first publication.
     pub width: Option<u64>,
-    /// How many commits wait.
-    pub commits_waiting: u64,
-    /// How many commits have waited.
-    pub commits: u64,
-    /// How long they have waited together, in nanoseconds.
-    pub commit_wait: u64,
+    /// The commits.
+    pub commits: CommitCounts,
     /// Whether a shared file is written.
     pub sharing: bool,
     /// What an operator may have to act on.
