@@ -21,6 +21,8 @@ mod reading;
 mod rows;
 mod signs;
 mod sparks;
+#[cfg(test)]
+mod tests;
 mod views;
 
 pub use faults::ViewFault;
