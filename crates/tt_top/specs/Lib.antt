@@ -9,3 +9,4 @@ pub mod Picture
 pub mod Fault
 pub mod Field
 pub mod View
+pub mod Svg
