@@ -1,0 +1,15 @@
+-- How wide a picture is, and what makes it red.
+use Rattle.std.specs.Prelude.{ℕ, ◌-◌, ◌&&◌, min, max, Bool, if◌then◌else◌, List, [], ◌∷◌, codes}
+use Rattle.tt_top.specs.declared.forms.Form.{Form}
+
+-- how many columns the bars have: the columns of the picture, 64 to 300, without the 51 of the other parts of a line
+abbrev pub bar_columns : Form → ℕ
+bar_columns form = min (max form.columns 64) 300 - 51
+
+-- what makes text red, where that is wanted: an escape (27), and `[31m`
+abbrev pub red_word : Form → Bool → List ℕ
+red_word form wanted = if form.colour && wanted then 27 ∷ codes "[31m" else []
+
+-- what ends red text, where that is wanted
+abbrev pub plain_word : Form → Bool → List ℕ
+plain_word form wanted = if form.colour && wanted then 27 ∷ codes "[0m" else []

@@ -1,0 +1,12 @@
+pub mod Form
+pub mod Piece
+pub mod Bar
+pub mod Spark
+pub mod Row
+pub mod Head
+pub mod Sign
+pub mod Picture
+pub mod Fault
+pub mod Field
+pub mod View
+pub mod Svg

@@ -1,0 +1,53 @@
+//! How a view is drawn.
+
+ghost use Rattle.std.specs.Prelude.{◌≡◌, ◌≤◌, codes};
+ghost use Rattle.tt_top.specs.Form.{bar_columns, red_word, plain_word};
+
+/// The least number of columns that a picture has.
+pub const MIN_COLUMNS: u64 = 64;
+
+/// The greatest number of columns that a picture has.
+pub const MAX_COLUMNS: u64 = 300;
+
+/// How a view is drawn.
+#[derive(Clone, Copy, Debug, PartialEq, Eq)]
+pub struct Form {
+    /// How many columns the picture has. Fewer than [`MIN_COLUMNS`] are that many, and more than [`MAX_COLUMNS`] are that
+    /// many. Only the lines of signs may be longer.
+    pub columns: u64,
+    /// Whether it is in ASCII alone.
+    pub ascii: bool,
+    /// Whether suspects and signs are in red, by the sequences of a terminal.
+    pub colour: bool,
+    /// A source is called silent if its last answer is older than this, in nanoseconds.
+    pub silent_after: u64,
+}
+
+impl Form {
+    /// How many columns a bar has: what the other parts of its line leave.
+    pub(crate) fn bar(&self) -> u64
+        ensures value { result ≡ bar_columns self.now }
+        ensures least { 13 ≤ result }
+        ensures most { result ≤ 249 }
+    {
+        self.columns.max(MIN_COLUMNS).min(MAX_COLUMNS) - 51
+    }
+
+    /// What makes text red, where that is wanted.
+    pub(crate) fn red(&self, wanted: bool) -> &'static str
+        ensures { result.now ≡ red_word self.now wanted }
+    {
+        if self.colour && wanted {
+            "\x1b[31m"
+        } else {
+            ""
+        }
+    }
+
+    /// What ends red text, where that is wanted.
+    pub(crate) fn plain(&self, wanted: bool) -> &'static str
+        ensures { result.now ≡ plain_word self.now wanted }
+    {
+        if self.colour && wanted { "\x1b[0m" } else { "" }
+    }
+}
