@@ -10,7 +10,7 @@
 //! - `making`: the service `key`.
 //! - `lines`: lines from a device. `asking`: the service `ask`.
 //! - `reading`: the service `read`. `serving`: the service `serve`. `checking`: `serve --check`. `standard`: the descriptors 0 to 2.
-//! - `faults`: why a service refuses.
+//! - `watching`: the service `top`. `faults`: why a service refuses.
 #![tactic(auto)]
 
 mod arguments;
@@ -25,6 +25,7 @@ mod reading;
 mod services;
 mod serving;
 mod standard;
+mod watching;
 
 use arguments::words_given;
 use program::{reject, run};

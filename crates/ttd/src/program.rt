@@ -16,6 +16,7 @@ use std::fs::{File, Files};
 use std::io::{Eprint, Input, Read};
 use std::net::{Net, TcpListener, TcpStream};
 use std::random::RandomSource;
+use std::rt::Env;
 use std::sync::Wait;
 use std::thread::Threads;
 use std::time::Clock;
@@ -39,6 +40,7 @@ pub(crate) fn run<
         + Net<Listener = TcpListener, Stream = TcpStream>
         + Disk
         + RandomSource
+        + Env
         + Copy
         + Send
         + 'static,
@@ -75,6 +77,7 @@ fn answer<
         + Net<Listener = TcpListener, Stream = TcpStream>
         + Disk
         + RandomSource
+        + Env
         + Copy
         + Send
         + 'static,

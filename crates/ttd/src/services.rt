@@ -9,10 +9,12 @@ use crate::making::make_key;
 use crate::reading::read;
 use crate::serving::run_server;
 use crate::standard::fill_standard;
+use crate::watching::show;
 use std::fs::{File, Files};
 use std::io::{Eprint, Input, Read};
 use std::net::{Net, TcpListener, TcpStream};
 use std::random::RandomSource;
+use std::rt::Env;
 use std::sync::Wait;
 use std::thread::Threads;
 use std::time::Clock;
@@ -54,6 +56,7 @@ pub(crate) fn serve<
         + Net<Listener = TcpListener, Stream = TcpStream>
         + Disk
         + RandomSource
+        + Env
         + Copy
         + Send
         + 'static,
@@ -88,6 +91,7 @@ fn run_service<
         + Net<Listener = TcpListener, Stream = TcpStream>
         + Disk
         + RandomSource
+        + Env
         + Copy
         + Send
         + 'static,
@@ -130,7 +134,13 @@ fn run_service<
             ask(rt, *peer, text, *retry, input, output)
         }
         Service::Read { file } => read(rt, file, output),
-        Service::Top { .. } => Err(Stop::Refused(ServiceFault::LinkFailed)),
+        Service::Top { svg: true, .. } => Err(Stop::Refused(ServiceFault::LinkFailed)),
+        Service::Top {
+            place,
+            once,
+            columns,
+            ..
+        } => show(rt, *place, *once, *columns, output),
         Service::Key { id, name } => make_key(rt, *id, *name, output),
     }
 }

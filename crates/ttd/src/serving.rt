@@ -21,7 +21,7 @@ use ttd_masters::{StartFault, bytes_of};
 use ttd_words::Status;
 
 /// The settings in a file. If the configuration is refused, standard error says why, and at which line.
-fn settings_of<H: Files<File = File> + Eprint>(
+pub(crate) fn settings_of<H: Files<File = File> + Eprint>(
     rt: &H,
     alloc: Global,
     path: &str,
