@@ -15,10 +15,13 @@ use Rattle.tt_server.specs.declared.faults.ServerFault.{ServerFault}
 use Rattle.tt_server.specs.declared.faults.ServerFault.TheVariants as server
 use Rattle.tt_shared.specs.declared.faults.SharedFault.{SharedFault}
 use Rattle.tt_shared.specs.declared.faults.SharedFault.TheVariants as shared
+use Rattle.tt_top.specs.Fault.{number_of as view_number}
+use Rattle.tt_top.specs.declared.faults.ViewFault.{ViewFault}
+use Rattle.tt_top.specs.declared.faults.ViewFault.TheVariants as view
 use Rattle.tt_settings.specs.declared.faults.SettingsFault.{SettingsFault}
 use Rattle.tt_settings.specs.declared.faults.SettingsFault.TheVariants as settings
 use Rattle.ttd.specs.declared.faults.ServiceFault.{ServiceFault}
-use Rattle.ttd.specs.declared.faults.ServiceFault.TheVariants.{Words, BadFile, ReadFailed, LinkFailed, Master, NoRandom, Settings, Shared, Server, Memory}
+use Rattle.ttd.specs.declared.faults.ServiceFault.TheVariants.{Words, BadFile, ReadFailed, LinkFailed, Master, NoRandom, Settings, Shared, Server, View, Memory}
 use Rattle.ttd_commands.specs.Fault.{number_of as command_number}
 use Rattle.ttd_commands.specs.declared.faults.Fault.TheVariants as command
 use Rattle.ttd_masters.specs.Fault.{number_of as master_number}
@@ -41,6 +44,7 @@ number_of NoRandom = 1829
 number_of (Settings fault) = settings_number fault
 number_of (Shared fault) = shared_number_of fault
 number_of (Server fault) = server_number fault
+number_of (View fault) = view_number fault
 number_of Memory = 1
 
 -- How the program ends where a shared file gives no reading: as at a failed device where the file or the clock can't be read.
@@ -76,6 +80,11 @@ master_refused fault = Master fault
 abbrev pub status_of_settings : SettingsFault → Status
 status_of_settings settings.Memory = NoMemory
 status_of_settings _ = Bad
+
+-- How the program ends where what is read shows no machine.
+abbrev pub status_of_view : ViewFault → Status
+status_of_view view.Memory = NoMemory
+status_of_view _ = Bad
 
 -- How the program ends where a machine has no epoch: as at a failed device where its file can't be read or written (1811, 1812).
 abbrev pub status_of_epoch : EpochFault → Status
@@ -118,5 +127,6 @@ status_of NoRandom = Device
 status_of (Settings fault) = status_of_settings fault
 status_of (Shared fault) = status_of_shared fault
 status_of (Server fault) = status_of_server fault
+status_of (View fault) = status_of_view fault
 status_of Memory = NoMemory
 status_of _ = Bad

@@ -1,7 +1,7 @@
 //! Why a service refuses, and how the program ends after it.
 
 ghost use Rattle.std.specs.Prelude.{◌≡◌};
-ghost use Rattle.ttd.specs.Fault.{master_refused, number_of, status_of, status_of_epoch, status_of_keys, status_of_master, status_of_publish, status_of_server, status_of_settings, status_of_shared, status_of_words};
+ghost use Rattle.ttd.specs.Fault.{master_refused, number_of, status_of, status_of_epoch, status_of_keys, status_of_master, status_of_publish, status_of_server, status_of_settings, status_of_shared, status_of_view, status_of_words};
 ghost use Rattle.ttd.specs.declared.faults.ServiceFault.TheVariants.{Memory};
 
 use std::alloc::{AllocError, AllocFailed};
@@ -13,6 +13,7 @@ use tt_rounds::LinkFault;
 use tt_server::ServerFault;
 use tt_settings::SettingsFault;
 use tt_shared::SharedFault;
+use tt_top::ViewFault;
 use ttd_commands::Fault;
 use ttd_masters::StartFault;
 use ttd_words::{Status, WordsFault};
@@ -47,6 +48,9 @@ pub enum ServiceFault {
     /// The machine does not serve.
     #[error("the machine does not serve: {0}")]
     Server(ServerFault),
+    /// What is read shows no machine.
+    #[error("nothing to show: {0}")]
+    View(ViewFault),
     /// Out of memory: an allocation failed.
     #[error("out of memory")]
     Memory,
@@ -54,7 +58,8 @@ pub enum ServiceFault {
 
 impl ServiceFault {
     /// The number of the refusal: 1603 `BadFile`, 1604 `ReadFailed`, 1501 `LinkFailed`, 1829
-    /// `NoRandom`, the number of the inner fault for `Words`, `Master`, `Settings`, `Shared` and `Server`, and 1 `Memory`.
+    /// `NoRandom`, the number of the inner fault for `Words`, `Master`, `Settings`, `Shared`, `Server` and `View`, and 1
+    /// `Memory`.
     pub fn number(&self) -> u16
         ensures { result ≡ number_of self.now }
     {
@@ -68,6 +73,7 @@ impl ServiceFault {
             ServiceFault::Settings(fault) => fault.number(),
             ServiceFault::Shared(fault) => fault.number(),
             ServiceFault::Server(fault) => fault.number(),
+            ServiceFault::View(fault) => fault.number(),
             ServiceFault::Memory => 1,
         }
     }
@@ -85,6 +91,7 @@ impl ServiceFault {
             ServiceFault::Settings(fault) => status_of_settings(*fault),
             ServiceFault::Shared(fault) => status_of_shared(*fault),
             ServiceFault::Server(fault) => status_of_server(*fault),
+            ServiceFault::View(fault) => status_of_view(*fault),
             ServiceFault::Memory => Status::Memory,
             _ => Status::Bad,
         }
@@ -144,6 +151,16 @@ fn status_of_shared(fault: SharedFault) -> Status
 {
     match fault {
         SharedFault::CannotOpen | SharedFault::ClockFailed => Status::Device,
+        _ => Status::Bad,
+    }
+}
+
+/// How the program ends if what is read shows no machine.
+fn status_of_view(fault: ViewFault) -> Status
+    ensures { result ≡ status_of_view fault }
+{
+    match fault {
+        ViewFault::Memory => Status::Memory,
         _ => Status::Bad,
     }
 }

@@ -9,7 +9,7 @@ use crate::making::make_key;
 use crate::reading::read;
 use crate::serving::run_server;
 use crate::standard::fill_standard;
-use crate::watching::show;
+use crate::watching::{Manner, show};
 use std::fs::{File, Files};
 use std::io::{Eprint, Input, Read};
 use std::net::{Net, TcpListener, TcpStream};
@@ -134,13 +134,19 @@ fn run_service<
             ask(rt, *peer, text, *retry, input, output)
         }
         Service::Read { file } => read(rt, file, output),
-        Service::Top { svg: true, .. } => Err(Stop::Refused(ServiceFault::LinkFailed)),
         Service::Top {
             place,
             once,
             columns,
-            ..
-        } => show(rt, *place, *once, *columns, output),
+            svg,
+        } => {
+            let manner = Manner {
+                once: *once,
+                svg: *svg,
+                columns: *columns,
+            };
+            show(rt, *place, manner, output)
+        }
         Service::Key { id, name } => make_key(rt, *id, *name, output),
     }
 }

@@ -1,4 +1,4 @@
-//! The service `top`.
+//! The service `top`: what a machine sees, drawn once or twice a second.
 
 use crate::faults::ServiceFault;
 use crate::services::Stop;
@@ -13,7 +13,7 @@ use std::thread;
 use std::time::{Clock as SystemClock, Duration};
 use tt_settings::{Key, SettingsFault};
 use tt_stream::{ByteWriter, Counted, read_to_end};
-use tt_top::{Form, ViewFault, push_view, read_view};
+use tt_top::{Form, MAX_COLUMNS, View, ViewFault, push_svg, push_view, read_view};
 use ttd_masters::bytes_of;
 use ttd_words::{TopPlace, write};
 
@@ -29,14 +29,25 @@ const MOST_ANSWER: usize = 1_048_576;
 /// The columns of a picture where nothing says how many there are.
 const DEFAULT_COLUMNS: u64 = 80;
 
-/// How many widths are kept: as many as the widest picture can show.
-const MOST_WIDTHS: usize = 249;
-
 /// After how long a source is called silent where the configuration is not known, in nanoseconds.
 const SILENT_AFTER: u64 = 10_000_000_000;
 
 /// What moves the cursor of a terminal to the beginning, and clears the screen.
 const CLEAR: &str = "\x1b[H\x1b[2J";
+
+/// What is shown while there is no view.
+const NOTHING: &str = "\x1b[H\x1b[2Jno status can be read\n";
+
+/// How a machine is shown.
+#[derive(Clone, Copy, Debug, PartialEq, Eq)]
+pub(crate) struct Manner {
+    /// Whether it is shown once.
+    pub(crate) once: bool,
+    /// Whether it is drawn once, as SVG.
+    pub(crate) svg: bool,
+    /// How many columns there are, if that was given.
+    pub(crate) columns: Option<u64>,
+}
 
 /// Where the texts of a machine are.
 #[derive(Drop)]
@@ -50,133 +61,180 @@ enum Origin {
     Port(u16),
 }
 
-/// Why there is no picture.
-#[derive(Clone, Copy)]
-enum LookFault {
-    Unread,
-    View(ViewFault),
+/// What is shown, and after how long a source is called silent, in nanoseconds.
+#[derive(Drop)]
+struct Sight {
+    origin: Origin,
+    silent_after: u64,
 }
 
-impl From<AllocError> for LookFault {
-    fn from(_error: AllocError) -> LookFault {
-        LookFault::View(ViewFault::Memory)
+/// The text of a status, and that of the evidence, which is empty where there is none.
+#[derive(Drop)]
+struct Texts {
+    status: Vec<u8>,
+    evidence: Vec<u8>,
+}
+
+impl From<ViewFault> for ServiceFault {
+    fn from(fault: ViewFault) -> ServiceFault {
+        match fault {
+            ViewFault::Memory => ServiceFault::Memory,
+            other => ServiceFault::View(other),
+        }
     }
 }
 
-/// Draws a machine twice a second, or once.
+/// Shows what a machine sees: twice a second until the program is ended, or once. What can't be had at a later look is
+/// tried again at the next one.
 ///
-/// Refuses with 1803 where the configuration names no `status`, with 1604 `ReadFailed` where the texts can't be read, and
-/// with 1603 `BadFile` where they are not those of a machine; then, and not in a later look, standard error says why.
+/// Refuses as `serve` does where the configuration is refused, with 1803 where it names no `status`, with 1604 `ReadFailed`
+/// where the status can't be read, with 1501 `LinkFailed` where nothing answers with it, with 2601 and 2602 where what is
+/// read is not the status or the evidence of a machine, and with 1 `Memory`. With neither `once` nor `svg` it refuses the
+/// configuration alone.
 pub(crate) fn show<
     H: AllocGlobal + Files<File = File> + Net<Stream = TcpStream> + SystemClock + Env + Eprint,
     O: ByteWriter,
 >(
     rt: &H,
     place: TopPlace<'_>,
-    once: bool,
-    columns: Option<u64>,
+    manner: Manner,
     output: &mut O,
 ) -> Result<(), Stop> {
-    let (origin, silent_after) = origin_of(rt, place)?;
+    let sight = sight_of(rt, place)?;
     let form = Form {
-        columns: columns.unwrap_or(columns_of(rt)),
-        ascii: !is_utf8(rt),
+        columns: manner.columns.unwrap_or(columns_of(rt)),
+        ascii: manner.svg || !is_utf8(rt),
         colour: false,
-        silent_after,
+        silent_after: sight.silent_after,
     };
-    let mut widths = Vec::new(rt.alloc());
-    if once {
-        return match look(rt, &origin, &form, &mut widths, "") {
-            Ok(text) => write(output, text.as_str().as_bytes()).map_err(|_| Stop::Unwritten),
-            Err(fault) => Err(say_fault(rt, fault)),
-        };
+    if manner.once || manner.svg {
+        let text = draw_once(rt, &sight.origin, &form, manner.svg)?;
+        return write(output, text.as_str().as_bytes()).map_err(|_| Stop::Unwritten);
     }
+    show_on(rt, &sight.origin, &form, output)
+}
+
+/// Draws a machine again and again. It ends only where the output fails.
+fn show_on<
+    H: AllocGlobal + Files<File = File> + Net<Stream = TcpStream> + SystemClock,
+    O: ByteWriter,
+>(
+    rt: &H,
+    origin: &Origin,
+    form: &Form,
+    output: &mut O,
+) -> Result<(), Stop> {
+    let mut widths = Vec::new(rt.alloc());
     for _look in 0..u64::MAX {
-        match look(rt, &origin, &form, &mut widths, CLEAR) {
-            Ok(text) => {
-                write(output, text.as_str().as_bytes()).map_err(|_| Stop::Unwritten)?;
-            }
-            Err(_) => write(output, b"\x1b[H\x1b[2Jno status can be read\n")
-                .map_err(|_| Stop::Unwritten)?,
+        let did = match draw_next(rt, origin, form, &mut widths) {
+            Ok(text) => write(output, text.as_str().as_bytes()),
+            Err(_) => write(output, NOTHING.as_bytes()),
+        };
+        if did.is_err() {
+            return Err(Stop::Unwritten);
         }
         thread::sleep(rt, Duration::from_millis(PAUSE));
     }
     Ok(())
 }
 
-/// Where the texts of a machine are, and after how long a source is called silent.
-fn origin_of<H: AllocGlobal + Files<File = File> + Eprint>(
+/// One look, as text or as SVG.
+fn draw_once<H: AllocGlobal + Files<File = File> + Net<Stream = TcpStream>>(
     rt: &H,
-    place: TopPlace<'_>,
-) -> Result<(Origin, u64), Stop> {
-    match place {
-        TopPlace::Port(port) => Ok((Origin::Port(port), SILENT_AFTER)),
-        TopPlace::File(path) => files_of(rt, path),
+    origin: &Origin,
+    form: &Form,
+    svg: bool,
+) -> Result<String, ServiceFault> {
+    let view = view_of(rt, origin)?;
+    let mut text = String::new(rt.alloc());
+    if svg {
+        push_svg(rt.alloc(), &mut text, &view, form, &[])?;
+    } else {
+        push_view(&mut text, &view, form, &[])?;
+    }
+    Ok(text)
+}
+
+/// One look of many, on a clear screen. Its width is added to those of the looks before.
+fn draw_next<H: AllocGlobal + Files<File = File> + Net<Stream = TcpStream>>(
+    rt: &H,
+    origin: &Origin,
+    form: &Form,
+    widths: &mut Vec<u64>,
+) -> Result<String, ServiceFault> {
+    let view = view_of(rt, origin)?;
+    if let Some(width) = view.width {
+        if widths.len() as u64 >= MAX_COLUMNS {
+            let _ = widths.remove(0);
+        }
+        widths.push(width)?;
+    }
+    let mut text = String::from_str(rt.alloc(), CLEAR)?;
+    push_view(&mut text, &view, form, widths.as_slice())?;
+    Ok(text)
+}
+
+/// What the texts of a machine show now.
+fn view_of<H: AllocGlobal + Files<File = File> + Net<Stream = TcpStream>>(
+    rt: &H,
+    origin: &Origin,
+) -> Result<View, ServiceFault> {
+    let texts = texts_of(rt, origin)?;
+    match read_view(rt.alloc(), texts.status.as_slice(), texts.evidence.as_slice()) {
+        Ok(view) => Ok(view),
+        Err(fault) => Err(ServiceFault::from(fault)),
     }
 }
 
-/// The files of a machine with this configuration, and after how long a source is called silent: three rounds.
-fn files_of<H: AllocGlobal + Files<File = File> + Eprint>(
+/// Where the texts of a machine are, and after how long a source is called silent.
+fn sight_of<H: AllocGlobal + Files<File = File> + Eprint>(
+    rt: &H,
+    place: TopPlace<'_>,
+) -> Result<Sight, ServiceFault> {
+    match place {
+        TopPlace::Port(port) => Ok(Sight {
+            origin: Origin::Port(port),
+            silent_after: SILENT_AFTER,
+        }),
+        TopPlace::File(path) => sight_in(rt, path),
+    }
+}
+
+/// The files that the configuration with this path names. A source is called silent after three rounds.
+fn sight_in<H: AllocGlobal + Files<File = File> + Eprint>(
     rt: &H,
     path: &str,
-) -> Result<(Origin, u64), Stop> {
+) -> Result<Sight, ServiceFault> {
     let settings = settings_of(rt, rt.alloc(), path)?;
     let Some(status) = settings.status() else {
-        let _ = eprint!(rt; "ttd: {path}: it has no `status`; set it to the path of a file\n");
+        let _ = eprint!(rt; "ttd: {path}: status: nothing is shown without the path of a file here\n");
         let fault = SettingsFault::MissingKey(Key::Status);
-        return Err(Stop::Refused(ServiceFault::Settings(fault)));
+        return Err(ServiceFault::Settings(fault));
     };
     let evidence = match settings.evidence() {
-        Some(evidence) => Some(copy(rt.alloc(), evidence.as_str())?),
+        Some(evidence) => Some(String::from_str(rt.alloc(), evidence.as_str())?),
         None => {
-            let _ = eprint!(rt; "ttd: {path}: it has no `evidence`, so there are no bars; set it to the path of a file\n");
+            let _ = eprint!(rt; "ttd: {path}: evidence: there are no bars without the path of a file here\n");
             None
         }
     };
     let pauses = settings.pauses();
     let round = pauses.poll.saturating_add(pauses.wait);
-    let origin = Origin::Files {
-        status: copy(rt.alloc(), status.as_str())?,
-        evidence,
-    };
-    Ok((origin, round.saturating_mul(3)))
+    let status = String::from_str(rt.alloc(), status.as_str())?;
+    Ok(Sight {
+        origin: Origin::Files { status, evidence },
+        silent_after: round.saturating_mul(3),
+    })
 }
 
-/// A text of its own.
-fn copy(alloc: Global, text: &str) -> Result<String, Stop> {
-    String::from_str(alloc, text).map_err(|_| Stop::Refused(ServiceFault::Memory))
-}
-
-/// Looks at a machine, and draws it behind `front`. The width of this look is added to those of the looks before.
-fn look<H: AllocGlobal + Files<File = File> + Net<Stream = TcpStream>>(
-    rt: &H,
-    origin: &Origin,
-    form: &Form,
-    widths: &mut Vec<u64>,
-    front: &str,
-) -> Result<String, LookFault> {
-    let (status, evidence) = texts_of(rt, origin)?;
-    let view =
-        read_view(rt.alloc(), status.as_slice(), evidence.as_slice()).map_err(LookFault::View)?;
-    if let Some(width) = view.width {
-        if widths.len() >= MOST_WIDTHS {
-            let _ = widths.remove(0);
-        }
-        widths.push(width).map_err(AllocError::from)?;
-    }
-    let mut text = String::from_str(rt.alloc(), front)?;
-    push_view(&mut text, &view, form, widths.as_slice())?;
-    Ok(text)
-}
-
-/// The texts of the status and of the evidence; that of the evidence is empty where there is none yet.
+/// The texts of a machine now.
 fn texts_of<H: AllocGlobal + Files<File = File> + Net<Stream = TcpStream>>(
     rt: &H,
     origin: &Origin,
-) -> Result<(Vec<u8>, Vec<u8>), LookFault> {
+) -> Result<Texts, ServiceFault> {
     match origin {
         Origin::Files { status, evidence } => {
-            let status = bytes_of(rt, rt.alloc(), status.as_str()).map_err(|_| LookFault::Unread)?;
+            let status = bytes_of(rt, rt.alloc(), status.as_str())?;
             let evidence = match evidence {
                 Some(path) => match bytes_of(rt, rt.alloc(), path.as_str()) {
                     Ok(bytes) => bytes,
@@ -184,7 +242,7 @@ fn texts_of<H: AllocGlobal + Files<File = File> + Net<Stream = TcpStream>>(
                 },
                 None => Vec::new(rt.alloc()),
             };
-            Ok((status, evidence))
+            Ok(Texts { status, evidence })
         }
         Origin::Port(port) => {
             let status = fetch(rt, *port, b"GET /metrics HTTP/1.0\r\n\r\n")?;
@@ -192,62 +250,47 @@ fn texts_of<H: AllocGlobal + Files<File = File> + Net<Stream = TcpStream>>(
                 Ok(bytes) => bytes,
                 Err(_) => Vec::new(rt.alloc()),
             };
-            Ok((status, evidence))
+            Ok(Texts { status, evidence })
         }
     }
 }
 
-/// What this host answers to a request at this port, without its head.
+/// The body of what this host answers to a request at this port, if its status is 200.
 fn fetch<H: AllocGlobal + Net<Stream = TcpStream>>(
     rt: &H,
     port: u16,
     request: &[u8],
-) -> Result<Vec<u8>, LookFault> {
+) -> Result<Vec<u8>, ServiceFault> {
     let wait = Duration::from_secs(LINK_WAIT);
     let address = SocketAddr::from((Ipv4Addr::LOCALHOST, port));
     let Ok(mut stream) = TcpStream::connect_timeout(rt, &address, wait) else {
-        return Err(LookFault::Unread);
+        return Err(ServiceFault::LinkFailed);
     };
     if stream.set_read_timeout(Some(wait)).is_err()
         || stream.set_write_timeout(Some(wait)).is_err()
         || stream.write_all(request).is_err()
     {
-        return Err(LookFault::Unread);
+        return Err(ServiceFault::LinkFailed);
     }
     let mut reader = Counted::new(stream);
-    match read_to_end(rt.alloc(), &mut reader, MOST_ANSWER, MOST_ANSWER as u32 + 2) {
+    match read_to_end(rt.alloc(), &mut reader, MOST_ANSWER, MOST_ANSWER as u32) {
         Ok(answer) => body_of(rt.alloc(), answer.as_slice()),
-        Err(_) => Err(LookFault::Unread),
+        Err(_) => Err(ServiceFault::LinkFailed),
     }
 }
 
-/// The body of an answer that has the status 200.
-fn body_of(alloc: Global, answer: &[u8]) -> Result<Vec<u8>, LookFault> {
+/// The body of an answer with the status 200.
+fn body_of(alloc: Global, answer: &[u8]) -> Result<Vec<u8>, ServiceFault> {
     if !answer.starts_with(b"HTTP/1.0 200") && !answer.starts_with(b"HTTP/1.1 200") {
-        return Err(LookFault::Unread);
+        return Err(ServiceFault::LinkFailed);
     }
-    let end = b"\r\n\r\n";
-    for at in 0..answer.len() {
-        if answer[at..].starts_with(end) {
-            return Ok(Vec::from_slice(alloc, &answer[at + end.len()..])?);
+    for (at, _byte) in answer.iter().enumerate() {
+        if answer[at..].starts_with(b"\r\n\r\n") {
+            let body = &answer[at..];
+            return Ok(Vec::from_slice(alloc, &body[4..])?);
         }
     }
-    Err(LookFault::Unread)
-}
-
-/// Says on standard error why there is no picture.
-fn say_fault<H: Eprint>(rt: &H, fault: LookFault) -> Stop {
-    match fault {
-        LookFault::Unread => {
-            let _ = eprint!(rt; "ttd: the status can't be read\n");
-            Stop::Refused(ServiceFault::ReadFailed)
-        }
-        LookFault::View(ViewFault::Memory) => Stop::Refused(ServiceFault::Memory),
-        LookFault::View(fault) => {
-            let _ = eprint!(rt; "ttd: {fault}\n");
-            Stop::Refused(ServiceFault::BadFile)
-        }
-    }
+    Err(ServiceFault::LinkFailed)
 }
 
 /// The columns of the terminal, as the environment has them.
@@ -270,8 +313,10 @@ fn is_utf8<H: AllocGlobal + Env>(rt: &H) -> bool {
     false
 }
 
-/// Whether the name of a locale ends with UTF-8.
+/// Whether the name of a locale says that its characters are UTF-8.
 fn names_utf8(name: &str) -> bool {
-    name.ends_with("UTF-8") || name.ends_with("utf8") || name.ends_with("UTF8")
+    name.ends_with("UTF-8")
         || name.ends_with("utf-8")
+        || name.ends_with("UTF8")
+        || name.ends_with("utf8")
 }

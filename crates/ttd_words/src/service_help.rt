@@ -78,6 +78,7 @@ Refused:
   1807 to 1816  the server does not start: its sockets, epoch or threads; the status is 4 for 1807
                 to 1809, 1811 and 1812
   1819          what is at the path of the Unix socket is not a socket
+  1830          the address of `http` can't be listened at; the status is 4
   2211 to 2216  the file of keys, as with `ttd master`; 1827: it has no key with a number of `key`";
 
 /// What `ask` does.
@@ -126,30 +127,31 @@ Refused:
 
 /// What `top` does.
 pub(crate) const ABOUT_TOP: &str = "\
-Shows the status of a machine or a master as a table, and again each second until it is ended: how
-wide its readings are and how old the last fusion is, each of its sources with its answers, its round
-trips, its width and how far its middle is off, and what was refused. --once shows one table, and
-ends. Without --columns it is as wide as 80 columns.
+Shows what a machine sees, twice a second until it is ended: the interval of each source as a bar on
+one scale, with its offset, its round trip, its age and the ends of the fused interval that it
+holds; the fused interval; the width of readings over time; commits; and a line for each sign that
+somebody may have to act on. With --once it shows this once, and with --svg it draws it once as SVG.
 
-The status is read from the file that `status` of the configuration names (for a master --status),
-or asked over HTTP at 127.0.0.1 and the port that `http` of the configuration names: a text with a
-slash, or without a colon, is the path of a file. A status that is late is shown as it is, with how
-late it is.
+FILE is the configuration of the machine. It has to name `status`, and there are bars if it names
+`evidence`. ADDRESS is 127.0.0.1: and the port that `http` of the configuration names. A text with a
+slash, or without a colon, is the path of a file.
 
-With --svg it draws one picture of the intervals of the sources and of the reading in place of the
-table, as SVG on standard output, and ends.
+Without --columns it is as wide as COLUMNS says, or 80 columns, and at least 64. It is ASCII unless
+the first of LC_ALL, LC_CTYPE and LANG that is set names UTF-8.
 
 Examples:
-  ttd top /run/truetime/status
-  ttd top 127.0.0.1:7201 --once --columns 120
-  ttd top /run/truetime/status --svg > now.svg
+  ttd top /etc/truetime/db.toml
+  ttd top 127.0.0.1:9560 --once --columns 120
+  ttd top /etc/truetime/db.toml --svg > now.svg
 
 Refused:
-  1601  invalid arguments, and columns outside 40 to 300
-  1805  the text has a colon and no slash, and is not 127.0.0.1: and a port
-  1604  the file can't be read; the status is 4
-  1603  the file is too long, not UTF-8, or not a status
-  1501  the status can't be had over HTTP; the status is 4";
+  1601          invalid arguments, and columns outside 40 to 300
+  1805          the text has a colon and no slash, and is not 127.0.0.1: and a port
+  1603          the configuration is too long or not UTF-8
+  1604          a file can't be read; the status is 4
+  1801 to 1828  the configuration, as `ttd serve` refuses it; 1803 also if it has no `status`
+  1501          the status can't be had over HTTP; the status is 4
+  2601, 2602    what is read is not the status, or not the evidence, of a machine";
 
 /// What `key` does.
 pub(crate) const ABOUT_KEY: &str = "\

@@ -1,0 +1,98 @@
+"""Scenarios of the suite `wiring`: what `ttd top` shows of a machine."""
+import os
+import re
+import socket
+import subprocess
+import time
+import xml.etree.ElementTree
+
+from harness.processes import free_port
+from harness.program import read_text, run, write
+from harness.trouble import honest, silent
+from suites.wiring import suite
+from suites.wiring_checks import eventually, spans
+
+CLEAR = b"\x1b[H\x1b[2J"
+PLAIN = {"LANG": "C", "PATH": os.environ["PATH"]}
+
+
+def machine(trial):
+    """A machine with an honest source, one that is far off, one that is silent, and two more honest ones; and its configuration."""
+    port = free_port(socket.SOCK_STREAM)
+    far = spans(-1_000_000_000, 1_000_001_000)
+    masters = trial.scripts(honest, far, silent, honest, honest)
+    node = trial.node(masters, http=f"127.0.0.1:{port}", evidence="evidence", poll="200ms", wait="50ms", machine=5)
+    node.run(cwd=node.folder)
+    node.wait_until_ready()
+    return node, port
+
+
+@suite.case()
+def top_once(trial):
+    """The same of files and of an address, as wide as it is told, with what became of each source."""
+    node, port = machine(trial)
+    epoch = re.search(r"^truetime_epoch\{[^}]*} (\d+)$", eventually(lambda: read_text(node.path("status"))), re.M).group(1)
+    for place in (node.path("node.toml"), f"127.0.0.1:{port}"):
+        for columns in (80, 200):
+            ran = eventually(lambda: (seen := run([trial.program, "top", place, "--once", "--columns", str(columns)], env=PLAIN,
+                                                  cwd=node.folder)).said.count("never answered") == 1 and "suspect" in seen.said and seen)
+            trial.check("top", ran, f"{place} at {columns} shows no suspect and no source that never answered")
+            if not ran:
+                continue
+            trial.equal("top", (ran.status, ran.error), (0, ""))
+            lines = ran.said.splitlines()
+            trial.check("top", lines[0].startswith(f"machine 5  epoch {epoch}  rounds ") and lines[0].endswith("  sources 5  known 4  f 2"), lines[0])
+            trial.equal("top", [line[:6].strip() for line in lines[2:8]], ["0", "1", "2", "3", "4", "fused"])
+            bars = [line[6:columns - 45] for line in lines[2:8]]
+            for at, mark in ((0, "="), (2, "?"), (3, "="), (4, "="), (5, "#")):
+                trial.check("top", set(bars[at]) <= {mark, " "} and mark in bars[at], f"the bar of line {at} is {bars[at]!r}")
+            trial.check("top", lines[3].endswith(" suspect") and lines[4].endswith(" never answered"), f"{lines[3:5]}")
+            trial.check("top", any(line.endswith("[]") for line in lines[2:7]), "no source holds both ends")
+            trial.check("top", ran.said.isascii() and "! 1 suspects\n" in ran.said, ran.said)
+
+
+@suite.case()
+def top_again(trial):
+    """Twice a second, as wide as COLUMNS says, with the widths of the looks before, until it is ended."""
+    node, port = machine(trial)
+    frames, began = b"", time.monotonic()
+    with subprocess.Popen([trial.program, "top", f"127.0.0.1:{port}"], env=PLAIN | {"COLUMNS": "100", "LC_ALL": "en_US.UTF-8"},
+                          stdout=subprocess.PIPE) as ran:
+        while frames.count(CLEAR) < 6 and time.monotonic() < began + 25:
+            frames += os.read(ran.stdout.fileno(), 65536)
+        lasted = time.monotonic() - began
+        ran.kill()
+    trial.between("top", 2.4, lasted, 25)
+    last = frames.split(CLEAR)[5].decode().splitlines()
+    fused = next(line for line in last if line.startswith("fused"))
+    trial.equal("top", len(fused[6:].split("  ")[0].rstrip()) <= 49, True)
+    width = next(line for line in last if line.startswith("width"))
+    trial.check("top", re.search("[▁▂▃▄▅▆▇█]{2,}", width), f"no widths are in {width!r}")
+
+
+@suite.case()
+def top_as_svg(trial):
+    """One document, with the lines of the picture."""
+    node, _ = machine(trial)
+    ran = eventually(lambda: (seen := run([trial.program, "top", node.path("node.toml"), "--svg"], env=PLAIN | {"LANG": "C.UTF-8"},
+                                          cwd=node.folder)).status == 0 and "fused" in seen.said and seen)
+    trial.check("top", ran, "no document shows the fused interval")
+    if ran:
+        document = xml.etree.ElementTree.fromstring(ran.said)
+        trial.check("top", document.tag.endswith("svg") and "machine 5" in "".join(document.itertext()), ran.said[:200])
+
+
+@suite.case()
+def top_refused(trial):
+    """What is no configuration, names no status, is not there, answers with nothing, or is not the status of a machine."""
+    masters = trial.scripts(honest)
+    without, other, gone = (trial.node(masters, name, status=status) for name, status in (("A", None), ("B", "bad.status"), ("C", "no.status")))
+    for name, text in (("bad.status", "nothing\n"), ("bad.toml", "machine = 9\n")):
+        write(os.path.join(trial.room, name), text.encode())
+    for place, number, status, says in (
+            (without.path("node.toml"), 1803, 2, "status"), (other.path("node.toml"), 2601, 2, "status"), (gone.path("node.toml"), 1604, 4, ""),
+            ("bad.toml", 1804, 2, "machine"), ("nowhere", 1604, 4, "nowhere"),
+            (f"127.0.0.1:{free_port(socket.SOCK_STREAM)}", 1501, 4, "")):
+        ran = run([trial.program, "top", place, "--once"], env=PLAIN, cwd=trial.room)
+        trial.equal("top", (place, *ran.answer), (place, f"refused {number}\n", status))
+        trial.check("top", says in ran.error and f"refused {number}: " in ran.error, f"{place}: {ran.error}")
