@@ -176,6 +176,47 @@ func (e *etcd) get(ctx context.Context, key string) (pair, error) {
 	return answer.pair(), err
 }
 
+// A page is where a read of all pairs below a prefix goes on: at this key, and as all was at this revision, or is now where that is 0.
+type page struct {
+	key      string
+	revision int64
+	isLast   bool
+}
+
+// pairsOfPage is how many pairs are read at once.
+const pairsOfPage = 500
+
+// read gives the next pairs below a prefix, in the order of their keys, and where to go on.
+func (e *etcd) read(ctx context.Context, prefix string, at page, put func(pair)) (page, error) {
+	var answer struct {
+		Header struct {
+			Revision int64 `json:"revision,string"`
+		} `json:"header"`
+		Kvs  []pair `json:"kvs"`
+		More bool   `json:"more"`
+	}
+	err := e.call(ctx, "kv/range", object{"key": []byte(at.key), "range_end": endOf(prefix), "limit": number(pairsOfPage),
+		"revision": number(at.revision)}, &answer)
+	if err != nil {
+		return at, err
+	}
+	if at.revision == 0 {
+		at.revision = answer.Header.Revision
+	}
+	for _, found := range answer.Kvs {
+		put(found)
+		at.key = string(found.Key) + "\x00"
+	}
+	at.isLast = !answer.More
+	return at, nil
+}
+
+// endOf is the first key behind all of a prefix.
+func endOf(prefix string) []byte {
+	last := len(prefix) - 1
+	return []byte(prefix[:last] + string(prefix[last]+1))
+}
+
 // follow gives each pair that was put below a prefix from a revision on, in their order, until nothing has come for a while
 // or the member fails, and then the first revision that is still to come.
 func (e *etcd) follow(ctx context.Context, member int, prefix string, from int64, idle time.Duration, put func(pair)) (int64, error) {
@@ -183,8 +224,7 @@ func (e *etcd) follow(ctx context.Context, member int, prefix string, from int64
 	defer cancel()
 	timer := time.AfterFunc(idle, cancel)
 	defer timer.Stop()
-	end := prefix[:len(prefix)-1] + string(prefix[len(prefix)-1]+1)
-	body, err := json.Marshal(object{"create_request": object{"key": []byte(prefix), "range_end": []byte(end), "start_revision": number(from)}})
+	body, err := json.Marshal(object{"create_request": object{"key": []byte(prefix), "range_end": endOf(prefix), "start_revision": number(from)}})
 	if err != nil {
 		return from, err
 	}

@@ -147,6 +147,38 @@ func TestTheNextMemberIsAsked(t *testing.T) {
 	}
 }
 
+func TestAllIsReadAsItWasAtFirst(t *testing.T) {
+	var asked []string
+	served := httptest.NewServer(http.HandlerFunc(func(w http.ResponseWriter, r *http.Request) {
+		var page struct {
+			Key      []byte
+			End      []byte `json:"range_end"`
+			Revision string
+		}
+		json.NewDecoder(r.Body).Decode(&page)
+		asked = append(asked, fmt.Sprintf("%q %q %s", page.Key, page.End, page.Revision))
+		if len(asked) == 1 {
+			fmt.Fprintln(w, `{"header":{"revision":"9"},"kvs":[{"key":"ZGF0YS9rLzc=","value":"MyB2"}],"more":true}`)
+		} else {
+			fmt.Fprintln(w, `{"header":{"revision":"12"},"kvs":[{"key":"ZGF0YS9rLzg=","value":"MyB3"}]}`)
+		}
+	}))
+	defer served.Close()
+	e, at, came := newEtcd([]string{served.URL}, time.Second), page{key: "data/"}, ""
+	for !at.isLast {
+		var err error
+		if at, err = e.read(context.Background(), "data/", at, func(put pair) { came += fmt.Sprintf("%s %s;", put.Key, put.Value) }); err != nil {
+			t.Fatal(err)
+		}
+	}
+	if came != "data/k/7 3 v;data/k/8 3 w;" || at.revision != 9 {
+		t.Error(came, at)
+	}
+	if got := fmt.Sprint(asked); got != `["data/" "data0" 0 "data/k/7\x00" "data0" 9]` {
+		t.Error(got)
+	}
+}
+
 func TestWritesAreFollowedOnFromTheLastOne(t *testing.T) {
 	served := httptest.NewServer(http.HandlerFunc(func(w http.ResponseWriter, r *http.Request) {
 		var asked struct {

@@ -31,15 +31,24 @@ type version struct {
 
 func (v version) String() string { return fmt.Sprintf("%d %d %s", v.stamp, v.term, v.value) }
 
-// followAll applies what is written below a prefix until the context ends, by one member after the other.
+// followAll applies what stands below a prefix, and then what is written there until the context ends, by one member after the other. To
+// follow all writes from the first one on would have etcd look through all of them again and again.
 func (r *replica) followAll(ctx context.Context, from *etcd, prefix string) {
-	next := int64(1)
+	put := func(put pair) {
+		if err := r.apply(strings.TrimPrefix(string(put.Key), prefix), string(put.Value)); err != nil {
+			log.Printf("%s: %v", put.Key, err)
+		}
+	}
+	at := page{key: prefix}
+	for ctx.Err() == nil && !at.isLast {
+		var err error
+		if at, err = from.read(ctx, prefix, at, put); err != nil {
+			sleep(ctx, tick)
+		}
+	}
+	next := at.revision + 1
 	for member := 0; ctx.Err() == nil; member++ {
-		next, _ = from.follow(ctx, member, prefix, next, time.Second, func(put pair) {
-			if err := r.apply(strings.TrimPrefix(string(put.Key), prefix), string(put.Value)); err != nil {
-				log.Printf("%s: %v", put.Key, err)
-			}
-		})
+		next, _ = from.follow(ctx, member, prefix, next, time.Second, put)
 		sleep(ctx, tick)
 	}
 }
