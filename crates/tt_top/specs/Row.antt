@@ -49,7 +49,7 @@ ends_word source =
 
 -- what is wrong with a source of this age
 abbrev pub state_at : Option ℕ → Bool → ℕ → List ℕ
-state_at None suspect silent_after = codes " never answered"
+state_at None suspect silent_after = codes " never"
 state_at (Some age) suspect silent_after = if suspect then codes " suspect" else if nat_lt silent_after age then codes " silent" else []
 
 -- what is wrong with a source

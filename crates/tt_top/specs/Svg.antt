@@ -27,7 +27,7 @@ abbrev pub opening_of : ℕ → List ℕ
 opening_of height = join (
     codes "<svg xmlns=\"http://www.w3.org/2000/svg\" width=\"1200\" height=\""
     ∷ decimal height
-    ∷ codes "\">\n<style>svg { background: #ffffff } text { font: 14px monospace; white-space: pre }</style>\n<text><tspan x=\"8\" dy=\"18\">"
+    ∷ codes "\">\n<style>svg { background: #ffffff } text { font: 14px monospace; white-space: pre }</style>\n<text xml:space=\"preserve\"><tspan x=\"8\" dy=\"18\">"
     ∷ [])
 
 -- what a document ends with

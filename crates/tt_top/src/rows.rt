@@ -79,7 +79,7 @@ impl SourceView {
         ensures { result.now ≡ state_word self.now form.now }
     {
         let Some(age) = self.age else {
-            return " never answered";
+            return " never";
         };
         if self.suspect {
             " suspect"

@@ -64,7 +64,7 @@ fn push_opening(text: &mut String, height: u64) -> Result<(), AllocError>
             Piece::Word("<svg xmlns=\"http://www.w3.org/2000/svg\" width=\"1200\" height=\""),
             Piece::Number(height),
             Piece::Word(
-                "\">\n<style>svg { background: #ffffff } text { font: 14px monospace; white-space: pre }</style>\n<text><tspan x=\"8\" dy=\"18\">",
+                "\">\n<style>svg { background: #ffffff } text { font: 14px monospace; white-space: pre }</style>\n<text xml:space=\"preserve\"><tspan x=\"8\" dy=\"18\">",
             ),
         ],
     )

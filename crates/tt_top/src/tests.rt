@@ -44,7 +44,7 @@ each =  1.000 us         offset round trip        age ends
     0   =====         -1.250 us 250.000 us 500.000 ms []
     1     =======     +2.495 us   1.500 ms   2.000  s []
     2             >  +96.755 us  90.000 us   4.000  s    suspect
-    3 ?????????????           -          -          -    never answered
+    3 ?????????????           -          -          -    never
 fused     ###          1.500 us wide
 width   2.500 ms  _#   1.000 ms to   2.500 ms
 commits waiting 2  waited 4  mean wait   3.000 ms  shared yes
