@@ -44,7 +44,13 @@ fn key_of<H: Files<File = File> + Eprint + AllocGlobal>(
     let (Some(number), Some(path)) = (time.key, time.keys) else {
         return Ok(None);
     };
-    let text = bytes_of(rt, rt.alloc(), path)?;
+    let text = match bytes_of(rt, rt.alloc(), path) {
+        Ok(text) => text,
+        Err(fault) => {
+            let _ = eprint!(rt; "ttd: {path}: {fault}\n");
+            return Err(fault);
+        }
+    };
     match packet_key_of(&text, number) {
         Ok(key) => Ok(Some(key)),
         Err(fault) => {

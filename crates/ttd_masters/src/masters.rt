@@ -191,7 +191,7 @@ fn reporter_of<
 }
 
 /// The socket of a master, whose start is logged.
-fn begin<H: Wait + SystemClock + Net>(
+fn begin<H: Wait + SystemClock + Net + Eprint>(
     rt: &H,
     reporter: &Reporter,
     plan: &MasterPlan<'_>,
@@ -207,8 +207,9 @@ fn begin<H: Wait + SystemClock + Net>(
     Ok(socket)
 }
 
-/// A socket at this address. An address that is not up yet is tried again, with growing pauses, and logged.
-fn socket_at<H: Wait + SystemClock + Net>(
+/// A socket at this address. An address that is not up yet is tried again, with growing pauses, and logged. Where there is
+/// none, standard error says why.
+fn socket_at<H: Wait + SystemClock + Net + Eprint>(
     rt: &H,
     reporter: &Reporter,
     listen: SocketAddr,
@@ -223,7 +224,10 @@ fn socket_at<H: Wait + SystemClock + Net>(
                 thread::sleep(rt, Duration::from_millis(pause));
                 pause = next_pause(pause);
             }
-            Err(_) => return Err(StartFault::CannotListen(listen)),
+            Err(error) => {
+                let _ = eprint!(rt; "ttd: {listen}: {error}\n");
+                return Err(StartFault::CannotListen(listen));
+            }
         }
     }
     unreachable!()
