@@ -4,13 +4,12 @@ use crate::faults::ServiceFault;
 use crate::services::Stop;
 use crate::serving::settings_of;
 use std::alloc::{AllocError, Global};
-use std::env;
 use std::fs::{File, Files};
 use std::io::{Eprint, Write};
 use std::net::{Ipv4Addr, Net, SocketAddr, TcpStream};
 use std::rt::Env;
-use std::thread;
 use std::time::{Clock as SystemClock, Duration};
+use std::{env, thread};
 use tt_settings::{Key, SettingsFault};
 use tt_stream::{ByteWriter, Counted, read_to_end};
 use tt_top::{Form, MAX_COLUMNS, View, ViewFault, push_svg, push_view, read_view};
@@ -94,12 +93,7 @@ impl From<ViewFault> for ServiceFault {
 pub(crate) fn show<
     H: AllocGlobal + Files<File = File> + Net<Stream = TcpStream> + SystemClock + Env + Eprint,
     O: ByteWriter,
->(
-    rt: &H,
-    place: TopPlace<'_>,
-    manner: Manner,
-    output: &mut O,
-) -> Result<(), Stop> {
+>(rt: &H, place: TopPlace<'_>, manner: Manner, output: &mut O) -> Result<(), Stop> {
     let sight = sight_of(rt, place)?;
     let form = Form {
         columns: manner.columns.unwrap_or(columns_of(rt)),
@@ -118,12 +112,7 @@ pub(crate) fn show<
 fn show_on<
     H: AllocGlobal + Files<File = File> + Net<Stream = TcpStream> + SystemClock,
     O: ByteWriter,
->(
-    rt: &H,
-    origin: &Origin,
-    form: &Form,
-    output: &mut O,
-) -> Result<(), Stop> {
+>(rt: &H, origin: &Origin, form: &Form, output: &mut O) -> Result<(), Stop> {
     let mut widths = Vec::new(rt.alloc());
     for _look in 0..u64::MAX {
         let did = match draw_next(rt, origin, form, &mut widths) {
@@ -180,7 +169,11 @@ fn view_of<H: AllocGlobal + Files<File = File> + Net<Stream = TcpStream>>(
     origin: &Origin,
 ) -> Result<View, ServiceFault> {
     let texts = texts_of(rt, origin)?;
-    match read_view(rt.alloc(), texts.status.as_slice(), texts.evidence.as_slice()) {
+    match read_view(
+        rt.alloc(),
+        texts.status.as_slice(),
+        texts.evidence.as_slice(),
+    ) {
         Ok(view) => Ok(view),
         Err(fault) => Err(ServiceFault::from(fault)),
     }
@@ -207,14 +200,18 @@ fn sight_in<H: AllocGlobal + Files<File = File> + Eprint>(
 ) -> Result<Sight, ServiceFault> {
     let settings = settings_of(rt, rt.alloc(), path)?;
     let Some(status) = settings.status() else {
-        let _ = eprint!(rt; "ttd: {path}: status: nothing is shown without the path of a file here\n");
+        let _ = eprint!(rt;
+            "ttd: {path}: status: nothing is shown without the path of a file here\n"
+        );
         let fault = SettingsFault::MissingKey(Key::Status);
         return Err(ServiceFault::Settings(fault));
     };
     let evidence = match settings.evidence() {
         Some(evidence) => Some(String::from_str(rt.alloc(), evidence.as_str())?),
         None => {
-            let _ = eprint!(rt; "ttd: {path}: evidence: there are no bars without the path of a file here\n");
+            let _ = eprint!(rt;
+                "ttd: {path}: evidence: there are no bars without the path of a file here\n"
+            );
             None
         }
     };
