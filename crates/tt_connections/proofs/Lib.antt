@@ -1,2 +1,4 @@
 mod Serving
+mod Gathering
+mod Tallying
 pub mod Leasing

@@ -1,7 +1,9 @@
 pub mod Fault
+pub mod Together
 pub mod Station
 pub mod Sessions
 pub mod Path
 pub mod Waiting
 pub mod Session
+pub mod Tally
 pub mod Clock

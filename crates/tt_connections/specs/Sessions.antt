@@ -4,7 +4,7 @@ use Rattle.tt_session.specs.declared.serving.Served.{Served}
 use Rattle.tt_connections.specs.Station.{PostState, ServesSession, BreaksSession}
 use Rattle.tt_connections.specs.declared.presence.Question.{Question}
 
--- a session of a client, whole or broken off in its last reply: the post before it and after it, and what there was to read and what was taken before it and after it
+-- a session of a client, whole or broken off in the replies that were handed over last: the post before it and after it, and what there was to read and what was taken before it and after it
 pub record WorkerSession {C V : Type 0} (gives : C → Option ℕ → C → Type 0) (failed : C → ℕ) (says : V → Question → Bool → Type 0) (waits : ℕ) : Type 0 where
   pub client : V
   pub before : PostState C

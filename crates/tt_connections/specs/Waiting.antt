@@ -1,5 +1,6 @@
 -- How many connections wait, and for how long.
 use Rattle.std.specs.Prelude.{ℕ, ◌-◌, nat_lt, not, Bool, true, false, Option, Some, None}
+use Rattle.tt_files.specs.declared.reasons.Reason.{Reason}
 use Rattle.tt_connections.specs.declared.acceptors.Turn.{Turn}
 use Rattle.tt_connections.specs.declared.acceptors.Turn.TheVariants.{More, Failed}
 
@@ -21,6 +22,12 @@ hands_over false began now = not (nat_lt (now - began) 2000000000)
 abbrev pub pause_of : Turn → Turn → Option ℕ
 pause_of More side = Some 0
 pause_of front More = Some 0
-pause_of Failed side = Some 100000000
-pause_of front Failed = Some 100000000
+pause_of (Failed reason) side = Some 100000000
+pause_of front (Failed reason) = Some 100000000
 pause_of front side = None
+
+-- why the system refused to accept a connection: at the first listener, or else at the second
+abbrev pub refusal_in : Turn → Turn → Option Reason
+refusal_in (Failed reason) side = Some reason
+refusal_in front (Failed reason) = Some reason
+refusal_in front side = None

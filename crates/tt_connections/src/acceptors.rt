@@ -1,7 +1,7 @@
 //! The thread that accepts the connections of a machine, and hands them to its workers.
 
 ghost use Rattle.std.specs.Prelude.{◌≡◌};
-ghost use Rattle.tt_connections.specs.Waiting.{hands_over, left_of, pause_of};
+ghost use Rattle.tt_connections.specs.Waiting.{hands_over, left_of, pause_of, refusal_in};
 
 use crate::clocks::reading_of;
 use crate::listeners::{Came, Listener};
@@ -14,6 +14,7 @@ use std::sync::Wait;
 use std::sync::atomic::{AtomicBool, Ordering};
 use std::time::{Clock as SystemClock, Duration};
 use std::{io, thread};
+use tt_files::Reason;
 
 /// How long clients wait for the first publication, in nanoseconds: two seconds.
 const FIRST: u64 = 2_000_000_000;
@@ -39,8 +40,8 @@ pub(crate) enum Turn {
     Full,
     /// More connections may wait to be accepted.
     More,
-    /// The system refused to accept a connection.
-    Failed,
+    /// The system refused to accept a connection, for this reason.
+    Failed(Reason),
 }
 
 /// For how long clients still wait for the first publication when the clock shows `now`, in nanoseconds. They wait until
@@ -65,7 +66,17 @@ fn pause_of(front: Turn, side: Turn) -> Option<u64>
 {
     match (front, side) {
         (Turn::More, _) | (_, Turn::More) => Some(0),
-        (Turn::Failed, _) | (_, Turn::Failed) => Some(AGAIN),
+        (Turn::Failed(_), _) | (_, Turn::Failed(_)) => Some(AGAIN),
+        _ => None,
+    }
+}
+
+/// Why the system refused to accept a connection at one of two listeners, if it did: at the first, or else at the other.
+fn refusal_in(front: Turn, side: Turn) -> Option<Reason>
+    ensures value { result ≡ refusal_in front side }
+{
+    match (front, side) {
+        (Turn::Failed(reason), _) | (_, Turn::Failed(reason)) => Some(reason),
         _ => None,
     }
 }
@@ -94,7 +105,7 @@ impl Backlog {
                 Came::Client(connection) => self.queue.put(rt, connection),
                 Came::Nobody => {}
                 Came::Nothing => return Turn::Empty,
-                Came::Failed => return Turn::Failed,
+                Came::Failed(reason) => return Turn::Failed(reason),
             }
         }
         Turn::More
@@ -235,9 +246,9 @@ impl Acceptor {
         unreachable!()
     }
 
-    /// Waits for connections, and accepts those that have come at both listeners. Answers whether the system refused to accept
-    /// one; then the next wait is a tenth of a second.
-    pub fn turn<R: Wait + SystemClock>(&mut self, rt: &R, listeners: &Listeners) -> bool {
+    /// Waits for connections, and accepts those that have come at both listeners. Answers why the system refused to accept
+    /// one, if it did; then the next wait is a tenth of a second.
+    pub fn turn<R: Wait + SystemClock>(&mut self, rt: &R, listeners: &Listeners) -> Option<Reason> {
         self.wait(rt, self.pause);
         let front = listeners.front.accept_all(rt);
         let side = match &listeners.side {
@@ -245,6 +256,6 @@ impl Acceptor {
             None => Turn::Empty,
         };
         self.pause = pause_of(front, side);
-        front == Turn::Failed || side == Turn::Failed
+        refusal_in(front, side)
     }
 }

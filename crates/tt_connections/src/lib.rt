@@ -8,8 +8,9 @@
 //!
 //! A worker serves its clients in turn. What it keeps from one session to the next is a [`Post`]: a watch with its
 //! clock, a seat of the sequencer that all workers share, the lease, the interval of the stampers, how far a floor may lie
-//! ahead, and how wide a reading may be. [`Post::serve`] serves one session. The service of that session alone is a [`Station`], with a book of its own.
-//! So no session sees anything of another one, and its memory is freed when it ends.
+//! ahead, and how wide a reading may be. [`Post::serve`] serves one session, by [`serve_together`]: replies to lines that
+//! came together are handed over together. The service of that session alone is a [`Station`], with a book of its own. So
+//! no session sees anything of another one, and its memory is freed when it ends.
 //!
 //! ```text
 //! let post = Post::new(&rt, rt.alloc(), watch, clock, seat, &sequencer, Terms { lease, stampers, ahead, max_width });
@@ -20,10 +21,11 @@
 //!
 //! - `listeners`: [`Listener`], and what may stand at the path of a Unix socket. `queues`: [`Queue`].
 //! - `acceptors`: [`Listeners`] and [`Acceptor`]: when connections are handed over, and how long the acceptor waits.
-//! - `lines`: the reader and the writer of a session, and [`Counts`]. `presence`: [`Presence`], whether a client is still
-//!   there and whether the machine is broken, and `sights`: both for the client of a socket. `clocks`: [`MachineClock`].
-//! - `posts`: [`Post`], and [`Post::serve`]. `stations`: [`Station`], the service of one session. `faults`: why a station
-//!   refuses a call.
+//! - `lines`: the reader and the writer of a session, and [`Counts`]. `tallies`: what bytes of replies count. `presence`:
+//!   [`Presence`], whether a client is still there and whether the machine is broken, and `sights`: both for the client of
+//!   a socket. `clocks`: [`MachineClock`].
+//! - `posts`: [`Post`], and [`Post::serve`]. `stations`: [`Station`], the service of one session. `together`:
+//!   [`serve_together`], one session whose replies are handed over together. `faults`: why a station refuses a call.
 //!
 //! The functions over values are proved: what is done at the path of a Unix socket, when connections are handed over, how
 //! long the acceptor waits, and when a client has left. So is all of a session, and that no reading of a [`MachineClock`]
@@ -40,6 +42,8 @@ mod presence;
 mod queues;
 mod sights;
 mod stations;
+mod tallies;
+mod together;
 
 pub use acceptors::{Acceptor, Backlog, Listeners};
 pub use clocks::{MachineClock, reading_of};
@@ -51,3 +55,5 @@ pub use presence::{AlwaysThere, Presence, Question};
 pub use queues::{MAX_WAITING, Queue};
 pub use sights::{Client, Sight};
 pub use stations::Station;
+pub use tallies::{Tally, tally_of};
+pub use together::serve_together;

@@ -6,6 +6,7 @@ ghost use Rattle.tt_connections.specs.Session.{deadline_at, place_of};
 
 use crate::clocks::MachineClock;
 use crate::listeners::SLICE;
+use crate::tallies::tally_of;
 use std::net::TcpStream;
 use std::sync::atomic::{AtomicBool, AtomicU64, Ordering};
 use std::time::Clock as SystemClock;
@@ -194,12 +195,15 @@ impl<'a, R: SystemClock> TimedReader for LineReader<'a, R> {
     }
 }
 
-/// The writer of a session: a connection. A write fails if the machine ends. The writer counts the replies.
+/// The writer of a session: a connection. A write fails if the machine ends. The writer counts the replies, each refusal
+/// once its first byte is taken, and each line once its last one is.
 #[derive(Drop)]
 pub struct ReplyWriter<'a> {
     device: Timed<&'a TcpStream>,
     ended: &'a AtomicBool,
     counts: &'a Counts,
+    /// Whether the next byte begins a reply.
+    begins: bool,
     failures: u64,
 }
 
@@ -210,6 +214,7 @@ impl<'a> ReplyWriter<'a> {
             device: Timed::new(stream),
             ended,
             counts,
+            begins: true,
             failures: 0,
         }
     }
@@ -222,12 +227,16 @@ impl<'a> ReplyWriter<'a> {
         DeviceFault
     }
 
-    /// Counts a reply whose last byte was written.
-    fn count(&self, bytes: &[u8]) {
-        self.counts.lines.fetch_add(1, Ordering::SeqCst);
-        if bytes.starts_with(b"refused ") {
-            self.counts.refused.fetch_add(1, Ordering::SeqCst);
-        }
+    /// Counts the replies of bytes that were taken.
+    fn count(&mut self, taken: &[u8])
+        ensures same { self.new.failures ≡ self.old.failures }
+    {
+        let tally = tally_of(self.begins, taken);
+        self.counts.lines.fetch_add(tally.lines, Ordering::SeqCst);
+        self.counts
+            .refused
+            .fetch_add(tally.refused, Ordering::SeqCst);
+        self.begins = tally.begins;
     }
 }
 
@@ -244,9 +253,7 @@ impl<'a> TimedWriter for ReplyWriter<'a> {
         }
         match self.device.write(bytes) {
             Ok(Some(count)) => {
-                if count == bytes.len() {
-                    self.count(bytes);
-                }
+                self.count(&bytes[..count]);
                 Ok(Some(count))
             }
             Ok(None) => Ok(None),

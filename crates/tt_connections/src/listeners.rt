@@ -1,7 +1,10 @@
 //! Where clients connect: a TCP listener, or a Unix socket.
 
 ghost use Rattle.std.specs.Prelude.{◌≡◌};
+ghost use Rattle.std.specs.IoError.{error_kind, raw_os_error};
 ghost use Rattle.tt_connections.specs.Path.{plan_of, is_left_by, is_same};
+ghost use Rattle.tt_connections.specs.declared.listeners.ListenerFault.TheVariants.{Failed};
+ghost use Rattle.tt_files.specs.Reason.{reason_of};
 
 use std::fs::{self, Files};
 use std::io::{self, ErrorKind};
@@ -10,6 +13,7 @@ use std::os::fd::{AsRawFd, OwnedFd};
 use std::os::unix::fs::{FileTypeExt, MetadataExt};
 use std::os::unix::net::UnixListener;
 use std::time::Duration;
+use tt_files::Reason;
 
 /// The longest wait of one read or write of a connection, in nanoseconds. So a session soon sees that the machine ends.
 pub(crate) const SLICE: u64 = 200_000_000;
@@ -19,8 +23,8 @@ pub(crate) const SLICE: u64 = 200_000_000;
 pub enum ListenerFault {
     /// What is at the path is not a socket.
     NotSocket,
-    /// Somebody listens at the path, or the system refused.
-    Failed,
+    /// Somebody listens at the path, or the system refused, for this reason.
+    Failed(Reason),
 }
 
 /// What is at the path of a Unix socket.
@@ -30,8 +34,10 @@ pub(crate) enum Found {
     Nothing,
     /// A socket at which nobody listens: its machine was killed.
     Left,
-    /// A socket at which somebody listens, or of which this is not known.
+    /// A socket at which somebody listens.
     Listened,
+    /// What can't be looked at, or a socket of which it is not known whether somebody listens there.
+    Unknown(Reason),
     /// A file, a folder, a symbolic link, or anything else that is not a socket.
     Other,
 }
@@ -44,7 +50,8 @@ fn plan_of(found: Found) -> Result<bool, ListenerFault>
     match found {
         Found::Nothing => Ok(false),
         Found::Left => Ok(true),
-        Found::Listened => Err(ListenerFault::Failed),
+        Found::Listened => Err(ListenerFault::Failed(Reason::IN_USE)),
+        Found::Unknown(reason) => Err(ListenerFault::Failed(reason)),
         Found::Other => Err(ListenerFault::NotSocket),
     }
 }
@@ -91,8 +98,8 @@ pub(crate) enum Came {
     Nobody,
     /// No connection waits.
     Nothing,
-    /// The system refused.
-    Failed,
+    /// The system refused, for this reason.
+    Failed(Reason),
 }
 
 impl Listener {
@@ -108,22 +115,24 @@ impl Listener {
 
     /// The Unix socket at this path. If a machine left a socket there, and nobody listens at it, it is removed first.
     ///
-    /// Refuses with `NotSocket` if anything else is at the path, also a symbolic link, and with `Failed` if somebody
-    /// listens there or the socket can't be made. Then what is at the path is left alone, and a socket that this call had
-    /// made there is removed. It does not wait.
+    /// Refuses with `NotSocket` if anything else is at the path, also a symbolic link, and with `Failed` and the reason if
+    /// somebody listens there ([`Reason::IN_USE`]) or the socket can't be made. Then what is at the path is left alone, and a
+    /// socket that this call had made there is removed. It does not wait.
     pub fn at_path<R: Files + Net>(rt: &R, path: &str) -> Result<Listener, ListenerFault> {
         let is_left = plan_of(found_at(rt, path))?;
-        if is_left && fs::remove_file(rt, path).is_err() {
-            return Err(ListenerFault::Failed);
+        if is_left {
+            fs::remove_file(rt, path).map_err(failed_by)?;
         }
         let listener = bound_at(rt, path)?;
-        let is_ready = listener.set_nonblocking(true).is_ok();
+        let made = listener.set_nonblocking(true);
         let listener = Listener::Unix(listener, identity_at(rt, path));
-        if !is_ready {
-            listener.remove(rt, path);
-            return Err(ListenerFault::Failed);
+        match made {
+            Ok(()) => Ok(listener),
+            Err(error) => {
+                listener.remove(rt, path);
+                Err(failed_by(error))
+            }
         }
-        Ok(listener)
     }
 
     /// Accepts the next connection, if one waits.
@@ -136,12 +145,12 @@ impl Listener {
                     }
                     ready(stream)
                 }
-                Err(error) => came_of(error.kind()),
+                Err(error) => came_of(&error),
             },
             Listener::Unix(listener, _) => match listener.accept() {
                 // The stream is used as a TCP stream, but only with calls that work on any stream socket.
                 Ok((stream, _peer)) => ready(TcpStream::from(OwnedFd::from(stream))),
-                Err(error) => came_of(error.kind()),
+                Err(error) => came_of(&error),
             },
         }
     }
@@ -176,6 +185,13 @@ impl Listener {
     }
 }
 
+/// The fault of a call that failed with this error.
+fn failed_by(error: io::Error) -> ListenerFault
+    ensures value { result ≡ Failed (reason_of (raw_os_error error) (error_kind error)) }
+{
+    ListenerFault::Failed(Reason::of(&error))
+}
+
 /// A listener that is bound at this path. The system first makes the socket there, and then listens at it: where only the
 /// second fails, the socket is removed again.
 fn bound_at<R: Files + Net>(rt: &R, path: &str) -> Result<UnixListener, ListenerFault> {
@@ -186,7 +202,7 @@ fn bound_at<R: Files + Net>(rt: &R, path: &str) -> Result<UnixListener, Listener
     if is_left_by(error.kind() == ErrorKind::AddrInUse, found_at(rt, path)) {
         let _ = fs::remove_file(rt, path);
     }
-    Err(ListenerFault::Failed)
+    Err(failed_by(error))
 }
 
 /// What is at this path. It does not wait for a listener that has no room.
@@ -197,7 +213,7 @@ fn found_at<R: Files + Net>(rt: &R, path: &str) -> Found {
             return if error.kind() == ErrorKind::NotFound {
                 Found::Nothing
             } else {
-                Found::Listened
+                Found::Unknown(Reason::of(&error))
             };
         }
     };
@@ -205,8 +221,13 @@ fn found_at<R: Files + Net>(rt: &R, path: &str) -> Found {
         return Found::Other;
     }
     match mio::net::UnixStream::connect(rt, path) {
-        Err(error) if error.kind() == ErrorKind::ConnectionRefused => Found::Left,
-        _ => Found::Listened,
+        Ok(_) => Found::Listened,
+        Err(error) => match error.kind() {
+            ErrorKind::ConnectionRefused => Found::Left,
+            // The listener has no room.
+            ErrorKind::WouldBlock => Found::Listened,
+            _ => Found::Unknown(Reason::of(&error)),
+        },
     }
 }
 
@@ -223,11 +244,11 @@ fn identity_at<R: Files>(rt: &R, path: &str) -> Option<Identity> {
 
 /// What a try to accept gave that ended with this kind of error. A connection that its client has ended meanwhile is
 /// nobody's.
-fn came_of(kind: ErrorKind) -> Came {
-    match kind {
+fn came_of(error: &io::Error) -> Came {
+    match error.kind() {
         ErrorKind::WouldBlock => Came::Nothing,
         ErrorKind::Interrupted | ErrorKind::ConnectionAborted => Came::Nobody,
-        _ => Came::Failed,
+        _ => Came::Failed(Reason::of(error)),
     }
 }
 

@@ -3,16 +3,18 @@
 ghost use Rattle.std.specs.Prelude.{◌≡◌, ◌≢◌, ◌+◌, ◌-◌, nat_lt, None, Some, Err, MatchBool, OnOk, IfOk, IsErrOf};
 ghost use Rattle.std.specs.Io.KnownBytes.{IsAtEnd};
 ghost use Rattle.tt_publish.specs.Looks.{Looks};
+ghost use Rattle.tt_session.specs.Session.{StaysFlushed};
 ghost use Rattle.tt_session.specs.declared.serving.Served.{Served};
-ghost use Rattle.tt_connections.specs.Station.{ServesSession, BreaksSession, StampsPost, common, room_in};
+ghost use Rattle.tt_connections.specs.Station.{ServesSession, BreaksSession, BreaksSessionFlushed, StampsPost, common, room_in};
 
 use crate::presence::Presence;
 use crate::stations::Station;
+use crate::together::serve_together;
 use std::alloc::Global;
 use std::marker::Model;
 use std::sync::Wait;
 use tt_publish::{Clock, ReadFault, Reading, Watch};
-use tt_session::{ServeFault, Served, StampSeat, StampSource, Turns, serve};
+use tt_session::{ServeFault, Served, StampSeat, StampSource, Turns};
 use tt_span::Span;
 use tt_stamp::{Seat, Sequencer, StampFault};
 use tt_stream::{ByteReader, ByteWriter};
@@ -105,10 +107,11 @@ impl<'a, R: Wait, C: Clock> Post<'a, R, C> {
         }
     }
 
-    /// Serves one session of this client, as [`serve`] does. Its service is a [`Station`] with an empty book. Answers
-    /// the post for the next session, and the counts of this one.
+    /// Serves one session of this client, as [`serve_together`] does. Its service is a [`Station`] with an empty book.
+    /// Answers the post for the next session, and the counts of this one.
     ///
-    /// The counts are refused as by `serve`: 1105 `ReadFailed`, 1106 `WriteFailed`. The post is given back then too.
+    /// The counts are refused as by `serve_together`: 1105 `ReadFailed`, 1106 `WriteFailed`. The post is given back then
+    /// too.
     pub fn serve<I: ByteReader, O: ByteWriter, V: Presence>(
         self,
         client: &V,
@@ -123,12 +126,15 @@ impl<'a, R: Wait, C: Clock> Post<'a, R, C> {
             (I.left reader.old) (I.left reader.new) (O.taken writer.old) (O.taken writer.new) client.now self.entry result.0 served }
         ensures write_failed { IsErrOf result.1 ServeFault.WriteFailed → BreaksSession C.gives C.failed V.says turns.waits
             (I.left reader.old) (I.left reader.new) (O.taken writer.old) (O.taken writer.new) client.now self.entry result.0 }
+        ensures flushed { (result.1 ≢ Err ServeFault.WriteFailed) → StaysFlushed O.flushed writer.old writer.new }
+        ensures flushed_before { IsErrOf result.1 ServeFault.WriteFailed → BreaksSessionFlushed C.gives C.failed V.says turns.waits
+            (I.left reader.old) (I.left reader.new) O.taken O.flushed client.now self.entry result.0 writer.old writer.new }
         ensures sound_read { (result.1 ≢ Err ServeFault.ReadFailed) → I.failed reader.new ≡ I.failed reader.old }
         ensures sound_write { (result.1 ≢ Err ServeFault.WriteFailed) → O.failed writer.new ≡ O.failed writer.old }
     {
         let alloc = self.alloc;
         let mut station = Station::open(self, alloc, client);
-        let served = serve(reader, writer, &mut station, turns);
+        let served = serve_together(reader, writer, &mut station, turns);
         let post = station.close();
         (post, served)
     }

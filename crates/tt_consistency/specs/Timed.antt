@@ -54,7 +54,7 @@ abbrev pub served_at : {C V : Type 0} (gives : C → Option ℕ → C → Type 0
 served_at gives failed says waits left left' taken taken' client post post' served that times =
     record { client = client; post = post; after = that.0; calls = that.2.session.calls; talked = that.2.session.talked; times = times }
 
--- the same for one that broke off in its last reply
+-- the same for one that broke off in the replies that were handed over last
 abbrev pub broken_at : {C V : Type 0} (gives : C → Option ℕ → C → Type 0) (failed : C → ℕ) (says : V → Question → Bool → Type 0) (waits : ℕ) (left left' taken taken' : Option (List ℕ)) (client : V) (post post' : PostState C) → BreaksSession gives failed says waits left left' taken taken' client post post' → List CallTimes → TimedSession gives failed says
 broken_at gives failed says waits left left' taken taken' client post post' that times =
     record { client = client; post = post; after = that.0; calls = that.2.breaks.session.calls; talked = that.2.breaks.session.talked; times = times }

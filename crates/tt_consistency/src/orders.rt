@@ -44,7 +44,8 @@ pub fn session_laws<C: Clock, V: Presence>()
         (told : IsTold waits lines session.calls before number stamp) × ((times_at session.times told.begun).read ≤ stamp)
         × (stamp < (times_at session.times told.released).read) }
 
-    // The law `within`, for a session that a post served, and for a session that broke off in its last reply.
+    // The law `within`, for a session that a post served, and for a session that broke off in the replies that
+    // were handed over last.
     ensures served { (waits : ℕ) (left left' taken taken' : Option (List ℕ)) (client : V) (post post' : PostState C) (served : Served)
         (that : ServesSession C.gives C.failed V.says waits left left' taken taken' client post post' served)
         (times : List CallTimes) (commit : Commit) →

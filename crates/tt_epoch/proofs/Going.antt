@@ -1,6 +1,7 @@
 -- A course, one call after the other.
 use Rattle.std.specs.Prelude.{◌≡◌, ℕ, List, [], ◌∷◌, ◌++◌, Option, Some, Result, Ok, Err}
 use Rattle.std.proofs.Common.{refl, sym, subst, ap, ◌∙◌}
+use Rattle.tt_files.specs.declared.reasons.Reason.{Reason}
 use Rattle.tt_epoch.specs.Disk.{Call, Gift, Gave, Done, Broke, Read, gave_as, done_as, number_of}
 use Rattle.tt_epoch.specs.Course.{Stage, Reads, Writes, Over, call_at, step_of, next_of, stage_after, GivesAt, Does, Takes}
 use Rattle.tt_epoch.specs.declared.faults.EpochFault.{EpochFault}
@@ -32,7 +33,7 @@ on does start before mid after stage next gift goes gave is = (
 )
 
 -- a call was done
-pub done : {S : Type 0} {E : Type 0} (does : S → Call → Gift → S → Type 0) (start : Stage) (before mid after : S) (stage next : Stage) (call : Call) (result : Result (Unit {0}) E) (u : Unit {0})
+pub done : {S : Type 0} (does : S → Call → Gift → S → Type 0) (start : Stage) (before mid after : S) (stage next : Stage) (call : Call) (result : Result (Unit {0}) Reason) (u : Unit {0})
     → Goes does start before mid stage → does mid call (done_as result) after → result ≡ Ok u → call_at stage ≡ Some call → step_of stage Done ≡ next
     → Goes does start before after next
 done does start before mid after stage next call result u goes gave ok called is =
@@ -40,12 +41,12 @@ done does start before mid after stage next call result u goes gave ok called is
     (subst (λ c. GivesAt does c mid Done after) (sym called) (subst (λ r. does mid call (done_as r) after) ok gave)) is
 
 -- a call failed
-pub broke : {S : Type 0} {E : Type 0} (does : S → Call → Gift → S → Type 0) (start : Stage) (before mid after : S) (stage : Stage) (call : Call) (result : Result (Unit {0}) E) (fault : E)
-    → Goes does start before mid stage → does mid call (done_as result) after → result ≡ Err fault → call_at stage ≡ Some call → step_of stage Broke ≡ Over WriteFailed
-    → Goes does start before after (Over WriteFailed)
-broke does start before mid after stage call result fault goes gave err called is =
-    on does start before mid after stage (Over WriteFailed) Broke goes
-    (subst (λ c. GivesAt does c mid Broke after) (sym called) (subst (λ r. does mid call (done_as r) after) err gave)) is
+pub broke : {S : Type 0} (does : S → Call → Gift → S → Type 0) (start : Stage) (before mid after : S) (stage : Stage) (call : Call) (result : Result (Unit {0}) Reason) (reason : Reason)
+    → Goes does start before mid stage → does mid call (done_as result) after → result ≡ Err reason → call_at stage ≡ Some call → step_of stage (Broke reason) ≡ Over (WriteFailed reason)
+    → Goes does start before after (Over (WriteFailed reason))
+broke does start before mid after stage call result reason goes gave err called is =
+    on does start before mid after stage (Over (WriteFailed reason)) (Broke reason) goes
+    (subst (λ c. GivesAt does c mid (Broke reason) after) (sym called) (subst (λ r. does mid call (done_as r) after) err gave)) is
 
 -- nothing was read
 pub unread : {S : Type 0} (does : S → Call → Gift → S → Type 0) (before after : S) (fault : ReadFault) (refusal : EpochFault)

@@ -42,27 +42,27 @@ keeps k Reads before after (Gave file) bound gave =
     (next_stands k (number_of file) before (number_of file == 18446744073709551615) bound (subst (λ f. k ≤ number_of f) (sym is) bound.shown))
 keeps k Reads before after NotOwn bound gave = subst (Bound k) (sym gave) bound
 keeps k Reads before after Done bound gave = absurd gave
-keeps k Reads before after Broke bound gave = subst (Bound k) (sym gave) bound
+keeps k Reads before after (Broke reason) bound gave = subst (Bound k) (sym gave) bound
 keeps k (Writes n) before after (Gave file) stands gave = absurd gave
 keeps k (Writes n) before after NotOwn stands gave = absurd gave
 keeps k (Writes n) before after Done stands gave = subst (Stands k (Syncs n)) (sym gave) (with_draft k before (Loose n) stands.0, stands.1, refl)
-keeps k (Writes n) before after Broke stands gave = subst (Bound k) (sym gave) (with_draft k before Unknown stands.0)
+keeps k (Writes n) before after (Broke reason) stands gave = subst (Bound k) (sym gave) (with_draft k before Unknown stands.0)
 keeps k (Syncs n) before after (Gave file) stands gave = absurd gave
 keeps k (Syncs n) before after NotOwn stands gave = absurd gave
 keeps k (Syncs n) before after Done stands gave =
     subst (Stands k (Installs n)) (sym gave) (with_draft k before (synced_draft before.draft) stands.0, stands.1, ap synced_draft stands.2)
-keeps k (Syncs n) before after Broke stands gave = subst (Bound k) (sym gave) (with_draft k before Unknown stands.0)
+keeps k (Syncs n) before after (Broke reason) stands gave = subst (Bound k) (sym gave) (with_draft k before Unknown stands.0)
 keeps k (Installs n) before after (Gave file) stands gave = absurd gave
 keeps k (Installs n) before after NotOwn stands gave = absurd gave
 keeps k (Installs n) before after Done stands gave = replaced k n before after before.draft stands.0 stands.1 stands.2 gave
-keeps k (Installs n) before after Broke stands gave =
+keeps k (Installs n) before after (Broke reason) stands gave =
     may_replaced k n before after stands.0 stands.1 (subst (λ d. MayReplace d before after) stands.2 gave)
 keeps k (Fixes n) before after (Gave file) stands gave = absurd gave
 keeps k (Fixes n) before after NotOwn stands gave = absurd gave
 keeps k (Fixes n) before after Done stands gave =
     let is : number_of before.shown ≡ n = ap number_of stands.2 in
     subst (Stands k (Answered n)) (sym gave) (record { shown = omega arith; left = (omega arith, tt) }, stands.1)
-keeps k (Fixes n) before after Broke stands gave = subst (Bound k) (sym gave) stands.0
+keeps k (Fixes n) before after (Broke reason) stands gave = subst (Bound k) (sym gave) stands.0
 keeps k (Answered n) before after gift stands gave = absurd gave
 keeps k (Over fault) before after gift stands gave = absurd gave
 

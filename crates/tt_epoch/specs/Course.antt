@@ -1,6 +1,7 @@
 -- What is done to take the next epoch: one call after the other, each once the one before it is done.
 use Rattle.std.specs.Prelude.{◌≡◌, ℕ, ◌+◌, ◌==◌, if◌then◌else◌, List, [], ◌∷◌, Option, Some, None, Result, MatchResult}
-use Rattle.tt_epoch.specs.Disk.{Call, Read, Write, SyncDraft, Install, SyncFolder, Gift, Gave, NotOwn, Done, number_of}
+use Rattle.tt_files.specs.declared.reasons.Reason.TheVariants.{Other}
+use Rattle.tt_epoch.specs.Disk.{Call, Read, Write, SyncDraft, Install, SyncFolder, Gift, Gave, NotOwn, Done, Broke, number_of}
 use Rattle.tt_epoch.specs.declared.faults.EpochFault.{EpochFault}
 use Rattle.tt_epoch.specs.declared.faults.EpochFault.TheVariants.{ReadFailed, WriteFailed, NotAnEpochFile, UsedUp}
 
@@ -28,16 +29,18 @@ call_at (Over fault) = None
 abbrev pub next_of : ℕ → Stage
 next_of n = if n == 18446744073709551615 then Over UsedUp else Writes (n + 1)
 
--- the stage after a gift: a call that was not done ends the start
+-- the stage after a gift: a call that was not done ends the start, with the reason that it gave
 abbrev pub step_of : Stage → Gift → Stage
 step_of Reads (Gave file) = next_of (number_of file)
 step_of Reads NotOwn = Over NotAnEpochFile
-step_of Reads _ = Over ReadFailed
+step_of Reads (Broke reason) = Over (ReadFailed reason)
+step_of Reads Done = Over (ReadFailed Other)
 step_of (Writes n) Done = Syncs n
 step_of (Syncs n) Done = Installs n
 step_of (Installs n) Done = Fixes n
 step_of (Fixes n) Done = Answered n
-step_of _ _ = Over WriteFailed
+step_of _ (Broke reason) = Over (WriteFailed reason)
+step_of _ _ = Over (WriteFailed Other)
 
 -- the stage after some gifts, one after the other
 abbrev pub stage_after : Stage → List Gift → Stage

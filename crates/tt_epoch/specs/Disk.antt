@@ -1,5 +1,6 @@
 -- A file with one number as its owner sees it, what a crash may leave of it, and what the calls of a store do.
 use Rattle.std.specs.Prelude.{◌≡◌, ◌⊎◌, ◌≤◌, ℕ, List, [], ◌∷◌, Option, Some, None, Result, Ok, Err}
+use Rattle.tt_files.specs.declared.reasons.Reason.{Reason}
 use Rattle.tt_epoch.specs.declared.stores.ReadFault.{ReadFault}
 use Rattle.tt_epoch.specs.declared.stores.ReadFault.TheVariants.{Failed, Foreign}
 
@@ -23,23 +24,23 @@ pub data Call : Type 0 where
   Install : Call
   SyncFolder : Call
 
--- what a store gives: a number or none, that what it holds is not its own, that a call was done, or that it failed
+-- what a store gives: a number or none, that what it holds is not its own, that a call was done, or why it failed
 pub data Gift : Type 0 where
   Gave : Option ℕ → Gift
   NotOwn : Gift
   Done : Gift
-  Broke : Gift
+  Broke : Reason → Gift
 
 -- what a read gave
 abbrev pub gave_as : Result (Option ℕ) ReadFault → Gift
 gave_as (Ok file) = Gave file
 gave_as (Err Foreign) = NotOwn
-gave_as (Err Failed) = Broke
+gave_as (Err (Failed reason)) = Broke reason
 
 -- what another call gave
-abbrev pub done_as : {E : Type 0} → Result (Unit {0}) E → Gift
+abbrev pub done_as : Result (Unit {0}) Reason → Gift
 done_as (Ok _) = Done
-done_as (Err _) = Broke
+done_as (Err reason) = Broke reason
 
 -- the number of a file: 0 where there is none
 abbrev pub number_of : Option ℕ → ℕ
@@ -66,15 +67,15 @@ MayReplace _ before after = Unit {0}
 abbrev pub Gives : Disk → Call → Gift → Disk → Type 0
 Gives before Read (Gave file) after = (file ≡ before.shown) × (after ≡ before)
 Gives before Read NotOwn after = after ≡ before
-Gives before Read Broke after = after ≡ before
+Gives before Read (Broke reason) after = after ≡ before
 Gives before (Write n) Done after = after ≡ record before { draft = Loose n }
-Gives before (Write n) Broke after = after ≡ record before { draft = Unknown }
+Gives before (Write n) (Broke reason) after = after ≡ record before { draft = Unknown }
 Gives before SyncDraft Done after = after ≡ record before { draft = synced_draft before.draft }
-Gives before SyncDraft Broke after = after ≡ record before { draft = Unknown }
+Gives before SyncDraft (Broke reason) after = after ≡ record before { draft = Unknown }
 Gives before Install Done after = Replaces before.draft before after
-Gives before Install Broke after = MayReplace before.draft before after
+Gives before Install (Broke reason) after = MayReplace before.draft before after
 Gives before SyncFolder Done after = after ≡ record before { left = before.shown ∷ [] }
-Gives before SyncFolder Broke after = after ≡ before
+Gives before SyncFolder (Broke reason) after = after ≡ before
 Gives _ _ _ _ = ⊥
 
 -- none of these files has a number below k

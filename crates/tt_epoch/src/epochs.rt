@@ -34,7 +34,7 @@ pub(crate) fn unread(fault: &ReadFault) -> EpochFault
     ensures { step_of Reads (gave_as (Err fault.now)) ≡ Over result }
 {
     match fault {
-        ReadFault::Failed => EpochFault::ReadFailed,
+        ReadFault::Failed(reason) => EpochFault::ReadFailed(*reason),
         ReadFault::Foreign => EpochFault::NotAnEpochFile,
     }
 }
@@ -62,18 +62,18 @@ pub fn next_epoch<S: Store>(store: &mut S) -> Result<u64, EpochFault>
 fn keep<S: Store>(store: &mut S, next: u64) -> Result<u64, EpochFault>
     ensures course { Takes S.does (Writes next) store.old store.new result }
 {
-    let Ok(()) = store.write(next) else {
-        return Err(EpochFault::WriteFailed);
-    };
-    let Ok(()) = store.sync_draft() else {
-        return Err(EpochFault::WriteFailed);
-    };
-    let Ok(()) = store.install() else {
-        return Err(EpochFault::WriteFailed);
-    };
-    let Ok(()) = store.sync_folder() else {
-        return Err(EpochFault::WriteFailed);
-    };
+    if let Err(reason) = store.write(next) {
+        return Err(EpochFault::WriteFailed(reason));
+    }
+    if let Err(reason) = store.sync_draft() {
+        return Err(EpochFault::WriteFailed(reason));
+    }
+    if let Err(reason) = store.install() {
+        return Err(EpochFault::WriteFailed(reason));
+    }
+    if let Err(reason) = store.sync_folder() {
+        return Err(EpochFault::WriteFailed(reason));
+    }
     Ok(next)
 }
 

@@ -2,13 +2,13 @@
 
 use crate::epochs::{after, last_of, unread};
 use crate::faults::EpochFault;
-use crate::stores::{ReadFault, Store, WriteFault};
+use crate::stores::{ReadFault, Store};
 use crate::text::{epoch_of, epoch_text};
 use std::alloc::Global;
 use std::fs::{self, DirBuilder, File, Files, OpenFile, OpenOptions, TryLockError};
 use std::io::{self, ErrorKind, Read, Write};
 use std::os::unix::fs::DirBuilderExt;
-use tt_files::{Kind, create_new, facts_at, link_facts_at, lock_at, open_regular};
+use tt_files::{Kind, Reason, create_new, facts_at, link_facts_at, lock_at, open_regular};
 
 /// The greatest length of an epoch file, in bytes.
 const MAX_LEN: usize = 32;
@@ -34,9 +34,9 @@ pub struct FolderStore<'a, R> {
 impl<'a, R: Files<File = File>> FolderStore<'a, R> {
     /// The store in this folder. A missing folder is made, for its owner alone (mode 0700); its files have mode 0600.
     ///
-    /// Refuses with 1 `Memory` where it is out of memory, with 1812 `WriteFailed` where the folder or the lock file
-    /// can't be made or `lock` is not a regular file, and with 1815 `Locked` where another process holds the folder. No
-    /// epoch was read or taken then.
+    /// Refuses with 1 `Memory` where it is out of memory, with 1812 `FolderFailed` where the path is not a folder's and none
+    /// can be made there, with 1812 `LockFailed` where the lock file can't be made or opened or is not a regular file, and
+    /// with 1815 `Locked` where another process holds the folder. No epoch was read or taken then.
     pub fn open(rt: &'a R, alloc: Global, folder: &'a str) -> Result<Self, EpochFault> {
         let path = path_in(alloc, folder, "epoch")?;
         let draft = path_in(alloc, folder, "epoch.new")?;
@@ -77,24 +77,27 @@ impl<'a, R: Files<File = File>> FolderStore<'a, R> {
     }
 }
 
-/// Refuses a folder that [`FolderStore::open`] would refuse, as far as that shows without a change: with 1812 `WriteFailed`
-/// where its path is not a folder's, or `lock` in it is not a regular file that can be opened for writing; and with 1
-/// `Memory`. A missing folder and a missing `lock` would be made. It locks nothing, so another process may hold the folder.
+/// Refuses a folder that [`FolderStore::open`] would refuse, as far as that shows without a change: with 1812
+/// `FolderFailed` where its path is not a folder's, with 1812 `LockFailed` where `lock` in it is not a regular file that can
+/// be opened for writing; and with 1 `Memory`. A missing folder and a missing `lock` would be made. It locks nothing, so another process may hold the folder.
 pub fn check_folder<R: Files<File = File>>(
     rt: &R,
     alloc: Global,
     folder: &str,
 ) -> Result<(), EpochFault> {
     let lock = path_in(alloc, folder, "lock")?;
-    let Ok(found) = facts_at(rt, folder) else {
-        return Err(EpochFault::WriteFailed);
-    };
-    if let Some(facts) = found {
-        if facts.mode & TYPE != FOLDER {
-            return Err(EpochFault::WriteFailed);
-        }
-    }
+    look_at(rt, folder)?;
     check_lock(rt, lock.as_str())
+}
+
+/// Refuses what is at the path of a folder and is none.
+fn look_at<R: Files>(rt: &R, folder: &str) -> Result<(), EpochFault> {
+    match facts_at(rt, folder) {
+        Ok(None) => Ok(()),
+        Ok(Some(facts)) if facts.mode & TYPE == FOLDER => Ok(()),
+        Ok(Some(_)) => Err(EpochFault::FolderFailed(Reason::NotFolder)),
+        Err(error) => Err(EpochFault::FolderFailed(Reason::of(&error))),
+    }
 }
 
 /// Refuses what is at the path of a lock file and is not a regular file that can be opened for writing.
@@ -105,9 +108,10 @@ fn check_lock<R: Files<File = File>>(rt: &R, path: &str) -> Result<(), EpochFaul
         Ok(None) => Ok(()),
         Ok(Some(facts)) if facts.kind == Kind::Regular => match open_regular(rt, path, &how) {
             Ok(_) => Ok(()),
-            Err(_) => Err(EpochFault::WriteFailed),
+            Err(error) => Err(EpochFault::LockFailed(Reason::of(&error))),
         },
-        _ => Err(EpochFault::WriteFailed),
+        Ok(Some(_)) => Err(EpochFault::LockFailed(Reason::NotRegular)),
+        Err(error) => Err(EpochFault::LockFailed(Reason::of(&error))),
     }
 }
 
@@ -136,7 +140,7 @@ fn number_at<R: Files<File = File>>(rt: &R, path: &str) -> Result<Option<u64>, R
             if error.kind() == ErrorKind::NotFound {
                 Ok(None)
             } else {
-                Err(ReadFault::Failed)
+                Err(ReadFault::Failed(Reason::of(&error)))
             }
         }
     }
@@ -159,12 +163,13 @@ fn path_in(alloc: Global, folder: &str, name: &str) -> Result<String, EpochFault
 
 /// Makes the folder if it is missing, for its owner alone.
 fn make_folder<R: Files>(rt: &R, folder: &str) -> Result<(), EpochFault> {
+    look_at(rt, folder)?;
     let mut builder = DirBuilder::new();
     builder.recursive(true);
     builder.mode(0o700);
     match builder.create(rt, folder) {
         Ok(()) => Ok(()),
-        Err(_) => Err(EpochFault::WriteFailed),
+        Err(error) => Err(EpochFault::FolderFailed(Reason::of(&error))),
     }
 }
 
@@ -173,22 +178,23 @@ fn locked_at<R: Files<File = File>>(rt: &R, path: &str) -> Result<File, EpochFau
     match lock_at(rt, path, 0o600) {
         Ok(file) => Ok(file),
         Err(TryLockError::WouldBlock) => Err(EpochFault::Locked),
-        Err(TryLockError::Error(_)) => Err(EpochFault::WriteFailed),
+        Err(TryLockError::Error(error)) => Err(EpochFault::LockFailed(Reason::of(&error))),
     }
 }
 
 /// The number of an epoch file, whole.
 fn number_in(file: &mut File) -> Result<Option<u64>, ReadFault> {
-    let Ok(metadata) = file.metadata() else {
-        return Err(ReadFault::Failed);
+    let metadata = match file.metadata() {
+        Ok(metadata) => metadata,
+        Err(error) => return Err(ReadFault::Failed(Reason::of(&error))),
     };
     if metadata.len() > MAX_LEN as u64 {
         return Err(ReadFault::Foreign);
     }
     let mut bytes = [0; MAX_LEN];
     let text = &mut bytes[..metadata.len() as usize];
-    if file.read_exact(text).is_err() {
-        return Err(ReadFault::Failed);
+    if let Err(error) = file.read_exact(text) {
+        return Err(ReadFault::Failed(Reason::of(&error)));
     }
     match epoch_of(text) {
         Some(number) => Ok(Some(number)),
@@ -197,10 +203,10 @@ fn number_in(file: &mut File) -> Result<Option<u64>, ReadFault> {
 }
 
 /// The answer of a store.
-fn answer_of(done: io::Result<()>) -> Result<(), WriteFault> {
+fn answer_of(done: io::Result<()>) -> Result<(), Reason> {
     match done {
         Ok(()) => Ok(()),
-        Err(_) => Err(WriteFault::Failed),
+        Err(error) => Err(Reason::of(&error)),
     }
 }
 
@@ -211,19 +217,19 @@ impl<'a, R: Files<File = File>> Store for FolderStore<'a, R> {
         self.load()
     }
 
-    fn write(&mut self, number: u64) -> Result<(), WriteFault> {
+    fn write(&mut self, number: u64) -> Result<(), Reason> {
         answer_of(self.save(number))
     }
 
-    fn sync_draft(&mut self) -> Result<(), WriteFault> {
+    fn sync_draft(&mut self) -> Result<(), Reason> {
         answer_of(self.fix_draft())
     }
 
-    fn install(&mut self) -> Result<(), WriteFault> {
+    fn install(&mut self) -> Result<(), Reason> {
         answer_of(fs::rename(self.rt, self.draft.as_str(), self.path.as_str()))
     }
 
-    fn sync_folder(&mut self) -> Result<(), WriteFault> {
+    fn sync_folder(&mut self) -> Result<(), Reason> {
         answer_of(self.fix_folder())
     }
 }

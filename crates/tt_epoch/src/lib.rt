@@ -29,5 +29,5 @@ pub use epochs::{epoch_laws, next_epoch};
 pub use faults::EpochFault;
 pub use folder::{FolderStore, check_epoch, check_folder};
 pub use memory::MemoryStore;
-pub use stores::{ReadFault, Store, WriteFault};
+pub use stores::{ReadFault, Store};
 pub use text::{epoch_of, epoch_text};

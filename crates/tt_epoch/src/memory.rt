@@ -1,6 +1,7 @@
 //! A store in memory.
 
-use crate::stores::{ReadFault, Store, WriteFault};
+use crate::stores::{ReadFault, Store};
+use tt_files::Reason;
 
 /// A store in memory, for tests: it fails at one of its calls, if it is told to, and keeps what a crash would leave.
 #[derive(Clone, Copy, Debug, Drop)]
@@ -54,39 +55,39 @@ impl Store for MemoryStore {
         if self.goes() {
             Ok(self.shown)
         } else {
-            Err(ReadFault::Failed)
+            Err(ReadFault::Failed(Reason::Other))
         }
     }
 
-    fn write(&mut self, number: u64) -> Result<(), WriteFault> {
+    fn write(&mut self, number: u64) -> Result<(), Reason> {
         if !self.goes() {
-            return Err(WriteFault::Failed);
+            return Err(Reason::Other);
         }
         self.draft = Some(number);
         self.synced = false;
         Ok(())
     }
 
-    fn sync_draft(&mut self) -> Result<(), WriteFault> {
+    fn sync_draft(&mut self) -> Result<(), Reason> {
         if !self.goes() {
-            return Err(WriteFault::Failed);
+            return Err(Reason::Other);
         }
         self.synced = true;
         Ok(())
     }
 
-    fn install(&mut self) -> Result<(), WriteFault> {
+    fn install(&mut self) -> Result<(), Reason> {
         if !self.goes() {
-            return Err(WriteFault::Failed);
+            return Err(Reason::Other);
         }
         self.shown = if self.synced { self.draft } else { None };
         self.draft = None;
         Ok(())
     }
 
-    fn sync_folder(&mut self) -> Result<(), WriteFault> {
+    fn sync_folder(&mut self) -> Result<(), Reason> {
         if !self.goes() {
-            return Err(WriteFault::Failed);
+            return Err(Reason::Other);
         }
         self.kept = self.shown;
         Ok(())

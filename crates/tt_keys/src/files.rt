@@ -5,13 +5,14 @@ ghost use Rattle.tt_stream.specs.Counts.{HasFailed};
 ghost use Rattle.tt_seal.specs.Sealing.{HaveOwnNumbers};
 ghost use Rattle.tt_keys.specs.Access.{access_at};
 ghost use Rattle.tt_keys.specs.Text.{IsKeysText};
+ghost use Rattle.tt_files.specs.declared.reasons.Reason.TheVariants.{Other};
 
 use crate::access::access_of;
 use crate::faults::KeysFault;
 use crate::texts::keys_of_text;
 use std::alloc::Global;
 use std::fs::{File, Files, OpenOptions};
-use tt_files::{Facts, facts_of, open_regular};
+use tt_files::{Facts, Reason, facts_of, open_regular};
 use tt_seal::Key;
 use tt_stream::{ByteReader, Counted, ReadFault, read_to_end};
 
@@ -30,7 +31,7 @@ pub fn keys_from<R: ByteReader>(
     ensures read { IfOk result (λ keys. IfSome (R.left reader.old) (λ text. IsKeysText text keys.items)) }
     ensures numbers { IfOk result (λ keys. HaveOwnNumbers keys.items) }
     ensures good { OnOk result (access_at facts.now.mode facts.now.owner user ≡ Ok tt) }
-    ensures failed { IsErrOf result KeysFault.CannotRead → HasFailed (R.failed reader.old) (R.failed reader.new) }
+    ensures failed { IsErrOf result (KeysFault.CannotRead Other) → HasFailed (R.failed reader.old) (R.failed reader.new) }
     ensures too_long { IsErrOf result KeysFault.TooLong → IfSome (R.left reader.old) (λ text. 65536 < length text) }
 {
     match access_of(facts.mode, facts.owner, user) {
@@ -39,7 +40,7 @@ pub fn keys_from<R: ByteReader>(
     }
     match read_to_end(alloc, reader, MAX_LEN, MAX_LEN as u32 + 2) {
         Ok(text) => keys_of_text(alloc, text.as_slice()),
-        Err(ReadFault::Failed) => Err(KeysFault::CannotRead),
+        Err(ReadFault::Failed) => Err(KeysFault::CannotRead(Reason::Other)),
         Err(ReadFault::Memory) => Err(KeysFault::Memory),
         Err(_) => Err(KeysFault::TooLong),
     }
@@ -60,11 +61,13 @@ pub fn keys_at<R: Files<File = File>>(
 {
     let mut how = OpenOptions::new();
     how.read(true);
-    let Ok(file) = open_regular(rt, path, &how) else {
-        return Err(KeysFault::CannotRead);
+    let file = match open_regular(rt, path, &how) {
+        Ok(file) => file,
+        Err(error) => return Err(KeysFault::CannotRead(Reason::of(&error))),
     };
-    let Ok(facts) = facts_of(&file) else {
-        return Err(KeysFault::CannotRead);
+    let facts = match facts_of(&file) {
+        Ok(facts) => facts,
+        Err(error) => return Err(KeysFault::CannotRead(Reason::of(&error))),
     };
     keys_from(alloc, &mut Counted::new(file), &facts, user)
 }

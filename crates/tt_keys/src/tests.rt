@@ -5,7 +5,7 @@ use std::fs::{self, Permissions};
 use std::io::Write;
 use std::os::unix::fs::PermissionsExt;
 use std::test::Fail;
-use tt_files::{create_new, facts_of};
+use tt_files::{Reason, create_new, facts_of};
 use tt_seal::{Key, open, seal};
 
 const TEXT: &str = "# keys of host a
@@ -74,6 +74,6 @@ fn keys(rt: HostRuntime) -> Result<(), Fail> {
     assert!(rt; are_refused(&read, KeysFault::Mode));
     fs::remove_file(&rt, PATH)?;
     let read = keys_at(&rt, rt.alloc(), PATH, user);
-    assert!(rt; are_refused(&read, KeysFault::CannotRead));
+    assert!(rt; are_refused(&read, KeysFault::CannotRead(Reason::System(2))));
     Ok(())
 }

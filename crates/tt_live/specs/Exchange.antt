@@ -1,17 +1,26 @@
--- How a reply is taken, and what it means for whoever sent the line.
-use Rattle.std.specs.Prelude.{◌≡◌, ℕ, nat_eq, nat_lt, if◌then◌else◌, List, [], ◌∷◌, ◌++◌, length, codes}
+-- What a reply is, and what it means for whoever sent the line.
+use Rattle.std.specs.Prelude.{◌≡◌, ◌≢◌, ◌<◌, ◌≤◌, ℕ, List, [], ◌∷◌, ◌++◌, length, take, All, codes}
 use Rattle.tt_text.specs.Line.{line_of}
 use Rattle.tt_text.specs.Reading.{IsNumber}
-use Rattle.tt_live.specs.declared.exchanges.Step.{Step}
-use Rattle.tt_live.specs.declared.exchanges.Step.TheVariants.{More, Whole, TooLong}
 
--- What a byte does to a reply: a line feed ends it, and it has at most 128 bytes.
-abbrev pub step_of : List ℕ → ℕ → Step
-step_of reply byte = if nat_lt (length reply) 128 then (if nat_eq byte 10 then Whole else More) else TooLong
+-- None of these bytes is a line feed.
+abbrev pub HasNoEnd : List ℕ → Type 0
+HasNoEnd bytes = All (λ byte. byte ≢ 10) bytes
 
--- The reply with the byte, where there is room.
-abbrev pub kept : List ℕ → ℕ → List ℕ
-kept reply byte = if nat_lt (length reply) 128 then reply ++ byte ∷ [] else reply
+-- A reply: bytes without a line feed, and then one, 128 at most.
+pub record IsReply (reply : List ℕ) : Type 0 where
+  pub front : List ℕ
+  pub no_end : HasNoEnd front
+  pub ended : reply ≡ front ++ 10 ∷ []
+  pub short : length reply ≤ 128
+
+-- What is still to come ends before a reply does: 128 bytes at most, and no line feed.
+abbrev pub IsCutOff : List ℕ → Type 0
+IsCutOff bytes = HasNoEnd bytes × (length bytes ≤ 128)
+
+-- What is still to come is longer than a reply: the first 128 bytes have no line feed, and there are more.
+abbrev pub IsTooLong : List ℕ → Type 0
+IsTooLong bytes = HasNoEnd (take 128 bytes) × (128 < length bytes)
 
 -- The reply that says that nothing is published yet.
 abbrev pub nothing_yet : List ℕ

@@ -37,7 +37,9 @@ fn ask<R: SystemClock, I: ByteReader, O: ByteWriter>(
     message: &[u8],
 ) -> Result<(), DeviceFault> {
     for _ in 0..MAX_ASKS {
-        let reply = exchange(reader, writer, message)?;
+        let Ok(reply) = exchange(reader, writer, message) else {
+            return Err(DeviceFault);
+        };
         if !may_answer(message, &reply) {
             return Err(DeviceFault);
         }

@@ -32,7 +32,7 @@ mod reports;
 mod sockets;
 
 pub use clients::MAX_ASKS;
-pub use exchanges::{MAX_REPLY, Reply, exchange};
+pub use exchanges::{ExchangeFault, MAX_REPLY, Reply, exchange};
 pub use faults::LiveFault;
 pub use lives::{LiveEnd, MAX_READS, MAX_WAITS, live};
 pub use replies::{Meaning, may_answer, meaning_of, refusal_in};

@@ -11,7 +11,7 @@ use Rattle.tt_pages.specs.declared.healths.Health.{Health as TheHealth}
 use Rattle.tt_pages.specs.declared.requests.Page.{Page}
 use Rattle.tt_pages.specs.declared.requests.Page.TheVariants.{Metrics, Evidence, Health}
 use Rattle.tt_pages.specs.declared.requests.Wanted.{Wanted}
-use Rattle.tt_pages.specs.declared.requests.Wanted.TheVariants.{Whole, Head, Unknown, OtherMethod}
+use Rattle.tt_pages.specs.declared.requests.Wanted.TheVariants.{Whole, Head, OtherMethod}
 use Rattle.tt_pages.specs.declared.requests.Asked.{Asked}
 use Rattle.tt_pages.specs.declared.requests.Asked.TheVariants.{Wants, Invalid, TooLong}
 
@@ -77,25 +77,25 @@ evidence_content None = (code.Unknown, codes "no evidence\n")
 abbrev pub health_content : TheHealth → Code × List ℕ
 health_content health = if is_well health then (Found, codes "ok\n") else (NotReady, reasons_text health)
 
--- the code and the text of a page
-abbrev pub content_of : Page → Option Status → TheHealth → Option (List ℕ) → Code × List ℕ
-content_of Metrics status health evidence = metrics_content status
-content_of Evidence status health evidence = evidence_content evidence
-content_of Health status health evidence = health_content health
+-- the code and the text of a page, or that there is no such page
+abbrev pub content_of : Option Page → Option Status → TheHealth → Option (List ℕ) → Code × List ℕ
+content_of (Some Metrics) status health evidence = metrics_content status
+content_of (Some Evidence) status health evidence = evidence_content evidence
+content_of (Some Health) status health evidence = health_content health
+content_of None status health evidence = (code.Unknown, codes "no such page\n")
 
 -- the answer with this code and this text
 abbrev pub reply_of : Code × List ℕ → Bool → List ℕ
 reply_of content is_whole = reply_text content.0 content.1 is_whole
 
 -- the answer with a page, or its head alone
-abbrev pub page_text : Page → Option Status → TheHealth → Option (List ℕ) → Bool → List ℕ
+abbrev pub page_text : Option Page → Option Status → TheHealth → Option (List ℕ) → Bool → List ℕ
 page_text page status health evidence is_whole = reply_of (content_of page status health evidence) is_whole
 
 -- the answer to a request
 abbrev pub wanted_text : Wanted → Option Status → TheHealth → Option (List ℕ) → List ℕ
 wanted_text (Whole page) status health evidence = page_text page status health evidence true
 wanted_text (Head page) status health evidence = page_text page status health evidence false
-wanted_text Unknown status health evidence = reply_text code.Unknown (codes "no such page\n") true
 wanted_text OtherMethod status health evidence = reply_text code.OtherMethod (codes "only GET and HEAD\n") true
 
 -- the answer to what is asked

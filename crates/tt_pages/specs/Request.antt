@@ -6,7 +6,7 @@ use Rattle.httparse.specs.Spans.{RequestOverflows}
 use Rattle.tt_pages.specs.declared.requests.Page.{Page}
 use Rattle.tt_pages.specs.declared.requests.Page.TheVariants.{Metrics, Evidence, Health}
 use Rattle.tt_pages.specs.declared.requests.Wanted.{Wanted}
-use Rattle.tt_pages.specs.declared.requests.Wanted.TheVariants.{Whole, Head, Unknown, OtherMethod}
+use Rattle.tt_pages.specs.declared.requests.Wanted.TheVariants.{Whole, Head, OtherMethod}
 use Rattle.tt_pages.specs.declared.requests.Asked.{Asked}
 use Rattle.tt_pages.specs.declared.requests.Asked.TheVariants.{Wants, Invalid, TooLong}
 
@@ -31,21 +31,11 @@ page_named path =
     else if pointwise nat_eq path (codes "/health") then Some Health
     else None
 
--- the page and its head, where there is one
-abbrev pub whole_of : Option Page → Wanted
-whole_of (Some page) = Whole page
-whole_of None = Unknown
-
--- its head alone
-abbrev pub head_of : Option Page → Wanted
-head_of (Some page) = Head page
-head_of None = Unknown
-
 -- what a request of this method and this target is for
 abbrev pub wanted_by : List ℕ → List ℕ → Wanted
 wanted_by method target =
-    if pointwise nat_eq method (codes "GET") then whole_of (page_named (path_of target))
-    else if pointwise nat_eq method (codes "HEAD") then head_of (page_named (path_of target))
+    if pointwise nat_eq method (codes "GET") then Whole (page_named (path_of target))
+    else if pointwise nat_eq method (codes "HEAD") then Head (page_named (path_of target))
     else OtherMethod
 
 -- the bytes are no whole head so far, may become one, and are not too many

@@ -11,7 +11,7 @@ use tt_status::{Status, push_status};
 
 /// What a machine was when it told of itself last.
 #[derive(Drop)]
-pub struct View<'a> {
+pub struct Report<'a> {
     /// Its last status, if there was one.
     pub status: &'a Option<Status>,
     /// How old that is, in nanoseconds.
@@ -126,17 +126,22 @@ fn health_content(alloc: Global, health: &Health) -> Result<Content, AllocError>
     })
 }
 
-/// The code and the text of a page.
-fn page_content(alloc: Global, page: Page, view: &View<'_>) -> Result<Content, AllocError>
-    ensures { IfOk result (λ content. (content.code, string_bytes content.text) ≡ content_of page view.now.status.now (health_of view.now.status.now view.now.age view.now.limits) (option_map string_bytes view.now.evidence.now)) }
+/// The code and the text of a page, or that there is no such page.
+fn page_content(
+    alloc: Global,
+    page: Option<Page>,
+    report: &Report<'_>,
+) -> Result<Content, AllocError>
+    ensures { IfOk result (λ content. (content.code, string_bytes content.text) ≡ content_of page report.now.status.now (health_of report.now.status.now report.now.age report.now.limits) (option_map string_bytes report.now.evidence.now)) }
 {
     match page {
-        Page::Metrics => metrics_content(alloc, view.status),
-        Page::Evidence => evidence_content(alloc, view.evidence),
-        Page::Health => {
-            let health = health_of(view.status, view.age, &view.limits);
+        Some(Page::Metrics) => metrics_content(alloc, report.status),
+        Some(Page::Evidence) => evidence_content(alloc, report.evidence),
+        Some(Page::Health) => {
+            let health = health_of(report.status, report.age, &report.limits);
             health_content(alloc, &health)
         }
+        None => content_with(alloc, Code::Unknown, "no such page\n"),
     }
 }
 
@@ -206,14 +211,14 @@ fn push_reply(
 fn push_page(
     text: &mut String,
     alloc: Global,
-    page: Page,
-    view: &View<'_>,
+    page: Option<Page>,
+    report: &Report<'_>,
     is_whole: bool,
 ) -> Result<(), AllocError>
     ensures { OnOk result (string_bytes text.new ≡ string_bytes text.old
-        ++ page_text page view.now.status.now (health_of view.now.status.now view.now.age view.now.limits) (option_map string_bytes view.now.evidence.now) is_whole) }
+        ++ page_text page report.now.status.now (health_of report.now.status.now report.now.age report.now.limits) (option_map string_bytes report.now.evidence.now) is_whole) }
 {
-    let content = page_content(alloc, page, view)?;
+    let content = page_content(alloc, page, report)?;
     push_reply(text, content.code, content.text.as_str(), is_whole)
 }
 
@@ -222,15 +227,14 @@ fn push_wanted(
     text: &mut String,
     alloc: Global,
     wanted: Wanted,
-    view: &View<'_>,
+    report: &Report<'_>,
 ) -> Result<(), AllocError>
     ensures { OnOk result (string_bytes text.new ≡ string_bytes text.old
-        ++ wanted_text wanted view.now.status.now (health_of view.now.status.now view.now.age view.now.limits) (option_map string_bytes view.now.evidence.now)) }
+        ++ wanted_text wanted report.now.status.now (health_of report.now.status.now report.now.age report.now.limits) (option_map string_bytes report.now.evidence.now)) }
 {
     match wanted {
-        Wanted::Whole(page) => push_page(text, alloc, page, view, true),
-        Wanted::Head(page) => push_page(text, alloc, page, view, false),
-        Wanted::Unknown => push_reply(text, Code::Unknown, "no such page\n", true),
+        Wanted::Whole(page) => push_page(text, alloc, page, report, true),
+        Wanted::Head(page) => push_page(text, alloc, page, report, false),
         Wanted::OtherMethod => push_reply(text, Code::OtherMethod, "only GET and HEAD\n", true),
     }
 }
@@ -240,13 +244,13 @@ pub fn push_answer(
     text: &mut String,
     alloc: Global,
     asked: Asked,
-    view: &View<'_>,
+    report: &Report<'_>,
 ) -> Result<(), AllocError>
     ensures answer { OnOk result (string_bytes text.new ≡ string_bytes text.old
-        ++ answer_text asked view.now.status.now (health_of view.now.status.now view.now.age view.now.limits) (option_map string_bytes view.now.evidence.now)) }
+        ++ answer_text asked report.now.status.now (health_of report.now.status.now report.now.age report.now.limits) (option_map string_bytes report.now.evidence.now)) }
 {
     match asked {
-        Asked::Wants(wanted) => push_wanted(text, alloc, wanted, view),
+        Asked::Wants(wanted) => push_wanted(text, alloc, wanted, report),
         Asked::Invalid => push_reply(text, Code::Invalid, "not a request\n", true),
         Asked::TooLong => push_reply(text, Code::TooLong, "the head is too long\n", true),
     }

@@ -5,7 +5,7 @@
 //!
 //! ```text
 //! if let Some(asked) = asked_in(&bytes) {  // None: the head goes on
-//!     push_answer(&mut text, alloc, asked, &view)?;
+//!     push_answer(&mut text, alloc, asked, &report)?;
 //! }
 //! ```
 //!
@@ -18,6 +18,6 @@ mod answers;
 mod healths;
 mod requests;
 
-pub use answers::{View, push_answer};
+pub use answers::{Report, push_answer};
 pub use healths::{Health, Limits, health_of};
 pub use requests::{Asked, MAX_FIELDS, MAX_HEAD, Page, Wanted, asked_in};

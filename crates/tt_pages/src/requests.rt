@@ -1,7 +1,7 @@
 //! What a request asks for.
 
 ghost use Rattle.std.specs.Prelude.{◌≡◌, MatchOption, position};
-ghost use Rattle.tt_pages.specs.Request.{Asks, Goes, head_of, is_mark, page_named, path_of, wanted_by, whole_of};
+ghost use Rattle.tt_pages.specs.Request.{Asks, Goes, is_mark, page_named, path_of, wanted_by};
 
 use httparse::spans::{EMPTY_HEADER_SPAN, parse_request};
 use httparse::{Error, Status};
@@ -26,12 +26,10 @@ pub enum Page {
 /// What a request is for.
 #[derive(Clone, Copy, Debug, PartialEq, Eq)]
 pub enum Wanted {
-    /// This page.
-    Whole(Page),
+    /// This page. None is a page that there is not.
+    Whole(Option<Page>),
     /// The head alone of the answer with this page.
-    Head(Page),
-    /// A page that there is not.
-    Unknown,
+    Head(Option<Page>),
     /// Anything by another method than GET and HEAD.
     OtherMethod,
 }
@@ -80,35 +78,15 @@ fn page_named(path: &[u8]) -> Option<Page>
     None
 }
 
-/// This page.
-fn whole_of(page: Option<Page>) -> Wanted
-    ensures { result ≡ whole_of page }
-{
-    match page {
-        Some(page) => Wanted::Whole(page),
-        None => Wanted::Unknown,
-    }
-}
-
-/// The head alone of the answer with this page.
-fn head_of(page: Option<Page>) -> Wanted
-    ensures { result ≡ head_of page }
-{
-    match page {
-        Some(page) => Wanted::Head(page),
-        None => Wanted::Unknown,
-    }
-}
-
 /// What a request of this method and this target is for.
 fn wanted_by(method: &[u8], target: &[u8]) -> Wanted
     ensures { result ≡ wanted_by method.now target.now }
 {
     if method == b"GET".as_slice() {
-        return whole_of(page_named(path_of(target)));
+        return Wanted::Whole(page_named(path_of(target)));
     }
     if method == b"HEAD".as_slice() {
-        return head_of(page_named(path_of(target)));
+        return Wanted::Head(page_named(path_of(target)));
     }
     Wanted::OtherMethod
 }

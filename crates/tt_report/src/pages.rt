@@ -8,7 +8,7 @@ use std::net::{Shutdown, TcpListener, TcpStream};
 use std::sync::Wait;
 use std::thread;
 use std::time::{Clock as SystemClock, Duration};
-use tt_pages::{Asked, Limits, MAX_HEAD, View, asked_in, push_answer};
+use tt_pages::{Asked, Limits, MAX_HEAD, Report, asked_in, push_answer};
 use tt_status::Status;
 
 /// For how long a client may take to send the head of its request, and for how long to receive the answer, in nanoseconds:
@@ -138,14 +138,14 @@ fn answer<R: SystemClock>(
     limits: Limits,
 ) {
     let began = clock_of(rt);
-    let view = View {
+    let report = Report {
         status: &newest.status,
         age: began.saturating_sub(newest.at),
         evidence: &newest.evidence,
         limits,
     };
     let mut text = String::new(alloc);
-    if push_answer(&mut text, alloc, asked, &view).is_err() {
+    if push_answer(&mut text, alloc, asked, &report).is_err() {
         return;
     }
     if send(rt, stream, began, text.as_bytes()) {

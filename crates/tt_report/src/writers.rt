@@ -1,14 +1,19 @@
 //! The threads of a reporter: one for standard error, one for the status file, and one for the evidence.
 
+ghost use Rattle.std.specs.Prelude.{◌≡◌};
+ghost use Rattle.std.specs.IoError.{error_kind, raw_os_error};
+ghost use Rattle.tt_files.specs.Reason.{number_in, reason_of};
+
 use crate::clocks::clock_of;
 use crate::files::{Disk, EvidenceFiles, WholeFile};
 use crate::records::{Line, Records};
 use crate::watches::Watch;
 use std::alloc::Global;
-use std::io::Eprint;
+use std::io::{self, Eprint};
 use std::sync::Wait;
 use std::sync::atomic::Ordering;
 use std::time::Clock as SystemClock;
+use tt_files::Reason;
 use tt_status::{LogEvent, LogFormat, push_event};
 
 /// Writes lines in this form to standard error as they come, and looks at least once a second whether a publication is slow.
@@ -55,8 +60,9 @@ pub(crate) fn write_statuses<R: Wait + SystemClock + Disk>(
 ) {
     for _ in rt.forever() {
         if let Some(status) = records.statuses.take(rt) {
-            if file.write_status(rt, alloc, &status).is_err() {
-                records.log(rt, LogEvent::StatusUnwritten);
+            if let Err(error) = file.write_status(rt, alloc, &status) {
+                let errno = errno_of(&error);
+                records.log(rt, LogEvent::StatusUnwritten { errno });
             }
             records.written();
         }
@@ -73,20 +79,28 @@ pub(crate) fn write_evidence<R: Wait + SystemClock + Disk>(
     for _ in rt.forever() {
         if let Some(of) = records.evidence.breaks.take_waiting(rt) {
             let did = files.write_break(rt, &of);
-            wrote_evidence(rt, records, did.is_ok());
+            wrote_evidence(rt, records, did);
         }
         if let Some(text) = records.evidence.newest.take(rt) {
             let did = files.write_newest(rt, text.as_str());
-            wrote_evidence(rt, records, did.is_ok());
+            wrote_evidence(rt, records, did);
         }
     }
     unreachable!()
 }
 
 /// Counts evidence as written, and logs where it was not.
-fn wrote_evidence<R: Wait + SystemClock>(rt: &R, records: &Records, is_written: bool) {
-    if !is_written {
-        records.log(rt, LogEvent::EvidenceUnwritten);
+fn wrote_evidence<R: Wait + SystemClock>(rt: &R, records: &Records, did: io::Result<()>) {
+    if let Err(error) = did {
+        let errno = errno_of(&error);
+        records.log(rt, LogEvent::EvidenceUnwritten { errno });
     }
     records.written();
+}
+
+/// The system's number for why a file was not written, errno, or 0 where it has none.
+fn errno_of(error: &io::Error) -> u64
+    ensures { result ≡ number_in (reason_of (raw_os_error error.now) (error_kind error.now)) }
+{
+    u64::from(Reason::of(error).number())
 }

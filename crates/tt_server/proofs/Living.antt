@@ -52,25 +52,31 @@ step-number : (stage : Stage) (gift : Gift) → HasNumber stage → HasNumber (s
 step-number Reads (Gave file) has = next-number (number_of file) (number_of file == 18446744073709551615)
 step-number Reads NotOwn has = tt
 step-number Reads Done has = tt
-step-number Reads Broke has = tt
+step-number Reads (Broke reason) has = tt
 step-number (Writes n) (Gave file) has = tt
 step-number (Writes n) NotOwn has = tt
 step-number (Writes n) Done has = has
-step-number (Writes n) Broke has = tt
+step-number (Writes n) (Broke reason) has = tt
 step-number (Syncs n) (Gave file) has = tt
 step-number (Syncs n) NotOwn has = tt
 step-number (Syncs n) Done has = has
-step-number (Syncs n) Broke has = tt
+step-number (Syncs n) (Broke reason) has = tt
 step-number (Installs n) (Gave file) has = tt
 step-number (Installs n) NotOwn has = tt
 step-number (Installs n) Done has = has
-step-number (Installs n) Broke has = tt
+step-number (Installs n) (Broke reason) has = tt
 step-number (Fixes n) (Gave file) has = tt
 step-number (Fixes n) NotOwn has = tt
 step-number (Fixes n) Done has = has
-step-number (Fixes n) Broke has = tt
-step-number (Answered n) gift has = tt
-step-number (Over fault) gift has = tt
+step-number (Fixes n) (Broke reason) has = tt
+step-number (Answered n) (Gave file) has = tt
+step-number (Answered n) NotOwn has = tt
+step-number (Answered n) Done has = tt
+step-number (Answered n) (Broke reason) has = tt
+step-number (Over fault) (Gave file) has = tt
+step-number (Over fault) NotOwn has = tt
+step-number (Over fault) Done has = tt
+step-number (Over fault) (Broke reason) has = tt
 
 steps-number : (stage : Stage) (gifts : List Gift) → HasNumber stage → HasNumber (stage_after stage gifts)
 steps-number stage [] has = has

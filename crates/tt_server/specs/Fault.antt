@@ -10,10 +10,10 @@ use Rattle.tt_server.specs.declared.faults.ServerFault.TheVariants.{CannotListen
 
 -- the number of each refusal
 abbrev pub number_of : ServerFault → ℕ
-number_of CannotListen = 1807
-number_of CannotServePages = 1830
-number_of CannotPoll = 1808
-number_of CannotListenSocket = 1809
+number_of (CannotListen reason) = 1807
+number_of (CannotServePages reason) = 1830
+number_of (CannotPoll reason) = 1808
+number_of (CannotListenSocket reason) = 1809
 number_of NotSocket = 1819
 number_of (Epoch fault) = epoch_number_of fault
 number_of (Publish fault) = publish_number_of fault

@@ -5,7 +5,7 @@ use crate::links::check_rings;
 use std::alloc::Global;
 use std::fs::{File, Files};
 use tt_epoch::{check_epoch, check_folder};
-use tt_files::{Facts, link_facts_at};
+use tt_files::{Facts, Reason, link_facts_at};
 use tt_settings::Settings;
 
 /// The part of a mode that is the type of the file, and that of a socket.
@@ -50,7 +50,7 @@ fn check_socket<R: Files>(rt: &R, settings: &Settings) -> Result<(), ServerFault
                 Err(ServerFault::NotSocket)
             }
         }
-        Err(_) => Err(ServerFault::CannotListenSocket),
+        Err(error) => Err(ServerFault::CannotListenSocket(Reason::of(&error))),
     }
 }
 

@@ -5,21 +5,23 @@ ghost use Rattle.tt_server.specs.Fault.{number_of};
 
 use thiserror::Error;
 use tt_epoch::EpochFault;
+use tt_files::Reason;
 use tt_keys::KeysFault;
 use tt_publish::PublishFault;
 use tt_report::ReporterFault;
 
-/// Why a machine does not serve. Each fault comes before the first client is served.
+/// Why a machine does not serve. Each fault comes before the first client is served, and has the reason of the call that
+/// failed, if one did.
 #[derive(Clone, Copy, Debug, PartialEq, Eq, Error)]
 pub enum ServerFault {
-    #[error("the address can't be listened at")]
-    CannotListen,
-    #[error("the address for pages can't be listened at")]
-    CannotServePages,
-    #[error("the socket for polls can't be opened")]
-    CannotPoll,
-    #[error("the Unix socket can't be listened at")]
-    CannotListenSocket,
+    #[error("the address can't be listened at: {0}")]
+    CannotListen(Reason),
+    #[error("the address for pages can't be listened at: {0}")]
+    CannotServePages(Reason),
+    #[error("the socket for polls can't be opened: {0}")]
+    CannotPoll(Reason),
+    #[error("the Unix socket can't be listened at: {0}")]
+    CannotListenSocket(Reason),
     #[error("what is at the path of the Unix socket is not a socket")]
     NotSocket,
     #[error("no epoch: {0}")]
@@ -48,10 +50,10 @@ impl ServerFault {
         ensures value { result ≡ number_of self.now }
     {
         match self {
-            ServerFault::CannotListen => 1807,
-            ServerFault::CannotServePages => 1830,
-            ServerFault::CannotPoll => 1808,
-            ServerFault::CannotListenSocket => 1809,
+            ServerFault::CannotListen(_) => 1807,
+            ServerFault::CannotServePages(_) => 1830,
+            ServerFault::CannotPoll(_) => 1808,
+            ServerFault::CannotListenSocket(_) => 1809,
             ServerFault::NotSocket => 1819,
             ServerFault::Epoch(fault) => fault.number(),
             ServerFault::Publish(fault) => fault.number(),

@@ -18,6 +18,7 @@ use std::net::{Net, SocketAddr, UdpSocket};
 use std::random::RandomSource;
 use std::sync::Arc;
 use std::time::{Clock as SystemClock, Duration};
+use tt_files::Reason;
 use tt_rounds::RoundLink;
 use tt_settings::{MasterSettings, Settings};
 use tt_wire::{Ring, Wire};
@@ -165,7 +166,10 @@ pub(crate) fn link_to<'a, R: SystemClock + Net + Files<File = File> + RandomSour
     let wire = wire_of(rt, alloc, settings, reach)?;
     let (socket, reach) = match socket_of(rt, reach) {
         Ok(bound) => bound,
-        Err(error) => return Err(fault_of(error.kind(), ServerFault::CannotPoll)),
+        Err(error) => return Err(fault_of(
+            error.kind(),
+            ServerFault::CannotPoll(Reason::of(&error)),
+        )),
     };
     let peers = peers_of(alloc, masters)?;
     let (names, table) = names_of(alloc, masters, reach)?;
@@ -180,6 +184,6 @@ pub(crate) fn link_to<'a, R: SystemClock + Net + Files<File = File> + RandomSour
             },
             waker,
         )),
-        Err(error) => Err(fault_of(error.kind(), ServerFault::CannotPoll)),
+        Err(error) => Err(fault_of(error.kind(), ServerFault::CannotPoll(Reason::of(&error)))),
     }
 }

@@ -9,7 +9,7 @@ use crate::faults::ServerFault;
 use std::alloc::Global;
 use std::fs::{File, Files};
 use std::random::RandomSource;
-use tt_files::facts_at;
+use tt_files::{Reason, facts_at};
 use tt_keys::{KeysFault, keys_at};
 use tt_seal::{Key, key_with};
 use tt_settings::{MasterSettings, Settings};
@@ -72,6 +72,15 @@ pub(crate) fn rings_of(
     Ok(rings)
 }
 
+/// The user as whom this process acts.
+fn user_of<R: Files>(rt: &R) -> Result<u32, Reason> {
+    match facts_at(rt, OF_PROCESS) {
+        Ok(Some(process)) => Ok(process.owner),
+        Ok(None) => Err(Reason::NOTHING),
+        Err(error) => Err(Reason::of(&error)),
+    }
+}
+
 /// The keys of the file that the settings name; none where they name none. Refuses where the file gives no keys.
 pub(crate) fn keys_in_file<R: Files<File = File>>(
     rt: &R,
@@ -83,10 +92,11 @@ pub(crate) fn keys_in_file<R: Files<File = File>>(
     let Some(path) = settings.keys() else {
         return Ok(Vec::new(alloc));
     };
-    let Ok(Some(process)) = facts_at(rt, OF_PROCESS) else {
-        return Err(ServerFault::Keys(KeysFault::CannotRead));
+    let user = match user_of(rt) {
+        Ok(user) => user,
+        Err(reason) => return Err(ServerFault::Keys(KeysFault::UnknownUser(reason))),
     };
-    match keys_at(rt, alloc, path.as_str(), process.owner) {
+    match keys_at(rt, alloc, path.as_str(), user) {
         Ok(keys) => Ok(keys),
         Err(KeysFault::Memory) => Err(ServerFault::Memory),
         Err(fault) => Err(ServerFault::Keys(fault)),

@@ -183,8 +183,9 @@ fn accept_all<R: Wait + SystemClock>(
         if server.has_ended() {
             return;
         }
-        if acceptor.turn(rt, server.listeners) {
-            say(context, LogEvent::NotAccepted);
+        if let Some(reason) = acceptor.turn(rt, server.listeners) {
+            let errno = u64::from(reason.number());
+            say(context, LogEvent::NotAccepted { errno });
         }
     }
     unreachable!()

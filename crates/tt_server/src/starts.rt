@@ -24,6 +24,7 @@ use tt_connections::{
     Acceptor, Backlog, Listener, ListenerFault, Listeners, MachineClock, Queue, Sight,
 };
 use tt_daemon::Daemon;
+use tt_files::Reason;
 use tt_pages::Limits;
 use tt_publish::{Clock, Teller, Watch, open};
 use tt_report::{Disk, Pages, Reporter, ReporterFault};
@@ -33,7 +34,7 @@ use tt_settings::Settings;
 pub(crate) fn acceptor_of<R: Net>(rt: &R, alloc: Global) -> Result<(Acceptor, Waker), ServerFault> {
     match Acceptor::new(rt, alloc) {
         Ok(made) => Ok(made),
-        Err(error) => Err(fault_of(error.kind(), ServerFault::CannotListen)),
+        Err(error) => Err(fault_of(error.kind(), ServerFault::CannotListen(Reason::of(&error)))),
     }
 }
 
@@ -56,7 +57,10 @@ pub(crate) fn front_of<R: Net<Listener = TcpListener, Stream = TcpStream>>(
 ) -> Result<Backlog, ServerFault> {
     let listener = match Listener::at_port(rt, settings.listen()) {
         Ok(listener) => listener,
-        Err(error) => return Err(fault_of(error.kind(), ServerFault::CannotListen)),
+        Err(error) => return Err(fault_of(
+            error.kind(),
+            ServerFault::CannotListen(Reason::of(&error)),
+        )),
     };
     match Queue::new(alloc) {
         Ok(queue) => Ok(Backlog { listener, queue }),
@@ -78,7 +82,10 @@ pub(crate) fn pages_of<R: Net<Listener = TcpListener, Stream = TcpStream>>(
             let limits = Limits::of(settings.max_width(), pauses.poll, pauses.wait);
             Ok(Some(Pages { listener, limits }))
         }
-        Err(error) => Err(fault_of(error.kind(), ServerFault::CannotServePages)),
+        Err(error) => Err(fault_of(
+            error.kind(),
+            ServerFault::CannotServePages(Reason::of(&error)),
+        )),
     }
 }
 
@@ -97,18 +104,21 @@ pub(crate) fn side_of<R: Files + Net>(
     match Listener::at_path(rt, path.as_str()) {
         Ok(listener) => Ok(Some(Backlog { listener, queue })),
         Err(ListenerFault::NotSocket) => Err(ServerFault::NotSocket),
-        Err(ListenerFault::Failed) => Err(ServerFault::CannotListenSocket),
+        Err(ListenerFault::Failed(reason)) => Err(ServerFault::CannotListenSocket(reason)),
     }
 }
 
 /// Has the acceptor wait for connections at all listeners.
 pub(crate) fn watch_all(acceptor: &Acceptor, listeners: &Listeners) -> Result<(), ServerFault> {
     if let Err(error) = acceptor.watch(&listeners.front.listener) {
-        return Err(fault_of(error.kind(), ServerFault::CannotListen));
+        return Err(fault_of(error.kind(), ServerFault::CannotListen(Reason::of(&error))));
     }
     if let Some(side) = &listeners.side {
         if let Err(error) = acceptor.watch(&side.listener) {
-            return Err(fault_of(error.kind(), ServerFault::CannotListenSocket));
+            return Err(fault_of(
+                error.kind(),
+                ServerFault::CannotListenSocket(Reason::of(&error)),
+            ));
         }
     }
     Ok(())
@@ -124,7 +134,10 @@ pub(crate) fn sights_of<R: Net>(
     for _ in 0..workers {
         let sight = match Sight::new(rt, alloc) {
             Ok(sight) => sight,
-            Err(error) => return Err(fault_of(error.kind(), ServerFault::CannotListen)),
+            Err(error) => return Err(fault_of(
+                error.kind(),
+                ServerFault::CannotListen(Reason::of(&error)),
+            )),
         };
         if sights.push(sight).is_err() {
             return Err(ServerFault::Memory);

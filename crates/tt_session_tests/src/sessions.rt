@@ -43,16 +43,33 @@ pub(crate) fn talk<S: Service>(
     (served, writer)
 }
 
-/// A service that stamps each commit with 200, and that releases at its fourth release step.
+/// A service that stamps each commit with 200, and that releases at its fourth release step. It counts its readings.
 #[derive(Drop)]
-struct Fixed {
+pub(crate) struct Fixed {
     steps: u8,
+    readings: u8,
+}
+
+impl Fixed {
+    /// A service that was not called so far.
+    pub(crate) fn new() -> Fixed {
+        Fixed {
+            steps: 0,
+            readings: 0,
+        }
+    }
+
+    /// How often it was asked for a reading, at most 255.
+    pub(crate) fn readings(&self) -> u8 {
+        self.readings
+    }
 }
 
 impl Service for Fixed {
     ghost allows = { λ _ _ _. Unit {0} };
 
     fn now(&mut self) -> Result<Reading, u16> {
+        self.readings = self.readings.saturating_add(1);
         match Span::new(201, 301) {
             Ok(span) => Ok(Reading::of(span)),
             Err(fault) => Err(fault.number()),
@@ -75,7 +92,7 @@ fn each_line_has_its_reply(rt: HostRuntime) {
         b"commit 1 0\ncommit 2 0\ncommit 1 0\ncommit 0 0\n12345678901234567890123456789012345678901234567890123456789012345\n\nafter 07\nnow";
     let replies =
         b"waiting 1 200\nrefused 1104\ncommitted 1 200\nrefused 1103\nrefused 1102\nrefused 1101\nrefused 1101\n";
-    let mut service = Fixed { steps: 0 };
+    let mut service = Fixed::new();
     let how = Devices {
         read: 1,
         waits: 2,
@@ -99,7 +116,7 @@ fn fails(
     read_fails: Option<u64>,
     write_fails: Option<u64>,
 ) -> (Option<ServeFault>, Option<usize>) {
-    let mut service = Fixed { steps: 0 };
+    let mut service = Fixed::new();
     let how = Devices {
         read: 1,
         write: 5,

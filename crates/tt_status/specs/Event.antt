@@ -10,7 +10,7 @@ use Rattle.tt_status.specs.Moment.{moment_text}
 use Rattle.tt_status.specs.declared.lines.LogFormat.{LogFormat}
 use Rattle.tt_status.specs.declared.lines.LogFormat.TheVariants.{Text, Json}
 use Rattle.tt_status.specs.declared.lines.LogEvent.{LogEvent}
-use Rattle.tt_status.specs.declared.lines.LogEvent.TheVariants.{Started, FirstPublication, SourceSilent, SourceSuspect, FusionRefused, ClockBack, AnswersRefused, RoundFailed, SharingEnded, SharingResumed, StatusUnwritten, NotAccepted, StateLoose, EpochLoose, SharedLoose, Ended, MasterStarted, MasterFailed, SocketRenewed, PublicationSlow, SourceUnsent, AssumptionBroken, HostSlept, GuestDisrupted, SleepUnseen, SourcesStale, StartPaused, EvidenceUnwritten, Stranger, SourceUnresolved, SourceResolved, KeysRead, KeysRefused, AddressAwaited, MasterSilent, MasterAnswers, WidthAbove, ClockStepped, ServerRefused, ServerSilent}
+use Rattle.tt_status.specs.declared.lines.LogEvent.TheVariants.{Started, FirstPublication, SourceSilent, SourceSuspect, FusionRefused, ClockBack, AnswersRefused, RoundFailed, SharingEnded, SharingResumed, StatusUnwritten, NotAccepted, StateLoose, EpochLoose, SharedLoose, Ended, MasterStarted, MasterFailed, SocketRenewed, PublicationSlow, SourceUnsent, AssumptionBroken, HostSlept, GuestDisrupted, SleepUnseen, SourcesStale, StartPaused, EvidenceUnwritten, Stranger, SourceUnresolved, SourceResolved, KeysRead, KeysRefused, PollsUnopened, AddressAwaited, MasterSilent, MasterAnswers, WidthAbove, ClockStepped, ServerRefused, ServerSilent}
 use Rattle.tt_status.specs.declared.lines.RefusedFusion.{RefusedFusion}
 use Rattle.tt_status.specs.declared.lines.RefusedFusion.TheVariants.{NoPoint, TooFewKnown}
 
@@ -54,8 +54,8 @@ name_of (AnswersRefused count) = codes "answers_refused"
 name_of (RoundFailed number) = codes "round_failed"
 name_of (SharingEnded number) = codes "sharing_ended"
 name_of SharingResumed = codes "sharing_resumed"
-name_of StatusUnwritten = codes "status_unwritten"
-name_of NotAccepted = codes "not_accepted"
+name_of (StatusUnwritten errno) = codes "status_unwritten"
+name_of (NotAccepted errno) = codes "not_accepted"
 name_of StateLoose = codes "state_loose"
 name_of EpochLoose = codes "epoch_loose"
 name_of SharedLoose = codes "shared_loose"
@@ -71,12 +71,13 @@ name_of GuestDisrupted = codes "guest_disrupted"
 name_of SleepUnseen = codes "sleep_unseen"
 name_of (SourcesStale answered needed) = codes "sources_stale"
 name_of (StartPaused pause breaks) = codes "start_paused"
-name_of EvidenceUnwritten = codes "evidence_unwritten"
+name_of (EvidenceUnwritten errno) = codes "evidence_unwritten"
 name_of (Stranger address) = codes "stranger"
 name_of (SourceUnresolved source) = codes "source_unresolved"
 name_of (SourceResolved source address) = codes "source_resolved"
 name_of (KeysRead keys) = codes "keys_read"
 name_of (KeysRefused number line) = codes "keys_refused"
+name_of (PollsUnopened count) = codes "polls_unopened"
 name_of (AddressAwaited pause) = codes "address_awaited"
 name_of (MasterSilent number) = codes "master_silent"
 name_of MasterAnswers = codes "master_answers"
@@ -106,11 +107,15 @@ fields_of f (AssumptionBroken clock lower upper last_lower last_upper) =
 fields_of f (HostSlept slept) = field f (codes "slept_ns") slept
 fields_of f (SourcesStale answered needed) = field f (codes "answered") answered ++ field f (codes "needed") needed
 fields_of f (StartPaused pause breaks) = field f (codes "pause_ns") pause ++ field f (codes "breaks") breaks
+fields_of f (StatusUnwritten errno) = field f (codes "errno") errno
+fields_of f (NotAccepted errno) = field f (codes "errno") errno
+fields_of f (EvidenceUnwritten errno) = field f (codes "errno") errno
 fields_of f (Stranger address) = address_field f address
 fields_of f (SourceUnresolved source) = field f (codes "source") source
 fields_of f (SourceResolved source address) = field f (codes "source") source ++ address_field f address
 fields_of f (KeysRead keys) = field f (codes "keys") keys
 fields_of f (KeysRefused number line) = field f (codes "number") number ++ field f (codes "line") line
+fields_of f (PollsUnopened count) = field f (codes "count") count
 fields_of f (AddressAwaited pause) = field f (codes "pause_ns") pause
 fields_of f (MasterSilent number) = field f (codes "number") number
 fields_of f (WidthAbove width limit) = field f (codes "width_ns") width ++ field f (codes "limit_ns") limit

@@ -83,10 +83,14 @@ pub enum LogEvent {
     },
     /// The shared file is written again.
     SharingResumed,
-    /// The status file was not written.
-    StatusUnwritten,
-    /// A connection was not accepted.
-    NotAccepted,
+    /// The status file was not written, for the reason of this number of the system, errno; 0 where it has none.
+    StatusUnwritten {
+        errno: u64,
+    },
+    /// A connection was not accepted, for the reason of this number of the system, errno.
+    NotAccepted {
+        errno: u64,
+    },
     /// At the start, others than its owner may write the folder of the state.
     StateLoose,
     /// At the start, others than its owner may write the file of the epoch.
@@ -144,8 +148,10 @@ pub enum LogEvent {
         pause: u64,
         breaks: u64,
     },
-    /// The evidence was not written.
-    EvidenceUnwritten,
+    /// The evidence was not written, for the reason of this number of the system, errno; 0 where it has none.
+    EvidenceUnwritten {
+        errno: u64,
+    },
     /// A packet came from this address, which is no source's.
     Stranger {
         address: SocketAddr,
@@ -168,6 +174,10 @@ pub enum LogEvent {
     KeysRefused {
         number: u64,
         line: u64,
+    },
+    /// This many packets so far did not open under a key of the file.
+    PollsUnopened {
+        count: u64,
     },
     /// The address to listen at is not up. It is tried again after this pause in nanoseconds.
     AddressAwaited {
@@ -231,8 +241,8 @@ impl LogEvent {
             LogEvent::RoundFailed { .. } => "round_failed",
             LogEvent::SharingEnded { .. } => "sharing_ended",
             LogEvent::SharingResumed => "sharing_resumed",
-            LogEvent::StatusUnwritten => "status_unwritten",
-            LogEvent::NotAccepted => "not_accepted",
+            LogEvent::StatusUnwritten { .. } => "status_unwritten",
+            LogEvent::NotAccepted { .. } => "not_accepted",
             LogEvent::StateLoose => "state_loose",
             LogEvent::EpochLoose => "epoch_loose",
             LogEvent::SharedLoose => "shared_loose",
@@ -248,12 +258,13 @@ impl LogEvent {
             LogEvent::SleepUnseen => "sleep_unseen",
             LogEvent::SourcesStale { .. } => "sources_stale",
             LogEvent::StartPaused { .. } => "start_paused",
-            LogEvent::EvidenceUnwritten => "evidence_unwritten",
+            LogEvent::EvidenceUnwritten { .. } => "evidence_unwritten",
             LogEvent::Stranger { .. } => "stranger",
             LogEvent::SourceUnresolved { .. } => "source_unresolved",
             LogEvent::SourceResolved { .. } => "source_resolved",
             LogEvent::KeysRead { .. } => "keys_read",
             LogEvent::KeysRefused { .. } => "keys_refused",
+            LogEvent::PollsUnopened { .. } => "polls_unopened",
             LogEvent::AddressAwaited { .. } => "address_awaited",
             LogEvent::MasterSilent { .. } => "master_silent",
             LogEvent::MasterAnswers => "master_answers",
@@ -431,6 +442,9 @@ fn push_fields(text: &mut String, format: LogFormat, event: LogEvent) -> Result<
             push_field(text, format, "pause_ns", pause)?;
             push_field(text, format, "breaks", breaks)
         }
+        LogEvent::StatusUnwritten { errno } => push_field(text, format, "errno", errno),
+        LogEvent::NotAccepted { errno } => push_field(text, format, "errno", errno),
+        LogEvent::EvidenceUnwritten { errno } => push_field(text, format, "errno", errno),
         LogEvent::Stranger { address } => push_address(text, format, address),
         LogEvent::SourceUnresolved { source } => push_field(text, format, "source", source),
         LogEvent::SourceResolved { source, address } => {
@@ -442,6 +456,7 @@ fn push_fields(text: &mut String, format: LogFormat, event: LogEvent) -> Result<
             push_field(text, format, "number", number)?;
             push_field(text, format, "line", line)
         }
+        LogEvent::PollsUnopened { count } => push_field(text, format, "count", count),
         LogEvent::AddressAwaited { pause } => push_field(text, format, "pause_ns", pause),
         LogEvent::MasterSilent { number } => push_field(text, format, "number", number),
         LogEvent::WidthAbove { width, limit } => {

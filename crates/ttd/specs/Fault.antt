@@ -55,15 +55,16 @@ status_of_shared _ = Bad
 
 -- How the program ends where a file of keys gives none: as at a failed device where it can't be read.
 abbrev pub status_of_keys : KeysFault → Status
-status_of_keys keys.CannotRead = Device
+status_of_keys (keys.CannotRead reason) = Device
+status_of_keys (keys.UnknownUser reason) = Device
 status_of_keys keys.Memory = NoMemory
 status_of_keys _ = Bad
 
 -- How the program ends where a master does not serve: as at a failed device where it has not its sockets, its file or random bytes.
 abbrev pub status_of_master : StartFault → Status
-status_of_master master.ReadFailed = Device
-status_of_master (master.CannotListen address) = Device
-status_of_master (master.CannotAsk address) = Device
+status_of_master (master.ReadFailed reason) = Device
+status_of_master (master.CannotListen address reason) = Device
+status_of_master (master.CannotAsk address reason) = Device
 status_of_master master.NoRandom = Device
 status_of_master (master.Keys fault) = status_of_keys fault
 status_of_master master.Memory = NoMemory
@@ -72,7 +73,7 @@ status_of_master _ = Bad
 -- What the program refuses with where a master does not serve.
 abbrev pub master_refused : StartFault → ServiceFault
 master_refused master.BadFile = BadFile
-master_refused master.ReadFailed = ReadFailed
+master_refused (master.ReadFailed reason) = ReadFailed
 master_refused master.Memory = Memory
 master_refused fault = Master fault
 
@@ -88,8 +89,10 @@ status_of_view _ = Bad
 
 -- How the program ends where a machine has no epoch: as at a failed device where its file can't be read or written (1811, 1812).
 abbrev pub status_of_epoch : EpochFault → Status
-status_of_epoch epoch.ReadFailed = Device
-status_of_epoch epoch.WriteFailed = Device
+status_of_epoch (epoch.ReadFailed reason) = Device
+status_of_epoch (epoch.FolderFailed reason) = Device
+status_of_epoch (epoch.LockFailed reason) = Device
+status_of_epoch (epoch.WriteFailed reason) = Device
 status_of_epoch epoch.Memory = NoMemory
 status_of_epoch _ = Bad
 
@@ -101,10 +104,10 @@ status_of_publish _ = Bad
 -- How the program ends where a machine does not serve: as at a failed device where it has not its sockets (1807 to 1809, 1830) or no random
 -- bytes (1829), and by what is wrong with its keys, its epoch and its publications.
 abbrev pub status_of_server : ServerFault → Status
-status_of_server server.CannotListen = Device
-status_of_server server.CannotServePages = Device
-status_of_server server.CannotPoll = Device
-status_of_server server.CannotListenSocket = Device
+status_of_server (server.CannotListen reason) = Device
+status_of_server (server.CannotServePages reason) = Device
+status_of_server (server.CannotPoll reason) = Device
+status_of_server (server.CannotListenSocket reason) = Device
 status_of_server server.NoRandom = Device
 status_of_server (server.Keys fault) = status_of_keys fault
 status_of_server (server.Epoch fault) = status_of_epoch fault

@@ -1,23 +1,23 @@
 //! The service `ask`.
 
 ghost use Rattle.std.specs.Prelude.{◌≡◌};
-ghost use Rattle.ttd.specs.Asking.{ending_of, worse};
+ghost use Rattle.ttd.specs.Asking.{ending_of, is_unheard, may_be_late, worse};
 
 use crate::faults::ServiceFault;
 use crate::lines::{Line, end, keep, read_line};
 use crate::services::Stop;
 use std::fmt::Display;
-use std::io::{self, Eprint};
+use std::io::{self, Eprint, ErrorKind};
 use std::net::{Ipv4Addr, Net, SocketAddr, TcpStream};
 use std::os::fd::OwnedFd;
 use std::os::unix::net::UnixStream;
 use std::thread;
 use std::time::{Clock as SystemClock, Duration};
 use thiserror::Error;
-use tt_live::{Meaning, Reply, exchange, meaning_of, refusal_in};
+use tt_live::{ExchangeFault, Meaning, Reply, exchange, meaning_of, refusal_in};
 use tt_publish::Clock;
 use tt_session::{Deadline, DeadlineReader, DeadlineWriter, Timed};
-use tt_stream::{ByteReader, ByteWriter, DeviceFault};
+use tt_stream::{ByteReader, ByteWriter};
 use ttd_masters::Monotonic;
 use ttd_words::{Peer, Status, explain, sentence_of, write};
 
@@ -41,8 +41,8 @@ const PAUSE: u64 = 100;
 enum ReplyFault {
     #[error("no whole reply within 30 seconds")]
     Late,
-    #[error("the connection was closed or failed, or a reply has more than 128 bytes")]
-    Broken,
+    #[error("{0}")]
+    Broken(ExchangeFault),
     #[error("the clock can't be read")]
     NoClock,
 }
@@ -63,6 +63,29 @@ fn say_unreached<H: Eprint, S: Display>(rt: &H, peer: Peer<'_>, why: &S) {
     };
 }
 
+/// Whether nothing listens where a connection failed with an error of this kind.
+fn is_unheard(kind: ErrorKind) -> bool
+    ensures { result ≡ is_unheard kind }
+{
+    matches!(kind, ErrorKind::ConnectionRefused | ErrorKind::NotFound)
+}
+
+/// Says on standard error why there is no connection to an address or a path.
+fn say_unconnected<H: Eprint>(rt: &H, peer: Peer<'_>, error: &io::Error) {
+    if !is_unheard(error.kind()) {
+        say_unreached(rt, peer, error);
+        return;
+    }
+    let _ = match peer {
+        Peer::Port(port) => eprint!(rt;
+            "ttd: nothing answers at 127.0.0.1:{port}: {error}; does the machine run?\n"
+        ),
+        Peer::Path(path) => eprint!(rt;
+            "ttd: nothing answers at {path}: {error}; does the machine run?\n"
+        ),
+    };
+}
+
 /// Sends lines to the machine at this address or Unix socket: the lines of `text`, or the lines of the input if there
 /// is no text. It writes each reply as soon as it comes. Standard error says what a reply `refused N` means.
 ///
@@ -80,7 +103,7 @@ pub(crate) fn ask<H: SystemClock + Eprint + Net<Stream = TcpStream>, I: ByteRead
     let stream = match connect(rt, peer) {
         Ok(stream) => stream,
         Err(error) => {
-            say_unreached(rt, peer, &error);
+            say_unconnected(rt, peer, &error);
             return Err(Stop::Refused(ServiceFault::LinkFailed));
         }
     };
@@ -244,10 +267,18 @@ fn reply_to<H: SystemClock>(rt: &H, stream: &TcpStream, line: &[u8]) -> Result<R
     let mut reader = DeadlineReader::new(Timed::new(stream), clock, deadline);
     match exchange(&mut reader, &mut writer, line) {
         Ok(reply) => Ok(reply),
-        Err(DeviceFault) => match Monotonic::new(rt).read() {
-            Ok(after) if after < deadline.at => Err(ReplyFault::Broken),
+        Err(fault) if may_be_late(fault) => match Monotonic::new(rt).read() {
+            Ok(after) if after < deadline.at => Err(ReplyFault::Broken(fault)),
             Ok(_) => Err(ReplyFault::Late),
             Err(_) => Err(ReplyFault::NoClock),
         },
+        Err(fault) => Err(ReplyFault::Broken(fault)),
     }
+}
+
+/// Whether this fault also comes where the time is over: a line that can't be sent, or a read that fails.
+fn may_be_late(fault: ExchangeFault) -> bool
+    ensures { result ≡ may_be_late fault }
+{
+    matches!(fault, ExchangeFault::Unsent | ExchangeFault::Failed)
 }

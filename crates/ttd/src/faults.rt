@@ -113,7 +113,7 @@ fn status_of_keys(fault: KeysFault) -> Status
     ensures { result ≡ status_of_keys fault }
 {
     match fault {
-        KeysFault::CannotRead => Status::Device,
+        KeysFault::CannotRead(_) | KeysFault::UnknownUser(_) => Status::Device,
         KeysFault::Memory => Status::Memory,
         _ => Status::Bad,
     }
@@ -125,9 +125,9 @@ fn status_of_master(fault: StartFault) -> Status
     ensures { result ≡ status_of_master fault }
 {
     match fault {
-        StartFault::ReadFailed
-        | StartFault::CannotListen(_)
-        | StartFault::CannotAsk(_)
+        StartFault::ReadFailed(_)
+        | StartFault::CannotListen(_, _)
+        | StartFault::CannotAsk(_, _)
         | StartFault::NoRandom => Status::Device,
         StartFault::Keys(fault) => status_of_keys(fault),
         StartFault::Memory => Status::Memory,
@@ -170,7 +170,10 @@ fn status_of_epoch(fault: EpochFault) -> Status
     ensures { result ≡ status_of_epoch fault }
 {
     match fault {
-        EpochFault::ReadFailed | EpochFault::WriteFailed => Status::Device,
+        EpochFault::ReadFailed(_)
+        | EpochFault::FolderFailed(_)
+        | EpochFault::LockFailed(_)
+        | EpochFault::WriteFailed(_) => Status::Device,
         EpochFault::Memory => Status::Memory,
         _ => Status::Bad,
     }
@@ -192,10 +195,10 @@ fn status_of_server(fault: ServerFault) -> Status
     ensures { result ≡ status_of_server fault }
 {
     match fault {
-        ServerFault::CannotListen
-        | ServerFault::CannotServePages
-        | ServerFault::CannotPoll
-        | ServerFault::CannotListenSocket
+        ServerFault::CannotListen(_)
+        | ServerFault::CannotServePages(_)
+        | ServerFault::CannotPoll(_)
+        | ServerFault::CannotListenSocket(_)
         | ServerFault::NoRandom => Status::Device,
         ServerFault::Keys(fault) => status_of_keys(fault),
         ServerFault::Epoch(fault) => status_of_epoch(fault),
@@ -211,7 +214,7 @@ impl From<StartFault> for ServiceFault {
     fn from(fault: StartFault) -> ServiceFault {
         match fault {
             StartFault::BadFile => ServiceFault::BadFile,
-            StartFault::ReadFailed => ServiceFault::ReadFailed,
+            StartFault::ReadFailed(_) => ServiceFault::ReadFailed,
             StartFault::Memory => ServiceFault::Memory,
             other => ServiceFault::Master(other),
         }

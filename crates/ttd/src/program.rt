@@ -12,6 +12,7 @@ use crate::arguments::as_texts;
 use crate::commands::answer_command;
 use crate::faults::ServiceFault;
 use crate::services::serve;
+use crate::watching::Screen;
 use std::fs::{File, Files};
 use std::io::{Eprint, Input, Read};
 use std::net::{Net, TcpListener, TcpStream};
@@ -41,6 +42,7 @@ pub(crate) fn run<
         + Disk
         + RandomSource
         + Env
+        + Screen
         + Copy
         + Send
         + 'static,
@@ -78,6 +80,7 @@ fn answer<
         + Disk
         + RandomSource
         + Env
+        + Screen
         + Copy
         + Send
         + 'static,

@@ -5,17 +5,23 @@ use crate::services::Stop;
 use std::fs::{File, Files};
 use std::io::Eprint;
 use std::time::Clock as SystemClock;
-use tt_shared::{SharedFault, open_view};
+use tt_shared::{BOOT_LEN, FILE_LEN, HEAD_LEN, SharedFault, decode_head, open_view};
 use tt_stream::ByteWriter;
 use tt_text::short_line;
-use ttd_masters::Monotonic;
+use ttd_masters::{Monotonic, StartFault, bytes_of};
 use ttd_words::write;
 
-/// Writes the reading of a shared file. Standard error says if it is stale.
+/// Where the name of its boot stands in a shared file.
+const BOOT_AT: usize = 24;
+
+/// Where the system says the name of this boot, with a line feed.
+const THIS_BOOT: &str = "/proc/sys/kernel/random/boot_id";
+
+/// Writes the reading of a shared file. Standard error says if it is stale, and why a file can't be used.
 ///
 /// Refuses with 1701 `CannotOpen` where the file can't be opened, with 1702 `BadFile` where it is not a shared file,
 /// and then as the reader does: 801, 802, 803, 1701, 1703, 1704, 1708.
-pub(crate) fn read<H: Files<File = File> + SystemClock + Eprint, O: ByteWriter>(
+pub(crate) fn read<H: AllocGlobal + Files<File = File> + SystemClock + Eprint, O: ByteWriter>(
     rt: &H,
     file: &str,
     output: &mut O,
@@ -38,7 +44,50 @@ pub(crate) fn read<H: Files<File = File> + SystemClock + Eprint, O: ByteWriter>(
 }
 
 /// Says on standard error why a shared file gives no reading, behind its path.
-fn refused<H: Eprint>(rt: &H, file: &str, fault: SharedFault) -> Stop {
-    let _ = eprint!(rt; "ttd: {file}: {fault}\n");
+fn refused<H: AllocGlobal + Files<File = File> + Eprint>(
+    rt: &H,
+    file: &str,
+    fault: SharedFault,
+) -> Stop {
+    match fault {
+        SharedFault::CannotOpen | SharedFault::BadFile => say_unusable(rt, file, fault),
+        _ => {
+            let _ = eprint!(rt; "ttd: {file}: {fault}\n");
+        }
+    }
     Stop::Refused(ServiceFault::Shared(fault))
+}
+
+/// Says on standard error why a file can't be used, as far as another look at it shows.
+fn say_unusable<H: AllocGlobal + Files<File = File> + Eprint>(
+    rt: &H,
+    file: &str,
+    fault: SharedFault,
+) {
+    let _ = match bytes_of(rt, rt.alloc(), file) {
+        Err(StartFault::ReadFailed(reason)) => {
+            eprint!(rt; "ttd: {file}: it can't be opened or read: {reason}\n")
+        }
+        Ok(bytes) if fault == SharedFault::BadFile => {
+            let why = why_bad(rt, bytes.as_slice());
+            eprint!(rt; "ttd: {file}: {why}\n")
+        }
+        _ => eprint!(rt; "ttd: {file}: {fault}\n"),
+    };
+}
+
+/// Why these bytes are no shared file that this process can use.
+fn why_bad<H: AllocGlobal + Files<File = File>>(rt: &H, bytes: &[u8]) -> &'static str {
+    if bytes.len() != FILE_LEN {
+        return "it has not the 320 bytes of a shared file";
+    }
+    let mut boot = [0; BOOT_LEN];
+    boot.copy_from_slice(&bytes[BOOT_AT..BOOT_AT + BOOT_LEN]);
+    if decode_head(&bytes[..HEAD_LEN], &boot).is_err() {
+        return "it does not begin as a shared file does";
+    }
+    match bytes_of(rt, rt.alloc(), THIS_BOOT) {
+        Ok(name) if !name.as_slice().starts_with(&boot) => "it is of another boot of this host",
+        _ => "it is not of the clock of this process",
+    }
 }

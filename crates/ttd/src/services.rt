@@ -9,7 +9,7 @@ use crate::making::make_key;
 use crate::reading::read;
 use crate::serving::run_server;
 use crate::standard::fill_standard;
-use crate::watching::{Manner, show};
+use crate::watching::{Manner, Screen, show};
 use std::fs::{File, Files};
 use std::io::{Eprint, Input, Read};
 use std::net::{Net, TcpListener, TcpStream};
@@ -57,6 +57,7 @@ pub(crate) fn serve<
         + Disk
         + RandomSource
         + Env
+        + Screen
         + Copy
         + Send
         + 'static,
@@ -92,6 +93,7 @@ fn run_service<
         + Disk
         + RandomSource
         + Env
+        + Screen
         + Copy
         + Send
         + 'static,

@@ -52,8 +52,8 @@ pub(crate) fn settings_of<H: Files<File = File> + Eprint>(
 /// Says on standard error why there are no bytes of a file, behind its path.
 fn say_file<H: Eprint>(rt: &H, path: &str, fault: StartFault) {
     let _ = match fault {
-        StartFault::ReadFailed => {
-            eprint!(rt; "ttd: {path}: there is no regular file, or it can't be read\n")
+        StartFault::ReadFailed(reason) => {
+            eprint!(rt; "ttd: {path}: the configuration can't be read: {reason}\n")
         }
         StartFault::BadFile => eprint!(rt; "ttd: {path}: it is longer than 1048576 bytes\n"),
         _ => Ok(()),
@@ -79,8 +79,8 @@ fn text_of(path: Option<&FilePath>) -> &str {
 /// The file in the folder of the state that a fault of the epoch is about.
 fn file_of(fault: EpochFault) -> &'static str {
     match fault {
-        EpochFault::WriteFailed => "",
-        EpochFault::Locked => "/lock",
+        EpochFault::FolderFailed(_) => "",
+        EpochFault::LockFailed(_) | EpochFault::Locked => "/lock",
         _ => "/epoch",
     }
 }
@@ -88,11 +88,15 @@ fn file_of(fault: EpochFault) -> &'static str {
 /// Says on standard error what a refusal of a machine is about, and why: an address, a path, or a path and a line.
 pub(crate) fn say_place<H: Eprint>(rt: &H, settings: &Settings, fault: ServerFault) {
     let _ = match fault {
-        ServerFault::CannotListen => {
+        ServerFault::CannotListen(_) => {
             let port = settings.listen();
             eprint!(rt; "ttd: 127.0.0.1:{port}: {fault}\n")
         }
-        ServerFault::CannotListenSocket | ServerFault::NotSocket => {
+        ServerFault::CannotServePages(_) => {
+            let port = settings.http().unwrap_or(0);
+            eprint!(rt; "ttd: 127.0.0.1:{port}: {fault}\n")
+        }
+        ServerFault::CannotListenSocket(_) | ServerFault::NotSocket => {
             let path = text_of(settings.socket());
             eprint!(rt; "ttd: {path}: {fault}\n")
         }

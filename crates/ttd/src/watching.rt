@@ -3,17 +3,17 @@
 use crate::faults::ServiceFault;
 use crate::services::Stop;
 use crate::serving::settings_of;
-use std::alloc::{AllocError, Global};
+use std::alloc::{AllocError, AllocFailed, Global};
 use std::fs::{File, Files};
-use std::io::{Eprint, Write};
+use std::io::{self, Eprint, IsTerminal, Write};
 use std::net::{Ipv4Addr, Net, SocketAddr, TcpStream};
 use std::rt::Env;
 use std::time::{Clock as SystemClock, Duration};
 use std::{env, thread};
 use tt_settings::{Key, SettingsFault};
-use tt_stream::{ByteWriter, Counted, read_to_end};
+use tt_stream::{ByteWriter, Counted, ReadFault, read_to_end};
 use tt_top::{Form, MAX_COLUMNS, View, ViewFault, push_svg, push_view, read_view};
-use ttd_masters::bytes_of;
+use ttd_masters::{StartFault, bytes_of};
 use ttd_words::{TopPlace, write};
 
 /// The pause between two looks, in milliseconds.
@@ -36,6 +36,18 @@ const CLEAR: &str = "\x1b[H\x1b[2J";
 
 /// What is shown while there is no view.
 const NOTHING: &str = "\x1b[H\x1b[2Jno status can be read\n";
+
+/// Where the program prints to.
+pub(crate) trait Screen {
+    /// Whether standard output is a terminal.
+    fn is_terminal(&self) -> bool;
+}
+
+impl Screen for HostRuntime {
+    fn is_terminal(&self) -> bool {
+        self.stdout().is_terminal()
+    }
+}
 
 /// How a machine is shown.
 #[derive(Clone, Copy, Debug, PartialEq, Eq)]
@@ -74,38 +86,134 @@ struct Texts {
     evidence: Vec<u8>,
 }
 
-impl From<ViewFault> for ServiceFault {
-    fn from(fault: ViewFault) -> ServiceFault {
-        match fault {
-            ViewFault::Memory => ServiceFault::Memory,
-            other => ServiceFault::View(other),
+/// Why a machine can't be shown.
+#[derive(Drop)]
+enum LookFault {
+    /// There is no connection to the port, or nothing can be asked over it, for this reason of the system.
+    Link(io::Error),
+    /// The whole answer did not come.
+    Answer(ReadFault),
+    /// The answer is not one of HTTP with the status 200.
+    Code,
+    /// There are no bytes of the file with the status.
+    Status(StartFault),
+    /// What is read shows no machine.
+    View(ViewFault),
+    /// Out of memory: an allocation failed.
+    Memory,
+}
+
+impl LookFault {
+    /// What the service refuses with.
+    fn refusal(&self) -> ServiceFault {
+        match self {
+            LookFault::Link(_) | LookFault::Answer(_) | LookFault::Code => ServiceFault::LinkFailed,
+            LookFault::Status(fault) => ServiceFault::from(*fault),
+            LookFault::View(fault) => ServiceFault::View(*fault),
+            LookFault::Memory => ServiceFault::Memory,
         }
     }
 }
 
+impl From<io::Error> for LookFault {
+    fn from(error: io::Error) -> LookFault {
+        LookFault::Link(error)
+    }
+}
+
+impl From<ViewFault> for LookFault {
+    fn from(fault: ViewFault) -> LookFault {
+        match fault {
+            ViewFault::Memory => LookFault::Memory,
+            other => LookFault::View(other),
+        }
+    }
+}
+
+impl From<AllocError> for LookFault {
+    fn from(_error: AllocError) -> LookFault {
+        LookFault::Memory
+    }
+}
+
+impl<T: Drop> From<AllocFailed<T>> for LookFault {
+    fn from(_error: AllocFailed<T>) -> LookFault {
+        LookFault::Memory
+    }
+}
+
+/// Says on standard error why a machine can't be shown, behind the address or the path.
+fn say<H: Eprint>(rt: &H, origin: &Origin, fault: &LookFault) {
+    let _ = match origin {
+        Origin::Port(port) => match fault {
+            LookFault::Link(error) => eprint!(rt; "ttd: 127.0.0.1:{port}: {error}\n"),
+            LookFault::Answer(ReadFault::TooLong) => {
+                eprint!(rt; "ttd: 127.0.0.1:{port}: the answer is longer than 1048576 bytes\n")
+            }
+            LookFault::Answer(_) => {
+                eprint!(rt;
+                    "ttd: 127.0.0.1:{port}: the answer does not end, or none comes in {LINK_WAIT} seconds\n"
+                )
+            }
+            LookFault::Code => eprint!(rt;
+                "ttd: 127.0.0.1:{port}: no answer of HTTP with the status 200\n"
+            ),
+            LookFault::View(fault) => eprint!(rt; "ttd: 127.0.0.1:{port}: {fault}\n"),
+            _ => Ok(()),
+        },
+        Origin::Files { status, evidence } => match fault {
+            LookFault::Status(StartFault::BadFile) => {
+                eprint!(rt; "ttd: {status}: it is longer than 1048576 bytes\n")
+            }
+            LookFault::Status(StartFault::ReadFailed(reason)) => {
+                eprint!(rt; "ttd: {status}: the status can't be read: {reason}\n")
+            }
+            LookFault::View(ViewFault::NotEvidence) => match evidence {
+                Some(path) => eprint!(rt;
+                    "ttd: {path}: the text is not the evidence of a publication\n"
+                ),
+                None => Ok(()),
+            },
+            LookFault::View(fault) => eprint!(rt; "ttd: {status}: {fault}\n"),
+            _ => Ok(()),
+        },
+    };
+}
+
 /// Shows what a machine sees: twice a second until the program is ended, or once. What can't be had at a later look is
-/// tried again at the next one.
+/// tried again at the next one. Standard error says what a refusal is about: an address or a path.
 ///
 /// Refuses as `serve` does where the configuration is refused, with 1803 where it names no `status`, with 1604 `ReadFailed`
 /// where the status can't be read, with 1501 `LinkFailed` where nothing answers with it, with 2601 and 2602 where what is
 /// read is not the status or the evidence of a machine, and with 1 `Memory`. With neither `once` nor `svg` it refuses the
 /// configuration alone.
 pub(crate) fn show<
-    H: AllocGlobal + Files<File = File> + Net<Stream = TcpStream> + SystemClock + Env + Eprint,
+    H: AllocGlobal
+        + Files<File = File>
+        + Net<Stream = TcpStream>
+        + SystemClock
+        + Env
+        + Screen
+        + Eprint,
     O: ByteWriter,
 >(rt: &H, place: TopPlace<'_>, manner: Manner, output: &mut O) -> Result<(), Stop> {
     let sight = sight_of(rt, place)?;
     let form = Form {
         columns: manner.columns.unwrap_or(columns_of(rt)),
         ascii: manner.svg || !is_utf8(rt),
-        colour: false,
+        colour: !manner.svg && is_coloured(rt),
         silent_after: sight.silent_after,
     };
-    if manner.once || manner.svg {
-        let text = draw_once(rt, &sight.origin, &form, manner.svg)?;
-        return write(output, text.as_str().as_bytes()).map_err(|_| Stop::Unwritten);
+    if !manner.once && !manner.svg {
+        return show_on(rt, &sight.origin, &form, output);
     }
-    show_on(rt, &sight.origin, &form, output)
+    match draw_once(rt, &sight.origin, &form, manner.svg) {
+        Ok(text) => write(output, text.as_str().as_bytes()).map_err(|_| Stop::Unwritten),
+        Err(fault) => {
+            say(rt, &sight.origin, &fault);
+            Err(Stop::Refused(fault.refusal()))
+        }
+    }
 }
 
 /// Draws a machine again and again. It ends only where the output fails.
@@ -133,7 +241,7 @@ fn draw_once<H: AllocGlobal + Files<File = File> + Net<Stream = TcpStream>>(
     origin: &Origin,
     form: &Form,
     svg: bool,
-) -> Result<String, ServiceFault> {
+) -> Result<String, LookFault> {
     let view = view_of(rt, origin)?;
     let mut text = String::new(rt.alloc());
     if svg {
@@ -150,7 +258,7 @@ fn draw_next<H: AllocGlobal + Files<File = File> + Net<Stream = TcpStream>>(
     origin: &Origin,
     form: &Form,
     widths: &mut Vec<u64>,
-) -> Result<String, ServiceFault> {
+) -> Result<String, LookFault> {
     let view = view_of(rt, origin)?;
     if let Some(width) = view.width {
         if widths.len() as u64 >= MAX_COLUMNS {
@@ -167,16 +275,14 @@ fn draw_next<H: AllocGlobal + Files<File = File> + Net<Stream = TcpStream>>(
 fn view_of<H: AllocGlobal + Files<File = File> + Net<Stream = TcpStream>>(
     rt: &H,
     origin: &Origin,
-) -> Result<View, ServiceFault> {
+) -> Result<View, LookFault> {
     let texts = texts_of(rt, origin)?;
-    match read_view(
+    let view = read_view(
         rt.alloc(),
         texts.status.as_slice(),
         texts.evidence.as_slice(),
-    ) {
-        Ok(view) => Ok(view),
-        Err(fault) => Err(ServiceFault::from(fault)),
-    }
+    )?;
+    Ok(view)
 }
 
 /// Where the texts of a machine are, and after how long a source is called silent.
@@ -228,10 +334,14 @@ fn sight_in<H: AllocGlobal + Files<File = File> + Eprint>(
 fn texts_of<H: AllocGlobal + Files<File = File> + Net<Stream = TcpStream>>(
     rt: &H,
     origin: &Origin,
-) -> Result<Texts, ServiceFault> {
+) -> Result<Texts, LookFault> {
     match origin {
         Origin::Files { status, evidence } => {
-            let status = bytes_of(rt, rt.alloc(), status.as_str())?;
+            let status = match bytes_of(rt, rt.alloc(), status.as_str()) {
+                Ok(bytes) => bytes,
+                Err(StartFault::Memory) => return Err(LookFault::Memory),
+                Err(fault) => return Err(LookFault::Status(fault)),
+            };
             let evidence = match evidence {
                 Some(path) => match bytes_of(rt, rt.alloc(), path.as_str()) {
                     Ok(bytes) => bytes,
@@ -257,29 +367,25 @@ fn fetch<H: AllocGlobal + Net<Stream = TcpStream>>(
     rt: &H,
     port: u16,
     request: &[u8],
-) -> Result<Vec<u8>, ServiceFault> {
+) -> Result<Vec<u8>, LookFault> {
     let wait = Duration::from_secs(LINK_WAIT);
     let address = SocketAddr::from((Ipv4Addr::LOCALHOST, port));
-    let Ok(mut stream) = TcpStream::connect_timeout(rt, &address, wait) else {
-        return Err(ServiceFault::LinkFailed);
-    };
-    if stream.set_read_timeout(Some(wait)).is_err()
-        || stream.set_write_timeout(Some(wait)).is_err()
-        || stream.write_all(request).is_err()
-    {
-        return Err(ServiceFault::LinkFailed);
-    }
+    let mut stream = TcpStream::connect_timeout(rt, &address, wait)?;
+    stream.set_read_timeout(Some(wait))?;
+    stream.set_write_timeout(Some(wait))?;
+    stream.write_all(request)?;
     let mut reader = Counted::new(stream);
-    match read_to_end(rt.alloc(), &mut reader, MOST_ANSWER, MOST_ANSWER as u32) {
+    match read_to_end(rt.alloc(), &mut reader, MOST_ANSWER, MOST_ANSWER as u32 + 2) {
         Ok(answer) => body_of(rt.alloc(), answer.as_slice()),
-        Err(_) => Err(ServiceFault::LinkFailed),
+        Err(ReadFault::Memory) => Err(LookFault::Memory),
+        Err(fault) => Err(LookFault::Answer(fault)),
     }
 }
 
 /// The body of an answer with the status 200.
-fn body_of(alloc: Global, answer: &[u8]) -> Result<Vec<u8>, ServiceFault> {
+fn body_of(alloc: Global, answer: &[u8]) -> Result<Vec<u8>, LookFault> {
     if !answer.starts_with(b"HTTP/1.0 200") && !answer.starts_with(b"HTTP/1.1 200") {
-        return Err(ServiceFault::LinkFailed);
+        return Err(LookFault::Code);
     }
     for (at, _byte) in answer.iter().enumerate() {
         if answer[at..].starts_with(b"\r\n\r\n") {
@@ -287,7 +393,7 @@ fn body_of(alloc: Global, answer: &[u8]) -> Result<Vec<u8>, ServiceFault> {
             return Ok(Vec::from_slice(alloc, &body[4..])?);
         }
     }
-    Err(ServiceFault::LinkFailed)
+    Err(LookFault::Code)
 }
 
 /// The columns of the terminal, as the environment has them.
@@ -296,6 +402,15 @@ fn columns_of<H: AllocGlobal + Env>(rt: &H) -> u64 {
         Ok(text) => text.as_str().parse::<u64>().unwrap_or(DEFAULT_COLUMNS),
         Err(_) => DEFAULT_COLUMNS,
     }
+}
+
+/// Whether the picture has colours: on a terminal, unless NO_COLOR is set and not empty.
+fn is_coloured<H: AllocGlobal + Env + Screen>(rt: &H) -> bool {
+    let is_plain = match env::var(rt, "NO_COLOR") {
+        Ok(text) => !text.as_str().is_empty(),
+        Err(_) => false,
+    };
+    rt.is_terminal() && !is_plain
 }
 
 /// Whether the first of these variables that is set and not empty names UTF-8.

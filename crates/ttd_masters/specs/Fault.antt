@@ -11,9 +11,9 @@ use Rattle.ttd_masters.specs.declared.faults.StartFault.TheVariants.{BadPlan, Ba
 abbrev pub number_of : StartFault → ℕ
 number_of BadPlan = 1601
 number_of BadFile = 1603
-number_of ReadFailed = 1604
-number_of (CannotListen address) = link_number_of links.Failed
-number_of (CannotAsk address) = link_number_of links.Failed
+number_of (ReadFailed reason) = 1604
+number_of (CannotListen address reason) = link_number_of links.Failed
+number_of (CannotAsk address reason) = link_number_of links.Failed
 number_of (Keys fault) = keys_number fault
 number_of (NtpKeys fault) = key_fault_number fault
 number_of NoRandom = 1829

@@ -7,6 +7,7 @@ ghost use Rattle.ttd_masters.specs.declared.faults.StartFault.TheVariants.{Memor
 use std::alloc::{AllocError, AllocFailed};
 use std::net::SocketAddr;
 use thiserror::Error;
+use tt_files::Reason;
 use tt_keys::KeysFault;
 use tt_rounds::LinkFault;
 use tt_upstream::NtpKeyFault;
@@ -21,14 +22,14 @@ pub enum StartFault {
     #[error("the file is longer than 1048576 bytes")]
     BadFile,
     /// A file is not a regular one, or can't be read.
-    #[error("reading failed")]
-    ReadFailed,
+    #[error("the file can't be read: {0}")]
+    ReadFailed(Reason),
     /// It has no socket at its address.
-    #[error("no socket can be had at {0}")]
-    CannotListen(SocketAddr),
+    #[error("no socket can be had at {0}: {1}")]
+    CannotListen(SocketAddr, Reason),
     /// It has no socket to ask an NTP server by.
-    #[error("no socket can be had to ask {0}")]
-    CannotAsk(SocketAddr),
+    #[error("no socket can be had to ask {0}: {1}")]
+    CannotAsk(SocketAddr, Reason),
     /// The file of keys gives no keys.
     #[error("{0}")]
     Keys(KeysFault),
@@ -55,8 +56,10 @@ impl StartFault {
         match self {
             StartFault::BadPlan => 1601,
             StartFault::BadFile => 1603,
-            StartFault::ReadFailed => 1604,
-            StartFault::CannotListen(_) | StartFault::CannotAsk(_) => LinkFault::Failed.number(),
+            StartFault::ReadFailed(_) => 1604,
+            StartFault::CannotListen(_, _) | StartFault::CannotAsk(_, _) => {
+                LinkFault::Failed.number()
+            }
             StartFault::Keys(fault) => fault.number(),
             StartFault::NtpKeys(fault) => fault.number(),
             StartFault::NoRandom => 1829,

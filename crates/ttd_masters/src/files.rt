@@ -3,7 +3,7 @@
 use crate::faults::StartFault;
 use std::alloc::Global;
 use std::fs::{File, Files, OpenOptions};
-use tt_files::open_regular;
+use tt_files::{Reason, open_regular};
 use tt_stream::{Counted, ReadFault, read_to_end};
 
 /// The most bytes of a file: 1 MiB.
@@ -18,14 +18,15 @@ pub fn bytes_of<H: Files<File = File>>(
 ) -> Result<Vec<u8>, StartFault> {
     let mut how = OpenOptions::new();
     how.read(true);
-    let Ok(file) = open_regular(rt, path, &how) else {
-        return Err(StartFault::ReadFailed);
+    let file = match open_regular(rt, path, &how) {
+        Ok(file) => file,
+        Err(error) => return Err(StartFault::ReadFailed(Reason::of(&error))),
     };
     let mut reader = Counted::new(file);
     match read_to_end(alloc, &mut reader, MOST_FILE, MOST_FILE as u32 + 2) {
         Ok(bytes) => Ok(bytes),
         Err(ReadFault::Memory) => Err(StartFault::Memory),
         Err(ReadFault::TooLong) => Err(StartFault::BadFile),
-        Err(_) => Err(StartFault::ReadFailed),
+        Err(_) => Err(StartFault::ReadFailed(Reason::Other)),
     }
 }

@@ -15,6 +15,7 @@ use std::sync::Wait;
 use std::thread;
 use std::thread::Threads;
 use std::time::Clock as SystemClock;
+use tt_files::Reason;
 use tt_fuse::check_counts;
 use tt_ntp::PacketKey;
 use tt_report::Reporter;
@@ -87,7 +88,7 @@ fn upstream_of<H: Net + Files<File = File> + Eprint + RandomSource + AllocGlobal
     match Upstream::new(rt, place, address, key, nonces, plan) {
         Ok(upstream) => Ok(upstream),
         Err(error) if error.kind() == ErrorKind::OutOfMemory => Err(StartFault::Memory),
-        Err(_) => Err(StartFault::CannotAsk(address)),
+        Err(error) => Err(StartFault::CannotAsk(address, Reason::of(&error))),
     }
 }
 

@@ -8,7 +8,7 @@ use std::alloc::Global;
 use std::fs::{self, File, Files};
 use std::io::Eprint;
 use std::os::unix::fs::MetadataExt;
-use tt_files::facts_at;
+use tt_files::{Reason, facts_at};
 use tt_keys::{KeysFault, keys_at};
 use tt_seal::Key;
 
@@ -44,10 +44,11 @@ fn version_at<R: Files>(rt: &R, path: &str) -> Option<Version> {
 }
 
 /// The user of this process.
-fn user_of<R: Files>(rt: &R) -> Option<u32> {
+fn user_of<R: Files>(rt: &R) -> Result<u32, KeysFault> {
     match facts_at(rt, OF_PROCESS) {
-        Ok(Some(facts)) => Some(facts.owner),
-        _ => None,
+        Ok(Some(facts)) => Ok(facts.owner),
+        Ok(None) => Err(KeysFault::UnknownUser(Reason::NOTHING)),
+        Err(error) => Err(KeysFault::UnknownUser(Reason::of(&error))),
     }
 }
 
@@ -73,7 +74,10 @@ pub fn say_refusal<H: Eprint>(rt: &H, path: &str, fault: KeysFault) {
 fn is_of_file(fault: KeysFault) -> bool
     ensures { result ≡ is_of_the_file fault }
 {
-    !matches!(fault, KeysFault::CannotRead | KeysFault::Memory)
+    !matches!(
+        fault,
+        KeysFault::CannotRead(_) | KeysFault::UnknownUser(_) | KeysFault::Memory
+    )
 }
 
 /// A file of keys, and which version of it was read last.
@@ -91,8 +95,8 @@ impl<'a> KeyFile<'a> {
 
     /// The keys of the file.
     ///
-    /// Refuses with 2211 `CannotRead` where it can't be read or the user of this process is not known, with 2212 `Mode`,
-    /// 2213 `Owner`, 2214 `TooLong`, 2215 `BadLine`, 2216 `SameNumber`, and 1 `Memory`. After 2211 and 1 it counts as
+    /// Refuses with 2211 `CannotRead` where it can't be read, with 2211 `UnknownUser` where the user of this process is not
+    /// known, with 2212 `Mode`, 2213 `Owner`, 2214 `TooLong`, 2215 `BadLine`, 2216 `SameNumber`, and 1 `Memory`. After 2211 and 1 it counts as
     /// changed.
     pub(crate) fn read<R: Files<File = File>>(
         &mut self,
@@ -103,9 +107,7 @@ impl<'a> KeyFile<'a> {
     {
         let version = version_at(rt, self.path);
         self.read = None;
-        let Some(user) = user_of(rt) else {
-            return Err(KeysFault::CannotRead);
-        };
+        let user = user_of(rt)?;
         match keys_at(rt, alloc, self.path, user) {
             Ok(keys) => {
                 self.read = version;

@@ -15,13 +15,14 @@ use crate::sealed_masters::{Sealed, answer_sealed};
 use crate::standing::open_status;
 use crate::telling::told_by;
 use std::fs::{File, Files};
-use std::io::{Eprint, ErrorKind};
+use std::io::{self, Eprint, ErrorKind};
 use std::net::{Net, SocketAddr, UdpSocket};
 use std::random::RandomSource;
 use std::sync::Wait;
 use std::thread;
 use std::thread::Threads;
 use std::time::{Clock as SystemClock, Duration};
+use tt_files::Reason;
 use tt_keys::KeysFault;
 use tt_master::{Act, Master, SpanMaster};
 use tt_poll::MAX_SOURCE;
@@ -191,25 +192,29 @@ fn reporter_of<
 }
 
 /// The socket of a master, whose start is logged.
-fn begin<H: Wait + SystemClock + Net + Eprint>(
+fn begin<H: Wait + SystemClock + Net>(
     rt: &H,
     reporter: &Reporter,
     plan: &MasterPlan<'_>,
 ) -> Result<UdpSocket, StartFault> {
     let socket = socket_at(rt, reporter, plan.listen)?;
-    let wait = Duration::from_millis(READ_WAIT);
-    let (Ok(address), Ok(())) = (socket.local_addr(), socket.set_read_timeout(Some(wait))) else {
-        return Err(StartFault::CannotListen(plan.listen));
+    let port = match port_of(&socket) {
+        Ok(port) => u64::from(port),
+        Err(error) => return Err(StartFault::CannotListen(plan.listen, Reason::of(&error))),
     };
-    let port = u64::from(address.port());
     let source = plan.source;
     reporter.log(rt, LogEvent::MasterStarted { source, port });
     Ok(socket)
 }
 
-/// A socket at this address. An address that is not up yet is tried again, with growing pauses, and logged. Where there is
-/// none, standard error says why.
-fn socket_at<H: Wait + SystemClock + Net + Eprint>(
+/// The port of a socket, whose receipts wait for [`READ_WAIT`] from now on.
+fn port_of(socket: &UdpSocket) -> io::Result<u16> {
+    socket.set_read_timeout(Some(Duration::from_millis(READ_WAIT)))?;
+    Ok(socket.local_addr()?.port())
+}
+
+/// A socket at this address. An address that is not up yet is tried again, with growing pauses, and logged.
+fn socket_at<H: Wait + SystemClock + Net>(
     rt: &H,
     reporter: &Reporter,
     listen: SocketAddr,
@@ -224,10 +229,7 @@ fn socket_at<H: Wait + SystemClock + Net + Eprint>(
                 thread::sleep(rt, Duration::from_millis(pause));
                 pause = next_pause(pause);
             }
-            Err(error) => {
-                let _ = eprint!(rt; "ttd: {listen}: {error}\n");
-                return Err(StartFault::CannotListen(listen));
-            }
+            Err(error) => return Err(StartFault::CannotListen(listen, Reason::of(&error))),
         }
     }
     unreachable!()

@@ -23,6 +23,8 @@ pub(crate) struct Sealed<'a> {
     link: SealedAnswers<AnsweringLink>,
     file: KeyFile<'a>,
     numbers: Vec<u32>,
+    /// How many packets had not opened at the last look.
+    unopened: u64,
 }
 
 impl<'a> Sealed<'a> {
@@ -39,6 +41,7 @@ impl<'a> Sealed<'a> {
             link,
             file,
             numbers,
+            unopened: 0,
         })
     }
 
@@ -56,6 +59,16 @@ impl<'a> Sealed<'a> {
             Err(fault) => refused(fault),
         };
         reporter.log(rt, event)
+    }
+
+    /// Logs how many packets did not open so far, where there are more than at the look before.
+    fn tell_unopened<H: Wait + SystemClock>(&mut self, rt: &H, reporter: &Reporter) {
+        let [length, unknown, wrong] = self.link.dropped();
+        let count = length.saturating_add(unknown).saturating_add(wrong);
+        if self.unopened < count {
+            self.unopened = count;
+            reporter.log(rt, LogEvent::PollsUnopened { count });
+        }
     }
 
     /// Shows its status, if there is memory for it.
@@ -90,8 +103,8 @@ fn refused(fault: KeysFault) -> LogEvent {
     }
 }
 
-/// Answers sealed polls, and never ends. About once a second it looks at its file of keys and, if there is a status file,
-/// shows its status.
+/// Answers sealed polls, and never ends. About once a second it looks at its file of keys, logs that packets did not open
+/// and, if there is a status file, shows its status.
 pub(crate) fn answer_sealed<H: Wait + SystemClock + Files<File = File> + AllocGlobal>(
     rt: &H,
     reporter: &Reporter,
@@ -105,6 +118,7 @@ pub(crate) fn answer_sealed<H: Wait + SystemClock + Files<File = File> + AllocGl
         take_turn(rt, reporter, &mut sealed.link, player);
         if looks.is_due() {
             sealed.look(rt, reporter);
+            sealed.tell_unopened(rt, reporter);
             if plan.status.is_some() {
                 if let Ok(told) = told_by(rt, player) {
                     sealed.show(rt, reporter, plan.source, told);

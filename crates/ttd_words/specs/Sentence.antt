@@ -5,7 +5,7 @@ use Rattle.std.specs.Prelude.{codes, ℕ, nat_eq, if◌then◌else◌, List}
 abbrev pub sentence_of : ℕ → List ℕ
 sentence_of n =
     if nat_eq n 1 then codes "the machine is out of memory"
-    else if nat_eq n 801 then codes "the machine has published nothing so far"
+    else if nat_eq n 801 then codes "the machine has published nothing so far: too few of its sources have answered (see its log and its status)"
     else if nat_eq n 802 then codes "the machine's clock went back, or is above the greatest time"
     else if nat_eq n 803 then codes "the machine's clock could not be read"
     else if nat_eq n 901 then codes "no stamp is left up to the greatest time"
@@ -22,5 +22,5 @@ sentence_of n =
     else if nat_eq n 1821 then codes "the floor is further ahead than the machine allows"
     else if nat_eq n 1822 then codes "the connection or the machine ended while the commit was pending"
     else if nat_eq n 1823 then codes "the machine knows that one of its assumptions is broken"
-    else if nat_eq n 1824 then codes "the reading is wider than the machine allows"
+    else if nat_eq n 1824 then codes "the reading is wider than max_width of the machine: its sources answered long ago, or slowly (see its status)"
     else codes "docs/FORMATS.md says what the number means"

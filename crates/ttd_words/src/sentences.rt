@@ -9,7 +9,8 @@ pub fn sentence_of(number: u64) -> &'static str
 {
     match number {
         1 => "the machine is out of memory",
-        801 => "the machine has published nothing so far",
+        801 =>
+            "the machine has published nothing so far: too few of its sources have answered (see its log and its status)",
         802 => "the machine's clock went back, or is above the greatest time",
         803 => "the machine's clock could not be read",
         901 => "no stamp is left up to the greatest time",
@@ -26,7 +27,8 @@ pub fn sentence_of(number: u64) -> &'static str
         1821 => "the floor is further ahead than the machine allows",
         1822 => "the connection or the machine ended while the commit was pending",
         1823 => "the machine knows that one of its assumptions is broken",
-        1824 => "the reading is wider than the machine allows",
+        1824 =>
+            "the reading is wider than max_width of the machine: its sources answered long ago, or slowly (see its status)",
         _ => "docs/FORMATS.md says what the number means",
     }
 }
