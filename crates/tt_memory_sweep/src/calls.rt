@@ -1,7 +1,7 @@
 //! The calls that take memory.
 
 use crate::outcomes::Outcome;
-use crate::{commits, nodes, publications, services, texts, worlds};
+use crate::{commits, nodes, pictures, publications, services, texts, worlds};
 use std::alloc::Global;
 use std::sync::Wait;
 use std::thread::Threads;
@@ -31,12 +31,15 @@ pub(crate) enum Call {
     NextEpoch,
     PushEvent,
     PushAnswer,
+    ReadView,
+    PushView,
+    PushSvg,
     NewQueue,
     ServeAtPost,
 }
 
 /// All calls, in the order in which they are made.
-pub(crate) const CALLS: [Call; 24] = [
+pub(crate) const CALLS: [Call; 27] = [
     Call::WriteText,
     Call::ReadScript,
     Call::Audit,
@@ -59,6 +62,9 @@ pub(crate) const CALLS: [Call; 24] = [
     Call::NextEpoch,
     Call::PushEvent,
     Call::PushAnswer,
+    Call::ReadView,
+    Call::PushView,
+    Call::PushSvg,
     Call::NewQueue,
     Call::ServeAtPost,
 ];
@@ -89,6 +95,9 @@ impl Call {
             Call::NextEpoch => "tt_epoch::next_epoch",
             Call::PushEvent => "tt_status::push_event",
             Call::PushAnswer => "tt_pages::push_answer",
+            Call::ReadView => "tt_top::read_view",
+            Call::PushView => "tt_top::push_view",
+            Call::PushSvg => "tt_top::push_svg",
             Call::NewQueue => "tt_connections::Queue::new",
             Call::ServeAtPost => "tt_connections::Post::serve",
         }
@@ -123,6 +132,9 @@ impl Call {
             Call::NextEpoch => services::epoch(),
             Call::PushEvent => services::event(alloc),
             Call::PushAnswer => services::answer(alloc),
+            Call::ReadView => pictures::view(alloc),
+            Call::PushView => pictures::picture(alloc),
+            Call::PushSvg => pictures::document(alloc),
             Call::NewQueue => services::queue(alloc),
             Call::ServeAtPost => services::session(rt, alloc),
         }

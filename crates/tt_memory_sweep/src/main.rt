@@ -10,7 +10,7 @@
 //! `tools/suites/sweep.py` runs it with each allocation failing in turn, until no allocation of a run fails.
 //!
 //! - `calls`: the calls, in their order. `outcomes`: the possible outcomes of a call.
-//! - `texts`, `worlds`, `publications`, `commits`, `nodes` and `services` make the calls. `replies`: the replies of a run, for
+//! - `texts`, `worlds`, `publications`, `commits`, `nodes`, `pictures` and `services` make the calls. `replies`: the replies of a run, for
 //!   comparison.
 //! - `devices`: links, gates and writers that allocate nothing.
 #![tactic(auto)]
@@ -20,6 +20,7 @@ mod commits;
 mod devices;
 mod nodes;
 mod outcomes;
+mod pictures;
 mod publications;
 mod replies;
 mod services;

@@ -8,7 +8,7 @@ use std::alloc::{AllocError, Global};
 use std::sync::Wait;
 use tt_connections::{AlwaysThere, Post, Queue, Terms};
 use tt_epoch::{MemoryStore, next_epoch};
-use tt_pages::{Asked, Limits, Page, View, Wanted, push_answer};
+use tt_pages::{Asked, Limits, Page, Report, Wanted, push_answer};
 use tt_publish::MemoryClock;
 use tt_session::Turns;
 use tt_settings::read;
@@ -139,14 +139,14 @@ pub(crate) fn answer(alloc: Global) -> Outcome {
 
 fn write_answer(alloc: Global) -> Result<bool, u16> {
     let mut text = String::new(alloc);
-    let view = View {
+    let report = Report {
         status: &None,
         age: 0,
         evidence: &None,
         limits: Limits::of(None, 1, 1),
     };
-    let asked = Asked::Wants(Wanted::Whole(Page::Health));
-    match push_answer(&mut text, alloc, asked, &view) {
+    let asked = Asked::Wants(Wanted::Whole(Some(Page::Health)));
+    match push_answer(&mut text, alloc, asked, &report) {
         Ok(()) => Ok(text.as_str() == UNWELL),
         Err(AllocError) => Err(MEMORY),
     }

@@ -22,8 +22,6 @@ mod rows;
 mod signs;
 mod sparks;
 mod svgs;
-#[cfg(test)]
-mod tests;
 mod views;
 
 pub use faults::ViewFault;
