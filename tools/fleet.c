@@ -15,6 +15,7 @@
 
 #include <pthread.h>
 #include <stdlib.h>
+#include <sys/stat.h>
 
 enum { TIMEOUT_MS = 25000, MOST_THREADS = 64, READINGS = 8, AT_ONCE = 4, TURNS = 500 };
 
@@ -97,9 +98,17 @@ static int use_stamper(const tt_client *client, tt_stamper *stamper, unsigned lo
     return refused;
 }
 
+/* Which file is the shared one; 0 where there is none. */
+static ino_t shared_now(void) {
+    struct stat about;
+    return stat(shared, &about) == 0 ? about.st_ino : 0;
+}
+
+/* What is mapped tells nothing of a machine that writes another file since. */
 static void run_stamper(tt_client *client, tt_stamper *stamper, unsigned long giver) {
+    ino_t mapped = shared_now();
     int refused = tt_open(client, shared, geteuid());
-    for (int turn = 0; turn < TURNS && refused == 0 && !is_over(); turn++) {
+    for (int turn = 0; turn < TURNS && refused == 0 && shared_now() == mapped && !is_over(); turn++) {
         refused = use_stamper(client, stamper, giver);
         sleep_ms(pause_ms);
     }

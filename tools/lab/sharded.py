@@ -38,7 +38,7 @@ SLIGHT_NS = 500_000
 LEAST_STOP_S, MOST_STOP_S, NOTICED_S, BACK_S = 0.2, 2.2, 30.0, 60.0
 #: How soon a client is answered that closed its half, how soon a machine says what it cannot write, and how soon it shares its time again, which
 #: it tries at least every half a minute; how often that is looked at, and how often where all else waits for it.
-ANSWERED_S, SAID_S, SHARED_S, WAIT_S, LOOK_S = 25.0, 30, 60.0, 0.1, 0.02
+ANSWERED_S, SAID_S, SHARED_S, WAIT_S, LOOK_S = 25.0, 45, 60.0, 0.1, 0.02
 UNWRITTEN = ("status_unwritten", "evidence_unwritten")
 NEXT_KEY = 100
 FOREVER = 2**64
@@ -159,11 +159,14 @@ class Sharded(Fleet):
 
     @contextlib.contextmanager
     def broken(self, what: str, names: typing.Sequence[str]) -> typing.Iterator[Break]:
-        """An assumption is broken on these hosts until the block has ended and their machines, which nobody helps, are right again."""
+        """An assumption is broken on these hosts until the block has ended, their machines, which nobody helps, are right again, and no earlier
+        life's time stands in their shared files."""
         self.await_right(names, f"{what}: not right before")
         self.breaks.append(Break(what, names, time.time_ns()))
         yield self.breaks[-1]
         self.await_right(names, f"{what}: not right again")
+        machines = [self.machines[name] for name in names]
+        self.wait(lambda: all(machine.shared_life() in (0, machine.life()) for machine in machines), SHARED_S, f"{what}: still shared")
         self.breaks[-1].until = time.time_ns()
 
     def await_right(self, names: typing.Sequence[str], what: str) -> None:
@@ -218,9 +221,10 @@ class Sharded(Fleet):
             clock.run_by(0)
             self.slept_ns += clock.turns[-1][0] - clock.turns[-2][0]
             clock.tell("uptime", str(self.slept_ns))
+            since = time.time_ns()
             for call in go_on:
                 call()
-            self.await_notice(broken)
+            self.await_notice(broken, since)
 
     def step_all(self) -> None:
         """One bad master, or one leap second, for all machines at once."""
@@ -427,10 +431,12 @@ class Sharded(Fleet):
 
     def free_disk(self, machine: UnitMachine, running: subprocess.Popen, since: int, unwritten: typing.Sequence[str]) -> None:
         """Where it lives on with a log, it says what it could not write, the status alone where too few masters may answer; and when there is room
-        again it shares its time again."""
+        again it shares its time again. A draft that a life before has left makes room for the shared file as it is removed."""
         disk, lives_on = self.disks[machine.host.name], self.lives_on(machine, running)
         if not self.router.is_plain or self.unplugged or self.down or any(master.lies for master in self.masters):
             unwritten = unwritten[:1]
+        if machine.shared_life() == machine.life():
+            unwritten = [event for event in unwritten if event != "sharing_ended"]
         if lives_on and not machine.pipe and (unsaid := [event for event in unwritten if not machine.said_since(event, since)]):
             if time.time_ns() < since + SAID_S * SECOND:
                 disk.fill()

@@ -1,10 +1,12 @@
 """Machines that are started again once they have ended by a break, as their units do, and masters over a server of NTP that can lie."""
 import os
+import struct
 import threading
 import time
 import typing
 
 from harness.processes import SECOND
+from harness.program import read, read_text
 from lab.hosts import Host
 from lab.masters import RECEIVER, NtpMaster
 from lab.servers import PORT, Chronyd
@@ -15,6 +17,9 @@ BROKEN = 3
 EVERY, MOST_AHEAD_S = "500ms", 0.5
 #: A folder of a machine, and what it has there.
 DISK, ON_DISK = "disk", ("status", "evidence", "shared")
+#: The shared file: where its index is, and where its two slots are, of an index, a life, and the last clock reading at which that may be used.
+INDEX, SLOT = struct.Struct("<16xQ"), struct.Struct("<Q32xQ16xQ")
+SLOTS_AT = (64, 192)
 
 
 class UnitMachine(Machine):
@@ -43,6 +48,19 @@ class UnitMachine(Machine):
 
     def path(self, name: str) -> str:
         return super().path(os.path.join(DISK, name) if name in ON_DISK else name)
+
+    def life(self) -> int:
+        """The number of its life of now, or of its last one."""
+        return int(read_text(os.path.join(self.path("state"), "epoch")).split()[2])
+
+    def shared_life(self) -> int:
+        """The life whose time stands in its shared file; 0 where none does."""
+        if not os.path.isfile(self.path("shared")):
+            return 0
+        content = read(self.path("shared"))
+        index, = INDEX.unpack_from(content)
+        slots = [SLOT.unpack_from(content, at) for at in SLOTS_AT]
+        return next((life for of_slot, life, last in slots if of_slot == index and last), 0)
 
     def said_since(self, event: str, since: int) -> list[dict]:
         """The fields of each line of the log that tells of this event from some time since 1970 on."""
