@@ -2,6 +2,7 @@
 import contextlib
 import os
 import socket
+import struct
 import subprocess
 import time
 
@@ -235,9 +236,9 @@ def drip(door, _):
 @suite.case(long=True)
 def ask_of_a_slow_service(trial):
     """A reply that comes a byte a second is given up after 30 seconds in all."""
-    status, said, _, took = ask_of(trial, drip, "now", seconds=45)
-    if status != 4 or not 25 <= took <= 35:
-        yield f"status {status} after {took:.1f} seconds, {said!r}"
+    status, said, error, took = ask_of(trial, drip, "now", seconds=45)
+    if status != 4 or not 25 <= took <= 35 or "no whole reply within 30 seconds" not in error:
+        yield f"status {status} after {took:.1f} seconds, {said!r} and {error!r}"
 
 
 @suite.case()
@@ -246,6 +247,45 @@ def ask_of_a_service_without_an_end(trial):
     status, said, _, took = ask_of(trial, lambda door, _: door.sendall(b"n" * 10_000), "now")
     if status != 4 or took > 1:
         yield f"status {status} after {took:.1f} seconds, {said[:40]!r}"
+
+
+def cut(door, _):
+    """Closes the connection amid a reply."""
+    door.sendall(b"now 5 1")
+    door.shutdown(socket.SHUT_RDWR)
+
+
+def break_off(door, _):
+    """Ends the connection by a reset."""
+    door.setsockopt(socket.SOL_SOCKET, socket.SO_LINGER, struct.pack("ii", 1, 0))
+    os.close(door.detach())
+
+
+@suite.case()
+def ask_without_a_reply(trial):
+    """Standard error says why there is none, behind the address: each cause has a sentence of its own."""
+    closed = "the connection was closed before a whole reply"
+    for act, sentence in ((lambda door, _: door.shutdown(socket.SHUT_RDWR), closed), (cut, closed),
+                          (break_off, "the connection failed before a whole reply"),
+                          (lambda door, _: door.sendall(b"n" * 128 + b"\n"), "the reply has more than 128 bytes")):
+        service = trial.keep(Answerer(act))
+        ran, line = trial.command("ask", service.address, "now"), f"ttd: {service.address}: {sentence}"
+        if ran.answer != ("refused 1501\n", 4) or line not in ran.error.splitlines():
+            yield f"{ran.answer} and {ran.error!r}, and {line!r} is wanted"
+    status, said, _, _ = ask_of(trial, lambda door, _: door.sendall(b"n" * 127 + b"\n"), "now")
+    if (status, said) != (0, "n" * 127 + "\n"):
+        yield f"status {status} and {said!r} of a reply of 128 bytes"
+
+
+@suite.case()
+def ask_where_nothing_listens(trial):
+    """The address or the path, the system's reason, and a question are on standard error."""
+    port = free_port(socket.SOCK_STREAM)
+    for address, reason in ((f"127.0.0.1:{port}", "Connection refused (os error 111)"),
+                            (os.path.join(trial.room, "nowhere"), "No such file or directory (os error 2)")):
+        ran, line = trial.command("ask", address, "now"), f"ttd: nothing answers at {address}: {reason}; does the machine run?"
+        if ran.answer != ("refused 1501\n", 4) or line not in ran.error.splitlines():
+            yield f"{ran.answer} and {ran.error!r}, and {line!r} is wanted"
 
 
 @suite.case()
@@ -262,9 +302,9 @@ def ask_that_cannot_print(trial):
 @suite.case()
 def ask_that_is_refused(trial):
     """The reply is printed, a sentence is on standard error, and the status is 2."""
-    for number in (801, 903, 1101, 1821):
+    for number, why in ((801, "too few of its sources have answered"), (903, "lease"), (1101, "not a request"), (1821, "floor"), (1824, "max_width")):
         status, said, error, _ = ask_of(trial, lambda door, _, number=number: door.sendall(b"refused %d\n" % number), "now", "--retry", "1")
-        if status != 2 or said != f"refused {number}\n" or not error.startswith(f"ttd: refused {number}: "):
+        if status != 2 or said != f"refused {number}\n" or not error.startswith(f"ttd: refused {number}: ") or why not in error:
             yield f"status {status}, {said!r} and {error!r}"
 
 

@@ -197,12 +197,19 @@ def fifo_as_file(trial):
             yield f"{words[0]} of a FIFO: status {status}, {said!r}"
 
 
-def refused_by_start(trial, node, number, statuses):
-    """A start refuses with this number, within a second, and takes no epoch."""
+# Why the system refuses a second listener.
+IN_USE = "Address already in use (os error 98)"
+
+
+def refused_by_start(trial, node, number, statuses, line=None):
+    """A start refuses with this number, within a second, says why in this line of standard error, if it is given, and takes no epoch."""
     began = time.monotonic()
-    said, status = trial.command("serve", node.path("node.toml"), "--until-eof", seconds=5, cwd=node.folder).answer
+    ran = trial.command("serve", node.path("node.toml"), "--until-eof", seconds=5, cwd=node.folder)
+    said, status = ran.answer
     if status not in statuses or said != f"refused {number}\n" or time.monotonic() - began > 1.5:
         yield f"status {status} and {said!r}, and {number} is wanted"
+    if line is not None and line not in ran.error.splitlines():
+        yield f"{ran.error!r} has no line {line!r}"
     if os.path.exists(node.path("state/epoch")):
         yield "an epoch was taken"
 
@@ -211,7 +218,7 @@ def refused_by_start(trial, node, number, statuses):
 def file_at_socket(trial):
     node = trial.node(trial.masters(1))
     write(node.path("socket"), b"keep\n")
-    yield from refused_by_start(trial, node, 1819, (2, 4))
+    yield from refused_by_start(trial, node, 1819, (2, 4), f"ttd: {node.path('socket')}: what is at the path of the Unix socket is not a socket")
     if not os.path.exists(node.path("socket")) or read(node.path("socket")) != b"keep\n":
         yield "the file at socket is gone"
 
@@ -229,7 +236,7 @@ def full_backlog_at_socket(trial):
     """A foreign listener is not waited for, and stays."""
     node = trial.node(trial.masters(1))
     with full_listener(node.path("socket")):
-        yield from refused_by_start(trial, node, 1809, (4,))
+        yield from refused_by_start(trial, node, 1809, (4,), f"ttd: {node.path('socket')}: the Unix socket can't be listened at: {IN_USE}")
         if not os.path.exists(node.path("socket")):
             yield "the foreign socket is gone"
 
@@ -238,7 +245,7 @@ def full_backlog_at_socket(trial):
 def address_in_use(trial):
     node = trial.node(trial.masters(1))
     with socket.create_server(node.address):
-        yield from refused_by_start(trial, node, 1807, (4,))
+        yield from refused_by_start(trial, node, 1807, (4,), f"ttd: 127.0.0.1:{node.address[1]}: the address can't be listened at: {IN_USE}")
 
 
 # Settings that are refused, and by which number. HERE is the machine's folder.

@@ -1,4 +1,5 @@
 """Scenarios of the suite `wiring`: each kind of line of the log, and the numbers of the status that rise when something fails."""
+import errno
 import os
 import shutil
 import socket
@@ -58,13 +59,32 @@ def shared_file_that_fails(trial):
 
 
 @suite.case()
+def shared_files_that_cannot_be_used(trial):
+    """Each says why."""
+    node = trial.running_node(trial.scripts(honest))
+    published(node)
+    with open(node.path("shared"), "rb") as file:
+        whole = file.read()
+    other_boot = whole[:24] + bytes([whole[24] ^ 1]) + whole[25:]
+    for content, says in ((None, "it can't be opened or read: No such file or directory"), (whole[:-1], "it has not the 320 bytes"),
+                          (whole + b"0", "it has not the 320 bytes"), (b"TTS1" + whole[4:], "it does not begin as a shared file does"),
+                          (other_boot, "it is of another boot"), (whole[:8] + b"\2" + whole[9:], "it does not begin as a shared file does")):
+        path = os.path.join(trial.room, "other")
+        if content is not None:
+            write(path, content)
+        ran = trial.command("read", path)
+        trial.equal("read", ran.answer, ("refused 1701\n", 4) if content is None else ("refused 1702\n", 2))
+        trial.check("read", ran.error.startswith(f"ttd: {path}: {says}"), f"{says}: {ran.error}")
+
+
+@suite.case()
 def status_that_fails(trial):
     """A folder lies where it is written, and later does not."""
     node = trial.running_node(trial.scripts(honest))
     trial.numbers(node, sharing=1)
     # The draft of a status may just be there.
     eventually(lambda: os.makedirs(node.path("status.new/kept")) or True)
-    trial.logs(node, "status_unwritten")
+    trial.logs(node, "status_unwritten", errno=errno.EISDIR)
     shutil.rmtree(node.path("status.new"), ignore_errors=True)
     rounds = status_of(node)["rounds"]
     trial.check("status rounds", eventually(lambda: status_of(node)["rounds"] > rounds), "it stays as it was")
@@ -77,7 +97,7 @@ def evidence_that_fails(trial):
     node = trial.running_node(trial.scripts(honest), evidence=path)
     trial.check("setting evidence", eventually(lambda: is_valid(trial.program, path)), "nothing valid is there")
     eventually(lambda: os.makedirs(f"{path}.new/kept") or True)
-    trial.logs(node, "evidence_unwritten")
+    trial.logs(node, "evidence_unwritten", errno=errno.EISDIR)
     shutil.rmtree(f"{path}.new", ignore_errors=True)
     before = read(path)
     trial.check("setting evidence", eventually(lambda: read(path) != before), "it stays as it was")
@@ -122,7 +142,7 @@ def no_descriptors(trial):
     node = trial.running_node(trial.scripts(honest))
     node.allow_no_more_descriptors()
     with socket.create_connection(node.address, 5):
-        trial.logs(node, "not_accepted")
+        trial.logs(node, "not_accepted", errno=errno.EMFILE)
 
 
 @suite.case()

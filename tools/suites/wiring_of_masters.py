@@ -114,6 +114,18 @@ def master_without_time(trial):
     trial.check("master unanswered_2401", eventually(lambda: re.search(wanted, read_text(status), re.MULTILINE)), "the poll is not counted")
 
 
+@suite.case()
+def master_whose_address_is_taken(trial):
+    """It is refused, and standard error has the address and the system's reason."""
+    with socket.socket(socket.AF_INET, socket.SOCK_DGRAM) as door:
+        door.bind(("127.0.0.1", 0))
+        address = f"127.0.0.1:{door.getsockname()[1]}"
+        ran = trial.command("master", "--source", "1", "--listen", address, "--uncertainty", "5")
+    trial.equal("option listen", ran.answer, ("refused 1501\n", 4))
+    line = f"ttd: refused 1501: no socket can be had at {address}: Address already in use (os error 98)"
+    trial.check("option listen", line in ran.error.splitlines(), f"{ran.error!r} has no line {line!r}")
+
+
 class Spoiled(Process):
     """A master whose calls are spoiled."""
 
@@ -153,6 +165,23 @@ def is_answered(asked, number, key, seconds=0.3):
 
 
 OLD, NEW, OTHER = bytes(range(32)), bytes(range(100, 132)), bytes(range(200, 232))
+
+
+@suite.case()
+def polls_that_do_not_open(trial):
+    """They are logged once a second and at most once in ten, with how many there were so far."""
+    keys = os.path.join(trial.room, "keys")
+    put_keys(keys, f"7 {OLD.hex()} host-a")
+    asked = Asked(trial, 3, uncertainty=[5], keys=[keys])
+    trial.logs(asked.process, "master_started")
+    trial.check("option keys", is_answered(asked, 7, OLD, 5), "no answer under its key")
+    for number, key in ((7, OTHER), (9, OLD)):
+        trial.check("option keys", not is_answered(asked, number, key, 0.1), "an answer")
+    trial.equal("option keys", asked.poll(0.1)[0], None)
+    trial.between("log polls_unopened", 1, int(trial.logs(asked.process, "polls_unopened").get("count", 0)), 3)
+    time.sleep(10.5)
+    trial.check("option keys", not is_answered(asked, 7, OTHER, 0.1), "an answer")
+    trial.logs(asked.process, "polls_unopened", count=4)
 
 
 @suite.case()

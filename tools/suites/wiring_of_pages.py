@@ -137,6 +137,7 @@ def other_requests(trial):
         answer = ask(port, request)
         trial.equal("setting http", (request[:40], answer.words), (request[:40], words))
         trial.equal("setting http", answer.fields.get("Allow"), "GET, HEAD" if words.startswith("405") else None)
+        trial.equal("setting http", (request[:40], answer.text == ""), (request[:40], request.startswith(b"HEAD")))
 
 
 @suite.case(quiet=True)
@@ -193,6 +194,29 @@ def sources_that_end(trial):
 
 
 @suite.case()
+def sources_are_old_after_three_rounds(trial):
+    """A round lasts a tenth of a second, and nine tenths where masters are silent."""
+    node, port = with_pages(trial, trial.scripts([honest, honest, silent]), poll="100ms", wait="900ms")
+    node.run()
+    node.wait_until_ready()
+    looks, began = [], time.monotonic()
+    while time.monotonic() < began + 8 and not (looks and looks[-1][1]):
+        before, reasons, after = get(port, "/metrics"), reasons_of(get(port, "/health")), get(port, "/metrics")
+        age = age_in(before.text)
+        if before.text == after.text and age is not None:
+            looks.append((age, bool(reasons)))
+        time.sleep(0.02)
+    trial.check("setting http", any(is_old for _, is_old in looks), "its sources never were too old")
+    trial.check("setting http", all(is_old == (age > 3.0) for age, is_old in looks), f"it says so at other ages than three seconds: {looks[-3:]}")
+
+
+def age_in(text):
+    """How long ago n - f sources had answered, by a status, in seconds; None where they never did."""
+    lines = [line.split() for line in text.splitlines() if line.startswith("truetime_needed_answer_age_seconds{")]
+    return float(lines[0][1]) if lines and lines[0][1] != "NaN" else None
+
+
+@suite.case()
 def broken_assumption(trial):
     """With `on_break = "warn"` a machine that has noticed a break goes on, and is not well."""
     path = os.path.join(trial.room, "vmclock0")
@@ -223,4 +247,6 @@ def port_of_pages_in_use(trial):
     with socket.create_server(("127.0.0.1", port)):
         ran = trial.command("serve", node.path("node.toml"), "--until-eof")
     trial.equal("setting http", ran.answer, ("refused 1830\n", 4))
+    line = f"ttd: 127.0.0.1:{port}: the address for pages can't be listened at: Address already in use (os error 98)"
+    trial.check("refusal 1830", line in ran.error.splitlines(), f"{ran.error!r} has no line {line!r}")
     trial.equal("setting http", os.listdir(node.path("state")), [])

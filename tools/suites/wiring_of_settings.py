@@ -358,20 +358,30 @@ def outline(trial):
     trial.equal("--check", (status, said.splitlines()), (0, lines))
 
 
-# What is found at a start and refused: what is done in the folder of the machine, more settings, and the number with the statuses.
+# What is found at a start and refused: what is done in the folder of the machine, more settings, the number with the status, and a line of
+# standard error, in which HERE is the folder.
 KEY = "ab" * 32
 SEALED = {"keys": "keys", "masters": [{"address": "127.0.0.1:5701", "key": [7]}]}
+NO_KEYS = "keys: the file of keys can't be read: No such file or directory (os error 2)"
+NO_LOCK = "ttd: HERE/state/lock: the lock of the epoch can't be opened: not a regular file"
+NO_SOCKET = "ttd: HERE/socket: what is at the path of the Unix socket is not a socket"
 FOUND = [
-    ({}, SEALED, 2211, 4), ({"keys/a": b""}, SEALED, 2211, 4), ({"keys": (0o644, f"7 {KEY}\n")}, SEALED, 2212, 2),
-    ({"keys": (0o600, f"# {'a' * 65_536}\n")}, SEALED, 2214, 2), ({"keys": (0o600, f"\n7 {KEY[2:]}\n")}, SEALED, 2215, 2),
-    ({"keys": (0o400, f"7 {KEY}\n7 {KEY}\n")}, SEALED, 2216, 2), ({"keys": (0o600, f"8 {KEY}\n")}, SEALED, 1827, 2),
-    ({"flat": b""}, {"state": "flat"}, 1812, 4), ({"state/lock/a": b""}, {}, 1812, 4),
-    ({"socket": b"keep"}, {}, 1819, 2), ({"socket/a": b""}, {}, 1819, 2), ({"at": b""}, {"socket": "at/socket"}, 1809, 4),
-    ({"state/epoch/a": b""}, {}, 1811, 4), ({"state/epoch": b"tt-epoch 2 7\n"}, {}, 1813, 2),
-    ({"state/epoch": b"tt-epoch 1 18446744073709551615\n"}, {}, 1814, 2),
+    ({}, SEALED, 2211, 4, NO_KEYS), ({"keys/a": b""}, SEALED, 2211, 4, "keys: the file of keys can't be read: not a regular file"),
+    ({"keys": (0o644, f"7 {KEY}\n")}, SEALED, 2212, 2, "keys: the mode of the file of keys is neither 0600 nor 0400"),
+    ({"keys": (0o600, f"# {'a' * 65_536}\n")}, SEALED, 2214, 2, "keys: the file of keys is too long"),
+    ({"keys": (0o600, f"\n7 {KEY[2:]}\n")}, SEALED, 2215, 2, "keys:2: line 2 is not a key"),
+    ({"keys": (0o400, f"7 {KEY}\n7 {KEY}\n")}, SEALED, 2216, 2, "keys:2: the key in line 2 has the number of an earlier one"),
+    ({"keys": (0o600, f"8 {KEY}\n")}, SEALED, 1827, 2, "ttd: keys: no key has the number 7, which 127.0.0.1:5701 has in the settings"),
+    ({"flat": b""}, {"state": "flat"}, 1812, 4, "ttd: flat: the folder of the epoch can't be used: not a folder"),
+    ({"state/lock/a": b""}, {}, 1812, 4, NO_LOCK),
+    ({"socket": b"keep"}, {}, 1819, 2, NO_SOCKET), ({"socket/a": b""}, {}, 1819, 2, NO_SOCKET),
+    ({"at": b""}, {"socket": "at/socket"}, 1809, 4, "ttd: at/socket: the Unix socket can't be listened at: Not a directory (os error 20)"),
+    ({"state/epoch/a": b""}, {}, 1811, 4, "ttd: HERE/state/epoch: the epoch can't be read: not a regular file"),
+    ({"state/epoch": b"tt-epoch 2 7\n"}, {}, 1813, 2, "ttd: HERE/state/epoch: the file is not an epoch file"),
+    ({"state/epoch": b"tt-epoch 1 18446744073709551615\n"}, {}, 1814, 2, "ttd: HERE/state/epoch: no epoch is left"),
     # The first of them is refused.
-    ({"flat": b"", "socket": b"keep"}, {**SEALED, "state": "flat"}, 2211, 4), ({"state/lock/a": b"", "socket": b"keep"}, {}, 1812, 4),
-    ({"state/epoch": b"", "socket": b"keep"}, {}, 1819, 2),
+    ({"flat": b"", "socket": b"keep"}, {**SEALED, "state": "flat"}, 2211, 4, NO_KEYS),
+    ({"state/lock/a": b"", "socket": b"keep"}, {}, 1812, 4, NO_LOCK), ({"state/epoch": b"", "socket": b"keep"}, {}, 1819, 2, NO_SOCKET),
 ]
 
 
@@ -391,8 +401,8 @@ def put(folder, name, what):
 
 @suite.case()
 def found(trial):
-    """`--check` refuses what a start refuses of the files that it finds, with the same number, and changes nothing."""
-    for place, (files, settings, number, status) in enumerate(FOUND):
+    """`--check` refuses what a start refuses of the files that it finds, with the same number and for the same reason, and changes nothing."""
+    for place, (files, settings, number, status, line) in enumerate(FOUND):
         settings = dict(settings)
         node = trial.node(settings.pop("masters", ["127.0.0.1:5701"]), f"found-{place}", **settings)
         for name, what in files.items():
@@ -401,6 +411,8 @@ def found(trial):
         for words in (["--check"], ["--until-eof"]):
             ran = trial.command("serve", node.path("node.toml"), *words, cwd=node.folder)
             trial.equal(f"{words[0]} with {sorted(files)}", ran.answer, (f"refused {number}\n", status))
+            said = line.replace("HERE", node.folder)
+            trial.check(f"refusal {number}", said in ran.error.splitlines(), f"{ran.error!r} has no line {said!r}")
             if words == ["--check"]:
                 trial.check("--check", contents_of(node.folder) == before, f"it changes files with {sorted(files)}")
 

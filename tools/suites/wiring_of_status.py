@@ -4,7 +4,9 @@ import contextlib
 import os
 import socket
 import subprocess
+import sys
 import time
+from concurrent.futures import ThreadPoolExecutor
 
 from harness.processes import SECOND, truetime
 from harness.program import write
@@ -288,6 +290,36 @@ def sessions_and_lines(trial):
         lines, refused = len(LINES) + 3, sum(begin.startswith("refused") for _, begin in LINES)
         trial.numbers(node, lines=lines, lines_refused=refused, sessions=0)
     trial.numbers(node, lines=lines, lines_refused=refused, sessions=4)
+
+
+def segments_to(door):
+    """How many segments with data this connection has received (`tcpi_data_segs_in`)."""
+    return int.from_bytes(door.getsockopt(socket.IPPROTO_TCP, socket.TCP_INFO, 160)[152:156], sys.byteorder)
+
+
+@suite.case()
+def lines_in_pieces(trial):
+    """The replies to 16 lines that come together are sent together, and those behind a commit behind the reply to it. Each line and each refusal is
+    counted, also where a client takes the replies late, so that writes take a part of them."""
+    node = trial.node(trial.scripts(honest), poll="50ms", workers=2)
+    node.run()
+    published(node)
+    pair, pairs = b"now\nnonsense\n", 60_000
+    with socket.create_connection(node.address, 10) as door, door.makefile("rb") as replies:
+        door.sendall(pair * 8)
+        words = [replies.readline().split()[0] for _ in range(16)]
+        trial.equal("segments of 16 replies", segments_to(door), 1)
+        trial.numbers(node, lines=16, lines_refused=8)
+        door.sendall(b"now\ncommit 1 0\nnow\nnow\n")
+        trial.equal("replies beside a commit", [replies.readline().split()[0] for _ in range(4)], [b"now", b"waiting", b"now", b"now"])
+        trial.equal("segments of replies beside a commit", segments_to(door), 3)
+        with ThreadPoolExecutor(1) as pool:
+            sent = pool.submit(door.sendall, pair * pairs)
+            time.sleep(1)
+            words += [replies.readline().split()[0] for _ in range(2 * pairs)]
+            sent.result()
+    trial.equal("replies in order", words == [b"now", b"refused"] * (8 + pairs), True)
+    trial.numbers(node, lines=20 + 2 * pairs, lines_refused=8 + pairs, sessions=1)
 
 
 @suite.case()

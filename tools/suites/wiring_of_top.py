@@ -1,5 +1,7 @@
 """Scenarios of the suite `wiring`: what `ttd top` shows of a machine."""
+import contextlib
 import os
+import pty
 import re
 import socket
 import subprocess
@@ -48,7 +50,48 @@ def top_once(trial):
                 trial.check("top", set(bars[at]) <= {mark, " "} and mark in bars[at], f"the bar of line {at} is {bars[at]!r}")
             trial.check("top", lines[3].endswith(" suspect") and lines[4].endswith(" never"), f"{lines[3:5]}")
             trial.check("top", any(line.endswith("[]") for line in lines[2:7]), "no source holds both ends")
-            trial.check("top", ran.said.isascii() and "! 1 suspects\n" in ran.said, ran.said)
+            trial.check("top", ran.said.isascii() and "! 1 suspects\n" in ran.said and "\x1b" not in ran.said, ran.said)
+    wide, plain = (run([trial.program, "top", node.path("node.toml"), "--once", *words], env=PLAIN, cwd=node.folder).said.splitlines()
+                   for words in (("--columns", "80"), ()))
+    trial.equal("top", len(plain[1]), len(wide[1]))
+
+
+@suite.case()
+def top_on_a_terminal(trial):
+    """A suspect is red there, but not where NO_COLOR is set."""
+    node, _ = machine(trial)
+    words = [trial.program, "top", node.path("node.toml"), "--once"]
+    eventually(lambda: " suspect" in run(words, env=PLAIN, cwd=node.folder).said)
+    for more, is_red in (({}, True), ({"NO_COLOR": ""}, True), ({"NO_COLOR": "1"}, False)):
+        said = on_terminal(words, PLAIN | more, node.folder)
+        red = [line for line in said.splitlines() if "\x1b[31m" in line]
+        trial.equal("top", (more, any(" suspect" in line for line in red), "\x1b" in said), (more, is_red, is_red))
+
+
+def on_terminal(words, environment, folder):
+    """What a command prints to a terminal."""
+    reading, writing = pty.openpty()
+    with open(reading, "rb", buffering=0) as terminal:
+        with subprocess.Popen(words, env=environment, cwd=folder, stdout=writing, stderr=subprocess.DEVNULL):
+            os.close(writing)
+            said = b""
+            with contextlib.suppress(OSError):  # the last one has closed it
+                while piece := terminal.read(65536):
+                    said += piece
+    return said.decode()
+
+
+@suite.case()
+def top_of_one_that_falls_silent(trial):
+    """A source that has answered is silent once its last answer is older than three rounds."""
+    masters = trial.scripts(honest, honest, [honest, honest, silent])
+    node = trial.node(masters, evidence="evidence", poll="200ms", wait="50ms")
+    node.run(cwd=node.folder)
+    node.wait_until_ready()
+    ran = eventually(lambda: (seen := run([trial.program, "top", node.path("node.toml"), "--once"], env=PLAIN, cwd=node.folder)).said.count(
+        " silent\n") == 1 and seen)
+    trial.check("top", ran and ran.said.splitlines()[4].startswith("    2 ") and ran.said.splitlines()[4].endswith(" silent"),
+                f"no source is silent, or another one: {ran and ran.said}")
 
 
 @suite.case()
@@ -85,14 +128,15 @@ def top_as_svg(trial):
 @suite.case()
 def top_refused(trial):
     """What is no configuration, names no status, is not there, answers with nothing, or is not the status of a machine."""
+    nobody = free_port(socket.SOCK_STREAM)
     masters = trial.scripts(honest)
     without, other, gone = (trial.node(masters, name, status=status) for name, status in (("A", None), ("B", "bad.status"), ("C", "no.status")))
     for name, text in (("bad.status", "nothing\n"), ("bad.toml", "machine = 9\n")):
         write(os.path.join(trial.room, name), text.encode())
     for place, number, status, says in (
-            (without.path("node.toml"), 1803, 2, "status"), (other.path("node.toml"), 2601, 2, "status"), (gone.path("node.toml"), 1604, 4, ""),
-            ("bad.toml", 1804, 2, "machine"), ("nowhere", 1604, 4, "nowhere"),
-            (f"127.0.0.1:{free_port(socket.SOCK_STREAM)}", 1501, 4, "")):
+            (without.path("node.toml"), 1803, 2, "status"), (other.path("node.toml"), 2601, 2, "ttd: bad.status: the text is not the status"),
+            (gone.path("node.toml"), 1604, 4, "ttd: no.status: the status can't be read: No such file"), ("bad.toml", 1804, 2, "machine"), ("nowhere", 1604, 4, "nowhere"),
+            (f"127.0.0.1:{nobody}", 1501, 4, f"127.0.0.1:{nobody}: Connection refused")):
         ran = run([trial.program, "top", place, "--once"], env=PLAIN, cwd=trial.room)
         trial.equal("top", (place, *ran.answer), (place, f"refused {number}\n", status))
         trial.check("top", says in ran.error and f"refused {number}: " in ran.error, f"{place}: {ran.error}")
