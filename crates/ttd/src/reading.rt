@@ -81,9 +81,10 @@ fn why_bad<H: AllocGlobal + Files<File = File>>(rt: &H, bytes: &[u8]) -> &'stati
     if bytes.len() != FILE_LEN {
         return "it has not the 320 bytes of a shared file";
     }
+    let head = bytes.split_at(HEAD_LEN).0;
     let mut boot = [0; BOOT_LEN];
-    boot.copy_from_slice(&bytes[BOOT_AT..BOOT_AT + BOOT_LEN]);
-    if decode_head(&bytes[..HEAD_LEN], &boot).is_err() {
+    boot.copy_from_slice(&head[BOOT_AT..BOOT_AT + BOOT_LEN]);
+    if decode_head(head, &boot).is_err() {
         return "it does not begin as a shared file does";
     }
     match bytes_of(rt, rt.alloc(), THIS_BOOT) {
