@@ -57,6 +57,8 @@ pub fn serve_together<R: ByteReader, W: ByteWriter, S: Service>(
 {
     let mut buffer = [0; PIECE];
     let mut talk = Talk::new();
+    // A function clears what its locals take as it begins, so this room is made once for the session, not for each step.
+    let mut replies = Replies::new();
     for _ in 0..turns.reads {
         let Ok(n) = reader.read(&mut buffer) else {
             return Err(ServeFault::ReadFailed);
@@ -64,20 +66,23 @@ pub fn serve_together<R: ByteReader, W: ByteWriter, S: Service>(
         if n == 0 {
             return Ok(talk.served());
         }
-        let Ok(()) = turn(&buffer[..n], writer, service, turns.waits, &mut talk) else {
+        let bytes = &buffer[..n];
+        let Ok(()) = turn(bytes, writer, service, turns.waits, &mut talk, &mut replies) else {
             return Err(ServeFault::WriteFailed);
         };
     }
     Err(ServeFault::ReadFailed)
 }
 
-/// One turn of a session: takes further bytes, answers each line that ends in them, and hands all replies over.
+/// One turn of a session: takes further bytes, answers each line that ends in them, and hands all replies over. Nothing of
+/// what `replies` has counts: it is room.
 fn turn<W: ByteWriter, S: Service>(
     bytes: &[u8],
     writer: &mut W,
     service: &mut S,
     waits: u32,
     talk: &mut Talk,
+    replies: &mut Replies,
 ) -> Result<(), DeviceFault>
     requires part { IsPartOfLine talk.old.line }
     requires room { talk.old.served.lines + length bytes.now < 2 ^ 64 }
@@ -92,20 +97,21 @@ fn turn<W: ByteWriter, S: Service>(
 {
     let mut rest = bytes;
     while !rest.is_empty() {
-        let taken = go_on(rest, writer, service, waits, talk)?;
+        let taken = go_on(rest, writer, service, waits, talk, replies)?;
         rest = rest.split_at(taken).1;
     }
     Ok(())
 }
 
 /// One step of a session over these bytes, whose replies are handed over. Answers how many of the bytes it took: one at
-/// least.
+/// least. Nothing of what `replies` has counts: it is room.
 fn go_on<W: ByteWriter, S: Service>(
     bytes: &[u8],
     writer: &mut W,
     service: &mut S,
     waits: u32,
     talk: &mut Talk,
+    replies: &mut Replies,
 ) -> Result<usize, DeviceFault>
     requires some { 0 < length bytes.now }
     requires part { IsPartOfLine talk.old.line }
@@ -123,9 +129,9 @@ fn go_on<W: ByteWriter, S: Service>(
     ensures sound { OnOk result (W.failed writer.new ≡ W.failed writer.old) }
     ensures cause { OnErr result (HasFailed (W.failed writer.old) (W.failed writer.new)) }
 {
-    let mut replies = Replies::new();
-    let step = talk.step(bytes, service, waits, &mut replies);
-    hand_over(writer, &replies)?;
+    replies.clear();
+    let step = talk.step(bytes, service, waits, replies);
+    hand_over(writer, replies)?;
     Ok(step.taken)
 }
 

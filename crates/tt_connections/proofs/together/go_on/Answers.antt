@@ -15,7 +15,7 @@ returns-in_err-hand_over-clause-more g c =
 pub returns-in_err-hand_over-clause-err : goal.returns-in_err-hand_over-clause-err
 returns-in_err-hand_over-clause-err g c =
     let steps = c.step-step.ensures.steps in
-    let is = c.deref.ensures.0 ∙ own_text g.S.Service.allows c.args.waits _ _ _ _ _ _ _ _ c.new-replies.ensures steps in
+    let is = c.deref.ensures.0 ∙ own_text g.S.Service.allows c.args.waits _ _ _ _ _ _ _ _ c.clear.ensures steps in
     let (n, written) = c.in_err-hand_over.ensures.err in
     on_err c.from_residual.result
     (BreaksWithin-step g.S.Service.allows c.args.waits g.W.ByteWriter.taken g.W.ByteWriter.flushed _ _ _ _ _ _ c.args.bytes.now steps.text c.step-step.result.taken n _ steps.steps
@@ -28,7 +28,7 @@ returns-clause-part g c =
 
 pub returns-clause-some : goal.returns-clause-some
 returns-clause-some g c =
-    step-some g.S.Service.allows c.args.waits _ _ _ _ c.args.bytes.now _ _ c.step-step.result.taken c.step-step.result.stop c.new-replies.ensures
+    step-some g.S.Service.allows c.args.waits _ _ _ _ c.args.bytes.now _ _ c.step-step.result.taken c.step-step.result.stop c.clear.ensures
     c.requires.some c.requires.part c.requires.room c.step-step.ensures.steps c.step-step.ensures.stop
 
 pub returns-clause-few : goal.returns-clause-few
@@ -42,6 +42,6 @@ returns-clause-more g c =
 pub returns-clause-ok : goal.returns-clause-ok
 returns-clause-ok g c =
     let steps = c.step-step.ensures.steps in
-    let is = c.deref.ensures.0 ∙ own_text g.S.Service.allows c.args.waits _ _ _ _ _ _ _ _ c.new-replies.ensures steps in
+    let is = c.deref.ensures.0 ∙ own_text g.S.Service.allows c.args.waits _ _ _ _ _ _ _ _ c.clear.ensures steps in
     TalksOn-steps g.S.Service.allows c.args.waits _ _ _ _ _ _ (take c.step-step.result.taken c.args.bytes.now) steps.text _ steps.steps
     (subst (λ l. Appends (g.W.ByteWriter.taken c.args.writer.now) (g.W.ByteWriter.taken c.hand_over.new.writer) l) is c.in_ok-hand_over.ensures.ok)
