@@ -1,5 +1,5 @@
 -- Stampers beside the sessions of lives.
-use Rattle.std.proofs.Common.{◌≡◌, ℕ, ◌<◌, ◌≤◌, List, [], ◌∷◌, ◌++◌, map, Bool, Option, Some, ◌⊎◌, ⊎_elim, refl, sym, ap, ◌∙◌, subst, arith, All, Contains}
+use Rattle.std.proofs.Common.{◌≡◌, ℕ, ◌<◌, ◌≤◌, List, [], ◌∷◌, ◌++◌, map, Bool, Option, Some, ⊎_elim, sym, ◌∙◌, subst, arith, All, Contains}
 use Rattle.std.proofs.lemmas.List.Elements.{All-contains}
 use Rattle.tt_span.specs.Interval.{Interval, Holds, Meets}
 use Rattle.tt_judge.specs.Consistency.{IsConsistent}

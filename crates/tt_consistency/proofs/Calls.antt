@@ -1,5 +1,5 @@
 -- What one call of a station says: of its answer and of its book.
-use Rattle.std.proofs.Common.{◌≡◌, ℕ, ◌+◌, ◌≤◌, max, min, nat_lt, if◌then◌else◌, List, [], ◌∷◌, ◌++◌, Bool, true, false, Option, Some, None, Result, Ok, Err, refl, sym, ap, ◌∙◌, subst, arith, append_assoc}
+use Rattle.std.proofs.Common.{◌≡◌, ℕ, ◌+◌, ◌≤◌, max, nat_lt, if◌then◌else◌, List, ◌∷◌, Bool, true, false, Option, Some, None, Result, Ok, Err, refl, ap, subst, arith}
 use Rattle.std.specs.Prelude.{IfOk, MatchBool, MatchOption, IsOkUnless}
 use Rattle.tt_span.specs.Interval.{Interval, Holds}
 use Rattle.tt_stamp.specs.History.{receipt_of, first_queue_fault, IsLegalHistory, MayQueue, Waits}

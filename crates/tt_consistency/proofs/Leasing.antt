@@ -9,7 +9,7 @@ use Rattle.tt_span.specs.declared.spans.SpanFault.TheVariants.{Backwards, PastMa
 use Rattle.tt_session.specs.Conversation.{Conversation}
 use Rattle.tt_session.specs.declared.calls.Call.{Call}
 use Rattle.tt_session.specs.declared.calls.Call.TheVariants as call
-use Rattle.tt_connections.specs.Station.{PostState, StationState, Allows, new_station, common, room_in}
+use Rattle.tt_connections.specs.Station.{StationState, Allows, new_station, common, room_in}
 use Rattle.tt_connections.specs.Turns.{AllowsOn}
 use Rattle.tt_connections.specs.declared.presence.Question.{Question}
 use Rattle.tt_connections.proofs.Leasing.{room_within, room_apart}

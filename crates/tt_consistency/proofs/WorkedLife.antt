@@ -284,7 +284,7 @@ session = record {
 abbrev other_replies : List LineReply
 other_replies = reply.Now (read_at 130) ∷ []
 
-other_talks : Session (AllowsOn MachineGives failed ClientSays) 1 (other_station 120) (ended now_word) (other_station 130) (flat_map text_of other_replies) (record { lines = 1; refused = 0 }) [] None
+pub other_talks : Session (AllowsOn MachineGives failed ClientSays) 1 (other_station 120) (ended now_word) (other_station 130) (flat_map text_of other_replies) (record { lines = 1; refused = 0 }) [] None
 other_talks = record {
   lines = now_word ∷ [];
   calls = call.Now (Ok (read_at 130)) ∷ [];
