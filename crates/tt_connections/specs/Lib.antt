@@ -1,6 +1,7 @@
 pub mod Fault
 pub mod Together
 pub mod Station
+pub mod Turns
 pub mod Sessions
 pub mod Path
 pub mod Waiting

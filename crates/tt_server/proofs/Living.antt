@@ -11,11 +11,12 @@ use Rattle.tt_publish.specs.Reading.{fused_span_of}
 use Rattle.tt_session.specs.declared.faults.ServeFault.{ServeFault}
 use Rattle.tt_session.specs.declared.faults.ServeFault.TheVariants.{ReadFailed, WriteFailed}
 use Rattle.tt_session.specs.declared.serving.Served.{Served}
-use Rattle.tt_session.specs.Conversation.{Conversation}
-use Rattle.tt_session.specs.declared.calls.Call.{Call as Call'}
-use Rattle.tt_session.specs.declared.calls.Call.TheVariants as call
+use Rattle.tt_session.specs.Session.{Session}
+use Rattle.tt_session.specs.declared.begun.Begun.{Begun}
 use Rattle.tt_connections.specs.Station.{PostState, StationState, Allows, ServesSession, BreaksSession, new_station}
-use Rattle.tt_connections.specs.Sessions.{AreServedInTurn, post_after}
+use Rattle.tt_connections.specs.Sessions.{AreServedBetween, IsServedBetween}
+use Rattle.tt_connections.specs.Turns.{PostGoesOn}
+use Rattle.tt_connections.proofs.Turning.{post-same, post-both, calls-go_on, session-on}
 use Rattle.tt_connections.specs.declared.posts.Terms.{Terms}
 use Rattle.tt_connections.specs.Clock.{ClockState, MachineGives, ClientSays}
 use Rattle.tt_epoch.specs.Disk.{Call, Gift, Gave, NotOwn, Done, Broke, number_of}
@@ -110,76 +111,95 @@ took-epoch does before after epoch current (Ok end) same takes is = subst (λ (n
 took-epoch does before after epoch current (Err fault) same takes is = tt
 
 -- ---- sessions
+-- a session between whose calls the post of its worker stayed is one of the worker
+session-of : (client : Unit {0}) (before : PostState ClockState) (after : StationState ClockState (Unit {0})) (bytes text : List ℕ) (served : Served) (rest : List ℕ) (last : Option Begun)
+    → Session (Allows MachineGives clock_failures ClientSays) max_waits (new_station before client) bytes after text served rest last → (post : PostState ClockState) → after.post ≡ post → ServesOne before post
+session-of client before after bytes text served rest last session post ends =
+    let whole : ServerSession = record {
+      client = client;
+      before = before;
+      after = after;
+      bytes = bytes;
+      text = text;
+      served = served;
+      rest = rest;
+      last = last;
+      session = session-on MachineGives clock_failures ClientSays max_waits (new_station before client) bytes after text served rest last session;
+    } in
+    inr (whole, refl, ends)
+
+session-served : (client : Unit {0}) (before after : PostState ClockState) (left left' taken taken' : Option (List ℕ)) (served : Served)
+    → ServesSession MachineGives clock_failures ClientSays max_waits left left' taken taken' client before after served → ServesOne before after
+session-served client before after left left' taken taken' served that =
+    session-of client before that.0 that.2.bytes that.2.text served that.2.rest that.2.last that.2.session after that.1
+
+-- one that broke off is what it had come to with its last step
+session-broken : (client : Unit {0}) (before after : PostState ClockState) (left left' taken taken' : Option (List ℕ))
+    → BreaksSession MachineGives clock_failures ClientSays max_waits left left' taken taken' client before after → ServesOne before after
+session-broken client before after left left' taken taken' that =
+    let broke = that.2.breaks in
+    session-of client before that.0 (broke.past ++ broke.own) (broke.told ++ broke.text) broke.talks.served broke.rest broke.talks.last broke.session after that.1
+
 -- a call of `serve` is one session, whatever it answers
 pub one-session : (client : Unit {0}) (before after : PostState ClockState) (left left' taken taken' : Option (List ℕ)) (answer : Result Served ServeFault)
     → IfOk answer (λ served. ServesSession MachineGives clock_failures ClientSays max_waits left left' taken taken' client before after served)
     → (IsErrOf answer ReadFailed → (served : Served) × ServesSession MachineGives clock_failures ClientSays max_waits left left' taken taken' client before after served)
     → (IsErrOf answer WriteFailed → BreaksSession MachineGives clock_failures ClientSays max_waits left left' taken taken' client before after)
     → ServesOne before after
-one-session client before after left left' taken taken' (Ok served) ok read write =
-    inr (record { client = client; before = before; after = after; left = left; left' = left'; taken = taken; taken' = taken'; served = inl (served, ok) }, refl, refl)
-one-session client before after left left' taken taken' (Err ReadFailed) ok read write =
-    inr (record { client = client; before = before; after = after; left = left; left' = left'; taken = taken; taken' = taken'; served = inl (read refl) }, refl, refl)
-one-session client before after left left' taken taken' (Err WriteFailed) ok read write =
-    inr (record { client = client; before = before; after = after; left = left; left' = left'; taken = taken; taken' = taken'; served = inr (write refl) }, refl, refl)
+one-session client before after left left' taken taken' (Ok served) ok read write = session-served client before after left left' taken taken' served ok
+one-session client before after left left' taken taken' (Err ReadFailed) ok read write = let that = read refl in session-served client before after left left' taken taken' that.0 that.1
+one-session client before after left left' taken taken' (Err WriteFailed) ok read write = session-broken client before after left left' taken taken' (write refl)
 
--- sessions led from the one post to the other
-abbrev pub HasServed : PostState ClockState → PostState ClockState → Type 0
-HasServed first now = (sessions : List ServerSession) × AreServedInTurn first sessions × (now ≡ post_after first sessions)
+-- the post of a worker went on from the first to this one, and the worker served these sessions meanwhile
+pub record HasServed (first now : PostState ClockState) : Type 0 where
+  pub sessions : List ServerSession
+  pub goes : PostGoesOn first now
+  pub in_turn : AreServedBetween first now sessions
 
 pub served-none : (first : PostState ClockState) → HasServed first first
-served-none first = ([], tt, refl)
+served-none first = record { sessions = []; goes = post-same first first refl; in_turn = All-nil (IsServedBetween first first) }
+
+-- where the post goes on, each session was served before that
+served-later : (first before after : PostState ClockState) → PostGoesOn before after → (sessions : List ServerSession) → AreServedBetween first before sessions → AreServedBetween first after sessions
+served-later first before after goes sessions served =
+    All-weaker (IsServedBetween first before) (IsServedBetween first after) (λ (session : ServerSession) between. (between.0, post-both session.after.post before after between.1 goes)) sessions served
+
+-- the post of a worker goes on in a session
+session-goes_on : (session : ServerSession) → PostGoesOn session.before session.after.post
+session-goes_on session =
+    calls-go_on MachineGives clock_failures ClientSays session.session.calls (new_station session.before session.client) session.after session.session.talked
 
 pub served-next : (first before after : PostState ClockState) → HasServed first before → ServesOne before after → HasServed first after
-served-next first before after has (inl same) = (has.0, has.1, same ∙ has.2)
-served-next first before after has (inr (session, from, to)) = (session ∷ has.0, (from ∙ has.2, has.1), sym to)
+served-next first before after has (inl same) = subst (HasServed first) (sym same) has
+served-next first before after has (inr (session, from, to)) =
+    let begins : PostGoesOn first session.before = subst (PostGoesOn first) (sym from) has.goes in
+    let here : PostGoesOn before session.after.post = subst (λ (p : PostState ClockState). PostGoesOn p session.after.post) from (session-goes_on session) in
+    let goes : PostGoesOn before after = subst (PostGoesOn before) to here in
+    record {
+      sessions = session ∷ has.sessions;
+      goes = post-both first before after has.goes goes;
+      in_turn = All-cons (IsServedBetween first after) session has.sessions (begins, post-same session.after.post after (sym to)) (served-later first before after goes has.sessions has.in_turn);
+    }
 
 -- a worker that has served its sessions hands back what its watch has seen
 pub handed-back : (watch : WatchState) (terms : Terms) (first now : PostState ClockState) (end : WorkerEnd) → first.watch ≡ watch → first.lease ≡ terms.lease → first.stampers ≡ terms.stampers → first.ahead ≡ terms.ahead → first.max_width ≡ terms.max_width
     → HasServed first now → end.seen ≡ seen_of now.watch → HandsBack watch terms end
 handed-back watch terms first now end watch_is lease_is stampers_is ahead_is width_is has seen = record {
-  worker = record { post = first; sessions = has.0 };
+  worker = record { post = first; last = now; sessions = has.sessions };
   watch_is = watch_is;
   lease_is = lease_is;
   stampers_is = stampers_is;
   ahead_is = ahead_is;
   width_is = width_is;
-  in_turn = has.1;
-  seen_is = seen ∙ ap (λ (p : PostState ClockState). seen_of p.watch) has.2;
+  goes = has.goes;
+  in_turn = has.in_turn;
+  seen_is = seen;
 }
 
 -- the same of an equal watch and equal terms
 pub handed-by : (watch watch' : WatchState) (terms terms' : Terms) (end : WorkerEnd) → watch' ≡ watch → terms' ≡ terms → HandsBack watch' terms' end → HandsBack watch terms end
 handed-by watch watch' terms terms' end same same' handed =
     subst (λ (w : WatchState). HandsBack w terms end) same (subst (λ (t : Terms). HandsBack watch' t end) same' handed)
-
--- ---- the source of a worker's watch
-abbrev Station : Type 0
-Station = StationState ClockState (Unit {0})
-
-source-call : (before : Station) (one : Call') (after : Station) → Allows MachineGives clock_failures ClientSays before one after → after.post.watch.source ≡ before.post.watch.source
-source-call before (call.Now answer) after allowed = allowed.look.looks.same.0
-source-call before (call.Begin number floor answer) after allowed = allowed.look.looks.same.0
-source-call before (call.Lease lo hi answer) after allowed = ap (λ (s : Station). s.post.watch.source) allowed.set
-source-call before (call.Pass number answer) after allowed = allowed.look.looks.same.0
-
-source-talked : (before : Station) (calls : List Call') (after : Station) → Conversation (Allows MachineGives clock_failures ClientSays) before calls after → after.post.watch.source ≡ before.post.watch.source
-source-talked before [] after talked = ap (λ (s : Station). s.post.watch.source) talked
-source-talked before (one ∷ calls) after talked = source-talked talked.0 calls after talked.2 ∙ source-call before one talked.0 talked.1
-
-source-served : (left left' taken taken' : Option (List ℕ)) (client : Unit {0}) (before after : PostState ClockState)
-    → ((served : Served) × ServesSession MachineGives clock_failures ClientSays max_waits left left' taken taken' client before after served) ⊎ BreaksSession MachineGives clock_failures ClientSays max_waits left left' taken taken' client before after
-    → after.watch.source ≡ before.watch.source
-source-served left left' taken taken' client before after (inl (served, s)) =
-    ap (λ (p : PostState ClockState). p.watch.source) (sym s.1) ∙ source-talked (new_station before client) s.2.session.calls s.0 s.2.session.talked
-source-served left left' taken taken' client before after (inr s) =
-    ap (λ (p : PostState ClockState). p.watch.source) (sym s.1) ∙ source-talked (new_station before client) s.2.breaks.session.calls s.0 s.2.breaks.session.talked
-
-source-after : (first : PostState ClockState) (sessions : List ServerSession) → AreServedInTurn first sessions → (post_after first sessions).watch.source ≡ first.watch.source
-source-after first [] in_turn = refl
-source-after first (session ∷ sessions) in_turn =
-    source-served session.left session.left' session.taken session.taken' session.client session.before session.after session.served
-    ∙ (ap (λ (p : PostState ClockState). p.watch.source) in_turn.0 ∙ source-after first sessions in_turn.1)
 
 -- ---- watches
 -- new watches of the same source, by a clock with the same drift
@@ -197,8 +217,8 @@ record Fits (watch : WatchState) (terms : Terms) (published : List Publication) 
   pub stampers_is : worker.post.stampers ≡ terms.stampers
   pub ahead_is : worker.post.ahead ≡ terms.ahead
   pub width_is : worker.post.max_width ≡ terms.max_width
-  pub in_turn : AreServedInTurn worker.post worker.sessions
-  pub seen : IsPrefix (post_after worker.post worker.sessions).watch.items published
+  pub in_turn : AreServedBetween worker.post worker.last worker.sessions
+  pub seen : IsPrefix worker.last.watch.items published
 
 abbrev pub Handed : WatchState → Terms → WorkerEnd → Type 0
 Handed watch terms end = HandsBack watch terms end
@@ -209,7 +229,7 @@ Begins published end = IsPrefix end.seen.items published
 -- what a worker has seen is of the source of its watch
 pub source-handed : (watch : WatchState) (terms : Terms) (end : WorkerEnd) → Handed watch terms end → end.seen.source ≡ watch.source
 source-handed watch terms end handed =
-    ap (λ (k : Known). k.source) handed.seen_is ∙ (source-after handed.worker.post handed.worker.sessions handed.in_turn ∙ ap (λ (w : WatchState). w.source) handed.watch_is)
+    ap (λ (k : Known). k.source) handed.seen_is ∙ (handed.goes.watch.source ∙ ap (λ (w : WatchState). w.source) handed.watch_is)
 
 pub sources-handed : (watch : WatchState) (terms : Terms) (ends : List WorkerEnd) → All (Handed watch terms) ends → All (λ (end : WorkerEnd). end.seen.source ≡ watch.source) ends
 sources-handed watch terms ends all =
@@ -226,7 +246,7 @@ told-of watch terms published [] all begin = record { workers = []; each = tt; f
 told-of watch terms published (end ∷ ends) all begin =
     let here = All-head (Handed watch terms) end ends all in
     let rest = told-of watch terms published ends (All-tail (Handed watch terms) end ends all) (All-tail (Begins published) end ends begin) in
-    let begins : IsPrefix (seen_of (post_after here.worker.post here.worker.sessions).watch).items published =
+    let begins : IsPrefix (seen_of here.worker.last.watch).items published =
     subst (λ (k : Known). IsPrefix k.items published) here.seen_is (All-head (Begins published) end ends begin) in
     let fits : Fits watch terms published here.worker =
     record { watch_is = here.watch_is; lease_is = here.lease_is; stampers_is = here.stampers_is; ahead_is = here.ahead_is; width_is = here.width_is; in_turn = here.in_turn; seen = begins } in

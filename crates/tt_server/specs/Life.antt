@@ -2,7 +2,8 @@
 use Rattle.std.specs.Prelude.{◌≡◌, ◌⊎◌, ℕ, List, [], ◌∷◌, length}
 use Rattle.tt_publish.specs.Known.{WatchState, seen_of}
 use Rattle.tt_connections.specs.Station.{PostState}
-use Rattle.tt_connections.specs.Sessions.{WorkerSession, AreServedInTurn, post_after}
+use Rattle.tt_connections.specs.Sessions.{WorkerSession, AreServedBetween}
+use Rattle.tt_connections.specs.Turns.{PostGoesOn}
 use Rattle.tt_connections.specs.declared.posts.Terms.{Terms}
 use Rattle.tt_connections.specs.Clock.{ClockState, MachineGives, ClientSays}
 use Rattle.tt_settings.specs.Settings.{Meaning}
@@ -33,9 +34,9 @@ ServerLife = Life MachineGives clock_failures ClientSays max_waits
 
 -- the post of a worker after it was given a client: a session went from the one post to the other, or there was none
 abbrev pub ServesOne : PostState ClockState → PostState ClockState → Type 0
-ServesOne before after = (after ≡ before) ⊎ ((session : ServerSession) × (session.before ≡ before) × (session.after ≡ after))
+ServesOne before after = (after ≡ before) ⊎ ((session : ServerSession) × (session.before ≡ before) × (session.after.post ≡ after))
 
--- what a worker handed back: it began with this watch and these terms, it served its sessions one after the other, and it tells what its watch had seen then
+-- what a worker handed back: it began with this watch and these terms, its post went on, it served its sessions meanwhile, and it tells what its watch had seen at the end
 pub record HandsBack (watch : WatchState) (terms : Terms) (end : WorkerEnd) : Type 0 where
   pub worker : ServerWorker
   pub watch_is : worker.post.watch ≡ watch
@@ -43,13 +44,14 @@ pub record HandsBack (watch : WatchState) (terms : Terms) (end : WorkerEnd) : Ty
   pub stampers_is : worker.post.stampers ≡ terms.stampers
   pub ahead_is : worker.post.ahead ≡ terms.ahead
   pub width_is : worker.post.max_width ≡ terms.max_width
-  pub in_turn : AreServedInTurn worker.post worker.sessions
-  pub seen_is : end.seen ≡ seen_of (post_after worker.post worker.sessions).watch
+  pub goes : PostGoesOn worker.post worker.last
+  pub in_turn : AreServedBetween worker.post worker.last worker.sessions
+  pub seen_is : end.seen ≡ seen_of worker.last.watch
 
 -- each end tells what the watch of its worker had seen
 abbrev pub TellOfEach : List WorkerEnd → List ServerWorker → Type 0
 TellOfEach [] [] = Unit {0}
-TellOfEach (end ∷ ends) (worker ∷ workers) = (end.seen ≡ seen_of (post_after worker.post worker.sessions).watch) × TellOfEach ends workers
+TellOfEach (end ∷ ends) (worker ∷ workers) = (end.seen ≡ seen_of worker.last.watch) × TellOfEach ends workers
 TellOfEach _ _ = ⊥
 
 -- a life of a machine with these settings ended so
