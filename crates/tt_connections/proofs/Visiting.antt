@@ -1,8 +1,7 @@
 -- What a post does from one call of a session to a later one, and what a turn does to a session that was left at an earlier post.
-use Rattle.std.proofs.Common.{◌≡◌, ℕ, Bool, true, false, List, [], ◌∷◌, ◌++◌, length, if◌then◌else◌, Option, None, Some, Result, Ok, Err, refl, sym, ap, ◌∙◌, subst, arith, append_assoc, append-nil}
-use Rattle.std.specs.Prelude.{MatchBool, nat_lt, ◌+◌, ◌<◌, max, count_by}
+use Rattle.std.proofs.Common.{◌≡◌, ℕ, Bool, true, false, List, [], ◌∷◌, ◌++◌, if◌then◌else◌, Option, None, Result, Ok, Err, refl, sym, ap, ◌∙◌, subst, arith, append_assoc, append-nil}
+use Rattle.std.specs.Prelude.{MatchBool, nat_lt, ◌+◌, max, count_by}
 use Rattle.std.specs.List.{flat_map}
-use Rattle.std.specs.Io.KnownBytes.{Appends}
 use Rattle.std.proofs.KnownBytes.{Appends-nil, Appends-trans}
 use Rattle.std.proofs.lemmas.Grind.{flat_map-append}
 use Rattle.std.proofs.lemmas.List.{length-append}
@@ -11,8 +10,6 @@ use mathlib.Core.List.{IsPrefix}
 use Rattle.tt_span.specs.Interval.{Interval}
 use Rattle.tt_publish.proofs.Beginnings.{prefix_self}
 use Rattle.tt_publish.specs.Known.{WatchState}
-use Rattle.tt_publish.specs.Looks.{Looks}
-use Rattle.tt_publish.specs.declared.faults.ReadFault.{ReadFault}
 use Rattle.tt_stamp.proofs.Seats.{Continues-trans}
 use Rattle.tt_stamp.specs.Stamping.{SeatState}
 use Rattle.tt_stamp.specs.Steps.{Stamps}
@@ -312,17 +309,17 @@ module _ {C V : Type 0} (gives : C → Option ℕ → C → Type 0) (failed : C 
         }
 
     -- what a step did to the post and to the client, behind a part of a line
-    pub step-goes : (before after : StationState C V) (talk talks : TalkState) (bytes text : List ℕ) (is_commit : Bool)
-        → IsPartOfLine talk.line → Steps (Allows gives failed says) waits before talk bytes after talks text is_commit → PostGoesOn before.post after.post
-    step-goes before after talk talks bytes text is_commit (come, none, kept) steps =
+    pub step-goes : (post : PostState C) (before after : StationState C V) (talk talks : TalkState) (bytes text : List ℕ) (is_commit : Bool)
+        → PostGoesOn post before.post → IsPartOfLine talk.line → Steps (Allows gives failed says) waits before talk bytes after talks text is_commit → PostGoesOn post after.post
+    step-goes post before after talk talks bytes text is_commit goes (come, none, kept) steps =
         let h = steps.hears come none kept in
-        goes_on-talked before h.calls after h.talked
+        goes_on-both post before.post after.post goes (goes_on-talked before h.calls after h.talked)
 
     pub step-client : (before after : StationState C V) (talk talks : TalkState) (bytes text : List ℕ) (is_commit : Bool)
-        → IsPartOfLine talk.line → Steps (Allows gives failed says) waits before talk bytes after talks text is_commit → after.client ≡ before.client
-    step-client before after talk talks bytes text is_commit (come, none, kept) steps =
+        → before.client ≡ client → IsPartOfLine talk.line → Steps (Allows gives failed says) waits before talk bytes after talks text is_commit → after.client ≡ client
+    step-client before after talk talks bytes text is_commit is (come, none, kept) steps =
         let h = steps.hears come none kept in
-        client-talked before h.calls after h.talked
+        client-talked before h.calls after h.talked ∙ is
 
     -- ---- a turn
     -- no bytes
@@ -357,7 +354,7 @@ module _ {C V : Type 0} (gives : C → Option ℕ → C → Type 0) (failed : C 
         → StepsCut (Allows gives failed says) waits (shows mids) mid talk ys (shows new) after talks
         → BreaksTurn gives failed says waits shows flushed old new client all visit post (visit_of after talks) after.post
     turns-cut shows flushed old mids new visit post mid after talk talks xs ys all is stays t client_is part s =
-        let later : after.client ≡ client = step-client mid after talk talks s.own s.text s.is_commit part s.steps ∙ client_is in
+        let later : after.client ≡ client = step-client mid after talk talks s.own s.text s.is_commit client_is part s.steps in
         let begun = subst (λ (b : StationState C V). Steps (Allows gives failed says) waits b talk s.own after talks s.text s.is_commit) (station-is mid talk client_is) s.steps in
         record {
           heard = xs;

@@ -1,13 +1,14 @@
 //! Sessions by turns: what is kept of a session between two turns, and one turn of it.
 
-ghost use Rattle.std.specs.Prelude.{◌≡◌, ◌+◌, ◌<◌, ◌≤◌, ◌↔◌, ◌^◌, ℕ, IsTrue, List, [], Option, None, length, nat_lt, IfSome, OnOk, OnErr};
+ghost use Rattle.std.specs.Prelude.{◌≡◌, ◌+◌, ◌<◌, ◌≤◌, ◌↔◌, ◌^◌, ℕ, IsTrue, List, [], None, length, nat_lt, IfSome, OnOk, OnErr};
 ghost use Rattle.tt_stream.specs.Counts.{HasFailed};
 ghost use Rattle.tt_stamp.specs.History.{waiting_of};
 ghost use Rattle.tt_session.specs.Commits.{max_pause, pause_margin};
 ghost use Rattle.tt_session.specs.Session.{StaysFlushed};
+ghost use Rattle.tt_connections.specs.Station.{PostState};
 ghost use Rattle.tt_connections.specs.Together.{IsPartOfLine};
 ghost use Rattle.tt_connections.specs.Turns.{PostGoesOn};
-ghost use Rattle.tt_connections.specs.Visits.{BreaksTurn, TurnsOn, new_visit, visit_of};
+ghost use Rattle.tt_connections.specs.Visits.{BreaksTurn, StandsAt, TurnsOn, VisitState, new_visit, visit_of};
 
 use crate::pages::Page;
 use crate::posts::Post;
@@ -47,7 +48,7 @@ impl Model for Visit {
 impl Visit {
     /// A session before its first turn.
     pub fn new(alloc: Global) -> Visit
-        ensures { result ≡ new_visit }
+        ensures made { result ≡ new_visit }
     {
         Visit {
             talk: Talk::new(),
@@ -58,14 +59,15 @@ impl Visit {
 
     /// Whether a commit of the session is pending.
     pub fn is_pending(&self) -> bool
-        ensures { result ≡ nat_lt 0 (length (waiting_of self.now.book)) }
+        ensures pending { result ≡ nat_lt 0 (length (waiting_of self.now.book)) }
     {
         self.book.is_pending()
     }
 
-    /// Whether the lines of this many further bytes can be counted: fewer than 2^64 lines are answered in a session.
+    /// Whether the lines that may end in this many further bytes can be counted: fewer than 2^64 lines are answered in a
+    /// session.
     pub fn can_hear(&self, count: usize) -> bool
-        ensures { IsTrue result ↔ self.now.talk.served.lines + count < 2 ^ 64 }
+        ensures room { IsTrue result ↔ self.now.talk.served.lines + count < 2 ^ 64 }
     {
         count as u64 <= u64::MAX - self.talk.served().lines
     }
@@ -75,7 +77,7 @@ impl Visit {
     /// None if no commit is pending, or if no release step of it was made.
     pub fn left(&self, clock: Option<u64>) -> Option<u64>
         ensures none { length (waiting_of self.now.book) ≡ 0 → result ≡ None }
-        ensures some { IfSome result (λ left. (pause_margin ≤ left) × (left ≤ max_pause + pause_margin)) }
+        ensures bounds { IfSome result (λ left. (pause_margin ≤ left) × (left ≤ max_pause + pause_margin)) }
     {
         if !self.book.is_pending() {
             return None;
@@ -130,6 +132,19 @@ impl<'a, R: Wait, C: Clock> Post<'a, R, C> {
         (post, Visit { talk, lease, book }, done)
     }
 }
+
+/// A law of turns: before its first byte a session stands at the post at which it begins, and one that stands at a post
+/// stands at each that this post becomes. A post becomes what it is, and what it becomes becomes. So whatever other
+/// sessions a post serves between two turns of a session, that session stands at it.
+pub fn visit_laws<C: Clock, V: Presence>()
+    ensures first { (waits : ℕ) (client : V) (post : PostState C)
+        → StandsAt C.gives C.failed V.says waits post client [] [] new_visit post }
+    ensures later { (waits : ℕ) (client : V) (first : PostState C) (bytes text : List ℕ) (visit : VisitState) (post later : PostState C)
+        → StandsAt C.gives C.failed V.says waits first client bytes text visit post → PostGoesOn post later
+        → StandsAt C.gives C.failed V.says waits first client bytes text visit later }
+    ensures same { (post : PostState C) → PostGoesOn post post }
+    ensures both { (one two three : PostState C) → PostGoesOn one two → PostGoesOn two three → PostGoesOn one three }
+{}
 
 /// One turn of the session of a station: takes further bytes, answers each line that ends in them, and hands the replies
 /// of each step over.

@@ -7,12 +7,13 @@ use std::sync::Wait;
 use std::test::Fail;
 use tt_connections::{Post, Presence, Terms, Visit};
 use tt_daemon::Fused;
-use tt_publish::{MemoryClock, open};
+use tt_publish::{MemoryClock, Watch, open};
 use tt_span::{Drift, Span};
 use tt_stamp::Sequencer;
 use tt_stream::MemoryWriter;
 
 /// A client that never leaves, whose device has a clock.
+#[derive(Drop)]
 struct Device {
     clock: u64,
 }
@@ -31,6 +32,25 @@ impl Presence for Device {
     fn clock(&self) -> Option<u64> {
         Some(self.clock)
     }
+}
+
+/// A watch that has seen [100, 200] at 0, by a clock without drift.
+fn seen<R: Wait>(rt: &R, alloc: Global) -> Option<Watch> {
+    let (span, drift) = (Span::new(100, 200).ok()?, Drift::new(0)?);
+    let fused = Fused::make(0, &[span], 0).ok()?;
+    let Ok((mut teller, mut watches)) = open(rt, alloc, drift, 1) else {
+        return None;
+    };
+    let published = teller.publish(rt, fused);
+    let mut watch = watches.pop();
+    if let Some(watch) = &mut watch {
+        let _ = watch.now(&mut MemoryClock::new(&[0], None));
+    }
+    teller.close(rt);
+    if published.is_err() {
+        return None;
+    }
+    watch
 }
 
 /// One turn of this session, whose clients' clocks show 1000: the post and the session, if exactly these replies were
@@ -56,11 +76,7 @@ fn turn<'a, 'c, R: Wait>(
 
 #[test]
 fn a_pending_commit_waits_while_another_session_goes_on(rt: HostRuntime) -> Result<(), Fail> {
-    let fused = Fused::make(0, &[Span::new(100, 200)?], 0)?;
-    let drift = Drift::new(0).ok_or("a drift")?;
-    let (mut teller, mut watches) = open(&rt, rt.alloc(), drift, 1)?;
-    assert!(rt; teller.publish(&rt, fused) == Ok(()));
-    let watch = watches.pop().ok_or("a watch")?;
+    let watch = seen(&rt, rt.alloc()).ok_or("a watch")?;
     let (sequencer, mut seats) = Sequencer::open(rt.alloc(), 1)?;
     let seat = seats.pop().ok_or("a seat")?;
     let terms = Terms {
@@ -95,6 +111,5 @@ fn a_pending_commit_waits_while_another_session_goes_on(rt: HostRuntime) -> Resu
     let device = Device { clock: 1000 };
     first.finish(&device);
     second.finish(&device);
-    teller.close(&rt);
     Ok(())
 }
