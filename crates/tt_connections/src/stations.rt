@@ -68,7 +68,10 @@ impl<'a, 'c, R: Wait, C: Clock, V: Presence> Station<'a, 'c, R, C, V> {
         ensures book { result.2 ≡ self.entry.book }
     {
         let Station {
-            post, lease, book, ..
+            post,
+            lease,
+            book,
+            ..
         } = self;
         (post, lease, book)
     }

@@ -31,8 +31,12 @@ loop-rest-preserved g c =
     let step = c.in_ok-taken.ensures.ok in
     let left = ap length c.split_at.ensures.back ∙ length-drop n rest in
     record {
-      stands = (done ++ take n rest, moved_on _ done rest _ n split c.split_at.ensures.back, TalksOn-trans g.S.Service.allows c.args.waits _ _ _ _ _ _ _ _ _ done (take n rest) on
-          (TalksOn-steps g.S.Service.allows c.args.waits _ _ _ _ _ _ (take n rest) step.text step.is_commit step.steps step.written));
+      stands = (
+        done ++ take n rest,
+        moved_on _ done rest _ n split c.split_at.ensures.back,
+        TalksOn-trans g.S.Service.allows c.args.waits _ _ _ _ _ _ _ _ _ done (take n rest) on
+            (TalksOn-steps g.S.Service.allows c.args.waits _ _ _ _ _ _ (take n rest) step.text step.is_commit step.steps step.written),
+      );
       part = c.in_ok-taken.ensures.part;
       few = omega (arith, is.few, c.in_ok-taken.ensures.few, c.in_ok-taken.ensures.taken, left);
       flushed = λ whole. c.in_ok-taken.ensures.flushed (is.flushed whole);

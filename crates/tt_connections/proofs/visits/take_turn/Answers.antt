@@ -52,8 +52,8 @@ loop-rest-preserved g c =
         done ++ take n rest,
         moved_on c.args.bytes.now done rest _ n split c.split_at.ensures.back,
         turns-step g.C.Clock.gives g.C.Clock.failed g.V.Presence.says c.args.waits old.client
-        (g.O.ByteWriter.taken c.args.writer.now) (g.O.ByteWriter.taken c.loop-rest.writer) (g.O.ByteWriter.taken c.go_on.new.writer) (visit_of old c.args.talk.now) old.post
-        mid new c.loop-rest.talk c.go_on.new.talk done (take n rest) on is.client s,
+            (g.O.ByteWriter.taken c.args.writer.now) (g.O.ByteWriter.taken c.loop-rest.writer) (g.O.ByteWriter.taken c.go_on.new.writer) (visit_of old c.args.talk.now) old.post
+            mid new c.loop-rest.talk c.go_on.new.talk done (take n rest) on is.client s,
       );
       client =
           step-client g.C.Clock.gives g.C.Clock.failed g.V.Presence.says c.args.waits old.client
