@@ -112,6 +112,7 @@ impl<'a, R: Wait, C: Clock> Post<'a, R, C> {
         waits: u32,
     ) -> (Self, Visit, Result<(), DeviceFault>)
         requires room { visit.talk.served.lines + length bytes.now < 2 ^ 64 }
+        ensures more { result.1.talk.served.lines ≤ visit.talk.served.lines + length bytes.now }
         ensures goes { PostGoesOn self.entry result.0 }
         ensures ok { OnOk result.2 (TurnsOn C.gives C.failed V.says waits (O.taken writer.old) (O.taken writer.new)
             client.now bytes.now visit self.entry result.1 result.0) }
@@ -158,6 +159,7 @@ fn take_turn<'a, 'c, R: Wait, C: Clock, V: Presence, O: ByteWriter>(
     requires part { IsPartOfLine talk.old.line }
     requires room { talk.old.served.lines + length bytes.now < 2 ^ 64 }
     ensures part { IsPartOfLine talk.new.line }
+    ensures more { talk.new.served.lines ≤ talk.old.served.lines + length bytes.now }
     ensures goes { PostGoesOn station.old.post station.new.post }
     ensures ok { OnOk result (TurnsOn C.gives C.failed V.says waits (O.taken writer.old) (O.taken writer.new) station.old.client
         bytes.now (visit_of station.old talk.old) station.old.post (visit_of station.new talk.new) station.new.post) }
