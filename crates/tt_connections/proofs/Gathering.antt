@@ -20,7 +20,7 @@ use Rattle.tt_session.specs.declared.steps.Stop.TheVariants as stop
 use Rattle.tt_session.proofs.Following.{Stands-more}
 use Rattle.tt_session.proofs.Hearing.{Kept-later}
 use Rattle.tt_session.proofs.Splitting.{split_only}
-use Rattle.tt_connections.specs.Together.{IsPartOfLine, BreaksOffInStepFlushed, BreaksWithin}
+use Rattle.tt_connections.specs.Together.{IsPartOfLine, StepsCut, BreaksOffInStepFlushed, BreaksWithin}
 
 -- ---- further bytes have no more lines than bytes
 -- a byte in front of the first line makes no more lines
@@ -112,38 +112,56 @@ module _ {S : Type 0} (allows : S → Call → S → Type 0) (waits : ℕ) where
       absurd (omega (arith, step-few before after talk talks bytes steps.text taken false part steps.steps, stops.0, stops.1.1, room))
 
   -- a step, of whose replies a front was written
-  pub BreaksWithin-step : {W : Type 0} (shows : W → Option (List ℕ)) (flushed : W → Bool) (old new : W) (mid after : S) (talk talks : TalkState) (bytes text : List ℕ) (taken n : ℕ) (is_commit : Bool)
+  pub steps-cut : (took takes : Option (List ℕ)) (mid after : S) (talk talks : TalkState) (bytes text : List ℕ) (taken n : ℕ) (is_commit : Bool)
       → Steps allows waits mid talk (take taken bytes) after talks text is_commit
       → 0 < length text
-      → Appends (shows old) (shows new) (take n text)
+      → Appends took takes (take n text)
+      → StepsCut allows waits took mid talk bytes takes after talks
+  steps-cut took takes mid after talk talks bytes text taken n is_commit steps some written =
+      record {
+        own = take taken bytes;
+        unheard = drop taken bytes;
+        bytes_are = sym (take-append-drop taken bytes);
+        text = text;
+        is_commit = is_commit;
+        steps = steps;
+        front = take n text;
+        cut = drop n text;
+        some = some;
+        text_is = sym (take-append-drop n text);
+        written = written;
+      }
+
+  -- behind a session so far
+  pub BreaksWithin-cut : {W : Type 0} (shows : W → Option (List ℕ)) (flushed : W → Bool) (old new : W) (mid after : S) (talk talks : TalkState) (bytes : List ℕ)
+      → StepsCut allows waits (shows old) mid talk bytes (shows new) after talks
       → BreaksWithin allows waits shows flushed old mid talk bytes new after
-  BreaksWithin-step shows flushed old new mid after talk talks bytes text taken n is_commit steps some written had first past t =
-      let own = take taken bytes in
-      let stands = Stands-more allows waits first mid after past own t.text text talk talks is_commit t.stands steps in
+  BreaksWithin-cut shows flushed old new mid after talk talks bytes s had first past t =
+      let stands = Stands-more allows waits first mid after past s.own t.text s.text talk talks s.is_commit t.stands s.steps in
       record {
         off =
             record {
               past = past;
-              own = own;
-              unheard = drop taken bytes;
-              bytes_are = ap (λ l. past ++ l) (sym (take-append-drop taken bytes)) ∙ sym (append_assoc past own (drop taken bytes));
+              own = s.own;
+              unheard = s.unheard;
+              bytes_are = ap (λ l. past ++ l) s.bytes_are ∙ sym (append_assoc past s.own s.unheard);
               mid = mid;
               talk = talk;
               told = t.text;
               stood = t.stands;
               talks = talks;
-              text = text;
-              is_commit = is_commit;
-              step = steps;
+              text = s.text;
+              is_commit = s.is_commit;
+              step = s.steps;
               rest = stands.rest;
               session = stands.session;
-              front = take n text;
-              cut = drop n text;
-              some = some;
-              text_is = sym (take-append-drop n text);
-              written = Appends-trans had (shows old) (shows new) t.text (take n text) t.written written;
+              front = s.front;
+              cut = s.cut;
+              some = s.some;
+              text_is = s.text_is;
+              written = Appends-trans had (shows old) (shows new) t.text s.front t.written s.written;
             };
-        kept = record { mid = old; stays = λ whole. whole; had = t.written; has = written };
+        kept = record { mid = old; stays = λ whole. whole; had = t.written; has = s.written };
       }
 
   -- further bytes, and behind them some in which the session broke off

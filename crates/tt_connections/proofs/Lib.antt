@@ -3,3 +3,4 @@ mod Gathering
 mod Tallying
 pub mod Leasing
 pub mod Turning
+pub mod Visiting

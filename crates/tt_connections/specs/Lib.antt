@@ -2,6 +2,7 @@ pub mod Fault
 pub mod Together
 pub mod Station
 pub mod Turns
+pub mod Visits
 pub mod Sessions
 pub mod Path
 pub mod Waiting

@@ -11,6 +11,27 @@ use Rattle.tt_session.specs.declared.calls.Call.{Call}
 abbrev pub IsPartOfLine : List ℕ → Type 0
 IsPartOfLine kept = (come : List ℕ) × HasNoEnd come × IsKept kept come
 
+-- a step over these bytes, whose replies were written
+pub record StepsWritten {S : Type 0} (allows : S → Call → S → Type 0) (waits : ℕ) (taken : Option (List ℕ)) (before : S) (talk : TalkState) (bytes : List ℕ) (taken' : Option (List ℕ)) (after : S) (talks : TalkState) : Type 0 where
+  pub text : List ℕ
+  pub is_commit : Bool
+  pub steps : Steps allows waits before talk bytes after talks text is_commit
+  pub written : Appends taken taken' text
+
+-- a step over the first of these bytes, whose replies, which are some, were cut
+pub record StepsCut {S : Type 0} (allows : S → Call → S → Type 0) (waits : ℕ) (taken : Option (List ℕ)) (before : S) (talk : TalkState) (bytes : List ℕ) (taken' : Option (List ℕ)) (after : S) (talks : TalkState) : Type 0 where
+  pub own : List ℕ
+  pub unheard : List ℕ
+  pub bytes_are : bytes ≡ own ++ unheard
+  pub text : List ℕ
+  pub is_commit : Bool
+  pub steps : Steps allows waits before talk own after talks text is_commit
+  pub front : List ℕ
+  pub cut : List ℕ
+  pub some : 0 < length text
+  pub text_is : text ≡ front ++ cut
+  pub written : Appends taken taken' front
+
 -- a session of some bytes broke off in the replies of its last step: all replies before them were written, and of them a front was. In a step only the last line can be that of a commit, so no line was answered behind a commit whose reply was not written whole
 pub record BreaksOffInStep {S : Type 0} (allows : S → Call → S → Type 0) (waits : ℕ) (taken taken' : Option (List ℕ)) (before : S) (bytes : List ℕ) (after : S) : Type 0 where
   -- the bytes before the last step, those that it took, and those behind them

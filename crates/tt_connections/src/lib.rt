@@ -12,11 +12,16 @@
 //! came together are handed over together. The service of that session alone is a [`Station`], with a book of its own. So
 //! no session sees anything of another one, and its memory is freed when it ends.
 //!
+//! A worker can serve many sessions by turns instead. What is kept of each between its turns is a [`Visit`], and the post
+//! is lent to one of them for a turn, by [`Post::turn`].
+//!
 //! ```text
 //! let post = Post::new(&rt, rt.alloc(), watch, clock, seat, &sequencer, Terms { lease, stampers, ahead, max_width });
 //! let (post, first) = post.serve(&client, &mut reader, &mut writer, turns);
 //! // the same post serves the next client
 //! let (post, second) = post.serve(&other_client, &mut other_reader, &mut other_writer, turns);
+//! // a turn of a session that goes on later
+//! let (post, visit, done) = post.turn(&client, visit, bytes, &mut writer, &mut replies, waits);
 //! ```
 //!
 //! - `listeners`: [`Listener`], and what may stand at the path of a Unix socket. `queues`: [`Queue`].
@@ -24,8 +29,9 @@
 //! - `lines`: the reader and the writer of a session, and [`Counts`]. `tallies`: what bytes of replies count. `presence`:
 //!   [`Presence`], whether a client is still there and whether the machine is broken, and `sights`: both for the client of
 //!   a socket. `clocks`: [`MachineClock`].
-//! - `posts`: [`Post`], and [`Post::serve`]. `stations`: [`Station`], the service of one session. `together`:
-//!   [`serve_together`], one session whose replies are handed over together. `faults`: why a station refuses a call.
+//! - `posts`: [`Post`], and [`Post::serve`]. `stations`: [`Station`], the service of one session, and `pages`: its book.
+//!   `together`: [`serve_together`], one session whose replies are handed over together. `visits`: [`Visit`], what is kept
+//!   of a session between two turns, and [`Post::turn`]. `faults`: why a station refuses a call.
 //!
 //! The functions over values are proved: what is done at the path of a Unix socket, when connections are handed over, how
 //! long the acceptor waits, and when a client has left. So is all of a session, and that no reading of a [`MachineClock`]
@@ -37,6 +43,7 @@ mod clocks;
 mod faults;
 mod lines;
 mod listeners;
+mod pages;
 mod posts;
 mod presence;
 mod queues;
@@ -44,6 +51,7 @@ mod sights;
 mod stations;
 mod tallies;
 mod together;
+mod visits;
 
 pub use acceptors::{Acceptor, Backlog, Listeners};
 pub use clocks::{MachineClock, reading_of};
@@ -57,3 +65,4 @@ pub use sights::{Client, Sight};
 pub use stations::Station;
 pub use tallies::{Tally, tally_of};
 pub use together::serve_together;
+pub use visits::{Visit, visit_laws};

@@ -1,15 +1,14 @@
 //! The service of one session.
 
-ghost use Rattle.std.specs.Prelude.{◌≡◌, ◌⊎◌, nat_lt, length, [], Bool, None, Ok, Err};
+ghost use Rattle.std.specs.Prelude.{◌≡◌, ◌⊎◌, [], Bool, None, Ok, Err};
 ghost use Rattle.tt_span.specs.Interval.{whole};
-ghost use Rattle.tt_stamp.specs.History.{waiting_of};
-ghost use Rattle.tt_session.specs.Commits.{ReleasesBy};
 ghost use Rattle.tt_session.specs.Fault.{line_number_of};
 ghost use Rattle.tt_session.specs.declared.faults.LineFault.TheVariants.{BadLine};
 ghost use Rattle.tt_connections.specs.declared.presence.Question.TheVariants.{IsBroken};
-ghost use Rattle.tt_connections.specs.Station.{Allows, AnswersReceipt, BeginsAt, LooksPost, QueuesPage, SetsLease, admission, book_before};
+ghost use Rattle.tt_connections.specs.Station.{Allows, AnswersReceipt, BeginsAt, LooksPost, SetsLease, admission};
 
 use crate::faults::StationFault;
+use crate::pages::Page;
 use crate::posts::Post;
 use crate::presence::Presence;
 use std::alloc::Global;
@@ -18,85 +17,7 @@ use std::sync::Wait;
 use tt_publish::{Clock, Reading};
 use tt_session::{CommitBook, CommitFault, Service, begin_commit};
 use tt_span::Span;
-use tt_stamp::{Book, BookFault, Id, Receipt};
-
-/// The book of a session. If no commit is pending, the next one is queued into an empty book. In contracts it is its
-/// book.
-#[derive(Drop)]
-struct Page {
-    book: Book,
-    alloc: Global,
-    /// The stamp of the commit that was queued last, in nanoseconds.
-    stamp: u64,
-    /// The last release step of this commit, if one was made, and it was not released.
-    missed: Option<Missed>,
-}
-
-/// A release step that did not release its commit, in nanoseconds.
-#[derive(Clone, Copy)]
-struct Missed {
-    /// The earliest of its reading.
-    earliest: u64,
-    /// What the client's device showed then, if it has a clock.
-    clock: Option<u64>,
-}
-
-impl Model for Page {
-    ghost use Rattle.std.specs.Prelude.{List};
-    ghost use Rattle.tt_stamp.specs.declared.commits.Entry.{Entry};
-
-    ghost Value = { List Entry };
-
-    ghost view = { λ p. p.book };
-}
-
-impl Page {
-    /// The book of a session in which nothing has happened.
-    fn new(alloc: Global) -> Self
-        ensures { result ≡ [] }
-    {
-        Page {
-            book: Book::new(alloc),
-            alloc,
-            stamp: 0,
-            missed: None,
-        }
-    }
-
-    /// Whether a commit is pending.
-    fn is_pending(&self) -> bool
-        ensures { result ≡ nat_lt 0 (length (waiting_of self.now)) }
-    {
-        self.book.waiting() > 0
-    }
-
-    /// Makes the book ready for a commit: if none is pending, a new book begins.
-    fn turn(&mut self)
-        ensures { self.new ≡ book_before self.old }
-    {
-        if self.book.waiting() == 0 {
-            self.book = Book::new(self.alloc);
-        }
-    }
-}
-
-impl CommitBook for Page {
-    ghost queues = { QueuesPage };
-
-    ghost releases = { ReleasesBy };
-
-    fn queue_commit(&mut self, id: Id, stamp: u64) -> Result<(), BookFault> {
-        self.turn();
-        self.book.queue_commit(id, stamp)?;
-        self.stamp = stamp;
-        self.missed = None;
-        Ok(())
-    }
-
-    fn release_commits(&mut self, reading: &Reading, id: Id) -> Option<Receipt> {
-        self.book.release_commits(reading, id)
-    }
-}
+use tt_stamp::Id;
 
 /// The service of one session: the post of its worker, its client, a lease and a book of its own. In contracts it is
 /// these four.
@@ -125,12 +46,34 @@ impl<'a, 'c, R: Wait, C: Clock, V: Presence> Station<'a, 'c, R, C, V> {
     pub fn open(post: Post<'a, R, C>, alloc: Global, client: &'c V) -> Self
         ensures opened { result ≡ record { post = post.entry; client = client.now; lease = whole; book = [] } }
     {
+        Self::resume(post, client, Span::whole(), Page::new(alloc))
+    }
+
+    /// The service of this client in a session that goes on: with this lease and this book.
+    pub(crate) fn resume(post: Post<'a, R, C>, client: &'c V, lease: Span, book: Page) -> Self
+        ensures resumed { result ≡ record { post = post.entry; client = client.now; lease = lease; book = book } }
+    {
         Station {
             post,
             client,
-            lease: Span::whole(),
-            book: Page::new(alloc),
+            lease,
+            book,
         }
+    }
+
+    /// Gives the post back, with the lease and the book of the session, which goes on later.
+    pub(crate) fn suspend(self) -> (Post<'a, R, C>, Span, Page)
+        ensures post { result.0 ≡ self.entry.post }
+        ensures lease { result.1 ≡ self.entry.lease }
+        ensures book { result.2 ≡ self.entry.book }
+    {
+        let Station {
+            post,
+            lease,
+            book,
+            ..
+        } = self;
+        (post, lease, book)
     }
 
     /// Ends the session, and gives the post back. The client's device is told if a commit is still pending.
@@ -194,15 +137,11 @@ impl<'a, 'c, R: Wait, C: Clock, V: Presence> Station<'a, 'c, R, C, V> {
     /// Waits until the stamp of the pending commit should have passed, if a release step was made since the commit began:
     /// for the time from the earliest of the step's reading to the stamp, less what has gone by since.
     fn wait_on(&self) {
-        let Some(missed) = self.book.missed else {
+        let Some(missed) = self.book.missed() else {
             return;
         };
-        let gone = match (missed.clock, self.client.clock()) {
-            (Some(then), Some(now)) => now.saturating_sub(then),
-            _ => 0,
-        };
         self.post
-            .pause(self.book.stamp, missed.earliest.saturating_add(gone));
+            .pause(missed.stamp, missed.earliest_by(self.client.clock()));
     }
 
     /// The answer for a pending commit, after a step by a reading with this earliest: no, or a refusal if the client has
@@ -214,10 +153,7 @@ impl<'a, 'c, R: Wait, C: Clock, V: Presence> Station<'a, 'c, R, C, V> {
         if self.client.has_left() {
             return Err(StationFault::ClientLeft.number());
         }
-        self.book.missed = Some(Missed {
-            earliest,
-            clock: self.client.clock(),
-        });
+        self.book.miss(earliest, self.client.clock());
         Ok(false)
     }
 }

@@ -6,7 +6,7 @@ ghost use Rattle.tt_stream.specs.Counts.{HasFailed, CountsOn};
 ghost use Rattle.tt_session.specs.Session.{Serves, StaysFlushed};
 ghost use Rattle.tt_session.specs.Talks.{TalksOn};
 ghost use Rattle.tt_session.specs.declared.serving.Served.{Served};
-ghost use Rattle.tt_connections.specs.Together.{IsPartOfLine, BreaksInStep, BreaksInStepFlushed, BreaksWithin};
+ghost use Rattle.tt_connections.specs.Together.{IsPartOfLine, StepsWritten, StepsCut, BreaksInStep, BreaksInStepFlushed, BreaksWithin};
 
 use tt_session::{Replies, ServeFault, Served, Service, Talk, Turns};
 use tt_stream::{ByteReader, ByteWriter, DeviceFault, write_all};
@@ -105,7 +105,7 @@ fn turn<W: ByteWriter, S: Service>(
 
 /// One step of a session over these bytes, whose replies are handed over. Answers how many of the bytes it took: one at
 /// least. Nothing of what `replies` has counts: it is room.
-fn go_on<W: ByteWriter, S: Service>(
+pub(crate) fn go_on<W: ByteWriter, S: Service>(
     bytes: &[u8],
     writer: &mut W,
     service: &mut S,
@@ -121,10 +121,10 @@ fn go_on<W: ByteWriter, S: Service>(
     ensures taken { IfOk result (λ taken. taken ≤ length bytes.now) }
     ensures few { IfOk result (λ taken. talk.new.served.lines ≤ talk.old.served.lines + taken) }
     ensures more { talk.new.served.lines ≤ talk.old.served.lines + length bytes.now }
-    ensures ok { IfOk result (λ taken. TalksOn S.allows waits (W.taken writer.old) service.old talk.old (take taken bytes.now)
+    ensures ok { IfOk result (λ taken. StepsWritten S.allows waits (W.taken writer.old) service.old talk.old (take taken bytes.now)
         (W.taken writer.new) service.new talk.new) }
-    ensures err { OnErr result (BreaksWithin S.allows waits W.taken W.flushed writer.old service.old talk.old bytes.now
-        writer.new service.new) }
+    ensures err { OnErr result (StepsCut S.allows waits (W.taken writer.old) service.old talk.old bytes.now
+        (W.taken writer.new) service.new talk.new) }
     ensures flushed { OnOk result (StaysFlushed W.flushed writer.old writer.new) }
     ensures sound { OnOk result (W.failed writer.new ≡ W.failed writer.old) }
     ensures cause { OnErr result (HasFailed (W.failed writer.old) (W.failed writer.new)) }

@@ -1,7 +1,7 @@
 use Rattle.std.proofs.Common.{◌<◌, length, take, subst, arith, ◌∙◌}
 use Rattle.std.specs.Io.KnownBytes.{Appends}
-use Rattle.tt_session.proofs.Hearing.{TalksOn-steps, on_err}
-use Rattle.tt_connections.proofs.Gathering.{step-part, step-few, step-some, own_text, BreaksWithin-step}
+use Rattle.tt_session.proofs.Hearing.{on_err}
+use Rattle.tt_connections.proofs.Gathering.{step-part, step-few, step-some, own_text, steps-cut}
 use Rattle.tt_connections.proofs.together.go_on.Goals as goal
 
 pub returns-in_err-hand_over-clause-part : goal.returns-in_err-hand_over-clause-part
@@ -18,7 +18,7 @@ returns-in_err-hand_over-clause-err g c =
     let is = c.deref.ensures.0 ∙ own_text g.S.Service.allows c.args.waits _ _ _ _ _ _ _ _ c.clear.ensures steps in
     let (n, written) = c.in_err-hand_over.ensures.err in
     on_err c.from_residual.result
-    (BreaksWithin-step g.S.Service.allows c.args.waits g.W.ByteWriter.taken g.W.ByteWriter.flushed _ _ _ _ _ _ c.args.bytes.now steps.text c.step-step.result.taken n _ steps.steps
+    (steps-cut g.S.Service.allows c.args.waits _ _ _ _ _ _ c.args.bytes.now steps.text c.step-step.result.taken n _ steps.steps
     (subst (λ l. 0 < length l) is c.in_err-hand_over.ensures.some)
     (subst (λ l. Appends (g.W.ByteWriter.taken c.args.writer.now) (g.W.ByteWriter.taken c.hand_over.new.writer) (take n l)) is written))
 
@@ -43,5 +43,9 @@ pub returns-clause-ok : goal.returns-clause-ok
 returns-clause-ok g c =
     let steps = c.step-step.ensures.steps in
     let is = c.deref.ensures.0 ∙ own_text g.S.Service.allows c.args.waits _ _ _ _ _ _ _ _ c.clear.ensures steps in
-    TalksOn-steps g.S.Service.allows c.args.waits _ _ _ _ _ _ (take c.step-step.result.taken c.args.bytes.now) steps.text _ steps.steps
-    (subst (λ l. Appends (g.W.ByteWriter.taken c.args.writer.now) (g.W.ByteWriter.taken c.hand_over.new.writer) l) is c.in_ok-hand_over.ensures.ok)
+    record {
+      text = steps.text;
+      is_commit = _;
+      steps = steps.steps;
+      written = subst (λ l. Appends (g.W.ByteWriter.taken c.args.writer.now) (g.W.ByteWriter.taken c.hand_over.new.writer) l) is c.in_ok-hand_over.ensures.ok;
+    }

@@ -1,0 +1,122 @@
+//! The book of a session, and the pause before the next release step of its pending commit.
+
+ghost use Rattle.std.specs.Prelude.{◌≡◌, ◌≤◌, nat_lt, length, [], None};
+ghost use Rattle.tt_stamp.specs.History.{waiting_of};
+ghost use Rattle.tt_session.specs.Commits.{ReleasesBy};
+ghost use Rattle.tt_connections.specs.Station.{QueuesPage, book_before};
+
+use std::alloc::Global;
+use std::marker::Model;
+use tt_publish::Reading;
+use tt_session::CommitBook;
+use tt_stamp::{Book, BookFault, Id, Receipt};
+
+/// The book of a session. If no commit is pending, the next one is queued into an empty book. In contracts it is its
+/// book.
+#[derive(Drop)]
+pub(crate) struct Page {
+    book: Book,
+    alloc: Global,
+    /// The stamp of the commit that was queued last, in nanoseconds.
+    stamp: u64,
+    /// The last release step of this commit, if one was made, and it was not released.
+    missed: Option<Missed>,
+}
+
+/// A release step that did not release its commit, in nanoseconds.
+#[derive(Clone, Copy)]
+pub(crate) struct Missed {
+    /// The stamp of the commit.
+    pub(crate) stamp: u64,
+    /// The earliest of the step's reading.
+    earliest: u64,
+    /// What the client's device showed then, if it has a clock.
+    clock: Option<u64>,
+}
+
+impl Missed {
+    /// The earliest of the step's reading, and what has gone by since, where the client's device shows this now.
+    pub(crate) fn earliest_by(&self, clock: Option<u64>) -> u64
+        ensures { self.now.earliest ≤ result }
+    {
+        let gone = match (self.clock, clock) {
+            (Some(then), Some(now)) => now.saturating_sub(then),
+            _ => 0,
+        };
+        self.earliest.saturating_add(gone)
+    }
+}
+
+impl Model for Page {
+    ghost use Rattle.std.specs.Prelude.{List};
+    ghost use Rattle.tt_stamp.specs.declared.commits.Entry.{Entry};
+
+    ghost Value = { List Entry };
+
+    ghost view = { λ p. p.book };
+}
+
+impl Page {
+    /// The book of a session in which nothing has happened.
+    pub(crate) fn new(alloc: Global) -> Self
+        ensures { result ≡ [] }
+    {
+        Page {
+            book: Book::new(alloc),
+            alloc,
+            stamp: 0,
+            missed: None,
+        }
+    }
+
+    /// Whether a commit is pending.
+    pub(crate) fn is_pending(&self) -> bool
+        ensures { result ≡ nat_lt 0 (length (waiting_of self.now)) }
+    {
+        self.book.waiting() > 0
+    }
+
+    /// The last release step of the commit that was queued last, if one was made, and it was not released.
+    pub(crate) fn missed(&self) -> Option<Missed> {
+        self.missed
+    }
+
+    /// Notes a release step that did not release the commit: by a reading with this earliest, when the client's device
+    /// showed this.
+    pub(crate) fn miss(&mut self, earliest: u64, clock: Option<u64>)
+        ensures { self.new ≡ self.old }
+    {
+        self.missed = Some(Missed {
+            stamp: self.stamp,
+            earliest,
+            clock,
+        });
+    }
+
+    /// Makes the book ready for a commit: if none is pending, a new book begins.
+    fn turn(&mut self)
+        ensures { self.new ≡ book_before self.old }
+    {
+        if self.book.waiting() == 0 {
+            self.book = Book::new(self.alloc);
+        }
+    }
+}
+
+impl CommitBook for Page {
+    ghost queues = { QueuesPage };
+
+    ghost releases = { ReleasesBy };
+
+    fn queue_commit(&mut self, id: Id, stamp: u64) -> Result<(), BookFault> {
+        self.turn();
+        self.book.queue_commit(id, stamp)?;
+        self.stamp = stamp;
+        self.missed = None;
+        Ok(())
+    }
+
+    fn release_commits(&mut self, reading: &Reading, id: Id) -> Option<Receipt> {
+        self.book.release_commits(reading, id)
+    }
+}
