@@ -2,3 +2,4 @@ mod Serving
 mod Gathering
 mod Tallying
 pub mod Leasing
+pub mod Turning
