@@ -1,21 +1,20 @@
 -- Stampers beside the sessions of lives.
-use Rattle.std.proofs.Common.{◌≡◌, ℕ, ◌<◌, ◌≤◌, List, [], ◌∷◌, ◌++◌, map, Bool, Option, Some, ◌⊎◌, ⊎_elim, refl, sym, ap, ◌∙◌, subst, arith, All, Contains}
+use Rattle.std.proofs.Common.{◌≡◌, ℕ, ◌<◌, ◌≤◌, List, [], ◌∷◌, ◌++◌, map, Bool, Option, Some, ⊎_elim, sym, ◌∙◌, subst, arith, All, Contains}
 use Rattle.std.proofs.lemmas.List.Elements.{All-contains}
 use Rattle.tt_span.specs.Interval.{Interval, Holds, Meets}
 use Rattle.tt_judge.specs.Consistency.{IsConsistent}
 use Rattle.tt_judge.specs.declared.history.Commit.{Commit}
 use Rattle.tt_stamp.proofs.Ids.{Contains-here, Contains-there, Contains-nil, Contains-cases}
-use Rattle.tt_connections.specs.Sessions.{WorkerSession, AreServedInTurn, post_after}
-use Rattle.tt_connections.specs.Station.{PostState}
+use Rattle.tt_connections.specs.Sessions.{WorkerSession, IsServedBetween}
 use Rattle.tt_connections.specs.declared.presence.Question.{Question}
-use Rattle.tt_consistency.specs.Assumed.{TimedLife, IsLived, IsSeenInOneOf, timed_of}
+use Rattle.tt_consistency.specs.Assumed.{TimedLife, IsLived, IsSeenInOneOf}
 use Rattle.tt_consistency.specs.Lives.{Life, WorkerLife, WorksIn, IsLife}
 use Rattle.tt_consistency.specs.Order.{BeginsAt, IsWithin}
 use Rattle.tt_consistency.specs.Stampers.{GivenStamp, stamp_in, FollowsRule, Stamper, IsRightStamper, IsSeenAtStamper, IsSeenInEither}
-use Rattle.tt_consistency.specs.Timed.{CallTimes, TimedSession, IsTimed}
+use Rattle.tt_consistency.specs.Timed.{CallTimes, TimedSession, IsTimed, timed_of}
 use Rattle.tt_consistency.proofs.Judging.{within-consistent}
-use Rattle.tt_consistency.proofs.Leasing.{session-keeps, session-machine, session-outside}
-use Rattle.tt_consistency.proofs.Living.{lived-timed, seen-timed, timed-same}
+use Rattle.tt_consistency.proofs.Leasing.{session-machine, session-outside}
+use Rattle.tt_consistency.proofs.Living.{lived-timed}
 use Rattle.tt_consistency.proofs.Walking.{session-within}
 
 -- ---- one stamper
@@ -62,41 +61,15 @@ stamper-within stamper commit right seen =
 
 module _ {C V : Type 0} (gives : C → Option ℕ → C → Type 0) (failed : C → ℕ) (says : V → Question → Bool → Type 0) (waits : ℕ) where
   -- ---- the terms of a life
-  -- the second post has the lease and the stampers of the first
-  abbrev Same : PostState C → PostState C → Type 0
-  Same before after = (after.lease ≡ before.lease) × (after.stampers ≡ before.stampers)
-
-  keeps : (session : WorkerSession gives failed says waits) → Same session.before session.after
-  keeps session =
-      let timed : TimedSession gives failed says = timed_of session [] in
-      let same = timed-same gives failed says waits session [] in
-      subst (λ (post : PostState C). Same post session.after) same.0 (subst (λ (post : PostState C). Same timed.post post) same.1 (session-keeps gives failed says timed))
-
-  keeps-all : (post : PostState C) (sessions : List (WorkerSession gives failed says waits)) → AreServedInTurn post sessions → Same post (post_after post sessions)
-  keeps-all post [] turn = (refl, refl)
-  keeps-all post (session ∷ sessions) turn =
-      let rest = keeps-all post sessions turn.1 in
-      let last : Same (post_after post sessions) session.after = subst (λ (p : PostState C). Same p session.after) turn.0 (keeps session) in
-      (last.0 ∙ rest.0, last.1 ∙ rest.1)
-
-  begins-same : (post : PostState C) (sessions : List (WorkerSession gives failed says waits)) → AreServedInTurn post sessions → (session : WorkerSession gives failed says waits) → Contains sessions session → Same post session.before
-  begins-same post [] turn session inside = absurd (Contains-nil session inside)
-  begins-same post (first ∷ sessions) turn session inside =
-      ⊎_elim
-      (λ same. subst (λ (s : WorkerSession gives failed says waits). Same post s.before) same (subst (Same post) (sym turn.0) (keeps-all post sessions turn.1)))
-      (λ there. begins-same post sessions turn.1 session there)
-      (Contains-cases first sessions session inside)
-
   pub life-stamps : (life : Life gives failed says waits) (worker : WorkerLife gives failed says waits) (session : WorkerSession gives failed says waits) (times : List CallTimes) (place number stamp : ℕ)
       → IsLife life → Contains life.workers worker → Contains worker.sessions session → BeginsAt (timed_of session times).calls place number stamp
       → Holds life.lease stamp × ((stampers : Interval) → life.stampers ≡ Some stampers → Holds stampers stamp → ⊥)
   life-stamps life worker session times place number stamp proved of_life of_worker begins =
       let timed : TimedSession gives failed says = timed_of session times in
       let works : WorksIn life worker = All-contains (WorksIn life) life.workers worker proved.workers of_life in
-      let begun = begins-same worker.post worker.sessions works.in_turn session of_worker in
-      let same = timed-same gives failed says waits session times in
-      let lease : timed.post.lease ≡ life.lease = ap (λ (p : PostState C). p.lease) same.0 ∙ (begun.0 ∙ works.lease) in
-      let stampers : timed.post.stampers ≡ life.stampers = ap (λ (p : PostState C). p.stampers) same.0 ∙ (begun.1 ∙ works.stampers) in (
+      let between : IsServedBetween worker.post worker.last session = All-contains (IsServedBetween worker.post worker.last) worker.sessions session works.in_turn of_worker in
+      let lease : timed.post.lease ≡ life.lease = between.0.lease ∙ works.lease in
+      let stampers : timed.post.stampers ≡ life.stampers = between.0.stampers ∙ works.stampers in (
         subst (λ (l : Interval). Holds l stamp) lease (session-machine gives failed says timed place number stamp begins),
         λ taken has. session-outside gives failed says timed place number stamp taken (stampers ∙ has) begins,
       )
@@ -105,7 +78,7 @@ module _ {C V : Type 0} (gives : C → Option ℕ → C → Type 0) (failed : C 
   life-within : (lives : List (TimedLife gives failed says waits)) → All IsLived lives → (commit : Commit) → IsSeenInOneOf lives commit → IsWithin commit
   life-within lives are commit at =
       let timed : IsTimed gives failed says (timed_of at.session at.times) = lived-timed gives failed says waits at.lived (All-contains IsLived lives at.lived are at.among) at.session at.times at.served in
-      session-within gives failed says (timed_of at.session at.times) commit timed (seen-timed gives failed says waits at.session at.times commit at.seen)
+      session-within gives failed says (timed_of at.session at.times) commit timed at.seen
 
   pub either-consistent : (lives : List (TimedLife gives failed says waits)) (stampers : List Stamper) (history : List Commit) → All IsLived lives → All IsRightStamper stampers → All (IsSeenInEither lives stampers) history → IsConsistent history
   either-consistent lives stampers history are right seen =

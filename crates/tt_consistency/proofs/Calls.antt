@@ -1,9 +1,9 @@
--- What one call of a station says: of its answer, of its book and of its seat.
-use Rattle.std.proofs.Common.{◌≡◌, ℕ, ◌+◌, ◌≤◌, max, min, nat_lt, if◌then◌else◌, List, [], ◌∷◌, ◌++◌, Bool, true, false, Option, Some, None, Result, Ok, Err, refl, sym, ap, ◌∙◌, subst, arith, append_assoc}
+-- What one call of a station says: of its answer and of its book.
+use Rattle.std.proofs.Common.{◌≡◌, ℕ, ◌+◌, ◌≤◌, max, nat_lt, if◌then◌else◌, List, ◌∷◌, Bool, true, false, Option, Some, None, Result, Ok, Err, refl, ap, subst, arith}
 use Rattle.std.specs.Prelude.{IfOk, MatchBool, MatchOption, IsOkUnless}
 use Rattle.tt_span.specs.Interval.{Interval, Holds}
 use Rattle.tt_stamp.specs.History.{receipt_of, first_queue_fault, IsLegalHistory, MayQueue, Waits}
-use Rattle.tt_stamp.specs.Stamping.{SeatState, Continues, Gives}
+use Rattle.tt_stamp.specs.Stamping.{SeatState, Gives}
 use Rattle.tt_stamp.specs.Steps.{Stamps}
 use Rattle.tt_stamp.specs.declared.commits.Id.{Id}
 use Rattle.tt_stamp.specs.declared.commits.Entry.{Entry}
@@ -34,39 +34,6 @@ queued_may old new id stamp queues =
     (first_queue_fault-none-iff old id stamp).0 (queue_may (first_queue_fault old id stamp) queues.fault)
 
 -- ---- what a seat does
-pub record GoesOn (old new : SeatState) : Type 0 where
-  pub numbers : new.numbers ≡ old.numbers
-  pub after : Continues old.seen new.seen
-
-pub goes_on-same : (old new : SeatState) → new ≡ old → GoesOn old new
-goes_on-same old new is = record { numbers = ap (λ (s : SeatState). s.numbers) is; after = ([], ap (λ (s : SeatState). s.seen) is) }
-
-pub goes_on-both : (old mid new : SeatState) → GoesOn old mid → GoesOn mid new → GoesOn old new
-goes_on-both old mid new first second = record {
-  numbers = second.numbers ∙ first.numbers;
-  after = (
-    second.after.0 ++ first.after.0,
-    second.after.1 ∙ ap (λ run. second.after.0 ++ run) first.after.1 ∙ sym (append_assoc second.after.0 first.after.0 old.seen),
-  );
-}
-
-goes_on-stamps : (floor : ℕ) (lease reading : Interval) (old new : SeatState) (stamped : Result ℕ StampFault) → Stamps floor lease reading old stamped new → GoesOn old new
-goes_on-stamps floor lease reading old new (Ok s) stamps =
-    record { numbers = stamps.1.same.numbers; after = (record { number = stamps.1.number; latest = reading.hi; floor = floor; lease = lease; stamp = s } ∷ stamps.1.between, stamps.1.after) }
-goes_on-stamps floor lease reading old new (Err stamp.FloorTooFar) stamps = goes_on-same old new stamps.1
-goes_on-stamps floor lease reading old new (Err stamp.UsedUp) stamps =
-    record { numbers = stamps.1.same.numbers; after = stamps.1.after }
-goes_on-stamps floor lease reading old new (Err stamp.LeaseOver) stamps =
-    record { numbers = stamps.1.same.numbers; after = stamps.1.after }
-goes_on-stamps floor lease reading old new (Err stamp.Seats) stamps = absurd stamps
-goes_on-stamps floor lease reading old new (Err stamp.Memory) stamps = absurd stamps
-
--- the same for a stamp in an interval that may hold no time
-goes_on-in : (room reading : Interval) (floor : ℕ) (old new : SeatState) (stamped : Result ℕ StampFault) (over : Bool)
-    → MatchBool over ((stamped ≡ Err stamp.LeaseOver) × (new ≡ old)) (Stamps floor room reading old stamped new) → GoesOn old new
-goes_on-in room reading floor old new stamped true says = goes_on-same old new says.1
-goes_on-in room reading floor old new stamped false says = goes_on-stamps floor room reading old new stamped says
-
 -- a stamp that was given there was given in it
 given_in_room : (room reading : Interval) (floor : ℕ) (old new : SeatState) (t : ℕ) (over : Bool)
     → MatchBool over (◌≡◌ {A = Result ℕ StampFault} (Ok t) (Err stamp.LeaseOver) × (new ≡ old)) (Stamps floor room reading old (Ok t) new) → Stamps floor room reading old (Ok t) new
@@ -123,17 +90,6 @@ module _ {C V : Type 0} (before after : StationState C V) (number floor : ℕ) w
     keeps-begin (Ok reading) says = keeps_reading reading (nat_lt (reading.hi + before.post.ahead) (max floor before.lease.lo)) says
     keeps-begin (Err fault) says = keeps-same before.book after.book time legal says.1.book
 
-  module _ (answer : Result ℕ ℕ) where
-    seat_reading : (reading : Interval) (capped : Bool) → MatchBool capped ((answer ≡ Err (number_of FloorAboveCap)) × KeepsAll before after) (CommitsAt before number floor reading answer after) → GoesOn before.post.seat after.post.seat
-    seat_reading reading true says = goes_on-same before.post.seat after.post.seat says.1.seat
-    seat_reading reading false says =
-        let room = room_of before floor reading in
-        goes_on-in room reading floor before.post.seat after.post.seat says.0 (nat_lt room.hi room.lo) says.1
-
-    pub seat-begin : (given : Result Interval ℕ) → BeginsAt before number floor answer after given → GoesOn before.post.seat after.post.seat
-    seat-begin (Ok reading) says = seat_reading reading (nat_lt (reading.hi + before.post.ahead) (max floor before.lease.lo)) says
-    seat-begin (Err fault) says = goes_on-same before.post.seat after.post.seat says.1.seat
-
 module _ {C V : Type 0} (says : V → Question → Bool → Type 0) (before after : StationState C V) where
   -- ---- a release step
   keeps_pass : (number : ℕ) (answer : Result Bool ℕ) (time : ℕ) → IsLegalHistory before.book → (given : Result Interval ℕ) → IfOk given (λ reading. Holds reading time) → PassesAt says before number answer after given → Keeps before.book after.book time
@@ -141,10 +97,6 @@ module _ {C V : Type 0} (says : V → Question → Bool → Type 0) (before afte
       keeps-release before.book after.book time reading.lo legal holds.0 passes.1
   keeps_pass number answer time legal (Err fault) holds passes =
       keeps-same before.book after.book time legal passes.1.book
-
-  seat_pass : (number : ℕ) (answer : Result Bool ℕ) (given : Result Interval ℕ) → PassesAt says before number answer after given → GoesOn before.post.seat after.post.seat
-  seat_pass number answer (Ok reading) passes = goes_on-same before.post.seat after.post.seat passes.0
-  seat_pass number answer (Err fault) passes = goes_on-same before.post.seat after.post.seat passes.1.seat
 
   keeps_now : (answer : Result Interval ℕ) (given : Result Interval ℕ) → AnswersReading before answer after given → KeepsAll before after
   keeps_now answer given reads = reads.1
@@ -175,15 +127,6 @@ module _ {C V : Type 0} (gives : C → Option ℕ → C → Type 0) (failed : C 
       keeps-same before.book after.book time legal (ap (λ (s : StationState C V). s.book) allowed.set)
   keeps-call (call.Pass number answer) allowed time legal holds =
       keeps_pass says before after number answer time legal allowed.given holds allowed.rest
-
-  pub seat-call : (of : Call) → Allows gives failed says before of after → GoesOn before.post.seat after.post.seat
-  seat-call (call.Now answer) allowed =
-      goes_on-same before.post.seat after.post.seat (keeps_now says before after answer allowed.given allowed.rest).seat
-  seat-call (call.Begin number floor answer) allowed =
-      seat-begin before after number floor answer allowed.given allowed.rest
-  seat-call (call.Lease lo hi answer) allowed =
-      goes_on-same before.post.seat after.post.seat (ap (λ (s : StationState C V). s.post.seat) allowed.set)
-  seat-call (call.Pass number answer) allowed = seat_pass says before after number answer allowed.given allowed.rest
 
   pub begin-call : (of : Call) (number floor s : ℕ) → of ≡ call.Begin number floor (Ok s) → Allows gives failed says before of after → (reading : Interval) × Began before after number floor s reading
   begin-call of number floor s is allowed =

@@ -9,9 +9,11 @@ use Rattle.tt_span.specs.declared.spans.SpanFault.TheVariants.{Backwards, PastMa
 use Rattle.tt_session.specs.Conversation.{Conversation}
 use Rattle.tt_session.specs.declared.calls.Call.{Call}
 use Rattle.tt_session.specs.declared.calls.Call.TheVariants as call
-use Rattle.tt_connections.specs.Station.{PostState, StationState, Allows, new_station, common, room_in}
+use Rattle.tt_connections.specs.Station.{StationState, Allows, new_station, common, room_in}
+use Rattle.tt_connections.specs.Turns.{AllowsOn}
 use Rattle.tt_connections.specs.declared.presence.Question.{Question}
 use Rattle.tt_connections.proofs.Leasing.{room_within, room_apart}
+use Rattle.tt_connections.proofs.Turning.{turn-goes_on}
 use Rattle.tt_consistency.specs.Timed.{TimedSession}
 use Rattle.tt_consistency.specs.Order.{BeginsAt, LeasesAt, NoLeaseBetween, IsLeasedAt}
 use Rattle.tt_consistency.proofs.Calls.{begin-call}
@@ -52,18 +54,6 @@ module _ {C V : Type 0} (gives : C → Option ℕ → C → Type 0) (failed : C 
   set-call before after lo hi allowed =
       ap (λ (s : StationState C V). s.lease) allowed.set ∙ set_if before.lease (interval lo hi) (nat_lt hi lo) (nat_lt max_time hi) allowed.says
 
-  machine-call : (before after : StationState C V) (of : Call) → Allows gives failed says before of after → after.post.lease ≡ before.post.lease
-  machine-call before after (call.Now answer) allowed = allowed.lease
-  machine-call before after (call.Begin number floor answer) allowed = allowed.lease
-  machine-call before after (call.Lease lo hi answer) allowed = ap (λ (s : StationState C V). s.post.lease) allowed.set
-  machine-call before after (call.Pass number answer) allowed = allowed.lease
-
-  stampers-call : (before after : StationState C V) (of : Call) → Allows gives failed says before of after → after.post.stampers ≡ before.post.stampers
-  stampers-call before after (call.Now answer) allowed = allowed.stampers
-  stampers-call before after (call.Begin number floor answer) allowed = allowed.stampers
-  stampers-call before after (call.Lease lo hi answer) allowed = ap (λ (s : StationState C V). s.post.stampers) allowed.set
-  stampers-call before after (call.Pass number answer) allowed = allowed.stampers
-
   -- the stamp lies in the lease of the session, and in that of the machine
   inside-both : (before after : StationState C V) (of : Call) (number floor s : ℕ) → of ≡ call.Begin number floor (Ok s) → Allows gives failed says before of after → Holds before.lease s × Holds before.post.lease s
   inside-both before after of number floor s is allowed =
@@ -79,47 +69,41 @@ module _ {C V : Type 0} (gives : C → Option ℕ → C → Type 0) (failed : C 
       (subst (λ (stampers : Option Interval). Holds (room_in stampers (common before.lease before.post.lease) (max began.0.hi floor)) s) has began.1.inside)
 
   -- ---- all calls
-  inside-own : (calls : List Call) (before after : StationState C V) → Conversation (Allows gives failed says) before calls after → (place number s : ℕ) → BeginsAt calls place number s → NoLeaseBefore calls place → Holds before.lease s
+  inside-own : (calls : List Call) (before after : StationState C V) → Conversation (AllowsOn gives failed says) before calls after → (place number s : ℕ) → BeginsAt calls place number s → NoLeaseBefore calls place → Holds before.lease s
   inside-own [] before after talked place number s begins none = absurd (none-some _ begins.1)
   inside-own (first ∷ calls) before after talked zero number s begins none =
-      (inside-both before talked.0 first number begins.0 s (same_Some first (call.Begin number begins.0 (Ok s)) begins.1) talked.1).0
+      (inside-both (record before { post = talked.1.post }) talked.0 first number begins.0 s (same_Some first (call.Begin number begins.0 (Ok s)) begins.1) talked.1.allowed).0
   inside-own (first ∷ calls) before after talked (suc place) number s begins none =
-      let same : talked.0.lease ≡ before.lease = kept-call before talked.0 first talked.1 (λ lo hi is. none 0 lo hi (omega arith) (ap Some is)) in
+      let same : talked.0.lease ≡ before.lease = kept-call (record before { post = talked.1.post }) talked.0 first talked.1.allowed (λ lo hi is. none 0 lo hi (omega arith) (ap Some is)) in
       subst (λ (l : Interval). Holds l s) same
       (inside-own calls talked.0 after talked.2 place number s begins (λ k lo hi less at. none (suc k) lo hi (omega (arith, less)) at))
 
-  inside-leased : (calls : List Call) (before after : StationState C V) → Conversation (Allows gives failed says) before calls after → (place lo hi later number s : ℕ) → LeasesAt calls place lo hi → BeginsAt calls later number s → place < later → NoLeaseBetween calls place later → Holds (interval lo hi) s
+  inside-leased : (calls : List Call) (before after : StationState C V) → Conversation (AllowsOn gives failed says) before calls after → (place lo hi later number s : ℕ) → LeasesAt calls place lo hi → BeginsAt calls later number s → place < later → NoLeaseBetween calls place later → Holds (interval lo hi) s
   inside-leased [] before after talked place lo hi later number s leases begins is_later none = absurd (none-some _ begins.1)
   inside-leased (first ∷ calls) before after talked zero lo hi zero number s leases begins is_later none = absurd (omega (arith, is_later))
   inside-leased (first ∷ calls) before after talked zero lo hi (suc later) number s leases begins is_later none =
       let is : first ≡ call.Lease lo hi (Ok tt) = same_Some first (call.Lease lo hi (Ok tt)) leases in
-      let set : talked.0.lease ≡ interval lo hi = set-call before talked.0 lo hi (subst (λ (c : Call). Allows gives failed says before c talked.0) is talked.1) in
+      let set : talked.0.lease ≡ interval lo hi = set-call (record before { post = talked.1.post }) talked.0 lo hi (subst (λ (c : Call). Allows gives failed says (record before { post = talked.1.post }) c talked.0) is talked.1.allowed) in
       subst (λ (l : Interval). Holds l s) set
       (inside-own calls talked.0 after talked.2 later number s begins (λ k low high less at. none (suc k) low high (omega arith) (omega (arith, less)) at))
   inside-leased (first ∷ calls) before after talked (suc place) lo hi zero number s leases begins is_later none = absurd (omega (arith, is_later))
   inside-leased (first ∷ calls) before after talked (suc place) lo hi (suc later) number s leases begins is_later none =
       inside-leased calls talked.0 after talked.2 place lo hi later number s leases begins (omega (arith, is_later)) (λ k low high more less at. none (suc k) low high (omega (arith, more)) (omega (arith, less)) at)
 
-  inside-machine : (calls : List Call) (before after : StationState C V) → Conversation (Allows gives failed says) before calls after → (place number s : ℕ) → BeginsAt calls place number s → Holds before.post.lease s
+  inside-machine : (calls : List Call) (before after : StationState C V) → Conversation (AllowsOn gives failed says) before calls after → (place number s : ℕ) → BeginsAt calls place number s → Holds before.post.lease s
   inside-machine [] before after talked place number s begins = absurd (none-some _ begins.1)
   inside-machine (first ∷ calls) before after talked zero number s begins =
-      (inside-both before talked.0 first number begins.0 s (same_Some first (call.Begin number begins.0 (Ok s)) begins.1) talked.1).1
+      subst (λ (l : Interval). Holds l s) talked.1.goes.lease
+      (inside-both (record before { post = talked.1.post }) talked.0 first number begins.0 s (same_Some first (call.Begin number begins.0 (Ok s)) begins.1) talked.1.allowed).1
   inside-machine (first ∷ calls) before after talked (suc place) number s begins =
-      subst (λ (l : Interval). Holds l s) (machine-call before talked.0 first talked.1) (inside-machine calls talked.0 after talked.2 place number s begins)
+      subst (λ (l : Interval). Holds l s) (turn-goes_on gives failed says before first talked.0 talked.1).lease (inside-machine calls talked.0 after talked.2 place number s begins)
 
-  outside-stampers : (calls : List Call) (before after : StationState C V) → Conversation (Allows gives failed says) before calls after → (place number s : ℕ) → BeginsAt calls place number s → (taken : Interval) → before.post.stampers ≡ Some taken → Holds taken s → ⊥
+  outside-stampers : (calls : List Call) (before after : StationState C V) → Conversation (AllowsOn gives failed says) before calls after → (place number s : ℕ) → BeginsAt calls place number s → (taken : Interval) → before.post.stampers ≡ Some taken → Holds taken s → ⊥
   outside-stampers [] before after talked place number s begins taken has = absurd (none-some _ begins.1)
   outside-stampers (first ∷ calls) before after talked zero number s begins taken has =
-      outside before talked.0 first number begins.0 s (same_Some first (call.Begin number begins.0 (Ok s)) begins.1) talked.1 taken has
+      outside (record before { post = talked.1.post }) talked.0 first number begins.0 s (same_Some first (call.Begin number begins.0 (Ok s)) begins.1) talked.1.allowed taken (talked.1.goes.stampers ∙ has)
   outside-stampers (first ∷ calls) before after talked (suc place) number s begins taken has =
-      outside-stampers calls talked.0 after talked.2 place number s begins taken (stampers-call before talked.0 first talked.1 ∙ has)
-
-  -- ---- what a conversation leaves of the terms
-  same-machine : (calls : List Call) (before after : StationState C V) → Conversation (Allows gives failed says) before calls after → (after.post.lease ≡ before.post.lease) × (after.post.stampers ≡ before.post.stampers)
-  same-machine [] before after talked = (ap (λ (s : StationState C V). s.post.lease) talked, ap (λ (s : StationState C V). s.post.stampers) talked)
-  same-machine (first ∷ calls) before after talked =
-      let rest = same-machine calls talked.0 after talked.2 in
-      (rest.0 ∙ machine-call before talked.0 first talked.1, rest.1 ∙ stampers-call before talked.0 first talked.1)
+      outside-stampers calls talked.0 after talked.2 place number s begins taken ((turn-goes_on gives failed says before first talked.0 talked.1).stampers ∙ has)
 
   -- ---- of a session
   pub session-leased : (session : TimedSession gives failed says) (place lo hi later number stamp : ℕ) → LeasesAt session.calls place lo hi → BeginsAt session.calls later number stamp → place < later → NoLeaseBetween session.calls place later → Holds (interval lo hi) stamp
@@ -133,9 +117,6 @@ module _ {C V : Type 0} (gives : C → Option ℕ → C → Type 0) (failed : C 
   pub session-outside : (session : TimedSession gives failed says) (place number stamp : ℕ) (taken : Interval) → session.post.stampers ≡ Some taken → BeginsAt session.calls place number stamp → Holds taken stamp → ⊥
   session-outside session place number stamp taken has begins =
       outside-stampers session.calls (new_station session.post session.client) session.after session.talked place number stamp begins taken has
-
-  pub session-keeps : (session : TimedSession gives failed says) → (session.after.post.lease ≡ session.post.lease) × (session.after.post.stampers ≡ session.post.stampers)
-  session-keeps session = same-machine session.calls (new_station session.post session.client) session.after session.talked
 
 -- ---- of two sessions
 pub leases-apart : {C V D W : Type 0} (gives : C → Option ℕ → C → Type 0) (failed : C → ℕ) (says : V → Question → Bool → Type 0) (gives' : D → Option ℕ → D → Type 0) (failed' : D → ℕ) (says' : W → Question → Bool → Type 0)

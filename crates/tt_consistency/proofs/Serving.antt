@@ -8,6 +8,7 @@ use Rattle.tt_session.specs.Conversation.{Conversation}
 use Rattle.tt_session.specs.declared.calls.Call.{Call}
 use Rattle.tt_session.specs.declared.calls.Call.TheVariants.{Now, Begin, Lease, Pass}
 use Rattle.tt_connections.specs.Station.{StationState, Allows, new_station}
+use Rattle.tt_connections.specs.Turns.{AllowsOn}
 use Rattle.tt_connections.specs.declared.presence.Question.{Question}
 use Rattle.tt_consistency.specs.Timed.{CallTimes, given_of, ReadingsHold, TimedSession, IsTimed}
 use Rattle.tt_consistency.specs.Order.{IsSeenAtSome}
@@ -29,11 +30,11 @@ module _ {C V : Type 0} (gives : C → Option ℕ → C → Type 0) (failed : C 
         given-holds gives after.post.watch.drift before.post.watch after.post.watch before.post.clock after.post.clock allowed.given (clock_moments machine) (published_by machine) time (sym allowed.look.looks.same.1) allowed.look.looks.same.1 (publications-hold machine running) at.seen at.read
 
     -- the readings of all calls
-    calls-hold : (calls : List Call) (before after : StationState C V) (talked : Conversation (Allows gives failed says) before calls after) (times : List CallTimes) → AllLookAt gives failed says machine before calls after talked times → ReadingsHold gives failed says before calls after talked times
+    calls-hold : (calls : List Call) (before after : StationState C V) (talked : Conversation (AllowsOn gives failed says) before calls after) (times : List CallTimes) → AllLookAt gives failed says machine before calls after talked times → ReadingsHold gives failed says before calls after talked times
     calls-hold [] before after talked times look = look
     calls-hold (call ∷ calls) before after talked [] look = absurd look
     calls-hold (call ∷ calls) before after talked (t ∷ times) look =
-        (call-holds before call talked.0 talked.1 t.read look.0, calls-hold calls talked.0 after talked.2 times look.1)
+        (call-holds (record before { post = talked.1.post }) call talked.0 talked.1.allowed t.read look.0, calls-hold calls talked.0 after talked.2 times look.1)
 
     pub served-timed : (session : TimedSession gives failed says) → IsServedOn gives failed says machine session → IsTimed gives failed says session
     served-timed session served = record {

@@ -9,11 +9,13 @@ use Rattle.tt_stamp.proofs.Ids.{Contains-here, Contains-there, Contains-nil, Con
 use Rattle.tt_session.specs.Conversation.{Conversation}
 use Rattle.tt_session.specs.declared.calls.Call.{Call}
 use Rattle.tt_session.specs.declared.calls.Call.TheVariants as call
-use Rattle.tt_connections.specs.Station.{StationState, Allows, new_station, room_of}
+use Rattle.tt_connections.specs.Station.{StationState, new_station, room_of}
+use Rattle.tt_connections.specs.Turns.{AllowsOn}
 use Rattle.tt_connections.specs.declared.presence.Question.{Question}
+use Rattle.tt_connections.proofs.Turning.{turn-goes_on, calls-go_on}
 use Rattle.tt_consistency.specs.Timed.{TimedSession}
 use Rattle.tt_consistency.specs.Order.{BeginsAt, ShareSequencer}
-use Rattle.tt_consistency.proofs.Calls.{GoesOn, goes_on-both, goes_on-same, seat-call, begin-call}
+use Rattle.tt_consistency.proofs.Calls.{begin-call}
 
 -- ---- what was seen stays seen
 entry_behind : (later seen : List Stamping) (entry : Stamping) → Contains seen entry → Contains (later ++ seen) entry
@@ -64,43 +66,40 @@ given_by old new latest floor lease stamp gave =
     record { entry = given old new latest floor lease stamp gave; there = gave_there old new latest floor lease stamp gave; stamp_is = refl; of_seat = gave.of_seat }
 
 module _ {C V : Type 0} (gives : C → Option ℕ → C → Type 0) (failed : C → ℕ) (says : V → Question → Bool → Type 0) where
-  goes_on : (calls : List Call) (before after : StationState C V) → Conversation (Allows gives failed says) before calls after → GoesOn before.post.seat after.post.seat
-  goes_on [] before after talked = goes_on-same before.post.seat after.post.seat (ap (λ (s : StationState C V). s.post.seat) talked)
-  goes_on (first ∷ calls) before after talked =
-      goes_on-both before.post.seat talked.0.post.seat after.post.seat (seat-call gives failed says before talked.0 first talked.1) (goes_on calls talked.0 after talked.2)
-
   -- each stamp that a conversation gave stands in what its seat has seen at the end
-  given_in : (calls : List Call) (before after : StationState C V) → Conversation (Allows gives failed says) before calls after → (place number s : ℕ) → BeginsAt calls place number s → IsGiven after.post.seat before.post.seat.numbers s
+  given_in : (calls : List Call) (before after : StationState C V) → Conversation (AllowsOn gives failed says) before calls after → (place number s : ℕ) → BeginsAt calls place number s → IsGiven after.post.seat before.post.seat.numbers s
   given_in [] before after talked place number s begins = absurd (none-some _ begins.1)
   given_in (first ∷ calls) before after talked zero number s begins =
-      let began = begin-call gives failed says before talked.0 first number begins.0 s (same_Some first (call.Begin number begins.0 (Ok s)) begins.1) talked.1 in
-      given_later talked.0.post.seat after.post.seat before.post.seat.numbers s (goes_on calls talked.0 after talked.2).after
-      (given_by before.post.seat talked.0.post.seat began.0.hi begins.0 (room_of before begins.0 began.0) s began.1.gave)
+      let began = begin-call gives failed says (record before { post = talked.1.post }) talked.0 first number begins.0 s (same_Some first (call.Begin number begins.0 (Ok s)) begins.1) talked.1.allowed in
+      given_later talked.0.post.seat after.post.seat before.post.seat.numbers s (calls-go_on gives failed says calls talked.0 after talked.2).seat.seen
+      (subst (λ (numbers : List ℕ). IsGiven talked.0.post.seat numbers s) talked.1.goes.seat.numbers
+      (given_by talked.1.post.seat talked.0.post.seat began.0.hi begins.0 (room_of (record before { post = talked.1.post }) begins.0 began.0) s began.1.gave))
   given_in (first ∷ calls) before after talked (suc place) number s begins =
-      subst (λ (numbers : List ℕ). IsGiven after.post.seat numbers s) (seat-call gives failed says before talked.0 first talked.1).numbers
+      subst (λ (numbers : List ℕ). IsGiven after.post.seat numbers s) (turn-goes_on gives failed says before first talked.0 talked.1).seat.numbers
       (given_in calls talked.0 after talked.2 place number s begins)
 
   -- a stamp of a conversation is above each that its seat had seen
-  above_seen : (calls : List Call) (before after : StationState C V) → Conversation (Allows gives failed says) before calls after → (entry : Stamping) → Contains before.post.seat.seen entry → (place number s : ℕ) → BeginsAt calls place number s → entry.stamp < s
+  above_seen : (calls : List Call) (before after : StationState C V) → Conversation (AllowsOn gives failed says) before calls after → (entry : Stamping) → Contains before.post.seat.seen entry → (place number s : ℕ) → BeginsAt calls place number s → entry.stamp < s
   above_seen [] before after talked entry there place number s begins = absurd (none-some _ begins.1)
   above_seen (first ∷ calls) before after talked entry there zero number s begins =
-      let began = begin-call gives failed says before talked.0 first number begins.0 s (same_Some first (call.Begin number begins.0 (Ok s)) begins.1) talked.1 in
-      gave_above before.post.seat talked.0.post.seat began.0.hi begins.0 (room_of before begins.0 began.0) s began.1.gave entry there
+      let began = begin-call gives failed says (record before { post = talked.1.post }) talked.0 first number begins.0 s (same_Some first (call.Begin number begins.0 (Ok s)) begins.1) talked.1.allowed in
+      gave_above talked.1.post.seat talked.0.post.seat began.0.hi begins.0 (room_of (record before { post = talked.1.post }) begins.0 began.0) s began.1.gave entry
+      (entry_later before.post.seat.seen talked.1.post.seat.seen talked.1.goes.seat.seen entry there)
   above_seen (first ∷ calls) before after talked entry there (suc place) number s begins =
       above_seen calls talked.0 after talked.2 entry
-      (entry_later before.post.seat.seen talked.0.post.seat.seen (seat-call gives failed says before talked.0 first talked.1).after entry there) place number s begins
+      (entry_later before.post.seat.seen talked.0.post.seat.seen (turn-goes_on gives failed says before first talked.0 talked.1).seat.seen entry there) place number s begins
 
-  above_given : (calls : List Call) (before after : StationState C V) → Conversation (Allows gives failed says) before calls after → (numbers : List ℕ) (r : ℕ) → IsGiven before.post.seat numbers r → (place number s : ℕ) → BeginsAt calls place number s → r < s
+  above_given : (calls : List Call) (before after : StationState C V) → Conversation (AllowsOn gives failed says) before calls after → (numbers : List ℕ) (r : ℕ) → IsGiven before.post.seat numbers r → (place number s : ℕ) → BeginsAt calls place number s → r < s
   above_given calls before after talked numbers r given place number s begins =
       let above = above_seen calls before after talked given.entry given.there place number s begins in
       omega (arith, above, given.stamp_is)
 
-  rises : (calls : List Call) (before after : StationState C V) → Conversation (Allows gives failed says) before calls after → (place number s later other_number t : ℕ) → BeginsAt calls place number s → BeginsAt calls later other_number t → place < later → s < t
+  rises : (calls : List Call) (before after : StationState C V) → Conversation (AllowsOn gives failed says) before calls after → (place number s later other_number t : ℕ) → BeginsAt calls place number s → BeginsAt calls later other_number t → place < later → s < t
   rises [] before after talked place number s later other_number t begins other is_later = absurd (none-some _ begins.1)
   rises (first ∷ calls) before after talked zero number s zero other_number t begins other is_later = absurd (omega (arith, is_later))
   rises (first ∷ calls) before after talked zero number s (suc later) other_number t begins other is_later =
-      let began = begin-call gives failed says before talked.0 first number begins.0 s (same_Some first (call.Begin number begins.0 (Ok s)) begins.1) talked.1 in
-      above_given calls talked.0 after talked.2 before.post.seat.numbers s (given_by before.post.seat talked.0.post.seat began.0.hi begins.0 (room_of before begins.0 began.0) s began.1.gave) later other_number t other
+      let began = begin-call gives failed says (record before { post = talked.1.post }) talked.0 first number begins.0 s (same_Some first (call.Begin number begins.0 (Ok s)) begins.1) talked.1.allowed in
+      above_given calls talked.0 after talked.2 talked.1.post.seat.numbers s (given_by talked.1.post.seat talked.0.post.seat began.0.hi begins.0 (room_of (record before { post = talked.1.post }) begins.0 began.0) s began.1.gave) later other_number t other
   rises (first ∷ calls) before after talked (suc place) number s zero other_number t begins other is_later = absurd (omega (arith, is_later))
   rises (first ∷ calls) before after talked (suc place) number s (suc later) other_number t begins other is_later =
       rises calls talked.0 after talked.2 place number s later other_number t begins other (omega (arith, is_later))
@@ -115,7 +114,7 @@ module _ {C V : Type 0} (gives : C → Option ℕ → C → Type 0) (failed : C 
       given_in session.calls (new_station session.post session.client) session.after session.talked place number stamp begins
 
   pub session-numbers : (session : TimedSession gives failed says) → session.after.post.seat.numbers ≡ session.post.seat.numbers
-  session-numbers session = (goes_on session.calls (new_station session.post session.client) session.after session.talked).numbers
+  session-numbers session = (calls-go_on gives failed says session.calls (new_station session.post session.client) session.after session.talked).seat.numbers
 
   pub session-above : (session : TimedSession gives failed says) (old : SeatState) → Continues old.seen session.post.seat.seen → (numbers : List ℕ) (r : ℕ) → IsGiven old numbers r → (place number stamp : ℕ) → BeginsAt session.calls place number stamp → r < stamp
   session-above session old after numbers r given place number stamp begins =

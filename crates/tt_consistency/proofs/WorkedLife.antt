@@ -1,5 +1,5 @@
--- A worked life with the clock that the service runs on, for which every premise of the law of lives holds: its daemon publishes once, and its worker serves a session, whose first call comes too early and gives no reading, which then commits, and which is given no reading any more once the clock has left its drift bound and the machine knows of it.
-use Rattle.std.proofs.Common.{◌≡◌, ◌≢◌, ℕ, ◌+◌, ◌≤◌, List, [], ◌∷◌, ◌++◌, Bool, true, false, Some, None, Result, Ok, Err, inl, inr, refl, sym, ap, ◌∙◌, subst, arith, All}
+-- A worked life with the clock that the service runs on, for which every premise of the law of lives holds: its daemon publishes once, and its worker serves two sessions by turns. The first call of one comes too early and gives no reading; then it begins a commit, the other session is served, and the commit is released; and it is given no reading any more once the clock has left its drift bound and the machine knows of it.
+use Rattle.std.proofs.Common.{◌≡◌, ◌≢◌, ℕ, ◌+◌, ◌≤◌, List, [], ◌∷◌, ◌++◌, Bool, true, false, Option, Some, None, Result, Ok, Err, inr, refl, sym, ap, ◌∙◌, subst, arith, All}
 use Rattle.std.specs.Fmt.{decimal}
 use Rattle.std.specs.List.{AllByRecursion, flat_map}
 use Rattle.std.specs.Prelude.{MatchBool}
@@ -15,7 +15,8 @@ use Rattle.tt_publish.specs.declared.faults.ReadFault.TheVariants.{Nothing}
 use Rattle.tt_session.specs.Lines.{HasNoEnd, ended}
 use Rattle.tt_session.specs.Replies.{text_of}
 use Rattle.tt_session.specs.Requests.{commit_word, now_word, spelling_of}
-use Rattle.tt_session.specs.Session.{Serves}
+use Rattle.tt_session.specs.Session.{Session}
+use Rattle.tt_session.specs.declared.begun.Begun.{Begun}
 use Rattle.tt_session.specs.declared.calls.Call.{Call}
 use Rattle.tt_session.specs.declared.calls.Call.TheVariants as call
 use Rattle.tt_session.specs.declared.replies.LineReply.{LineReply}
@@ -23,17 +24,19 @@ use Rattle.tt_session.specs.declared.replies.LineReply.TheVariants as reply
 use Rattle.tt_session.specs.declared.requests.Request.TheVariants as request
 use Rattle.tt_session.specs.declared.serving.Served.{Served}
 use Rattle.tt_stamp.specs.declared.commits.Entry.TheVariants.{Queued, Passed}
-use Rattle.tt_stamp.proofs.Ids.{Contains-here}
+use Rattle.tt_stamp.proofs.Ids.{Contains-here, Contains-there}
 use Rattle.tt_connections.specs.Fault.{number_of}
-use Rattle.tt_connections.specs.Sessions.{WorkerSession}
+use Rattle.tt_connections.specs.Sessions.{WorkerSession, IsServedBetween}
 use Rattle.tt_connections.specs.Station.{PostState, StationState, Allows, CommitsAt, Keeps, id_at, new_station}
+use Rattle.tt_connections.specs.Turns.{AllowsOn}
 use Rattle.tt_connections.specs.declared.faults.StationFault.TheVariants.{FloorAboveCap}
 use Rattle.tt_connections.proofs.Leasing.{stamps_whole}
+use Rattle.tt_connections.proofs.Turning.{post-same, post-both, call-goes_on, allows-on}
 use Rattle.tt_connections.specs.Clock.{ClockState, MachineGives, ClientSays}
 use Rattle.tt_consistency.specs.Order.{IsSeen}
-use Rattle.tt_consistency.specs.Timed.{CallTimes}
+use Rattle.tt_consistency.specs.Timed.{CallTimes, timed_of}
 use Rattle.tt_consistency.specs.Reads.{IsTakenAt}
-use Rattle.tt_consistency.specs.Assumed.{IsAssumed, IsLived, IsSeenInOneOf, IsTimedIn, TimedLife, moments_in, timed_of}
+use Rattle.tt_consistency.specs.Assumed.{IsAssumed, IsLived, IsSeenInOneOf, IsServedIn, IsTimedIn, TimedLife, moments_in}
 use Rattle.tt_consistency.specs.Lives.{Life, WorkerLife, WorksIn, IsLife}
 use Rattle.tt_consistency.specs.Running.{clock_moments}
 use Rattle.tt_consistency.proofs.WorkedOrder.{fused, seat, seat_after, gives_at, queues_at, below_cap, receipt, read_at, reads_at, admitted, keeps, among-by, call_at, first}
@@ -88,9 +91,13 @@ looks_at items last clock begins rises late early = record {
   sound = λ not_failed. refl;
 }
 
+-- the post after a commit
+abbrev stamped : ClockState → PostState ClockState
+stamped clock = record (post seen clock) { seat = seat_after 1030 }
+
 -- a commit begins when the clock shows 120
 abbrev begun : StationState ClockState (Unit {0})
-begun = record { post = record (post seen (clock_at 120)) { seat = seat_after 1030 }; client = tt; lease = whole; book = Queued (id_at 1) 1030 ∷ [] }
+begun = record { post = stamped (clock_at 120); client = tt; lease = whole; book = Queued (id_at 1) 1030 ∷ [] }
 
 pub allows_begin : Allows MachineGives failed ClientSays (station unseen (clock_at 0)) (call.Begin 1 0 (Ok 1030)) begun
 allows_begin = record {
@@ -109,16 +116,43 @@ allows_begin = record {
   );
 }
 
--- and is released when it shows 150
-abbrev released : StationState ClockState (Unit {0})
-released = record begun { post = record (post seen (clock_at 150)) { seat = seat_after 1030 }; book = Passed (receipt 1030 1038) ∷ Queued (id_at 1) 1030 ∷ [] }
+-- then the other session asks what time it is, when the clock shows 130
+abbrev other_station : ℕ → StationState ClockState (Unit {0})
+other_station last = new_station (stamped (clock_at last)) tt
 
-pub allows_pass : Allows MachineGives failed ClientSays begun (call.Pass 1 (Ok true)) released
-allows_pass = record { lease = refl; stampers = refl; ahead = refl; max_width = refl; client = refl; own = refl; given = Ok (read_at 150); look = record { looked = Ok (read_at 150); looks = looks_at (fused ∷ []) 120 150 ([], refl) (omega arith) (omega arith) (omega arith); admits = (false, tt, admitted 150) }; rest = (refl, refl, (refl, omega arith)) }
+allows_now : Allows MachineGives failed ClientSays (other_station 120) (call.Now (Ok (read_at 130))) (other_station 130)
+allows_now = record {
+  lease = refl;
+  stampers = refl;
+  ahead = refl;
+  max_width = refl;
+  client = refl;
+  own = refl;
+  given = Ok (read_at 130);
+  look = record { looked = Ok (read_at 130); looks = looks_at (fused ∷ []) 120 130 ([], refl) (omega arith) (omega arith) (omega arith); admits = (false, tt, admitted 130) };
+  rest = (refl, record { seat = refl; book = refl });
+}
+
+-- and the commit is released when it shows 150
+abbrev resumed : StationState ClockState (Unit {0})
+resumed = record begun { post = stamped (clock_at 130) }
+
+abbrev released : StationState ClockState (Unit {0})
+released = record begun { post = stamped (clock_at 150); book = Passed (receipt 1030 1038) ∷ Queued (id_at 1) 1030 ∷ [] }
+
+pub allows_pass : Allows MachineGives failed ClientSays resumed (call.Pass 1 (Ok true)) released
+allows_pass = record { lease = refl; stampers = refl; ahead = refl; max_width = refl; client = refl; own = refl; given = Ok (read_at 150); look = record { looked = Ok (read_at 150); looks = looks_at (fused ∷ []) 130 150 ([], refl) (omega arith) (omega arith) (omega arith); admits = (false, tt, admitted 150) }; rest = (refl, refl, (refl, omega arith)) }
+
+passes_on : AllowsOn MachineGives failed ClientSays begun (call.Pass 1 (Ok true)) released
+passes_on = record {
+  post = resumed.post;
+  goes = call-goes_on MachineGives failed ClientSays (other_station 120) (call.Now (Ok (read_at 130))) (other_station 130) allows_now;
+  allowed = allows_pass;
+}
 
 -- then the clock jumps to 500000, and the machine knows that it is broken: the next reading is not given
 abbrev jumped : StationState ClockState (Unit {0})
-jumped = record released { post = record (post seen (clock_at 500000)) { seat = seat_after 1030 } }
+jumped = record released { post = stamped (clock_at 500000) }
 
 looks_broken : Looks MachineGives failed seen (clock_at 150) (Ok (reading_at 100 (fused_span_of fused) 500000)) seen (clock_at 500000)
 looks_broken = record {
@@ -178,69 +212,125 @@ no_end_now = no_end now_word (λ is. absurd (omega (arith, is)), (λ is. absurd 
 no_end_commit : HasNoEnd commit_line
 no_end_commit = no_end commit_line (λ is. absurd (omega (arith, is)), (λ is. absurd (omega (arith, is)), (λ is. absurd (omega (arith, is)), (λ is. absurd (omega (arith, is)), (λ is. absurd (omega (arith, is)), (λ is. absurd (omega (arith, is)), (λ is. absurd (omega (arith, is)), (λ is. absurd (omega (arith, is)), (λ is. absurd (omega (arith, is)), (λ is. absurd (omega (arith, is)), tt))))))))))
 
-pub serves : Serves (Allows MachineGives failed ClientSays) 1 None None None None (station unseen (clock_at 0)) jumped served
-serves = record {
-  bytes = ended now_word ++ ended commit_line ++ ended now_word;
-  text = flat_map text_of replies;
-  rest = [];
-  last = Some (record { number = 1; stamp = 1030; is_released = true });
-  session = record {
-    lines = now_word ∷ commit_line ∷ now_word ∷ [];
-    calls = calls;
-    replies = replies;
-    splits = record { whole = refl; each = All-cons HasNoEnd now_word (commit_line ∷ now_word ∷ []) no_end_now (All-cons HasNoEnd commit_line (now_word ∷ []) no_end_commit (All-cons HasNoEnd now_word [] no_end_now (All-nil HasNoEnd))); last = All-nil IsNoEnd };
-    talked = (station unseen (clock_at 0), allows_early, (begun, allows_begin, (released, allows_pass, (jumped, allows_broken, refl))));
-    answered = (
-      call.Now (Err 801) ∷ [],
-      call.Begin 1 0 (Ok 1030) ∷ call.Pass 1 (Ok true) ∷ call.Now (Err 1823) ∷ [],
-      None,
+abbrev bytes : List ℕ
+bytes = ended now_word ++ ended commit_line ++ ended now_word
+
+abbrev last : Option Begun
+last = Some (record { number = 1; stamp = 1030; is_released = true })
+
+pub talks : Session (AllowsOn MachineGives failed ClientSays) 1 (station unseen (clock_at 0)) bytes jumped (flat_map text_of replies) served [] last
+talks = record {
+  lines = now_word ∷ commit_line ∷ now_word ∷ [];
+  calls = calls;
+  replies = replies;
+  splits = record { whole = refl; each = All-cons HasNoEnd now_word (commit_line ∷ now_word ∷ []) no_end_now (All-cons HasNoEnd commit_line (now_word ∷ []) no_end_commit (All-cons HasNoEnd now_word [] no_end_now (All-nil HasNoEnd))); last = All-nil IsNoEnd };
+  talked = (
+    station unseen (clock_at 0),
+    allows-on MachineGives failed ClientSays (station unseen (clock_at 0)) (call.Now (Err 801)) (station unseen (clock_at 0)) allows_early,
+    (
+      begun,
+      allows-on MachineGives failed ClientSays (station unseen (clock_at 0)) (call.Begin 1 0 (Ok 1030)) begun allows_begin,
+      (released, passes_on, (jumped, allows-on MachineGives failed ClientSays released (call.Now (Err 1823)) jumped allows_broken, refl)),
+    ),
+  );
+  answered = (
+    call.Now (Err 801) ∷ [],
+    call.Begin 1 0 (Ok 1030) ∷ call.Pass 1 (Ok true) ∷ call.Now (Err 1823) ∷ [],
+    None,
+    refl,
+    inr (omega arith, (Some request.Now, (tt, refl), record { answer = Err 801; called = refl; says = refl; same = refl })),
+    (
+      call.Begin 1 0 (Ok 1030) ∷ call.Pass 1 (Ok true) ∷ [],
+      call.Now (Err 1823) ∷ [],
+      Some (record { number = 1; stamp = 1030; is_released = true }),
       refl,
-      inr (omega arith, (Some request.Now, (tt, refl), record { answer = Err 801; called = refl; says = refl; same = refl })),
-      (
-        call.Begin 1 0 (Ok 1030) ∷ call.Pass 1 (Ok true) ∷ [],
-        call.Now (Err 1823) ∷ [],
-        Some (record { number = 1; stamp = 1030; is_released = true }),
-        refl,
-        inr (
-          omega arith,
-          (
-            Some (request.Commit 1 0),
-            ((omega arith, omega arith), spells_commit),
-            (Ok 1030, (call.Pass 1 (Ok true) ∷ [], refl, record { answer = Ok true; passes = (0, omega arith, refl); says = refl; keeps = refl })),
-          ),
-        ),
+      inr (
+        omega arith,
         (
-          call.Now (Err 1823) ∷ [],
-          [],
-          Some (record { number = 1; stamp = 1030; is_released = true }),
-          refl,
-          inr (omega arith, (Some request.Now, (tt, refl), record { answer = Err 1823; called = refl; says = refl; same = refl })),
-          (refl, refl),
+          Some (request.Commit 1 0),
+          ((omega arith, omega arith), spells_commit),
+          (Ok 1030, (call.Pass 1 (Ok true) ∷ [], refl, record { answer = Ok true; passes = (0, omega arith, refl); says = refl; keeps = refl })),
         ),
       ),
-    );
-    says = refl;
-    lines_are = refl;
-    refused_are = refl;
-  };
-  read = tt;
-  written = tt;
+      (
+        call.Now (Err 1823) ∷ [],
+        [],
+        Some (record { number = 1; stamp = 1030; is_released = true }),
+        refl,
+        inr (omega arith, (Some request.Now, (tt, refl), record { answer = Err 1823; called = refl; says = refl; same = refl })),
+        (refl, refl),
+      ),
+    ),
+  );
+  says = refl;
+  lines_are = refl;
+  refused_are = refl;
 }
 
 abbrev session : WorkerSession MachineGives failed ClientSays 1
 session = record {
   client = tt;
   before = post unseen (clock_at 0);
-  after = jumped.post;
-  left = None;
-  left' = None;
-  taken = None;
-  taken' = None;
-  served = inl (served, (jumped, refl, serves));
+  after = jumped;
+  bytes = bytes;
+  text = flat_map text_of replies;
+  served = served;
+  rest = [];
+  last = last;
+  session = talks;
 }
 
+-- ---- the other session, of one line
+abbrev other_replies : List LineReply
+other_replies = reply.Now (read_at 130) ∷ []
+
+pub other_talks : Session (AllowsOn MachineGives failed ClientSays) 1 (other_station 120) (ended now_word) (other_station 130) (flat_map text_of other_replies) (record { lines = 1; refused = 0 }) [] None
+other_talks = record {
+  lines = now_word ∷ [];
+  calls = call.Now (Ok (read_at 130)) ∷ [];
+  replies = other_replies;
+  splits = record { whole = refl; each = All-cons HasNoEnd now_word [] no_end_now (All-nil HasNoEnd); last = All-nil IsNoEnd };
+  talked = (other_station 130, allows-on MachineGives failed ClientSays (other_station 120) (call.Now (Ok (read_at 130))) (other_station 130) allows_now, refl);
+  answered = (
+    call.Now (Ok (read_at 130)) ∷ [],
+    [],
+    None,
+    refl,
+    inr (omega arith, (Some request.Now, (tt, refl), record { answer = Ok (read_at 130); called = refl; says = refl; same = refl })),
+    (refl, refl),
+  );
+  says = refl;
+  lines_are = refl;
+  refused_are = refl;
+}
+
+abbrev other : WorkerSession MachineGives failed ClientSays 1
+other = record {
+  client = tt;
+  before = stamped (clock_at 120);
+  after = other_station 130;
+  bytes = ended now_word;
+  text = flat_map text_of other_replies;
+  served = record { lines = 1; refused = 0 };
+  rest = [];
+  last = None;
+  session = other_talks;
+}
+
+-- ---- the worker has served both
 abbrev worker : WorkerLife MachineGives failed ClientSays 1
-worker = record { post = post unseen (clock_at 0); sessions = session ∷ [] }
+worker = record { post = post unseen (clock_at 0); last = jumped.post; sessions = session ∷ other ∷ [] }
+
+session_between : IsServedBetween worker.post worker.last session
+session_between = (post-same worker.post worker.post refl, post-same worker.last worker.last refl)
+
+other_between : IsServedBetween worker.post worker.last other
+other_between = (
+  call-goes_on MachineGives failed ClientSays (station unseen (clock_at 0)) (call.Begin 1 0 (Ok 1030)) begun allows_begin,
+  post-both resumed.post released.post jumped.post
+      (call-goes_on MachineGives failed ClientSays resumed (call.Pass 1 (Ok true)) released allows_pass)
+      (call-goes_on MachineGives failed ClientSays released (call.Now (Err 1823)) jumped allows_broken),
+)
 
 -- ---- the life: in its first epoch its daemon makes the one call of the worked machine
 abbrev life : Life MachineGives failed ClientSays 1
@@ -259,7 +349,17 @@ life = record {
 }
 
 works_in : WorksIn life worker
-works_in = record { watch = refl; lease = refl; stampers = refl; ahead = refl; width = refl; in_turn = (refl, tt); seen = ([], refl) }
+works_in =
+    let Between : WorkerSession MachineGives failed ClientSays 1 → Type 0 = IsServedBetween worker.post worker.last in
+    record {
+      watch = refl;
+      lease = refl;
+      stampers = refl;
+      ahead = refl;
+      width = refl;
+      in_turn = All-cons Between session (other ∷ []) session_between (All-cons Between other [] other_between (All-nil Between));
+      seen = ([], refl);
+    }
 
 is_life : IsLife life
 is_life = record {
@@ -305,10 +405,17 @@ is_taken last clock rises late early = record {
 }
 
 is_timed : IsTimedIn life start (timeline_of 0) session times
-unfolding serves allows_early allows_begin allows_pass allows_broken
+unfolding talks passes_on allows_early allows_begin allows_pass allows_broken
 is_timed = record {
   in_order = (omega arith, omega arith, omega arith, (omega arith, omega arith, omega arith, (omega arith, omega arith, omega arith, (omega arith, omega arith, omega arith, tt))));
-  read = (tt, (is_taken 0 120 (omega arith) (omega arith) (omega arith), (is_taken 120 150 (omega arith) (omega arith) (omega arith), (tt, refl))));
+  read = (tt, (is_taken 0 120 (omega arith) (omega arith) (omega arith), (is_taken 130 150 (omega arith) (omega arith) (omega arith), (tt, refl))));
+}
+
+is_other_timed : IsTimedIn life start (timeline_of 0) other (call_at 130 ∷ [])
+unfolding other_talks allows_now
+is_other_timed = record {
+  in_order = (omega arith, omega arith, omega arith, tt);
+  read = (is_taken 120 130 (omega arith) (omega arith) (omega arith), refl);
 }
 
 -- ---- so all premises of the law hold, and the commit was seen at a session of the life
@@ -319,8 +426,11 @@ pub is_lived : IsLived lived
 is_lived = record { proved = is_life; assumed = is_assumed }
 
 is_seen : IsSeen (timed_of session times).calls times first
-unfolding serves
+unfolding talks
 is_seen = record { number = 1; begun = 1; released = 2; committed = record { begins = (0, refl); releases = refl; later = omega arith }; began = omega arith; ended = omega arith }
+
+pub other_served : IsServedIn lived other (call_at 130 ∷ [])
+other_served = record { worker = worker; of_life = Contains-here worker []; of_worker = Contains-there session (other ∷ []) other (Contains-here other []); timed = is_other_timed }
 
 all_lived : All IsLived (lived ∷ [])
 all_lived = All-cons IsLived lived [] is_lived (All-nil IsLived)
@@ -332,6 +442,6 @@ all_seen =
       among = Contains-here lived [];
       session = session;
       times = times;
-      served = record { worker = worker; of_life = Contains-here worker []; of_worker = Contains-here session []; timed = is_timed };
+      served = record { worker = worker; of_life = Contains-here worker []; of_worker = Contains-here session (other ∷ []); timed = is_timed };
       seen = is_seen;
     }) (All-nil (IsSeenInOneOf (lived ∷ [])))

@@ -20,6 +20,7 @@ use Rattle.tt_connections.specs.Station.{PostState, StationState, Allows, admiss
 use Rattle.tt_connections.specs.Fault.{number_of}
 use Rattle.tt_connections.specs.declared.presence.Question.{Question}
 use Rattle.tt_connections.proofs.Leasing.{stamps_whole}
+use Rattle.tt_connections.proofs.Turning.{talks-on}
 use Rattle.tt_connections.specs.declared.faults.StationFault.TheVariants.{FloorAboveCap, TooWide}
 use Rattle.tt_rounds.specs.Lists.{GivesInTurn}
 use Rattle.tt_judge.specs.declared.history.Commit.{Commit}
@@ -163,7 +164,8 @@ earlier = record {
   post = post (Some 120 ∷ Some 150 ∷ []);
   after = released_with 1030 1038;
   calls = Begin 1 0 (Ok 1030) ∷ Pass 1 (Ok true) ∷ [];
-  talked = (begun_with (Some 150 ∷ []) 1030, begins_at 120 (Some 150 ∷ []) (omega arith) (omega arith), (released_with 1030 1038, passes-0, refl));
+  talked = talks-on GivesInTurn failed says (Begin 1 0 (Ok 1030) ∷ Pass 1 (Ok true) ∷ []) (begin (Some 120 ∷ Some 150 ∷ [])) (released_with 1030 1038)
+      (begun_with (Some 150 ∷ []) 1030, begins_at 120 (Some 150 ∷ []) (omega arith) (omega arith), (released_with 1030 1038, passes-0, refl));
   times = call_at 120 ∷ call_at 150 ∷ [];
 }
 
@@ -174,7 +176,8 @@ later = record {
   post = post (Some 170 ∷ Some 200 ∷ []);
   after = released_with 1080 1088;
   calls = Begin 1 0 (Ok 1080) ∷ Pass 1 (Ok true) ∷ [];
-  talked = (begun_with (Some 200 ∷ []) 1080, begins_at 170 (Some 200 ∷ []) (omega arith) (omega arith), (released_with 1080 1088, passes-1, refl));
+  talked = talks-on GivesInTurn failed says (Begin 1 0 (Ok 1080) ∷ Pass 1 (Ok true) ∷ []) (begin (Some 170 ∷ Some 200 ∷ [])) (released_with 1080 1088)
+      (begun_with (Some 200 ∷ []) 1080, begins_at 170 (Some 200 ∷ []) (omega arith) (omega arith), (released_with 1080 1088, passes-1, refl));
   times = call_at 170 ∷ call_at 200 ∷ [];
 }
 

@@ -19,6 +19,7 @@ use Rattle.tt_connections.specs.Station.{PostState, StationState, Allows, admiss
 use Rattle.tt_connections.specs.Fault.{number_of}
 use Rattle.tt_connections.specs.declared.presence.Question.{Question}
 use Rattle.tt_connections.proofs.Leasing.{stamps_whole}
+use Rattle.tt_connections.proofs.Turning.{talks-on}
 use Rattle.tt_connections.specs.declared.faults.StationFault.TheVariants.{FloorAboveCap, TooWide}
 use Rattle.tt_consistency.specs.Timed.{TimedSession, IsTimed, times_at}
 use Rattle.tt_consistency.specs.Order.{BeginsAt, IsCommitted}
@@ -157,7 +158,7 @@ earlier = record {
   post = post;
   after = released;
   calls = Begin 1 0 (Ok 1018) ∷ Pass 1 (Ok true) ∷ [];
-  talked = (begun_with 1018, begins_at 10 (omega arith), (released, passes, refl));
+  talked = talks-on gives failed says (Begin 1 0 (Ok 1018) ∷ Pass 1 (Ok true) ∷ []) begin released (begun_with 1018, begins_at 10 (omega arith), (released, passes, refl));
   times = record { came = 1011; read = 1012; answered = 1013 } ∷ record { came = 1030; read = 1033; answered = 1034 } ∷ [];
 }
 
@@ -178,7 +179,7 @@ later = record {
   post = post;
   after = begun_with 1053;
   calls = Begin 1 0 (Ok 1053) ∷ [];
-  talked = (begun_with 1053, begins_at 45 (omega arith), refl);
+  talked = talks-on gives failed says (Begin 1 0 (Ok 1053) ∷ []) begin (begun_with 1053) (begun_with 1053, begins_at 45 (omega arith), refl);
   times = record { came = 1040; read = 1047; answered = 1048 } ∷ [];
 }
 

@@ -13,6 +13,7 @@ use Rattle.tt_stamp.specs.declared.stampings.Stamping.{Stamping}
 use Rattle.tt_session.specs.declared.calls.Call.TheVariants.{Begin, Lease}
 use Rattle.tt_connections.specs.Station.{PostState, StationState, Allows, new_station, id_at}
 use Rattle.tt_connections.specs.declared.presence.Question.{Question}
+use Rattle.tt_connections.proofs.Turning.{talks-on}
 use Rattle.tt_rounds.specs.Lists.{GivesInTurn}
 use Rattle.tt_consistency.specs.Order.{IsLeasedAt}
 use Rattle.tt_consistency.specs.Terms.{Grant, Precedes, AreGrantedInTurn, IsGrantedTo, IsMadeInTerm}
@@ -185,7 +186,7 @@ led = record {
   post = post (Some 120 ∷ []);
   after = begun;
   calls = Lease 1000 1999 (Ok tt) ∷ Begin 1 0 (Ok 1030) ∷ [];
-  talked = (leased, sets, (begun, begins, refl));
+  talked = talks-on GivesInTurn failed says (Lease 1000 1999 (Ok tt) ∷ Begin 1 0 (Ok 1030) ∷ []) new begun (leased, sets, (begun, begins, refl));
   times = call_at 115 ∷ call_at 120 ∷ [];
 }
 

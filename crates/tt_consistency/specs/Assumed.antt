@@ -1,18 +1,17 @@
 -- What no program can prove of a life of a machine: the true times at which things happened, how far its clock and its sources were right, and when its readings were taken. Each list of what happened has the newest first.
-use Rattle.std.specs.Prelude.{◌≡◌, ℕ, ◌+◌, ◌<◌, ◌≤◌, ◌^◌, ◌⊎◌, List, [], ◌∷◌, ◌++◌, length, Bool, Option, Contains}
-use mathlib.Core.Logic.{inl, inr}
+use Rattle.std.specs.Prelude.{◌≡◌, ℕ, ◌+◌, ◌<◌, ◌≤◌, ◌^◌, List, [], ◌∷◌, ◌++◌, length, Bool, Option, Contains}
 use Rattle.std.specs.List.{AllByRecursion}
 use Rattle.tt_span.specs.Drift.{Moment, KeepsDrift}
 use Rattle.tt_span.specs.Time.{max_time}
 use Rattle.tt_judge.specs.declared.history.Commit.{Commit}
 use Rattle.tt_session.specs.Conversation.{Conversation}
 use Rattle.tt_session.specs.declared.calls.Call.{Call}
-use Rattle.tt_session.specs.declared.serving.Served.{Served}
-use Rattle.tt_connections.specs.Station.{PostState, StationState, Allows, ServesSession, BreaksSession, new_station}
+use Rattle.tt_connections.specs.Station.{StationState, new_station}
 use Rattle.tt_connections.specs.Sessions.{WorkerSession}
+use Rattle.tt_connections.specs.Turns.{AllowsOn}
 use Rattle.tt_connections.specs.declared.presence.Question.{Question}
 use Rattle.tt_consistency.specs.Order.{IsSeen}
-use Rattle.tt_consistency.specs.Timed.{CallTimes, AreInOrder, TimedSession, given_of, served_at, broken_at}
+use Rattle.tt_consistency.specs.Timed.{CallTimes, AreInOrder, given_of, timed_of}
 use Rattle.tt_consistency.specs.Calls.{calls_steps}
 use Rattle.tt_consistency.specs.Faulty.{FewFaulty}
 use Rattle.tt_consistency.specs.Reads.{IsReadAt}
@@ -57,22 +56,12 @@ machine_of life start timeline = record { config = life.config; number = life.nu
 
 -- ---- a session in true time
 
--- what a post served, whole or broken off, as a session whose calls have these true times
-abbrev pub timed_by : {C V : Type 0} (gives : C → Option ℕ → C → Type 0) (failed : C → ℕ) (says : V → Question → Bool → Type 0) (waits : ℕ) (left left' taken taken' : Option (List ℕ)) (client : V) (before after : PostState C) →
-    ((served : Served) × ServesSession gives failed says waits left left' taken taken' client before after served) ⊎ BreaksSession gives failed says waits left left' taken taken' client before after → List CallTimes → TimedSession gives failed says
-timed_by gives failed says waits left left' taken taken' client before after (inl (served, that)) times = served_at gives failed says waits left left' taken taken' client before after served that times
-timed_by gives failed says waits left left' taken taken' client before after (inr that) times = broken_at gives failed says waits left left' taken taken' client before after that times
-
--- a session of a worker, whose calls have these true times
-abbrev pub timed_of : {C V : Type 0} {gives : C → Option ℕ → C → Type 0} {failed : C → ℕ} {says : V → Question → Bool → Type 0} {waits : ℕ} → WorkerSession gives failed says waits → List CallTimes → TimedSession gives failed says
-timed_of {C} {V} {gives} {failed} {says} {waits} session times = timed_by gives failed says waits session.left session.left' session.taken session.taken' session.client session.before session.after session.served times
-
 -- each reading that the calls of a conversation were given was taken at the time of its call, by the clock that has these moments and keeps this drift bound; each call has its times
-abbrev pub AllReadAt : {C V : Type 0} (gives : C → Option ℕ → C → Type 0) (failed : C → ℕ) (says : V → Question → Bool → Type 0) (ppm : ℕ) (moments : List Moment) (before : StationState C V) (calls : List Call) (after : StationState C V) → Conversation (Allows gives failed says) before calls after → List CallTimes → Type 0
+abbrev pub AllReadAt : {C V : Type 0} (gives : C → Option ℕ → C → Type 0) (failed : C → ℕ) (says : V → Question → Bool → Type 0) (ppm : ℕ) (moments : List Moment) (before : StationState C V) (calls : List Call) (after : StationState C V) → Conversation (AllowsOn gives failed says) before calls after → List CallTimes → Type 0
 AllReadAt gives failed says ppm moments before [] after talked times = times ≡ []
 AllReadAt gives failed says ppm moments before (call ∷ calls) after talked [] = ⊥
 AllReadAt gives failed says ppm moments before (call ∷ calls) after talked (times ∷ later) =
-    IsReadAt gives ppm moments talked.0.post.watch before.post.clock talked.0.post.clock (given_of gives failed says before call talked.0 talked.1) times.read
+    IsReadAt gives ppm moments talked.0.post.watch talked.1.post.clock talked.0.post.clock (given_of gives failed says (record before { post = talked.1.post }) call talked.0 talked.1.allowed) times.read
     × AllReadAt gives failed says ppm moments talked.0 calls after talked.2 later
 
 -- what is assumed of a session of a life, whose calls have these true times
@@ -80,7 +69,7 @@ pub record IsTimedIn {C V : Type 0} {gives : C → Option ℕ → C → Type 0} 
   -- its true times do not fall
   pub in_order : AreInOrder 0 times
   -- each reading that it was given was taken at the time of its call, by a clock that keeps the drift bound of the configuration at that moment too
-  pub read : let timed = timed_of session times in AllReadAt gives failed says life.config.drift (moments_in start timeline) (new_station timed.post timed.client) timed.calls timed.after timed.talked times
+  pub read : AllReadAt gives failed says life.config.drift (moments_in start timeline) (new_station session.before session.client) session.session.calls session.after session.session.talked times
 
 -- ---- lives together
 

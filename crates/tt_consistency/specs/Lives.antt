@@ -7,14 +7,15 @@ use Rattle.tt_daemon.specs.Publication.{Publication}
 use Rattle.tt_publish.specs.Known.{Source, new_watch}
 use Rattle.tt_publish.specs.Reading.{fused_span_of}
 use Rattle.tt_connections.specs.Station.{PostState}
-use Rattle.tt_connections.specs.Sessions.{WorkerSession, AreServedInTurn, post_after}
+use Rattle.tt_connections.specs.Sessions.{WorkerSession, AreServedBetween}
 use Rattle.tt_connections.specs.declared.presence.Question.{Question}
 use Rattle.tt_consistency.specs.Calls.{RoundsCall, AreInTurn, RiseIn, kept_after}
 use Rattle.tt_consistency.specs.Steps.{Kept, new_kept}
 
--- a worker: the post that it began with, and the sessions that it served
+-- a worker: the post that it began with, the one that it ended with, and the sessions that it served
 pub record WorkerLife {C V : Type 0} (gives : C → Option ℕ → C → Type 0) (failed : C → ℕ) (says : V → Question → Bool → Type 0) (waits : ℕ) : Type 0 where
   pub post : PostState C
+  pub last : PostState C
   pub sessions : List (WorkerSession gives failed says waits)
 
 -- a life: its configuration, the number of its machine, its epoch, the lease of its stamps, the interval of the stampers, how far a floor may lie ahead and how wide a reading may be; the calls of its daemon, what they published, the oldest first, and its workers
@@ -35,15 +36,15 @@ pub record Life {C V : Type 0} (gives : C → Option ℕ → C → Type 0) (fail
 abbrev pub begun_in : {C V : Type 0} {gives : C → Option ℕ → C → Type 0} {failed : C → ℕ} {says : V → Question → Bool → Type 0} {waits : ℕ} → Life gives failed says waits → Kept
 begun_in life = new_kept life.config life.number life.epoch
 
--- a worker began with a watch that had seen nothing, by a clock with the drift of this configuration, and with this lease, this interval of the stampers, this bound for floors and this one for the width of readings; its sessions came one after the other, and what its watch has seen is the first ones of these publications
+-- a worker began with a watch that had seen nothing, by a clock with the drift of this configuration, and with this lease, this interval of the stampers, this bound for floors and this one for the width of readings; its sessions were served between the post that it began with and the one that it ended with, and what its watch has seen is the first ones of these publications
 pub record WorksIn {C V : Type 0} {gives : C → Option ℕ → C → Type 0} {failed : C → ℕ} {says : V → Question → Bool → Type 0} {waits : ℕ} (life : Life gives failed says waits) (worker : WorkerLife gives failed says waits) : Type 0 where
   pub watch : worker.post.watch ≡ new_watch life.source life.config.drift
   pub lease : worker.post.lease ≡ life.lease
   pub stampers : worker.post.stampers ≡ life.stampers
   pub ahead : worker.post.ahead ≡ life.ahead
   pub width : worker.post.max_width ≡ life.max_width
-  pub in_turn : AreServedInTurn worker.post worker.sessions
-  pub seen : IsPrefix (post_after worker.post worker.sessions).watch.items life.published
+  pub in_turn : AreServedBetween worker.post worker.last worker.sessions
+  pub seen : IsPrefix worker.last.watch.items life.published
 
 -- what is proved of a life: its daemon began new, its calls came one after the other, no reading of its clock in them is below one before it, and its workers read nothing but what it published
 pub record IsLife {C V : Type 0} {gives : C → Option ℕ → C → Type 0} {failed : C → ℕ} {says : V → Question → Bool → Type 0} {waits : ℕ} (life : Life gives failed says waits) : Type 0 where

@@ -8,6 +8,7 @@ use Rattle.tt_session.specs.Conversation.{Conversation}
 use Rattle.tt_session.specs.declared.calls.Call.{Call}
 use Rattle.tt_session.specs.declared.calls.Call.TheVariants.{Lease}
 use Rattle.tt_connections.specs.Station.{StationState, new_station, Allows}
+use Rattle.tt_connections.specs.Turns.{AllowsOn}
 use Rattle.tt_connections.specs.declared.presence.Question.{Question}
 use Rattle.tt_consistency.specs.Timed.{CallTimes, AreInOrder, TimedSession, given_of}
 use Rattle.tt_consistency.specs.Order.{IsSeen}
@@ -25,11 +26,11 @@ LooksBy gives failed says machine before (Lease lo hi answer) after allowed time
 LooksBy gives failed says machine before call after allowed time = LooksAt gives machine before after (given_of gives failed says before call after allowed) time
 
 -- each call of a conversation that takes a reading looked at a machine's publications at the time at which it took its reading; each call has its times
-abbrev pub AllLookAt : {C V : Type 0} (gives : C → Option ℕ → C → Type 0) (failed : C → ℕ) (says : V → Question → Bool → Type 0) (machine : Machine) (before : StationState C V) (calls : List Call) (after : StationState C V) → Conversation (Allows gives failed says) before calls after → List CallTimes → Type 0
+abbrev pub AllLookAt : {C V : Type 0} (gives : C → Option ℕ → C → Type 0) (failed : C → ℕ) (says : V → Question → Bool → Type 0) (machine : Machine) (before : StationState C V) (calls : List Call) (after : StationState C V) → Conversation (AllowsOn gives failed says) before calls after → List CallTimes → Type 0
 AllLookAt gives failed says machine before [] after talked times = times ≡ []
 AllLookAt gives failed says machine before (call ∷ calls) after talked [] = ⊥
 AllLookAt gives failed says machine before (call ∷ calls) after talked (times ∷ later) =
-    LooksBy gives failed says machine before call talked.0 talked.1 times.read × AllLookAt gives failed says machine talked.0 calls after talked.2 later
+    LooksBy gives failed says machine (record before { post = talked.1.post }) call talked.0 talked.1.allowed times.read × AllLookAt gives failed says machine talked.0 calls after talked.2 later
 
 -- a session is served on a machine: its true times do not fall, and each of its calls looked at the machine's publications
 pub record IsServedOn {C V : Type 0} (gives : C → Option ℕ → C → Type 0) (failed : C → ℕ) (says : V → Question → Bool → Type 0) (machine : Machine) (session : TimedSession gives failed says) : Type 0 where

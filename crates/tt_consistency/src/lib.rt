@@ -23,7 +23,8 @@
 //!
 //! Each station has a book of its own. If each of their readings holds the true time of its moment, then a commit that
 //! was released before another one came has the smaller stamp. The laws are about the conversations that
-//! [`Post::serve`](tt_connections::Post::serve) promises.
+//! [`Post::serve`](tt_connections::Post::serve) promises, and about those before whose calls the post served other
+//! sessions.
 //!
 //! # Lives
 //!

@@ -5,11 +5,11 @@ ghost use Rattle.std.specs.List.{AllByRecursion};
 ghost use Rattle.tt_judge.specs.Consistency.{IsConsistent};
 ghost use Rattle.tt_judge.specs.declared.history.Commit.{Commit};
 ghost use Rattle.tt_consistency.specs.Order.{BeginsAt, IsCommitted};
-ghost use Rattle.tt_consistency.specs.Timed.{CallTimes, IsTimed, times_at};
+ghost use Rattle.tt_consistency.specs.Timed.{CallTimes, IsTimed, times_at, timed_of};
 ghost use Rattle.tt_publish.specs.Reading.{fused_span_of};
 ghost use Rattle.tt_consistency.specs.Timeline.{HeldTrueTime, Timed};
 ghost use Rattle.tt_connections.specs.Sessions.{WorkerSession};
-ghost use Rattle.tt_consistency.specs.Assumed.{IsAssumed, IsLived, IsSeenInOneOf, IsServedIn, IsTimedIn, TimedLife, machine_of, moments_in, timed_of};
+ghost use Rattle.tt_consistency.specs.Assumed.{IsAssumed, IsLived, IsSeenInOneOf, IsServedIn, IsTimedIn, TimedLife, machine_of, moments_in};
 ghost use Rattle.tt_consistency.specs.Lives.{IsLife, Life, WorkerLife};
 ghost use Rattle.tt_consistency.specs.Running.{IsRunning, Start};
 
@@ -20,12 +20,12 @@ use tt_publish::Clock;
 /// The law of whole lives of machines.
 ///
 /// A life is one run of the service on a machine, from its start to its end. Its daemon polls sources, fuses and
-/// publishes. Its workers serve sessions of clients, one after the other.
+/// publishes. Its workers serve sessions of clients. Between two calls of a session its worker may serve other sessions.
 ///
 /// `IsLife` is what a run proves of its own life. The daemon began new, and its calls came one after the other. No reading
 /// of its clock was below one before it. Each worker began with a watch that had seen nothing and that reckons with the
-/// drift of the configuration. Its sessions came one after the other, and it read nothing but what the daemon of this life
-/// published.
+/// drift of the configuration. What its watch had seen stayed seen, and its terms stayed the same. It read nothing but what
+/// the daemon of this life published.
 ///
 /// `IsAssumed` and `IsTimedIn` are what no program can prove. They say when all this happened in true time, that the clock
 /// kept its drift bound, and that at each fusion at most f sources were faulty. A call that was given no reading is asked

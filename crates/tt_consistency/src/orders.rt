@@ -8,10 +8,9 @@ ghost use Rattle.tt_session.specs.Answers.{AnswersLines};
 ghost use Rattle.tt_session.specs.declared.begun.Begun.{Begun};
 ghost use Rattle.tt_session.specs.declared.calls.Call.{Call};
 ghost use Rattle.tt_session.specs.declared.replies.LineReply.{LineReply};
-ghost use Rattle.tt_session.specs.declared.serving.Served.{Served};
 ghost use Rattle.tt_stamp.specs.Stamping.{Continues};
-ghost use Rattle.tt_connections.specs.Station.{PostState, ServesSession, BreaksSession};
-ghost use Rattle.tt_consistency.specs.Timed.{CallTimes, TimedSession, IsTimed, times_at, served_at, broken_at};
+ghost use Rattle.tt_connections.specs.Sessions.{WorkerSession};
+ghost use Rattle.tt_consistency.specs.Timed.{CallTimes, TimedSession, IsTimed, times_at, timed_of};
 ghost use Rattle.tt_consistency.specs.Order.{BeginsAt, ReleasesAt, LeasesAt, NoLeaseBetween, IsLeasedAt, IsCommitted, IsSeen, IsSeenAtSome, IsWithin, ShareSequencer};
 ghost use Rattle.tt_consistency.specs.Told.{IsTold};
 
@@ -44,18 +43,11 @@ pub fn session_laws<C: Clock, V: Presence>()
         (told : IsTold waits lines session.calls before number stamp) × ((times_at session.times told.begun).read ≤ stamp)
         × (stamp < (times_at session.times told.released).read) }
 
-    // The law `within`, for a session that a post served, and for a session that broke off in the replies that
-    // were handed over last.
-    ensures served { (waits : ℕ) (left left' taken taken' : Option (List ℕ)) (client : V) (post post' : PostState C) (served : Served)
-        (that : ServesSession C.gives C.failed V.says waits left left' taken taken' client post post' served)
-        (times : List CallTimes) (commit : Commit) →
-        let session = served_at C.gives C.failed V.says waits left left' taken taken' client post post' served that times in
-        IsTimed C.gives C.failed V.says session → IsSeen session.calls session.times commit → IsWithin commit }
-    ensures broken { (waits : ℕ) (left left' taken taken' : Option (List ℕ)) (client : V) (post post' : PostState C)
-        (that : BreaksSession C.gives C.failed V.says waits left left' taken taken' client post post')
-        (times : List CallTimes) (commit : Commit) →
-        let session = broken_at C.gives C.failed V.says waits left left' taken taken' client post post' that times in
-        IsTimed C.gives C.failed V.says session → IsSeen session.calls session.times commit → IsWithin commit }
+    // The law `within`, for a session of a worker, whole or broken off. Between its calls the worker may have served other
+    // sessions.
+    ensures served { (waits : ℕ) (session : WorkerSession C.gives C.failed V.says waits) (times : List CallTimes) (commit : Commit) →
+        IsTimed C.gives C.failed V.says (timed_of session times) → IsSeen (timed_of session times).calls times commit →
+        IsWithin commit }
 {}
 
 /// Laws of the leases of sessions. Nothing is assumed about readings and times.

@@ -5,11 +5,11 @@ ghost use Rattle.tt_span.specs.Interval.{Interval, Holds, Meets};
 ghost use Rattle.tt_judge.specs.Consistency.{IsConsistent};
 ghost use Rattle.tt_judge.specs.declared.history.Commit.{Commit};
 ghost use Rattle.tt_connections.specs.Sessions.{WorkerSession};
-ghost use Rattle.tt_consistency.specs.Assumed.{IsLived, TimedLife, timed_of};
+ghost use Rattle.tt_consistency.specs.Assumed.{IsLived, TimedLife};
 ghost use Rattle.tt_consistency.specs.Lives.{IsLife, Life, WorkerLife};
 ghost use Rattle.tt_consistency.specs.Order.{BeginsAt, IsWithin};
 ghost use Rattle.tt_consistency.specs.Stampers.{FollowsRule, GivenStamp, IsRightStamper, IsSeenAtStamper, IsSeenInEither, Stamper};
-ghost use Rattle.tt_consistency.specs.Timed.{CallTimes};
+ghost use Rattle.tt_consistency.specs.Timed.{CallTimes, timed_of};
 
 use tt_connections::Presence;
 use tt_publish::Clock;

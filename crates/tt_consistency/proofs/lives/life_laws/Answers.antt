@@ -1,7 +1,5 @@
-use Rattle.std.proofs.Common.{◌≤◌, List, sym, subst}
-use Rattle.tt_consistency.specs.Timed.{CallTimes, times_at}
-use Rattle.tt_consistency.specs.Assumed.{timed_of}
-use Rattle.tt_consistency.proofs.Living.{life-runs, life-holds, session-timed, timed-same, lived-timed, lives-seen}
+use Rattle.tt_consistency.specs.Timed.{timed_of}
+use Rattle.tt_consistency.proofs.Living.{life-runs, life-holds, session-timed, lived-timed, lives-seen}
 use Rattle.tt_consistency.proofs.lives.life_laws.Goals as goal
 
 pub returns : goal.returns
@@ -13,9 +11,7 @@ returns g c = record {
   ordered = λ waits other_waits lived other_lived earlier later times other_times number stamp begun released other_number other_stamp other_begun is served other_is other_served committed begins order.
       c.order_laws.ensures.ordered (timed_of earlier times) (timed_of later other_times) number stamp begun released other_number other_stamp other_begun
       (lived-timed g.C.Clock.gives g.C.Clock.failed g.V.Presence.says waits lived is earlier times served)
-      (lived-timed g.D.Clock.gives g.D.Clock.failed g.W.Presence.says other_waits other_lived other_is later other_times other_served) committed begins
-      (subst (λ (t : List CallTimes). (times_at t released).answered ≤ (times_at (timed_of later other_times).times other_begun).came) (sym (timed-same g.C.Clock.gives g.C.Clock.failed g.V.Presence.says waits earlier times).2)
-      (subst (λ (t : List CallTimes). (times_at times released).answered ≤ (times_at t other_begun).came) (sym (timed-same g.D.Clock.gives g.D.Clock.failed g.W.Presence.says other_waits later other_times).2) order));
+      (lived-timed g.D.Clock.gives g.D.Clock.failed g.W.Presence.says other_waits other_lived other_is later other_times other_served) committed begins order;
   consistent = λ waits lives history are seen.
       c.order_laws.ensures.consistent history (lives-seen g.C.Clock.gives g.C.Clock.failed g.V.Presence.says waits lives history are seen);
 }

@@ -1,4 +1,4 @@
-use Rattle.tt_consistency.specs.Timed.{served_at, broken_at}
+use Rattle.tt_consistency.specs.Timed.{timed_of}
 use Rattle.tt_consistency.proofs.TellingCommits.{session-told}
 use Rattle.tt_consistency.proofs.Walking.{session-begun, session-released, session-within}
 use Rattle.tt_consistency.proofs.orders.session_laws.Goals as goal
@@ -9,8 +9,6 @@ returns g c = record {
   released = session-released g.C.Clock.gives g.C.Clock.failed g.V.Presence.says;
   within = session-within g.C.Clock.gives g.C.Clock.failed g.V.Presence.says;
   told = session-told g.C.Clock.gives g.C.Clock.failed g.V.Presence.says;
-  served = λ waits left left' taken taken' client post post' served that times commit.
-      session-within g.C.Clock.gives g.C.Clock.failed g.V.Presence.says (served_at g.C.Clock.gives g.C.Clock.failed g.V.Presence.says waits left left' taken taken' client post post' served that times) commit;
-  broken = λ waits left left' taken taken' client post post' that times commit.
-      session-within g.C.Clock.gives g.C.Clock.failed g.V.Presence.says (broken_at g.C.Clock.gives g.C.Clock.failed g.V.Presence.says waits left left' taken taken' client post post' that times) commit;
+  served = λ waits session times.
+      session-within g.C.Clock.gives g.C.Clock.failed g.V.Presence.says (timed_of session times);
 }
