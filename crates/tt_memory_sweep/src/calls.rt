@@ -1,6 +1,7 @@
 //! The calls that take memory.
 
 use crate::outcomes::Outcome;
+use crate::services::Way;
 use crate::{commits, nodes, pictures, publications, services, texts, worlds};
 use std::alloc::Global;
 use std::sync::Wait;
@@ -36,10 +37,11 @@ pub(crate) enum Call {
     PushSvg,
     NewQueue,
     ServeAtPost,
+    TurnAtPost,
 }
 
 /// All calls, in the order in which they are made.
-pub(crate) const CALLS: [Call; 27] = [
+pub(crate) const CALLS: [Call; 28] = [
     Call::WriteText,
     Call::ReadScript,
     Call::Audit,
@@ -67,6 +69,7 @@ pub(crate) const CALLS: [Call; 27] = [
     Call::PushSvg,
     Call::NewQueue,
     Call::ServeAtPost,
+    Call::TurnAtPost,
 ];
 
 impl Call {
@@ -100,6 +103,7 @@ impl Call {
             Call::PushSvg => "tt_top::push_svg",
             Call::NewQueue => "tt_connections::Queue::new",
             Call::ServeAtPost => "tt_connections::Post::serve",
+            Call::TurnAtPost => "tt_connections::Post::turn",
         }
     }
 
@@ -136,7 +140,8 @@ impl Call {
             Call::PushView => pictures::picture(alloc),
             Call::PushSvg => pictures::document(alloc),
             Call::NewQueue => services::queue(alloc),
-            Call::ServeAtPost => services::session(rt, alloc),
+            Call::ServeAtPost => services::session(rt, alloc, Way::AtOnce),
+            Call::TurnAtPost => services::session(rt, alloc, Way::ByTurns),
         }
     }
 }

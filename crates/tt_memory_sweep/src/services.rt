@@ -6,11 +6,11 @@ use crate::outcomes::{MEMORY, Outcome};
 use arrayvec::ArrayVec;
 use std::alloc::{AllocError, Global};
 use std::sync::Wait;
-use tt_connections::{AlwaysThere, Post, Queue, Terms};
+use tt_connections::{AlwaysThere, Post, Queue, Terms, Visit};
 use tt_epoch::{MemoryStore, next_epoch};
 use tt_pages::{Asked, Limits, Page, Report, Wanted, push_answer};
 use tt_publish::MemoryClock;
-use tt_session::Turns;
+use tt_session::{Replies, Turns};
 use tt_settings::read;
 use tt_span::Span;
 use tt_stamp::Sequencer;
@@ -167,9 +167,18 @@ fn make_queue(alloc: Global) -> Result<bool, u16> {
     }
 }
 
+/// How a session is served.
+#[derive(Clone, Copy)]
+pub(crate) enum Way {
+    /// From its first byte to its end.
+    AtOnce,
+    /// By turns, of which it takes one.
+    ByTurns,
+}
+
 /// Serves a session with two readings and a commit. If its commit is refused for memory, the next session of the same post
 /// has the replies worked out by hand.
-pub(crate) fn session<R: Wait>(rt: &R, alloc: Global) -> Outcome {
+pub(crate) fn session<R: Wait>(rt: &R, alloc: Global, way: Way) -> Outcome {
     let Some(watch) = watch_of(rt, alloc) else {
         return Outcome::Unprepared;
     };
@@ -187,24 +196,42 @@ pub(crate) fn session<R: Wait>(rt: &R, alloc: Global) -> Outcome {
     };
     let clock = MemoryClock::new(&CLOCK, None);
     let post = Post::new(rt, alloc, watch, clock, seat, &sequencer, terms);
-    let (post, replies) = serve_one(post);
+    let (post, replies) = serve_one(post, alloc, way);
     if replies.as_slice() != REFUSED {
         return Outcome::of(replies.as_slice() == REPLIES, false);
     }
-    let (_post, replies) = serve_one(post);
+    let (_post, replies) = serve_one(post, alloc, way);
     Outcome::of(replies.as_slice() == AGAIN, true)
 }
 
-/// Serves one session, in which nothing but the post takes memory. Answers the post, and the replies.
+/// Serves one session, in which nothing but the service takes memory. Answers the post, and the replies.
 fn serve_one<'a, 'c, R: Wait>(
     post: Post<'a, R, MemoryClock<'c>>,
+    alloc: Global,
+    way: Way,
 ) -> (Post<'a, R, MemoryClock<'c>>, ArrayVec<u8, 256>) {
-    let mut reader = MemoryReader::new(LINES, 64, None);
     let mut writer = SheetWriter::new();
+    let post = match way {
+        Way::AtOnce => serve_at_once(post, &mut writer),
+        Way::ByTurns => {
+            let visit = Visit::new(alloc);
+            let mut room = Replies::new();
+            post.turn(&AlwaysThere, visit, LINES, &mut writer, &mut room, 1)
+                .0
+        }
+    };
+    (post, writer.written())
+}
+
+/// Serves the lines from their first byte to their end.
+fn serve_at_once<'a, 'c, R: Wait>(
+    post: Post<'a, R, MemoryClock<'c>>,
+    writer: &mut SheetWriter,
+) -> Post<'a, R, MemoryClock<'c>> {
+    let mut reader = MemoryReader::new(LINES, 64, None);
     let turns = Turns {
         reads: 100,
         waits: 1,
     };
-    let (post, _) = post.serve(&AlwaysThere, &mut reader, &mut writer, turns);
-    (post, writer.written())
+    post.serve(&AlwaysThere, &mut reader, writer, turns).0
 }

@@ -14,10 +14,12 @@ use tt_stamp::Sequencer;
 use tt_stream::MemoryWriter;
 
 /// A client that never leaves, whose device has a clock.
-#[derive(Drop)]
+#[derive(Clone, Copy)]
 struct Device {
     clock: u64,
 }
+
+const CLIENT: Device = Device { clock: 1_000 };
 
 impl Presence for Device {
     ghost says = { λ _ _ answer. answer ≡ false };
@@ -54,26 +56,24 @@ fn seen<R: Wait>(rt: &R, alloc: Global) -> Option<Watch> {
     watch
 }
 
-/// One turn of this session, whose clients' clocks show 1000: the post and the session, if exactly these replies were
-/// written.
+/// One turn of this session, while the client's clock shows 1000. Fails unless exactly these replies are written.
 fn turn<'a, 'c, R: Wait>(
     alloc: Global,
     post: Post<'a, R, MemoryClock<'c>>,
     visit: Visit,
     bytes: &[u8],
     replies: &[u8],
-) -> Option<(Post<'a, R, MemoryClock<'c>>, Visit)> {
+) -> Result<(Post<'a, R, MemoryClock<'c>>, Visit), Fail> {
     if !visit.can_hear(bytes.len()) {
-        return None;
+        return Err(Fail::new("more lines than can be counted"));
     }
     let mut writer = MemoryWriter::new(alloc, 1000, None);
-    let device = Device { clock: 1000 };
     let mut room = Replies::new();
-    let (post, visit, done) = post.turn(&device, visit, bytes, &mut writer, &mut room, 1);
+    let (post, visit, done) = post.turn(&CLIENT, visit, bytes, &mut writer, &mut room, 1);
     if done.is_err() || writer.taken() != replies {
-        return None;
+        return Err(Fail::new("other replies"));
     }
-    Some((post, visit))
+    Ok((post, visit))
 }
 
 #[test]
@@ -89,61 +89,28 @@ fn a_pending_commit_waits_while_another_session_goes_on(rt: HostRuntime) -> Resu
     };
     let clock = MemoryClock::new(&[50, 60, 70, 200, 210, 220, 230, 240], None);
     let post = Post::new(&rt, rt.alloc(), watch, clock, seat, &sequencer, terms);
-    let (first, second) = (Visit::new(rt.alloc()), Visit::new(rt.alloc()));
+    let (one, two) = (Visit::new(rt.alloc()), Visit::new(rt.alloc()));
 
     // The first session commits: the stamp is the latest of its reading, and the step after that reads [160, 260].
-    let (post, first) = turn(rt.alloc(), post, first, b"commit 1 0\n", b"waiting 1 250\n").ok_or(
-        "a turn",
-    )?;
-    assert!(rt; first.is_pending());
-    assert!(rt; first.left(None) == Some(1_090));
-    assert!(rt; first.left(Some(1_040)) == Some(1_050));
+    let (post, one) = turn(rt.alloc(), post, one, b"commit 1 0\n", b"waiting 1 250\n")?;
+    assert!(rt; one.is_pending());
+    assert!(rt; one.left(None) == Some(1_090));
+    assert!(rt; one.left(Some(1_040)) == Some(1_050));
 
-    // The second one reads the time, and sets a lease in two turns.
-    let (post, second) = turn(rt.alloc(), post, second, b"now\nlease 10", b"now 170 270\n").ok_or(
-        "a turn",
-    )?;
-    assert!(rt; second.left(Some(1_040)) == None);
+    // The second one reads the time, and sends a part of a line.
+    let (post, two) = turn(rt.alloc(), post, two, b"now\nlease 10", b"now 170 270\n")?;
+    assert!(rt; two.left(Some(1_040)) == None);
 
-    // The commit of the first one is released, though nothing of it was kept at the post.
-    let (post, first) = turn(
-        rt.alloc(),
-        post,
-        first,
-        b"commit 1 0\n",
-        b"committed 1 250\n",
-    )
-    .ok_or("a turn")?;
-    assert!(rt; !first.is_pending());
-    assert!(rt; first.left(None) == None);
+    // The commit of the first one is released by the reading [300, 400].
+    let (post, one) = turn(rt.alloc(), post, one, b"commit 1 0\n", b"committed 1 250\n")?;
+    assert!(rt; !one.is_pending());
+    assert!(rt; one.left(None) == None);
 
-    // Only the second one stamps in its lease.
-    let (post, second) = turn(
-        rt.alloc(),
-        post,
-        second,
-        b"00 2000\n",
-        b"leased 1000 2000\n",
-    )
-    .ok_or("a turn")?;
-    let (post, second) = turn(
-        rt.alloc(),
-        post,
-        second,
-        b"commit 1 0\n",
-        b"waiting 1 1000\n",
-    )
-    .ok_or("a turn")?;
-    let (_post, first) = turn(
-        rt.alloc(),
-        post,
-        first,
-        b"commit 2 0\n",
-        b"waiting 2 1001\n",
-    )
-    .ok_or("a turn")?;
-    let device = Device { clock: 1000 };
-    first.finish(&device);
-    second.finish(&device);
+    // Only the second one stamps in its lease. The stamps of both are different.
+    let (post, two) = turn(rt.alloc(), post, two, b"00 2000\n", b"leased 1000 2000\n")?;
+    let (post, two) = turn(rt.alloc(), post, two, b"commit 1 0\n", b"waiting 1 1000\n")?;
+    let (_post, one) = turn(rt.alloc(), post, one, b"commit 2 0\n", b"waiting 2 1001\n")?;
+    one.finish(&CLIENT);
+    two.finish(&CLIENT);
     Ok(())
 }
