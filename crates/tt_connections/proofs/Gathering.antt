@@ -1,26 +1,22 @@
 -- What the steps of a session do whose replies are handed over after each of them.
-use Rattle.std.proofs.Common.{◌≡◌, ◌≢◌, ℕ, Bool, true, false, ◌==◌, ◌+◌, ◌<◌, ◌≤◌, ◌^◌, if◌then◌else◌, List, [], ◌∷◌, ◌++◌, length, take, drop, Option, refl, sym, ap, ◌∙◌, subst, arith, append_assoc, take-append-drop}
+use Rattle.std.proofs.Common.{◌≡◌, ◌≢◌, ℕ, Bool, true, false, ◌==◌, ◌+◌, ◌<◌, ◌≤◌, ◌^◌, if◌then◌else◌, List, [], ◌∷◌, ◌++◌, length, take, drop, Option, refl, sym, ap, ◌∙◌, arith, take-append-drop}
 use Rattle.std.specs.List.{flat_map}
 use Rattle.std.specs.Io.KnownBytes.{Appends}
-use Rattle.std.proofs.KnownBytes.{Appends-trans}
 use Rattle.std.proofs.lemmas.Bool.Decides.{nat_tests}
 use Rattle.std.proofs.lemmas.List.{length-append, length-take}
 use Rattle.std.proofs.lemmas.List.Elements.{All-head, All-tail}
 use Rattle.tt_session.specs.Lines.{HasNoEnd, Splits, lines_of, onto_first}
 use Rattle.tt_session.specs.Answers.{AnswersLines}
 use Rattle.tt_session.specs.Replies.{text_of}
-use Rattle.tt_session.specs.Session.{StaysFlushed}
 use Rattle.tt_session.specs.Steps.{CommitsLast, Steps, StepsTo, StopsAt, is_behind_commit}
-use Rattle.tt_session.specs.Talks.{TalkState, Talks, TalksOn}
+use Rattle.tt_session.specs.Talks.{TalkState}
 use Rattle.tt_session.specs.declared.begun.Begun.{Begun}
 use Rattle.tt_session.specs.declared.calls.Call.{Call}
 use Rattle.tt_session.specs.declared.replies.LineReply.{LineReply}
 use Rattle.tt_session.specs.declared.steps.Stop.{Stop}
 use Rattle.tt_session.specs.declared.steps.Stop.TheVariants as stop
-use Rattle.tt_session.proofs.Following.{Stands-more}
-use Rattle.tt_session.proofs.Hearing.{Kept-later}
 use Rattle.tt_session.proofs.Splitting.{split_only}
-use Rattle.tt_connections.specs.Together.{IsPartOfLine, StepsCut, BreaksOffInStepFlushed, BreaksWithin}
+use Rattle.tt_connections.specs.Together.{IsPartOfLine, StepsCut}
 
 -- ---- further bytes have no more lines than bytes
 -- a byte in front of the first line makes no more lines
@@ -67,11 +63,7 @@ committed lines rest (front, line, is, others, commit, empty) =
     omega (arith, long, length-append front (line ∷ []))
 
 module _ {S : Type 0} (allows : S → Call → S → Type 0) (waits : ℕ) where
-  -- a part of a line has come behind a session so far
-  pub talks-part : (had takes : Option (List ℕ)) (first after : S) (past : List ℕ) (talk : TalkState) → Talks allows waits had takes first past after talk → IsPartOfLine talk.line
-  talks-part had takes first after past talk t = (t.stands.rest, t.stands.session.splits.last, t.stands.kept)
-
-  -- and behind a step
+  -- a part of a line has come behind a step, where one had before it
   pub step-part : (before after : S) (talk talks : TalkState) (bytes text : List ℕ) (is_commit : Bool) → IsPartOfLine talk.line → Steps allows waits before talk bytes after talks text is_commit → IsPartOfLine talks.line
   step-part before after talk talks bytes text is_commit (come, none, kept) steps =
       let h = steps.hears come none kept in
@@ -131,45 +123,3 @@ module _ {S : Type 0} (allows : S → Call → S → Type 0) (waits : ℕ) where
         text_is = sym (take-append-drop n text);
         written = written;
       }
-
-  -- behind a session so far
-  pub BreaksWithin-cut : {W : Type 0} (shows : W → Option (List ℕ)) (flushed : W → Bool) (old new : W) (mid after : S) (talk talks : TalkState) (bytes : List ℕ)
-      → StepsCut allows waits (shows old) mid talk bytes (shows new) after talks
-      → BreaksWithin allows waits shows flushed old mid talk bytes new after
-  BreaksWithin-cut shows flushed old new mid after talk talks bytes s had first past t =
-      let stands = Stands-more allows waits first mid after past s.own t.text s.text talk talks s.is_commit t.stands s.steps in
-      record {
-        off =
-            record {
-              past = past;
-              own = s.own;
-              unheard = s.unheard;
-              bytes_are = ap (λ l. past ++ l) s.bytes_are ∙ sym (append_assoc past s.own s.unheard);
-              mid = mid;
-              talk = talk;
-              told = t.text;
-              stood = t.stands;
-              talks = talks;
-              text = s.text;
-              is_commit = s.is_commit;
-              step = s.steps;
-              rest = stands.rest;
-              session = stands.session;
-              front = s.front;
-              cut = s.cut;
-              some = s.some;
-              text_is = s.text_is;
-              written = Appends-trans had (shows old) (shows new) t.text s.front t.written s.written;
-            };
-        kept = record { mid = old; stays = λ whole. whole; had = t.written; has = s.written };
-      }
-
-  -- further bytes, and behind them some in which the session broke off
-  pub BreaksWithin-more : {W : Type 0} (shows : W → Option (List ℕ)) (flushed : W → Bool) (old mids new : W) (before mid after : S) (talk talks : TalkState) (xs ys all : List ℕ) → all ≡ xs ++ ys
-      → StaysFlushed flushed old mids
-      → TalksOn allows waits (shows old) before talk xs (shows mids) mid talks → BreaksWithin allows waits shows flushed mids mid talks ys new after
-      → BreaksWithin allows waits shows flushed old before talk all new after
-  BreaksWithin-more shows flushed old mids new before mid after talk talks xs ys all is stays on breaks had first past t =
-      let same : (past ++ xs) ++ ys ≡ past ++ all = append_assoc past xs ys ∙ ap (λ l. past ++ l) (sym is) in
-      let b = subst (λ bytes. BreaksOffInStepFlushed allows waits shows flushed had mids new first bytes after) same (breaks had first (past ++ xs) (on had first past t)) in
-      record { off = b.off; kept = Kept-later shows flushed had old mids new b.off.told b.off.front stays b.kept }

@@ -1,6 +1,4 @@
-mod Serving
 mod Gathering
-mod Tallying
 pub mod Leasing
 pub mod Turning
 pub mod Visiting

@@ -18,41 +18,15 @@ use Rattle.tt_session.specs.declared.begun.Begun.{Begun}
 use Rattle.tt_session.specs.declared.calls.Call.{Call}
 use Rattle.tt_session.specs.declared.calls.Call.TheVariants.{Now, Begin, Lease, Pass}
 use Rattle.tt_session.specs.declared.replies.LineReply.{LineReply}
-use Rattle.tt_session.proofs.Following.{Stands-first}
+use Rattle.tt_session.proofs.Following.{Stands-first, AnswersLines-append, refused-append, texts-append}
 use Rattle.tt_session.proofs.Splitting.{Splits-append}
 use Rattle.tt_session.proofs.Talking.{Conversation-append}
 use Rattle.tt_connections.specs.Station.{PostState, StationState, Allows, new_station}
 use Rattle.tt_connections.specs.Turns.{PostGoesOn, AllowsOn}
 use Rattle.tt_connections.specs.Together.{IsPartOfLine, StepsWritten, StepsCut}
-use Rattle.tt_connections.specs.Visits.{VisitState, StandsAt, StandsOn, TurnsOn, BreaksTurn, new_visit, station_at, visit_of}
+use Rattle.tt_connections.specs.Visits.{VisitState, StandsAt, StoodOn, StandsOn, TurnsOn, BreaksTurn, new_visit, station_at, visit_of}
 use Rattle.tt_connections.specs.declared.presence.Question.{Question}
 use Rattle.tt_connections.proofs.Turning.{post-same, post-both, calls-go_on, talks-on}
-
--- ---- replies to further lines
-AnswersLines-append : (waits : ℕ) (lines more : List (List ℕ)) (calls later : List Call) (replies others : List LineReply) (last mid after : Option Begun)
-    → AnswersLines waits last lines calls replies mid → AnswersLines waits mid more later others after
-    → AnswersLines waits last (lines ++ more) (calls ++ later) (replies ++ others) after
-AnswersLines-append waits [] more calls later [] others last mid after so_far next =
-    let called : calls ≡ [] = so_far.0 in
-    rw called (subst (λ l. AnswersLines waits l more later others after) so_far.1 next)
-AnswersLines-append waits [] more calls later (r ∷ replies) others last mid after so_far next = absurd so_far
-AnswersLines-append waits (l ∷ lines) more calls later [] others last mid after so_far next = absurd so_far
-AnswersLines-append waits (l ∷ lines) more calls later (r ∷ replies) others last mid after so_far next =
-    let (first, behind, kept, is, answered, rest) = so_far in (
-      first,
-      behind ++ later,
-      kept,
-      ap (λ c. c ++ later) is ∙ append_assoc first behind later,
-      answered,
-      AnswersLines-append waits lines more behind later replies others kept mid after rest next,
-    )
-
-refused-append : (replies others : List LineReply) → count_by is_refused (replies ++ others) ≡ count_by is_refused replies + count_by is_refused others
-refused-append replies others = sum_by-append (λ r. if is_refused r then 1 else 0) replies others
-
-texts-append : (told text : List ℕ) (replies others : List LineReply) → told ≡ flat_map text_of replies → text ≡ flat_map text_of others → told ++ text ≡ flat_map text_of (replies ++ others)
-texts-append told text replies others one two =
-    ap (λ l. l ++ text) one ∙ ap (λ l. flat_map text_of replies ++ l) two ∙ sym (flat_map-append text_of replies others)
 
 module _ {C V : Type 0} (gives : C → Option ℕ → C → Type 0) (failed : C → ℕ) (says : V → Question → Bool → Type 0) where
   -- the client stays
@@ -94,33 +68,46 @@ module _ {C V : Type 0} (gives : C → Option ℕ → C → Type 0) (failed : C 
   talked-later old before (call ∷ calls) after lags (mid, allowed, rest) =
       (after, (mid, allows-later old before call mid lags allowed, talks-on gives failed says calls mid after rest), lags-refl after)
 
-  -- a session that stood at an earlier post, and then a step
+  -- a session that stood at an earlier post, and then a step: the calls of the step, and the session behind it
+  pub record Stepped (waits : ℕ) (first old before after : StationState C V) (calls : List Call) (bytes text : List ℕ) (talks : TalkState) : Type 0 where
+    pub step : List Call
+    pub talked : Conversation (Allows gives failed says) before step after
+    pub end : StationState C V
+    pub stands : Stands (AllowsOn gives failed says) waits first bytes end text talks
+    pub calls_are : stands.session.calls ≡ calls ++ step
+    pub behind : Lags end after
+
   stands-later : (waits : ℕ) (first old before after : StationState C V) (past bytes told text : List ℕ) (talk talks : TalkState) (is_commit : Bool)
-      → Stands (AllowsOn gives failed says) waits first past old told talk → Lags old before → Steps (Allows gives failed says) waits before talk bytes after talks text is_commit
-      → (end : StationState C V) × Stands (AllowsOn gives failed says) waits first (past ++ bytes) end (told ++ text) talks × Lags end after
+      → (stands : Stands (AllowsOn gives failed says) waits first past old told talk) → Lags old before → Steps (Allows gives failed says) waits before talk bytes after talks text is_commit
+      → Stepped waits first old before after stands.session.calls (past ++ bytes) (told ++ text) talks
   stands-later waits first old before after past bytes told text talk talks is_commit stands lags steps =
       let s = stands.session in
       let h = steps.hears stands.rest s.splits.last stands.kept in
-      let (end, talked, behind) = talked-later old before h.calls after lags h.talked in (
-        end,
-        record {
-          rest = h.rest;
-          session =
-              record {
-                lines = s.lines ++ h.lines;
-                calls = s.calls ++ h.calls;
-                replies = s.replies ++ h.replies;
-                splits = Splits-append past bytes s.lines h.lines stands.rest h.rest s.splits h.splits;
-                talked = Conversation-append (AllowsOn gives failed says) first old end s.calls h.calls s.talked talked;
-                answered = AnswersLines-append waits s.lines h.lines s.calls h.calls s.replies h.replies None talk.last talks.last s.answered h.answered;
-                says = texts-append told text s.replies h.replies s.says h.says;
-                lines_are = omega (arith, s.lines_are, h.lines_are, length-append s.lines h.lines);
-                refused_are = omega (arith, s.refused_are, h.refused_are, refused-append s.replies h.replies);
-              };
-          kept = h.kept;
-        },
-        behind,
-      )
+      let (end, talked, behind) = talked-later old before h.calls after lags h.talked in
+      record {
+        step = h.calls;
+        talked = h.talked;
+        end = end;
+        stands =
+            record {
+              rest = h.rest;
+              session =
+                  record {
+                    lines = s.lines ++ h.lines;
+                    calls = s.calls ++ h.calls;
+                    replies = s.replies ++ h.replies;
+                    splits = Splits-append past bytes s.lines h.lines stands.rest h.rest s.splits h.splits;
+                    talked = Conversation-append (AllowsOn gives failed says) first old end s.calls h.calls s.talked talked;
+                    answered = AnswersLines-append waits s.lines h.lines s.calls h.calls s.replies h.replies None talk.last talks.last s.answered h.answered;
+                    says = texts-append told text s.replies h.replies s.says h.says;
+                    lines_are = omega (arith, s.lines_are, h.lines_are, length-append s.lines h.lines);
+                    refused_are = omega (arith, s.refused_are, h.refused_are, refused-append s.replies h.replies);
+                  };
+              kept = h.kept;
+            };
+        calls_are = refl;
+        behind = behind;
+      }
 
   -- ---- a session at its post
   module _ (waits : ℕ) (client : V) where
@@ -151,14 +138,27 @@ module _ {C V : Type 0} (gives : C → Option ℕ → C → Type 0) (failed : C 
 
     -- no bytes
     pub stands_on-nil : (visit : VisitState) (post : PostState C) → StandsOn gives failed says waits client [] [] visit post visit post
-    stands_on-nil visit post first past told s = simp append-nil s
+    stands_on-nil visit post first past told s =
+        simp append-nil (record { turn = []; talked = refl; stands = s; calls_are = sym (append-nil s.stood.session.calls) })
 
     -- bytes, and further ones
     pub stands_on-both : (xs ys one two : List ℕ) (a b c : VisitState) (p q r : PostState C)
         → StandsOn gives failed says waits client xs one a p b q → StandsOn gives failed says waits client ys two b q c r
         → StandsOn gives failed says waits client (xs ++ ys) (one ++ two) a p c r
     stands_on-both xs ys one two a b c p q r f g first past told s =
-        rw (← append_assoc past xs ys) (rw (← append_assoc told one two) (g first (past ++ xs) (told ++ one) (f first past told s)))
+        let so_far = f first past told s in
+        let next = g first (past ++ xs) (told ++ one) so_far.stands in
+        rw (← append_assoc past xs ys) (rw (← append_assoc told one two)
+        (record {
+          turn = so_far.turn ++ next.turn;
+          talked = Conversation-append (Allows gives failed says) (station_at p client a) (station_at q client b) (station_at r client c) so_far.turn next.turn so_far.talked next.talked;
+          stands = next.stands;
+          calls_are = next.calls_are ∙ ap (λ l. l ++ next.turn) so_far.calls_are ∙ append_assoc s.stood.session.calls so_far.turn next.turn;
+        }))
+
+    -- the state of the session of this client
+    station-is : (state : StationState C V) (talk : TalkState) → state.client ≡ client → state ≡ station_at state.post client (visit_of state talk)
+    station-is state talk is = ap (λ (c : V). record { post = state.post; client = c; lease = state.lease; book = state.book }) is
 
     -- a step
     pub stands_on-steps : (before after : StationState C V) (talk talks : TalkState) (bytes text : List ℕ) (is_commit : Bool)
@@ -167,15 +167,22 @@ module _ {C V : Type 0} (gives : C → Option ℕ → C → Type 0) (failed : C 
         → StandsOn gives failed says waits client bytes text (visit_of before talk) before.post (visit_of after talks) after.post
     stands_on-steps before after talk talks bytes text is_commit client_is steps first past told s =
         let lags : Lags s.after before = record { client = s.client_is ∙ sym client_is; lease = s.lease_is; book = s.book_is; goes = s.goes } in
-        let (end, stands, behind) = stands-later waits (new_station first client) s.after before after past bytes told text talk talks is_commit s.stood lags steps in
-        let called = steps.hears s.stood.rest s.stood.session.splits.last s.stood.kept in
+        let to = stands-later waits (new_station first client) s.after before after past bytes told text talk talks is_commit s.stood lags steps in
+        let stays : after.client ≡ client = client-talked before to.step after to.talked ∙ client_is in
+        let begun = subst (λ (b : StationState C V). Conversation (Allows gives failed says) b to.step after) (station-is before talk client_is) to.talked in
         record {
-          after = end;
-          stood = stands;
-          client_is = behind.client ∙ client-talked before called.calls after called.talked ∙ client_is;
-          lease_is = behind.lease;
-          book_is = behind.book;
-          goes = behind.goes;
+          turn = to.step;
+          talked = subst (λ (a : StationState C V). Conversation (Allows gives failed says) (station_at before.post client (visit_of before talk)) to.step a) (station-is after talks stays) begun;
+          stands =
+              record {
+                after = to.end;
+                stood = to.stands;
+                client_is = to.behind.client ∙ stays;
+                lease_is = to.behind.lease;
+                book_is = to.behind.book;
+                goes = to.behind.goes;
+              };
+          calls_are = to.calls_are;
         }
 
     -- what a step did to the post and to the client, behind a part of a line
@@ -210,10 +217,6 @@ module _ {C V : Type 0} (gives : C → Option ℕ → C → Type 0) (failed : C 
               stands_on-both xs ys t.text s.text visit (visit_of mid talk) (visit_of after talks) post mid.post after.post t.stands
               (stands_on-steps mid after talk talks ys s.text s.is_commit is s.steps);
         }
-
-    -- the state of the session of this client
-    station-is : (state : StationState C V) (talk : TalkState) → state.client ≡ client → state ≡ station_at state.post client (visit_of state talk)
-    station-is state talk is = ap (λ (c : V). record { post = state.post; client = c; lease = state.lease; book = state.book }) is
 
     -- bytes, and a step over further ones, whose replies were cut
     pub turns-cut : {W : Type 0} (shows : W → Option (List ℕ)) (flushed : W → Bool) (old mids new : W) (visit : VisitState) (post : PostState C) (mid after : StationState C V) (talk talks : TalkState) (xs ys all : List ℕ)

@@ -7,5 +7,4 @@ pub mod Sessions
 pub mod Path
 pub mod Waiting
 pub mod Session
-pub mod Tally
 pub mod Clock

@@ -1,12 +1,7 @@
--- How long a session may go on, when its client has left, and how its waits are counted.
-use Rattle.std.specs.Prelude.{List, [], ◌∷◌, count_by, ℕ, ◌+◌, ◌-◌, ◌/◌, ◌^◌, min, nat_lt, if◌then◌else◌, Bool, true, false, Option, Some, None}
-use Rattle.tt_session.specs.declared.deadlines.Deadline.{Deadline}
+-- When a client has left, and how its waits are counted.
+use Rattle.std.specs.Prelude.{List, [], ◌∷◌, count_by, ℕ, ◌+◌, nat_lt, if◌then◌else◌, Bool, true, false, Option, Some, None}
 use Rattle.tt_connections.specs.declared.sights.Seen.{Seen}
 use Rattle.tt_connections.specs.declared.sights.Seen.TheVariants.{Open, Closed, Broken}
-
--- a day, and as many looks of a fifth of a second as there are in the time that a client may be silent, and one
-abbrev pub deadline_at : ℕ → ℕ → Deadline
-deadline_at now idle = record { at = min (now + 86400000000000) (2 ^ 64 - 1); tries = min (idle / 200000000 + 1) (2 ^ 32 - 1) }
 
 -- the bounds of the waits that are counted together, in nanoseconds
 abbrev pub wait_bounds : List ℕ

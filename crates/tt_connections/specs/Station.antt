@@ -19,12 +19,9 @@ use Rattle.tt_stamp.specs.declared.faults.StampFault.{StampFault}
 use Rattle.tt_stamp.specs.declared.faults.StampFault.TheVariants.{LeaseOver}
 use Rattle.tt_stamp.specs.declared.faults.BookFault.{BookFault}
 use Rattle.tt_session.specs.Desk.{Queues, AnswersQueued}
-use Rattle.tt_session.specs.Session.{Serves, FlushedBetween}
 use Rattle.tt_session.specs.declared.calls.Call.{Call}
 use Rattle.tt_session.specs.declared.calls.Call.TheVariants.{Now, Begin, Lease, Pass}
-use Rattle.tt_session.specs.declared.serving.Served.{Served}
 use Rattle.tt_connections.specs.Fault.{number_of}
-use Rattle.tt_connections.specs.Together.{BreaksInStep}
 use Rattle.tt_connections.specs.declared.faults.StationFault.TheVariants.{FloorAboveCap, ClientLeft, Broken, TooWide}
 use Rattle.tt_connections.specs.declared.presence.Question.{Question}
 use Rattle.tt_connections.specs.declared.presence.Question.TheVariants.{HasLeft, IsBroken}
@@ -183,18 +180,3 @@ Allows gives failed says before (Now answer) after = LooksThen gives failed says
 Allows gives failed says before (Begin number floor answer) after = LooksThen gives failed says before (BeginsAt before number floor answer after) after
 Allows gives failed says before (Lease lo hi answer) after = SetsLease lo hi before answer after
 Allows gives failed says before (Pass number answer) after = LooksThen gives failed says before (PassesAt says before number answer after) after
-
--- bytes were read and a text was written, as a session with a station that was new at its beginning; the worker went from one post to the other
-abbrev pub ServesSession : {C V : Type 0} → (C → Option ℕ → C → Type 0) → (C → ℕ) → (V → Question → Bool → Type 0) → ℕ → Option (List ℕ) → Option (List ℕ) → Option (List ℕ) → Option (List ℕ) → V → PostState C → PostState C → Served → Type 0
-ServesSession {C} {V} gives failed says waits left left' taken taken' client post post' served =
-    (after : StationState C V) × (after.post ≡ post') × Serves (Allows gives failed says) waits left left' taken taken' (new_station post client) after served
-
--- bytes were read, and the session of the first of them broke off in the replies that were handed over last
-abbrev pub BreaksSession : {C V : Type 0} → (C → Option ℕ → C → Type 0) → (C → ℕ) → (V → Question → Bool → Type 0) → ℕ → Option (List ℕ) → Option (List ℕ) → Option (List ℕ) → Option (List ℕ) → V → PostState C → PostState C → Type 0
-BreaksSession {C} {V} gives failed says waits left left' taken taken' client post post' =
-    (after : StationState C V) × (after.post ≡ post') × BreaksInStep (Allows gives failed says) waits left left' taken taken' (new_station post client) after
-
--- the same of a writer, which had flushed all replies before those
-pub record BreaksSessionFlushed {C V W : Type 0} (gives : C → Option ℕ → C → Type 0) (failed : C → ℕ) (says : V → Question → Bool → Type 0) (waits : ℕ) (left left' : Option (List ℕ)) (shows : W → Option (List ℕ)) (flushed : W → Bool) (client : V) (post post' : PostState C) (old new : W) : Type 0 where
-  pub broke : BreaksSession gives failed says waits left left' (shows old) (shows new) client post post'
-  pub kept : FlushedBetween shows flushed (shows old) old new broke.2.breaks.told broke.2.breaks.front

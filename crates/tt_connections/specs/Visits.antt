@@ -3,9 +3,11 @@ use Rattle.std.specs.Prelude.{◌≡◌, ◌<◌, ℕ, Bool, List, [], ◌++◌,
 use Rattle.std.specs.Io.KnownBytes.{Appends}
 use Rattle.tt_span.specs.Interval.{Interval, whole}
 use Rattle.tt_stamp.specs.declared.commits.Entry.{Entry}
+use Rattle.tt_session.specs.Conversation.{Conversation}
 use Rattle.tt_session.specs.Session.{FlushedBetween}
 use Rattle.tt_session.specs.Steps.{Steps}
 use Rattle.tt_session.specs.Talks.{TalkState, Stands, first_talk}
+use Rattle.tt_session.specs.declared.calls.Call.{Call}
 use Rattle.tt_connections.specs.Station.{PostState, StationState, Allows, new_station}
 use Rattle.tt_connections.specs.Turns.{PostGoesOn, AllowsOn}
 use Rattle.tt_connections.specs.declared.presence.Question.{Question}
@@ -37,10 +39,18 @@ pub record StandsAt {C V : Type 0} (gives : C → Option ℕ → C → Type 0) (
   pub book_is : after.book ≡ visit.book
   pub goes : PostGoesOn after.post post
 
--- a session that stood before these further bytes stands behind them, with these further replies
+-- a session that stood, after a turn: the calls of the turn, from what it found to what it left, stand behind those before it
+pub record StoodOn {C V : Type 0} (gives : C → Option ℕ → C → Type 0) (failed : C → ℕ) (says : V → Question → Bool → Type 0) (waits : ℕ) (first : PostState C) (client : V) (calls : List Call) (bytes text : List ℕ) (visit : VisitState) (post : PostState C) (visit' : VisitState) (post' : PostState C) : Type 0 where
+  pub turn : List Call
+  pub talked : Conversation (Allows gives failed says) (station_at post client visit) turn (station_at post' client visit')
+  pub stands : StandsAt gives failed says waits first client bytes text visit' post'
+  pub calls_are : stands.stood.session.calls ≡ calls ++ turn
+
+-- a session that stood before these further bytes stands behind them, with these further replies and calls
 abbrev pub StandsOn : {C V : Type 0} → (C → Option ℕ → C → Type 0) → (C → ℕ) → (V → Question → Bool → Type 0) → ℕ → V → List ℕ → List ℕ → VisitState → PostState C → VisitState → PostState C → Type 0
 StandsOn {C} {V} gives failed says waits client bytes text visit post visit' post' =
-    (first : PostState C) (past told : List ℕ) → StandsAt gives failed says waits first client past told visit post → StandsAt gives failed says waits first client (past ++ bytes) (told ++ text) visit' post'
+    (first : PostState C) (past told : List ℕ) (stood : StandsAt gives failed says waits first client past told visit post)
+    → StoodOn gives failed says waits first client stood.stood.session.calls (past ++ bytes) (told ++ text) visit post visit' post'
 
 -- a turn over these bytes, whose replies were all written
 pub record TurnsOn {C V : Type 0} (gives : C → Option ℕ → C → Type 0) (failed : C → ℕ) (says : V → Question → Bool → Type 0) (waits : ℕ) (taken taken' : Option (List ℕ)) (client : V) (bytes : List ℕ) (visit : VisitState) (post : PostState C) (visit' : VisitState) (post' : PostState C) : Type 0 where

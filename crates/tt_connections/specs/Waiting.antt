@@ -1,5 +1,5 @@
 -- How many connections wait, and for how long.
-use Rattle.std.specs.Prelude.{ℕ, ◌-◌, nat_lt, not, Bool, true, false, Option, Some, None}
+use Rattle.std.specs.Prelude.{ℕ, ◌-◌, nat_lt, nat_eq, if◌then◌else◌, not, Bool, true, false, Option, Some, None}
 use Rattle.tt_files.specs.declared.reasons.Reason.{Reason}
 use Rattle.tt_connections.specs.declared.acceptors.Turn.{Turn}
 use Rattle.tt_connections.specs.declared.acceptors.Turn.TheVariants.{More, Failed}
@@ -7,6 +7,10 @@ use Rattle.tt_connections.specs.declared.acceptors.Turn.TheVariants.{More, Faile
 -- fewer than 256 wait
 abbrev pub has_room : ℕ → Bool
 has_room waiting = nat_lt waiting 256
+
+-- workers share their time from when more sessions than workers are open until fewer are
+abbrev pub is_crowded_after : Bool → ℕ → ℕ → Bool
+is_crowded_after was_crowded sessions workers = if nat_lt workers sessions then true else (if nat_eq sessions workers then was_crowded else false)
 
 -- for how many nanoseconds clients still wait for the first publication: until two seconds after the start
 abbrev pub left_of : ℕ → ℕ → ℕ

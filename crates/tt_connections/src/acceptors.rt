@@ -1,17 +1,17 @@
 //! The thread that accepts the connections of a machine, and hands them to its workers.
 
-ghost use Rattle.std.specs.Prelude.{◌≡◌};
+ghost use Rattle.std.specs.Prelude.{◌≡◌, ◌<◌};
 ghost use Rattle.tt_connections.specs.Waiting.{hands_over, left_of, pause_of, refusal_in};
 
 use crate::clocks::reading_of;
+use crate::inboxes::{Inbox, MAX_WAITING, is_crowded_after};
 use crate::listeners::{Came, Listener};
-use crate::queues::{MAX_WAITING, Queue};
 use mio::unix::SourceFd;
 use mio::{Events, Interest, Poll, Token, Waker};
-use std::alloc::{AllocError, Global};
+use std::alloc::Global;
 use std::net::{Net, TcpStream};
 use std::sync::Wait;
-use std::sync::atomic::{AtomicBool, Ordering};
+use std::sync::atomic::{AtomicBool, AtomicUsize, Ordering};
 use std::time::{Clock as SystemClock, Duration};
 use std::{io, thread};
 use tt_files::Reason;
@@ -36,7 +36,7 @@ const EVENTS: usize = 4;
 pub(crate) enum Turn {
     /// No more connections wait to be accepted.
     Empty,
-    /// The queue is full: the worker that makes room wakes the acceptor.
+    /// An inbox is full: the worker that makes room wakes the acceptor.
     Full,
     /// More connections may wait to be accepted.
     More,
@@ -81,34 +81,126 @@ fn refusal_in(front: Turn, side: Turn) -> Option<Reason>
     }
 }
 
-/// A listener, and the connections that came at it and wait.
+/// The place that lies `number` places behind `begin`, where `count` places lie in a circle.
+fn place_behind(begin: usize, number: usize, count: usize) -> usize
+    ensures within { 0 < count → result < count }
+{
+    if count == 0 {
+        return 0;
+    }
+    begin.saturating_add(number) % count
+}
+
+/// A listener, and the inboxes of the workers that serve those who connect at it.
 #[derive(Drop)]
 pub struct Backlog {
     pub listener: Listener,
-    pub queue: Queue,
+    inboxes: Vec<Inbox>,
+    /// How many connections wait or have an open session.
+    open: AtomicUsize,
+    /// Whether the workers share their time among sessions.
+    crowded: AtomicBool,
+    /// The worker from which on the next one is sought. Only the acceptor uses it.
+    next: AtomicUsize,
 }
 
 impl Backlog {
-    /// A listener at which no connection waits. Refuses if it is out of memory.
-    pub fn new(alloc: Global, listener: Listener) -> Result<Backlog, AllocError> {
-        let queue = Queue::new(alloc)?;
-        Ok(Backlog { listener, queue })
+    /// A listener at which no connection waits, with the inbox of each of its workers.
+    pub fn new(listener: Listener, inboxes: Vec<Inbox>) -> Backlog {
+        Backlog {
+            listener,
+            inboxes,
+            open: AtomicUsize::new(0),
+            crowded: AtomicBool::new(false),
+            next: AtomicUsize::new(0),
+        }
     }
 
-    /// Accepts the connections that have come, as long as the queue has room.
+    /// The inbox of this worker, from 0 on.
+    pub fn inbox(&self, number: usize) -> Option<&Inbox> {
+        self.inboxes.get(number)
+    }
+
+    /// How many connections wait for a worker.
+    fn waiting(&self) -> u64 {
+        let mut waiting = 0u64;
+        for inbox in &self.inboxes {
+            waiting = waiting.saturating_add(inbox.waiting() as u64);
+        }
+        waiting
+    }
+
+    /// Whether the workers share their time among sessions: from when more are open than there are workers until fewer
+    /// are. A worker with one session may otherwise wait for its next bytes alone.
+    pub fn is_crowded(&self) -> bool {
+        self.crowded.load(Ordering::SeqCst)
+    }
+
+    /// Notes how many sessions are open now.
+    fn note(&self, open: usize) {
+        let was_crowded = self.crowded.load(Ordering::SeqCst);
+        let crowded = is_crowded_after(was_crowded, open, self.inboxes.len());
+        if crowded != was_crowded {
+            self.crowded.store(crowded, Ordering::SeqCst);
+        }
+    }
+
+    /// A session of the worker with this inbox has ended, or was not begun.
+    pub fn leave(&self, inbox: &Inbox) {
+        inbox.leave();
+        let open = self.open.fetch_sub(1, Ordering::SeqCst);
+        self.note(open.saturating_sub(1));
+    }
+
+    /// The inbox of a worker that has the fewest sessions: of those that have, the first one behind the one that was found
+    /// last.
+    fn least(&self) -> Option<&Inbox> {
+        let begin = self.next.load(Ordering::SeqCst);
+        let mut least: Option<(usize, &Inbox)> = None;
+        for number in 0..self.inboxes.len() {
+            let place = place_behind(begin, number, self.inboxes.len());
+            if let Some(inbox) = self.inboxes.get(place) {
+                match least {
+                    Some((_, other)) if other.load() <= inbox.load() => {}
+                    _ => least = Some((place, inbox)),
+                }
+            }
+        }
+        let (place, inbox) = least?;
+        self.next.store(place.saturating_add(1), Ordering::SeqCst);
+        Some(inbox)
+    }
+
+    /// Accepts the connections that have come, as long as there is room, and hands each to a worker with the fewest
+    /// sessions.
     fn accept_all<R: Wait>(&self, rt: &R) -> Turn {
         for _ in 0..MAX_WAITING {
-            if !self.queue.has_room() {
+            let Some(inbox) = self.least() else {
+                return Turn::Full;
+            };
+            if !inbox.has_room() {
                 return Turn::Full;
             }
             match self.listener.accept() {
-                Came::Client(connection) => self.queue.put(rt, connection),
+                Came::Client(connection) => {
+                    if inbox.put(rt, connection) {
+                        let open = self.open.fetch_add(1, Ordering::SeqCst);
+                        self.note(open.saturating_add(1));
+                    }
+                }
                 Came::Nobody => {}
                 Came::Nothing => return Turn::Empty,
                 Came::Failed(reason) => return Turn::Failed(reason),
             }
         }
         Turn::More
+    }
+
+    /// Wakes all workers.
+    fn wake_all(&self) {
+        for inbox in &self.inboxes {
+            inbox.wake();
+        }
     }
 }
 
@@ -145,10 +237,10 @@ impl Listeners {
     /// How many connections wait for a worker.
     pub fn waiting(&self) -> u64 {
         let side = match &self.side {
-            Some(side) => side.queue.waiting() as u64,
+            Some(side) => side.waiting(),
             None => 0,
         };
-        side.saturating_add(self.front.queue.waiting() as u64)
+        side.saturating_add(self.front.waiting())
     }
 
     /// Says that something is published, so that connections are handed over from now on. It does not wait.
@@ -164,18 +256,18 @@ impl Listeners {
     }
 
     /// Ends the machine: the acceptor and all workers that wait end their waits. It needs no descriptor and no path.
-    pub fn end<R: Wait>(&self, rt: &R) {
+    pub fn end(&self) {
         self.ended.store(true, Ordering::SeqCst);
         let _ = self.waker.wake();
-        self.front.queue.wake_all(rt);
+        self.front.wake_all();
         if let Some(side) = &self.side {
-            side.queue.wake_all(rt);
+            side.wake_all();
         }
     }
 
-    /// Waits for a connection of this backlog, and takes the one that came first. None if the machine ends.
-    pub fn next<R: Wait>(&self, rt: &R, backlog: &Backlog) -> Option<TcpStream> {
-        let (connection, was_full) = backlog.queue.take(rt, &self.ended)?;
+    /// Takes the connection that came first of those that wait in this inbox, if one does. It does not wait.
+    pub fn next<R: Wait>(&self, rt: &R, inbox: &Inbox) -> Option<TcpStream> {
+        let (connection, was_full) = inbox.take(rt)?;
         if was_full {
             let _ = self.waker.wake();
         }

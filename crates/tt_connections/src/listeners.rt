@@ -15,8 +15,13 @@ use std::os::unix::net::UnixListener;
 use std::time::Duration;
 use tt_files::Reason;
 
-/// The longest wait of one read or write of a connection, in nanoseconds. So a session soon sees that the machine ends.
-pub(crate) const SLICE: u64 = 200_000_000;
+/// The longest wait of one read of a connection, in nanoseconds. So a worker soon sees that the machine ends, and that
+/// another session has come.
+pub const SLICE: u64 = 200_000_000;
+
+/// The longest wait of one write of a connection, in nanoseconds: a client that does not read its replies keeps its worker
+/// no longer.
+const WRITE_SLICE: u64 = 1_000_000;
 
 /// Why a Unix socket can't be listened at.
 #[derive(Clone, Copy, Debug, PartialEq, Eq)]
@@ -254,8 +259,13 @@ fn came_of(error: &io::Error) -> Came {
 
 /// The connection, with a limit on the wait of its reads and writes. It is not served if the limits can't be set.
 fn ready(stream: TcpStream) -> Came {
-    let slice = Some(Duration::from_nanos(SLICE));
-    if stream.set_read_timeout(slice).is_err() || stream.set_write_timeout(slice).is_err() {
+    let (read, write) = (
+        Duration::from_nanos(SLICE),
+        Duration::from_nanos(WRITE_SLICE),
+    );
+    if stream.set_read_timeout(Some(read)).is_err()
+        || stream.set_write_timeout(Some(write)).is_err()
+    {
         return Came::Nobody;
     }
     Came::Client(stream)

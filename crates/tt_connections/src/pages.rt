@@ -2,13 +2,13 @@
 
 ghost use Rattle.std.specs.Prelude.{◌≡◌, ◌≤◌, nat_lt, length, [], None};
 ghost use Rattle.tt_stamp.specs.History.{waiting_of};
-ghost use Rattle.tt_session.specs.Commits.{ReleasesBy};
+ghost use Rattle.tt_session.specs.Commits.{ReleasesBy, pause_of};
 ghost use Rattle.tt_connections.specs.Station.{QueuesPage, book_before};
 
 use std::alloc::Global;
 use std::marker::Model;
 use tt_publish::Reading;
-use tt_session::CommitBook;
+use tt_session::{CommitBook, pause_for};
 use tt_stamp::{Book, BookFault, Id, Receipt};
 
 /// The book of a session. If no commit is pending, the next one is queued into an empty book. In contracts it is its
@@ -27,7 +27,7 @@ pub(crate) struct Page {
 #[derive(Clone, Copy)]
 pub(crate) struct Missed {
     /// The stamp of the commit.
-    pub(crate) stamp: u64,
+    stamp: u64,
     /// The earliest of the step's reading.
     earliest: u64,
     /// What the client's device showed then, if it has a clock.
@@ -35,15 +35,16 @@ pub(crate) struct Missed {
 }
 
 impl Missed {
-    /// The earliest of the step's reading, and what has gone by since, where the client's device shows this now.
-    pub(crate) fn earliest_by(&self, clock: Option<u64>) -> u64
-        ensures { self.now.earliest ≤ result }
+    /// How much of the pause behind the step is left where the client's device shows this now: [`pause_for`] the stamp and
+    /// the earliest of the step's reading, less what has gone by since.
+    pub(crate) fn left_by(&self, clock: Option<u64>) -> u64
+        ensures { result ≤ pause_of self.now.stamp self.now.earliest }
     {
         let gone = match (self.clock, clock) {
             (Some(then), Some(now)) => now.saturating_sub(then),
             _ => 0,
         };
-        self.earliest.saturating_add(gone)
+        pause_for(self.stamp, self.earliest).saturating_sub(gone)
     }
 }
 

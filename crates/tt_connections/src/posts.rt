@@ -1,23 +1,16 @@
 //! What a worker keeps from one session to the next.
 
-ghost use Rattle.std.specs.Prelude.{◌≡◌, ◌≢◌, ◌+◌, ◌-◌, nat_lt, None, Some, Err, MatchBool, OnOk, IfOk, IsErrOf};
-ghost use Rattle.std.specs.Io.KnownBytes.{IsAtEnd};
+ghost use Rattle.std.specs.Prelude.{◌≡◌, ◌+◌, ◌-◌, nat_lt, None, Some, MatchBool};
 ghost use Rattle.tt_publish.specs.Looks.{Looks};
-ghost use Rattle.tt_session.specs.Session.{StaysFlushed};
-ghost use Rattle.tt_session.specs.declared.serving.Served.{Served};
-ghost use Rattle.tt_connections.specs.Station.{ServesSession, BreaksSession, BreaksSessionFlushed, StampsPost, common, room_in};
+ghost use Rattle.tt_connections.specs.Station.{StampsPost, common, room_in};
 
-use crate::presence::Presence;
-use crate::stations::Station;
-use crate::together::serve_together;
 use std::alloc::Global;
 use std::marker::Model;
 use std::sync::Wait;
 use tt_publish::{Clock, ReadFault, Reading, Watch};
-use tt_session::{ServeFault, Served, StampSeat, StampSource, Turns};
+use tt_session::{StampSeat, StampSource};
 use tt_span::Span;
 use tt_stamp::{Seat, Sequencer, StampFault};
-use tt_stream::{ByteReader, ByteWriter};
 
 /// The settings by which readings are used and commits are stamped.
 #[derive(Clone, Copy, Debug, PartialEq, Eq)]
@@ -58,7 +51,7 @@ impl Terms {
 /// parts.
 #[derive(Drop)]
 pub struct Post<'a, R, C> {
-    alloc: Global,
+    pub(crate) alloc: Global,
     watch: Watch,
     clock: C,
     seat: StampSeat<'a, R>,
@@ -107,38 +100,6 @@ impl<'a, R: Wait, C: Clock> Post<'a, R, C> {
         }
     }
 
-    /// Serves one session of this client, as [`serve_together`] does. Its service is a [`Station`] with an empty book.
-    /// Answers the post for the next session, and the counts of this one.
-    ///
-    /// The counts are refused as by `serve_together`: 1105 `ReadFailed`, 1106 `WriteFailed`. The post is given back then
-    /// too.
-    pub fn serve<I: ByteReader, O: ByteWriter, V: Presence>(
-        self,
-        client: &V,
-        reader: &mut I,
-        writer: &mut O,
-        turns: Turns,
-    ) -> (Self, Result<Served, ServeFault>)
-        ensures served { IfOk result.1 (λ served. ServesSession C.gives C.failed V.says turns.waits (I.left reader.old) (I.left reader.new)
-            (O.taken writer.old) (O.taken writer.new) client.now self.entry result.0 served) }
-        ensures end { OnOk result.1 (IsAtEnd (I.left reader.new)) }
-        ensures read_failed { IsErrOf result.1 ServeFault.ReadFailed → (served : Served) × ServesSession C.gives C.failed V.says turns.waits
-            (I.left reader.old) (I.left reader.new) (O.taken writer.old) (O.taken writer.new) client.now self.entry result.0 served }
-        ensures write_failed { IsErrOf result.1 ServeFault.WriteFailed → BreaksSession C.gives C.failed V.says turns.waits
-            (I.left reader.old) (I.left reader.new) (O.taken writer.old) (O.taken writer.new) client.now self.entry result.0 }
-        ensures flushed { (result.1 ≢ Err ServeFault.WriteFailed) → StaysFlushed O.flushed writer.old writer.new }
-        ensures flushed_before { IsErrOf result.1 ServeFault.WriteFailed → BreaksSessionFlushed C.gives C.failed V.says turns.waits
-            (I.left reader.old) (I.left reader.new) O.taken O.flushed client.now self.entry result.0 writer.old writer.new }
-        ensures sound_read { (result.1 ≢ Err ServeFault.ReadFailed) → I.failed reader.new ≡ I.failed reader.old }
-        ensures sound_write { (result.1 ≢ Err ServeFault.WriteFailed) → O.failed writer.new ≡ O.failed writer.old }
-    {
-        let alloc = self.alloc;
-        let mut station = Station::open(self, alloc, client);
-        let served = serve_together(reader, writer, &mut station, turns);
-        let post = station.close();
-        (post, served)
-    }
-
     /// One [`Watch::now`].
     pub(crate) fn read(&mut self) -> Result<Reading, ReadFault>
         ensures looks { Looks C.gives C.failed self.old.watch self.old.clock result self.new.watch self.new.clock }
@@ -161,9 +122,9 @@ impl<'a, R: Wait, C: Clock> Post<'a, R, C> {
         reading.latest().saturating_sub(reading.earliest()) > self.terms.max_width
     }
 
-    /// Waits before a release step: see [`StampSeat::pause`].
-    pub(crate) fn pause(&self, stamp: u64, earliest: u64) {
-        self.seat.pause(stamp, earliest);
+    /// Waits for so many nanoseconds, at most for the longest pause of a release step: see [`StampSeat::pause`].
+    pub(crate) fn pause(&self, left: u64) {
+        self.seat.pause(left, 0);
     }
 }
 

@@ -70,56 +70,34 @@ fn is_gone_at(seen: Seen, since: u64, idle: u64, now: Option<u64>) -> bool
     }
 }
 
-/// What a worker looks at its connections with, and what it has seen of the current one.
+/// What a worker looks at its connections with.
 #[derive(Drop)]
 pub struct Sight {
     poll: Poll,
     events: Events,
-    /// Whether the connection is registered.
-    registered: bool,
-    seen: Seen,
-    /// The clock reading at which it was first seen that the client has closed its side. None before that.
-    since: Option<u64>,
 }
 
 impl Sight {
-    /// What a worker looks with that has served no session. Refuses with the error of the system, also if it is out of
-    /// memory.
+    /// What a worker looks with. Refuses with the error of the system, also if it is out of memory.
     pub fn new<R: Net>(rt: &R, alloc: Global) -> io::Result<Sight> {
         let poll = Poll::new(rt)?;
         let events = Events::with_capacity(alloc, EVENTS)?;
-        Ok(Sight {
-            poll,
-            events,
-            registered: false,
-            seen: Seen::Open,
-            since: None,
-        })
+        Ok(Sight { poll, events })
     }
 
-    /// Forgets the connection before.
-    fn begin(&mut self) {
-        self.registered = false;
-        self.seen = Seen::Open;
-        self.since = None;
-    }
-
-    /// Registers the connection, if it is not. If the system refuses, it is tried again at the next look.
-    fn register(&mut self, stream: &TcpStream) {
-        if !self.registered {
-            let descriptor = stream.as_raw_fd();
-            let answer = self
-                .poll
-                .registry()
-                .register(&mut SourceFd(&descriptor), Token(0), Interest::READABLE);
-            self.registered = answer.is_ok();
+    /// What is seen of this connection by now, of which `seen` was seen before. It takes no byte, and does not wait. If the
+    /// system does not let it look, nothing more is seen.
+    fn look(&mut self, stream: &TcpStream, seen: Seen) -> Seen {
+        let descriptor = stream.as_raw_fd();
+        let mut source = SourceFd(&descriptor);
+        let registry = self.poll.registry();
+        if registry
+            .register(&mut source, Token(0), Interest::READABLE)
+            .is_err()
+        {
+            return seen;
         }
-    }
-
-    /// What is seen of the connection by now. It takes no byte, and does not wait.
-    fn look(&mut self, stream: &TcpStream) -> Seen {
-        self.register(stream);
-        let mut seen = self.seen;
+        let mut seen = seen;
         if self
             .poll
             .poll(&mut self.events, Some(Duration::from_nanos(0)))
@@ -130,18 +108,41 @@ impl Sight {
                 seen = seen_after(seen, is_broken, event.is_read_closed());
             }
         }
-        self.seen = seen;
+        let _ = self.poll.registry().deregister(&mut source);
         seen
     }
+}
 
-    /// Whether the client of this connection has left when the clock shows `now`. None if the clock cannot be read.
-    fn has_left(&mut self, stream: &TcpStream, idle: u64, now: Option<u64>) -> bool {
-        let seen = self.look(stream);
-        if seen == Seen::Closed && self.since.is_none() {
-            self.since = now;
+/// What is kept of a client as long as its session is open: what was seen of its connection, and since when its commit
+/// waits.
+#[derive(Drop)]
+pub struct Attendance {
+    sighted: Mutex<Sighted>,
+    /// Whether a commit of the session waits.
+    waits: AtomicBool,
+    /// The clock reading at which that commit began to wait, in nanoseconds, or [`UNREAD`].
+    since: AtomicU64,
+}
+
+/// What was seen of a connection.
+#[derive(Clone, Copy)]
+struct Sighted {
+    seen: Seen,
+    /// The clock reading at which it was first seen that the client has closed its side. None before that.
+    since: Option<u64>,
+}
+
+impl Attendance {
+    /// What is kept of a client whose session begins.
+    pub fn new() -> Attendance {
+        Attendance {
+            sighted: Mutex::new(Sighted {
+                seen: Seen::Open,
+                since: None,
+            }),
+            waits: AtomicBool::new(false),
+            since: AtomicU64::new(UNREAD),
         }
-        let since = self.since.or(now).unwrap_or(0);
-        is_gone_at(seen, since, idle, now)
     }
 }
 
@@ -165,10 +166,7 @@ pub struct Client<'a, R> {
     idle: u64,
     sight: &'a Mutex<Sight>,
     counts: &'a Counts,
-    /// Whether a commit of the session waits.
-    waits: AtomicBool,
-    /// The clock reading at which that commit began to wait, in nanoseconds, or [`UNREAD`].
-    since: AtomicU64,
+    attendance: &'a Attendance,
 }
 
 impl<'a, R> Model for Client<'a, R> {
@@ -180,7 +178,7 @@ impl<'a, R> Model for Client<'a, R> {
 impl<'a, R: Wait + SystemClock> Client<'a, R> {
     /// The client of this connection, which its worker looks at with `sight`. `ended` and `broken` say whether the machine
     /// has to end, and whether it is broken. A client that has closed its side is still there for `idle` nanoseconds. Its
-    /// commits are counted in `counts`.
+    /// commits are counted in `counts`. `attendance` is kept from one turn of the session to the next.
     pub fn new(
         rt: &'a R,
         stream: &'a TcpStream,
@@ -189,8 +187,8 @@ impl<'a, R: Wait + SystemClock> Client<'a, R> {
         idle: u64,
         sight: &'a Mutex<Sight>,
         counts: &'a Counts,
+        attendance: &'a Attendance,
     ) -> Self {
-        sight.lock(rt).begin();
         Client {
             rt,
             stream,
@@ -199,8 +197,7 @@ impl<'a, R: Wait + SystemClock> Client<'a, R> {
             idle,
             sight,
             counts,
-            waits: AtomicBool::new(false),
-            since: AtomicU64::new(UNREAD),
+            attendance,
         }
     }
 }
@@ -215,9 +212,14 @@ impl<'a, R: Wait + SystemClock> Presence for Client<'a, R> {
             return true;
         }
         let now = reading_of(self.rt);
-        self.sight
-            .lock(self.rt)
-            .has_left(self.stream, self.idle, now)
+        let mut sighted = self.attendance.sighted.lock(self.rt);
+        let seen = self.sight.lock(self.rt).look(self.stream, sighted.seen);
+        sighted.seen = seen;
+        if seen == Seen::Closed && sighted.since.is_none() {
+            sighted.since = now;
+        }
+        let since = sighted.since.or(now).unwrap_or(0);
+        is_gone_at(seen, since, self.idle, now)
     }
 
     fn is_broken(&self) -> bool {
@@ -230,18 +232,18 @@ impl<'a, R: Wait + SystemClock> Presence for Client<'a, R> {
 
     fn began_waiting(&self) {
         let now = reading_of(self.rt).unwrap_or(UNREAD);
-        self.since.store(now, Ordering::SeqCst);
-        if !self.waits.swap(true, Ordering::SeqCst) {
+        self.attendance.since.store(now, Ordering::SeqCst);
+        if !self.attendance.waits.swap(true, Ordering::SeqCst) {
             self.counts.commits_waiting.fetch_add(1, Ordering::SeqCst);
         }
     }
 
     fn ended_waiting(&self, is_released: bool) {
-        if !self.waits.swap(false, Ordering::SeqCst) {
+        if !self.attendance.waits.swap(false, Ordering::SeqCst) {
             return;
         }
         self.counts.commits_waiting.fetch_sub(1, Ordering::SeqCst);
-        let since = self.since.load(Ordering::SeqCst);
+        let since = self.attendance.since.load(Ordering::SeqCst);
         if let Some(now) = reading_of(self.rt) {
             if is_released && since != UNREAD {
                 self.counts.add_wait(now.saturating_sub(since));

@@ -134,14 +134,15 @@ impl<'a, 'c, R: Wait, C: Clock, V: Presence> Station<'a, 'c, R, C, V> {
         Ok(stamp)
     }
 
-    /// Waits until the stamp of the pending commit should have passed, if a release step was made since the commit began:
-    /// for the time from the earliest of the step's reading to the stamp, less what has gone by since.
+    /// Waits for what is left of the pause behind the last release step of the commit, if one was made.
     fn wait_on(&self) {
         let Some(missed) = self.book.missed() else {
             return;
         };
-        self.post
-            .pause(missed.stamp, missed.earliest_by(self.client.clock()));
+        let left = missed.left_by(self.client.clock());
+        if left > 0 {
+            self.post.pause(left);
+        }
     }
 
     /// The answer for a pending commit, after a step by a reading with this earliest: no, or a refusal if the client has

@@ -17,9 +17,10 @@ use crate::stations::Station;
 use crate::together::go_on;
 use std::alloc::Global;
 use std::marker::Model;
+use std::mem;
 use std::sync::Wait;
 use tt_publish::Clock;
-use tt_session::{Replies, Talk, pause_for};
+use tt_session::{Replies, Served, Talk};
 use tt_span::Span;
 use tt_stream::{ByteWriter, DeviceFault};
 
@@ -64,6 +65,13 @@ impl Visit {
         self.book.is_pending()
     }
 
+    /// How many lines of the session were answered, and how many of them were refused.
+    pub fn served(&self) -> Served
+        ensures value { result ≡ self.now.talk.served }
+    {
+        self.talk.served()
+    }
+
     /// Whether the lines that may end in this many further bytes can be counted: fewer than 2^64 lines are answered in a
     /// session.
     pub fn can_hear(&self, count: usize) -> bool
@@ -73,17 +81,17 @@ impl Visit {
     }
 
     /// For how many nanoseconds the pending commit should still wait before its next release step, where the client's
-    /// device shows this now: [`pause_for`] its stamp and the earliest of the step before, less what has gone by since.
-    /// None if no commit is pending, or if no release step of it was made.
+    /// device shows this now: what is left of the pause behind the step before. None if no commit is pending, or if no
+    /// release step of it was made.
     pub fn left(&self, clock: Option<u64>) -> Option<u64>
         ensures none { length (waiting_of self.now.book) ≡ 0 → result ≡ None }
-        ensures bounds { IfSome result (λ left. (pause_margin ≤ left) × (left ≤ max_pause + pause_margin)) }
+        ensures most { IfSome result (λ left. left ≤ max_pause + pause_margin) }
     {
         if !self.book.is_pending() {
             return None;
         }
         let missed = self.book.missed()?;
-        Some(pause_for(missed.stamp, missed.earliest_by(clock)))
+        Some(missed.left_by(clock))
     }
 
     /// Ends the session. The client's device is told if a commit is still pending.
@@ -97,7 +105,7 @@ impl Visit {
 impl<'a, R: Wait, C: Clock> Post<'a, R, C> {
     /// One turn of a session of this client: takes further bytes, answers each line that ends in them by steps
     /// ([`Talk::step`]), and hands the replies of each step over by one write and one flush. Answers the post, which may
-    /// serve others next, and what is kept of the session. A pending commit gets at most `waits` release steps for each
+    /// serve others next; `visit` then is what is kept of the session. A pending commit gets at most `waits` release steps for each
     /// line that asks for it. Nothing of what `replies` has counts: it is room, which costs too much to make for each turn.
     ///
     /// Refuses as the writer does: then all replies but those of the last step are written, and a first part of these; the
@@ -106,32 +114,30 @@ impl<'a, R: Wait, C: Clock> Post<'a, R, C> {
     pub fn turn<O: ByteWriter, V: Presence>(
         self,
         client: &V,
-        visit: Visit,
+        visit: &mut Visit,
         bytes: &[u8],
         writer: &mut O,
         replies: &mut Replies,
         waits: u32,
-    ) -> (Self, Visit, Result<(), DeviceFault>)
-        requires room { visit.talk.served.lines + length bytes.now < 2 ^ 64 }
-        ensures more { result.1.talk.served.lines ≤ visit.talk.served.lines + length bytes.now }
+    ) -> (Self, Result<(), DeviceFault>)
+        requires room { visit.old.talk.served.lines + length bytes.now < 2 ^ 64 }
+        ensures more { visit.new.talk.served.lines ≤ visit.old.talk.served.lines + length bytes.now }
         ensures goes { PostGoesOn self.entry result.0 }
-        ensures ok { OnOk result.2 (TurnsOn C.gives C.failed V.says waits (O.taken writer.old) (O.taken writer.new)
-            client.now bytes.now visit self.entry result.1 result.0) }
-        ensures err { OnErr result.2 (BreaksTurn C.gives C.failed V.says waits O.taken O.flushed writer.old writer.new
-            client.now bytes.now visit self.entry result.1 result.0) }
-        ensures flushed { OnOk result.2 (StaysFlushed O.flushed writer.old writer.new) }
-        ensures sound { OnOk result.2 (O.failed writer.new ≡ O.failed writer.old) }
-        ensures cause { OnErr result.2 (HasFailed (O.failed writer.old) (O.failed writer.new)) }
+        ensures ok { OnOk result.1 (TurnsOn C.gives C.failed V.says waits (O.taken writer.old) (O.taken writer.new)
+            client.now bytes.now visit.old self.entry visit.new result.0) }
+        ensures err { OnErr result.1 (BreaksTurn C.gives C.failed V.says waits O.taken O.flushed writer.old writer.new
+            client.now bytes.now visit.old self.entry visit.new result.0) }
+        ensures flushed { OnOk result.1 (StaysFlushed O.flushed writer.old writer.new) }
+        ensures sound { OnOk result.1 (O.failed writer.new ≡ O.failed writer.old) }
+        ensures cause { OnErr result.1 (HasFailed (O.failed writer.old) (O.failed writer.new)) }
     {
-        let Visit {
-            mut talk,
-            lease,
-            book,
-        } = visit;
-        let mut station = Station::resume(self, client, lease, book);
-        let done = take_turn(bytes, writer, &mut station, waits, &mut talk, replies);
+        let book = mem::replace(&mut visit.book, Page::new(self.alloc));
+        let mut station = Station::resume(self, client, visit.lease, book);
+        let done = take_turn(bytes, writer, &mut station, waits, &mut visit.talk, replies);
         let (post, lease, book) = station.suspend();
-        (post, Visit { talk, lease, book }, done)
+        visit.lease = lease;
+        visit.book = book;
+        (post, done)
     }
 }
 

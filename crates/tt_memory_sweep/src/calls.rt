@@ -1,9 +1,9 @@
 //! The calls that take memory.
 
 use crate::outcomes::Outcome;
-use crate::services::Way;
 use crate::{commits, nodes, pictures, publications, services, texts, worlds};
 use std::alloc::Global;
+use std::net::Net;
 use std::sync::Wait;
 use std::thread::Threads;
 
@@ -35,13 +35,12 @@ pub(crate) enum Call {
     ReadView,
     PushView,
     PushSvg,
-    NewQueue,
-    ServeAtPost,
+    NewInbox,
     TurnAtPost,
 }
 
 /// All calls, in the order in which they are made.
-pub(crate) const CALLS: [Call; 28] = [
+pub(crate) const CALLS: [Call; 27] = [
     Call::WriteText,
     Call::ReadScript,
     Call::Audit,
@@ -67,8 +66,7 @@ pub(crate) const CALLS: [Call; 28] = [
     Call::ReadView,
     Call::PushView,
     Call::PushSvg,
-    Call::NewQueue,
-    Call::ServeAtPost,
+    Call::NewInbox,
     Call::TurnAtPost,
 ];
 
@@ -101,14 +99,13 @@ impl Call {
             Call::ReadView => "tt_top::read_view",
             Call::PushView => "tt_top::push_view",
             Call::PushSvg => "tt_top::push_svg",
-            Call::NewQueue => "tt_connections::Queue::new",
-            Call::ServeAtPost => "tt_connections::Post::serve",
+            Call::NewInbox => "tt_connections::Inbox::new",
             Call::TurnAtPost => "tt_connections::Post::turn",
         }
     }
 
     /// Makes the call, and makes it again if it was refused for memory.
-    pub(crate) fn make<R: Threads + Wait + std::time::Clock + Sync>(
+    pub(crate) fn make<R: Threads + Wait + Net + std::time::Clock + Sync>(
         self,
         rt: &R,
         alloc: Global,
@@ -139,9 +136,8 @@ impl Call {
             Call::ReadView => pictures::view(alloc),
             Call::PushView => pictures::picture(alloc),
             Call::PushSvg => pictures::document(alloc),
-            Call::NewQueue => services::queue(alloc),
-            Call::ServeAtPost => services::session(rt, alloc, Way::AtOnce),
-            Call::TurnAtPost => services::session(rt, alloc, Way::ByTurns),
+            Call::NewInbox => services::inbox(rt, alloc),
+            Call::TurnAtPost => services::session(rt, alloc),
         }
     }
 }

@@ -30,6 +30,7 @@ mod worlds;
 use calls::{CALLS, Call};
 use outcomes::Outcome;
 use std::alloc::Global;
+use std::net::Net;
 use std::process::ExitCode;
 use std::sync::Wait;
 use std::thread::Threads;
@@ -46,7 +47,7 @@ fn main(rt: HostRuntime) -> ExitCode {
 }
 
 /// Makes the call, and writes what it gave. Answers whether that is right.
-fn show<R: Threads + Wait + std::time::Clock + Sync, W: ByteWriter>(
+fn show<R: Threads + Wait + Net + std::time::Clock + Sync, W: ByteWriter>(
     rt: &R,
     alloc: Global,
     call: Call,

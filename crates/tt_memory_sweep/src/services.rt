@@ -1,21 +1,21 @@
-//! What a machine that serves is made of: its settings, its epoch, its log, its queues and its sessions.
+//! What a machine that serves is made of: its settings, its epoch, its log, its inboxes and its sessions.
 
 use crate::commits::watch_of;
 use crate::devices::SheetWriter;
 use crate::outcomes::{MEMORY, Outcome};
 use arrayvec::ArrayVec;
 use std::alloc::{AllocError, Global};
+use std::net::Net;
 use std::sync::Wait;
-use tt_connections::{AlwaysThere, Post, Queue, Terms, Visit};
+use tt_connections::{AlwaysThere, Inbox, Post, Terms, Visit};
 use tt_epoch::{MemoryStore, next_epoch};
 use tt_pages::{Asked, Limits, Page, Report, Wanted, push_answer};
 use tt_publish::MemoryClock;
-use tt_session::{Replies, Turns};
+use tt_session::Replies;
 use tt_settings::read;
 use tt_span::Span;
 use tt_stamp::Sequencer;
 use tt_status::{LogEvent, LogFormat, RefusedFusion, push_event};
-use tt_stream::MemoryReader;
 
 /// The settings of a machine with three masters, one of which may be faulty, and five paths.
 const SETTINGS: &str = "machine = 3
@@ -152,33 +152,24 @@ fn write_answer(alloc: Global) -> Result<bool, u16> {
     }
 }
 
-/// Makes a queue in which connections wait for a worker.
-pub(crate) fn queue(alloc: Global) -> Outcome {
-    match Outcome::at_once(make_queue(alloc)) {
+/// Makes the inbox of a worker.
+pub(crate) fn inbox<R: Net>(rt: &R, alloc: Global) -> Outcome {
+    match Outcome::at_once(make_inbox(rt, alloc)) {
         Some(outcome) => outcome,
-        None => Outcome::again(make_queue(alloc)),
+        None => Outcome::again(make_inbox(rt, alloc)),
     }
 }
 
-fn make_queue(alloc: Global) -> Result<bool, u16> {
-    match Queue::new(alloc) {
-        Ok(queue) => Ok(queue.waiting() == 0 && queue.has_room()),
-        Err(AllocError) => Err(MEMORY),
+fn make_inbox<R: Net>(rt: &R, alloc: Global) -> Result<bool, u16> {
+    match Inbox::new(rt, alloc) {
+        Ok(inbox) => Ok(inbox.waiting() == 0 && inbox.load() == 0),
+        Err(_) => Err(MEMORY),
     }
 }
 
-/// How a session is served.
-#[derive(Clone, Copy)]
-pub(crate) enum Way {
-    /// From its first byte to its end.
-    AtOnce,
-    /// By turns, of which it takes one.
-    ByTurns,
-}
-
-/// Serves a session with two readings and a commit. If its commit is refused for memory, the next session of the same post
+/// Serves a turn of a session, with two readings and a commit. If its commit is refused for memory, the next session of the same post
 /// has the replies worked out by hand.
-pub(crate) fn session<R: Wait>(rt: &R, alloc: Global, way: Way) -> Outcome {
+pub(crate) fn session<R: Wait>(rt: &R, alloc: Global) -> Outcome {
     let Some(watch) = watch_of(rt, alloc) else {
         return Outcome::Unprepared;
     };
@@ -196,42 +187,22 @@ pub(crate) fn session<R: Wait>(rt: &R, alloc: Global, way: Way) -> Outcome {
     };
     let clock = MemoryClock::new(&CLOCK, None);
     let post = Post::new(rt, alloc, watch, clock, seat, &sequencer, terms);
-    let (post, replies) = serve_one(post, alloc, way);
+    let (post, replies) = serve_one(post, alloc);
     if replies.as_slice() != REFUSED {
         return Outcome::of(replies.as_slice() == REPLIES, false);
     }
-    let (_post, replies) = serve_one(post, alloc, way);
+    let (_post, replies) = serve_one(post, alloc);
     Outcome::of(replies.as_slice() == AGAIN, true)
 }
 
-/// Serves one session, in which nothing but the service takes memory. Answers the post, and the replies.
+/// Serves one turn, in which nothing but the service takes memory. Answers the post, and the replies.
 fn serve_one<'a, 'c, R: Wait>(
     post: Post<'a, R, MemoryClock<'c>>,
     alloc: Global,
-    way: Way,
 ) -> (Post<'a, R, MemoryClock<'c>>, ArrayVec<u8, 256>) {
     let mut writer = SheetWriter::new();
-    let post = match way {
-        Way::AtOnce => serve_at_once(post, &mut writer),
-        Way::ByTurns => {
-            let visit = Visit::new(alloc);
-            let mut room = Replies::new();
-            post.turn(&AlwaysThere, visit, LINES, &mut writer, &mut room, 1)
-                .0
-        }
-    };
+    let mut room = Replies::new();
+    let mut visit = Visit::new(alloc);
+    let (post, _) = post.turn(&AlwaysThere, &mut visit, LINES, &mut writer, &mut room, 1);
     (post, writer.written())
-}
-
-/// Serves the lines from their first byte to their end.
-fn serve_at_once<'a, 'c, R: Wait>(
-    post: Post<'a, R, MemoryClock<'c>>,
-    writer: &mut SheetWriter,
-) -> Post<'a, R, MemoryClock<'c>> {
-    let mut reader = MemoryReader::new(LINES, 64, None);
-    let turns = Turns {
-        reads: 100,
-        waits: 1,
-    };
-    post.serve(&AlwaysThere, &mut reader, writer, turns).0
 }

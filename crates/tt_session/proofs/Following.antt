@@ -26,7 +26,7 @@ AnswersLines-one : (waits : ℕ) (last after : Option Begun) (line : List ℕ) (
 AnswersLines-one waits last after line calls reply answered = (calls, [], after, sym (append-nil calls), answered, (refl, refl))
 
 -- further lines are answered
-AnswersLines-append : (waits : ℕ) (lines more : List (List ℕ)) (calls later : List Call) (replies others : List LineReply) (last mid after : Option Begun)
+pub AnswersLines-append : (waits : ℕ) (lines more : List (List ℕ)) (calls later : List Call) (replies others : List LineReply) (last mid after : Option Begun)
     → AnswersLines waits last lines calls replies mid → AnswersLines waits mid more later others after
     → AnswersLines waits last (lines ++ more) (calls ++ later) (replies ++ others) after
 AnswersLines-append waits [] more calls later [] others last mid after so_far next =
@@ -45,11 +45,11 @@ AnswersLines-append waits (l ∷ lines) more calls later (r ∷ replies) others 
     )
 
 -- refusals of further replies are counted
-refused-append : (replies others : List LineReply) → count_by is_refused (replies ++ others) ≡ count_by is_refused replies + count_by is_refused others
+pub refused-append : (replies others : List LineReply) → count_by is_refused (replies ++ others) ≡ count_by is_refused replies + count_by is_refused others
 refused-append replies others = sum_by-append (λ r. if is_refused r then 1 else 0) replies others
 
 -- texts of further replies
-texts-append : (told text : List ℕ) (replies others : List LineReply) → told ≡ flat_map text_of replies → text ≡ flat_map text_of others → told ++ text ≡ flat_map text_of (replies ++ others)
+pub texts-append : (told text : List ℕ) (replies others : List LineReply) → told ≡ flat_map text_of replies → text ≡ flat_map text_of others → told ++ text ≡ flat_map text_of (replies ++ others)
 texts-append told text replies others one two =
     ap (λ l. l ++ text) one ∙ ap (λ l. flat_map text_of replies ++ l) two ∙ sym (flat_map-append text_of replies others)
 

@@ -8,7 +8,7 @@
 //! - `publications`: tellers and watches, also in threads (`tt_publish`).
 //! - `stamps`, `races`: books and rows, seats in threads and by a reading of their own (`tt_stamp`).
 //! - `sessions`, `desks`: sessions over devices that fail, and what a desk answers (`tt_session`).
-//! - `together`: the same where replies are handed over together (`tt_connections`). `turns`: two sessions by turns.
+//! - `turns`: two sessions by turns, and `together`: the replies of one turn, over a writer that fails (`tt_connections`).
 #![tactic(auto)]
 
 #[cfg(test)]

@@ -1,50 +1,69 @@
-//! Sessions whose replies are handed over together, over a writer that fails at each of its calls.
+//! The replies of a turn, which are handed over step by step, over a writer that fails at each of its calls.
 
-use crate::sessions::Fixed;
+use crate::turns::{CLIENT, seen};
 use std::alloc::Global;
-use tt_connections::serve_together;
-use tt_session::{ServeFault, Served, Turns};
-use tt_stream::{MemoryReader, MemoryWriter};
+use std::sync::Wait;
+use std::test::Fail;
+use tt_connections::{Post, Terms, Visit};
+use tt_publish::MemoryClock;
+use tt_session::Replies;
+use tt_span::Span;
+use tt_stamp::Sequencer;
+use tt_stream::MemoryWriter;
 
 const LINES: &[u8] = b"now\nnow\ncommit 1 0\nnonsense\nnow\n";
 
 /// The replies of the first step, which stops behind the commit, and those of the second one.
-const REPLIES: &[u8] = b"now 201 301\nnow 201 301\nwaiting 1 200\nrefused 1101\nnow 201 301\n";
+const REPLIES: &[u8] = b"now 110 210\nnow 120 220\nwaiting 1 230\nrefused 1101\nnow 150 250\n";
 
-/// Serves these lines, which come by one read: the answer of `serve_together`, how many bytes of the replies were written,
-/// if these are their front, and how often the service was asked for a reading.
-fn serves(
+/// One turn over these lines, and then one of another session at the same post, which reads the time. Answers whether the
+/// first turn was answered whole, how many bytes of its replies were written, if these are their front, and whether the
+/// other session has this reply.
+fn turns<R: Wait>(
+    rt: &R,
     alloc: Global,
     write_fails: Option<u64>,
-) -> (Result<Served, ServeFault>, Option<usize>, u8) {
-    let mut service = Fixed::new();
-    let mut reader = MemoryReader::new(LINES, 1000, None);
+    reply: &[u8],
+) -> Result<(bool, Option<usize>, bool), Fail> {
+    let watch = seen(rt, alloc).ok_or("a watch")?;
+    let (sequencer, mut seats) = Sequencer::open(alloc, 1)?;
+    let seat = seats.pop().ok_or("a seat")?;
+    let terms = Terms {
+        lease: Span::whole(),
+        stampers: None,
+        ahead: 10_000,
+        max_width: u64::MAX,
+    };
+    let clock = MemoryClock::new(&[10, 20, 30, 40, 50, 60], None);
+    let post = Post::new(rt, alloc, watch, clock, seat, &sequencer, terms);
+    let mut room = Replies::new();
+    let (mut one, mut two) = (Visit::new(alloc), Visit::new(alloc));
     let mut writer = MemoryWriter::new(alloc, 20, write_fails);
-    let turns = Turns { reads: 2, waits: 1 };
-    let served = serve_together(&mut reader, &mut writer, &mut service, turns);
+    let (post, done) = post.turn(&CLIENT, &mut one, LINES, &mut writer, &mut room, 1);
+    let mut other = MemoryWriter::new(alloc, 1000, None);
+    let (_post, _) = post.turn(&CLIENT, &mut two, b"now\n", &mut other, &mut room, 1);
     let written = writer.taken();
     let front = if REPLIES.starts_with(written) {
         Some(written.len())
     } else {
         None
     };
-    (served, front, service.readings())
+    Ok((done.is_ok(), front, other.taken() == reply))
 }
 
 #[test]
-fn replies_are_handed_over_up_to_a_commit(rt: HostRuntime) {
-    // The 38 bytes of the first step take two writes and a flush, and the 25 of the second one too.
-    for (call, written, readings) in [
-        (1, 0, 2),
-        (2, 20, 2),
-        (3, 38, 2),
-        (4, 38, 3),
-        (5, 58, 3),
-        (6, 63, 3),
-    ] {
-        let wanted = (Err(ServeFault::WriteFailed), Some(written), readings);
-        assert!(rt; serves(rt.alloc(), Some(call)) == wanted);
+fn replies_are_handed_over_up_to_a_commit(rt: HostRuntime) -> Result<(), Fail> {
+    // The 38 bytes of the first step take two writes and a flush, and the 25 of the second one too. What fails leaves the
+    // steps behind it out: the other session has the clock reading that comes next.
+    for (call, written) in [(1, 0), (2, 20), (3, 38)] {
+        let turned = turns(&rt, rt.alloc(), Some(call), b"now 150 250\n")?;
+        assert!(rt; turned == (false, Some(written), true));
     }
-    let (lines, refused) = (5, 1);
-    assert!(rt; serves(rt.alloc(), Some(7)) == (Ok(Served { lines, refused }), Some(63), 3));
+    for (call, written) in [(4, 38), (5, 58), (6, 63)] {
+        let turned = turns(&rt, rt.alloc(), Some(call), b"now 160 260\n")?;
+        assert!(rt; turned == (false, Some(written), true));
+    }
+    let turned = turns(&rt, rt.alloc(), Some(7), b"now 160 260\n")?;
+    assert!(rt; turned == (true, Some(63), true));
+    Ok(())
 }

@@ -15,11 +15,11 @@ use tt_stream::MemoryWriter;
 
 /// A client that never leaves, whose device has a clock.
 #[derive(Clone, Copy)]
-struct Device {
+pub(crate) struct Device {
     clock: u64,
 }
 
-const CLIENT: Device = Device { clock: 1_000 };
+pub(crate) const CLIENT: Device = Device { clock: 1_000 };
 
 impl Presence for Device {
     ghost says = { λ _ _ answer. answer ≡ false };
@@ -38,7 +38,7 @@ impl Presence for Device {
 }
 
 /// A watch that has seen [100, 200] at 0, by a clock without drift.
-fn seen<R: Wait>(rt: &R, alloc: Global) -> Option<Watch> {
+pub(crate) fn seen<R: Wait>(rt: &R, alloc: Global) -> Option<Watch> {
     let (span, drift) = (Span::new(100, 200).ok()?, Drift::new(0)?);
     let fused = Fused::make(0, &[span], 0).ok()?;
     let Ok((mut teller, mut watches)) = open(rt, alloc, drift, 1) else {
@@ -67,9 +67,10 @@ fn turn<'a, 'c, R: Wait>(
     if !visit.can_hear(bytes.len()) {
         return Err(Fail::new("more lines than can be counted"));
     }
+    let mut visit = visit;
     let mut writer = MemoryWriter::new(alloc, 1000, None);
     let mut room = Replies::new();
-    let (post, visit, done) = post.turn(&CLIENT, visit, bytes, &mut writer, &mut room, 1);
+    let (post, done) = post.turn(&CLIENT, &mut visit, bytes, &mut writer, &mut room, 1);
     if done.is_err() || writer.taken() != replies {
         return Err(Fail::new("other replies"));
     }
