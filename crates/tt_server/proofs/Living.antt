@@ -1,6 +1,6 @@
 -- Lives of the server: its epochs, its sessions, and what its threads hand back.
-use Rattle.std.specs.Prelude.{◌≡◌, ◌<◌, ◌+◌, ◌^◌, ◌==◌, ℕ, Bool, true, false, if◌then◌else◌, List, [], ◌∷◌, ◌++◌, length, map, All, Option, Result, Ok, Err, IfOk, IsErrOf}
-use Rattle.std.proofs.Common.{refl, sym, ap, ◌∙◌, subst, inl, inr, arith}
+use Rattle.std.specs.Prelude.{◌≡◌, ◌<◌, ◌+◌, ◌^◌, ◌==◌, ℕ, Bool, true, false, if◌then◌else◌, List, [], ◌∷◌, ◌++◌, length, map, All, Result, Ok, Err, IfOk}
+use Rattle.std.proofs.Common.{refl, sym, ap, ◌∙◌, subst, arith}
 use Rattle.std.proofs.lemmas.List.Elements.{All-nil, All-cons, All-head, All-tail, All-weaker}
 use mathlib.Core.List.{IsPrefix}
 use Rattle.tt_daemon.specs.Config.{IsConfiguration}
@@ -8,17 +8,12 @@ use Rattle.tt_daemon.specs.Daemon.{DaemonState, new_daemon}
 use Rattle.tt_daemon.specs.Publication.{Publication}
 use Rattle.tt_publish.specs.Known.{Known, Source, WatchState, seen_of, new_watch}
 use Rattle.tt_publish.specs.Reading.{fused_span_of}
-use Rattle.tt_session.specs.declared.faults.ServeFault.{ServeFault}
-use Rattle.tt_session.specs.declared.faults.ServeFault.TheVariants.{ReadFailed, WriteFailed}
-use Rattle.tt_session.specs.declared.serving.Served.{Served}
-use Rattle.tt_session.specs.Session.{Session}
-use Rattle.tt_session.specs.declared.begun.Begun.{Begun}
-use Rattle.tt_connections.specs.Station.{PostState, StationState, Allows, ServesSession, BreaksSession, new_station}
-use Rattle.tt_connections.specs.Sessions.{AreServedBetween, IsServedBetween}
-use Rattle.tt_connections.specs.Turns.{PostGoesOn}
-use Rattle.tt_connections.proofs.Turning.{post-same, post-both, calls-go_on, session-on}
+use Rattle.tt_stamp.specs.Stamping.{SeatState}
+use Rattle.tt_connections.specs.Station.{PostState}
+use Rattle.tt_connections.specs.Sessions.{AreServedBetween}
 use Rattle.tt_connections.specs.declared.posts.Terms.{Terms}
-use Rattle.tt_connections.specs.Clock.{ClockState, MachineGives, ClientSays}
+use Rattle.tt_connections.specs.Clock.{ClockState}
+use Rattle.tt_workers.specs.Worker.{WorkerServed}
 use Rattle.tt_epoch.specs.Disk.{Call, Gift, Gave, NotOwn, Done, Broke, number_of}
 use Rattle.tt_epoch.specs.Course.{Stage, Reads, Writes, Syncs, Installs, Fixes, Answered, Over, step_of, stage_after, Takes}
 use Rattle.tt_epoch.specs.declared.faults.EpochFault.TheVariants.{UsedUp}
@@ -31,7 +26,7 @@ use Rattle.tt_server.specs.declared.faults.ServerFault.{ServerFault}
 use Rattle.tt_server.specs.declared.states.Life.{Life as Current}
 use Rattle.tt_server.specs.declared.lives.LifeEnd.{LifeEnd}
 use Rattle.tt_server.specs.declared.lives.WorkerEnd.{WorkerEnd}
-use Rattle.tt_server.specs.Life.{ServerSession, ServerWorker, ServerLife, ServesOne, HandsBack, TellOfEach, TellsOf, clock_failures, max_waits}
+use Rattle.tt_server.specs.Life.{ServerWorker, ServerLife, ServesByTurns, HandsBack, TellOfEach, TellsOf}
 use Rattle.tt_server.specs.Thread.{HasSettings, terms_in, widest_in}
 
 -- ---- epochs
@@ -110,90 +105,22 @@ pub took-epoch : {S : Type 0} (does : S → Call → Gift → S → Type 0) (bef
 took-epoch does before after epoch current (Ok end) same takes is = subst (λ (n : ℕ). Takes does Reads before after (Ok n)) (sym (is ∙ same)) takes
 took-epoch does before after epoch current (Err fault) same takes is = tt
 
--- ---- sessions
--- a session between whose calls the post of its worker stayed is one of the worker
-session-of : (client : Unit {0}) (before : PostState ClockState) (after : StationState ClockState (Unit {0})) (bytes text : List ℕ) (served : Served) (rest : List ℕ) (last : Option Begun)
-    → Session (Allows MachineGives clock_failures ClientSays) max_waits (new_station before client) bytes after text served rest last → (post : PostState ClockState) → after.post ≡ post → ServesOne before post
-session-of client before after bytes text served rest last session post ends =
-    let whole : ServerSession = record {
-      client = client;
-      before = before;
-      after = after;
-      bytes = bytes;
-      text = text;
-      served = served;
-      rest = rest;
-      last = last;
-      session = session-on MachineGives clock_failures ClientSays max_waits (new_station before client) bytes after text served rest last session;
-    } in
-    inr (whole, refl, ends)
-
-session-served : (client : Unit {0}) (before after : PostState ClockState) (left left' taken taken' : Option (List ℕ)) (served : Served)
-    → ServesSession MachineGives clock_failures ClientSays max_waits left left' taken taken' client before after served → ServesOne before after
-session-served client before after left left' taken taken' served that =
-    session-of client before that.0 that.2.bytes that.2.text served that.2.rest that.2.last that.2.session after that.1
-
--- one that broke off is what it had come to with its last step
-session-broken : (client : Unit {0}) (before after : PostState ClockState) (left left' taken taken' : Option (List ℕ))
-    → BreaksSession MachineGives clock_failures ClientSays max_waits left left' taken taken' client before after → ServesOne before after
-session-broken client before after left left' taken taken' that =
-    let broke = that.2.breaks in
-    session-of client before that.0 (broke.past ++ broke.own) (broke.told ++ broke.text) broke.talks.served broke.rest broke.talks.last broke.session after that.1
-
--- a call of `serve` is one session, whatever it answers
-pub one-session : (client : Unit {0}) (before after : PostState ClockState) (left left' taken taken' : Option (List ℕ)) (answer : Result Served ServeFault)
-    → IfOk answer (λ served. ServesSession MachineGives clock_failures ClientSays max_waits left left' taken taken' client before after served)
-    → (IsErrOf answer ReadFailed → (served : Served) × ServesSession MachineGives clock_failures ClientSays max_waits left left' taken taken' client before after served)
-    → (IsErrOf answer WriteFailed → BreaksSession MachineGives clock_failures ClientSays max_waits left left' taken taken' client before after)
-    → ServesOne before after
-one-session client before after left left' taken taken' (Ok served) ok read write = session-served client before after left left' taken taken' served ok
-one-session client before after left left' taken taken' (Err ReadFailed) ok read write = let that = read refl in session-served client before after left left' taken taken' that.0 that.1
-one-session client before after left left' taken taken' (Err WriteFailed) ok read write = session-broken client before after left left' taken taken' (write refl)
-
--- the post of a worker went on from the first to this one, and the worker served these sessions meanwhile
-pub record HasServed (first now : PostState ClockState) : Type 0 where
-  pub sessions : List ServerSession
-  pub goes : PostGoesOn first now
-  pub in_turn : AreServedBetween first now sessions
-
-pub served-none : (first : PostState ClockState) → HasServed first first
-served-none first = record { sessions = []; goes = post-same first first refl; in_turn = All-nil (IsServedBetween first first) }
-
--- where the post goes on, each session was served before that
-served-later : (first before after : PostState ClockState) → PostGoesOn before after → (sessions : List ServerSession) → AreServedBetween first before sessions → AreServedBetween first after sessions
-served-later first before after goes sessions served =
-    All-weaker (IsServedBetween first before) (IsServedBetween first after) (λ (session : ServerSession) between. (between.0, post-both session.after.post before after between.1 goes)) sessions served
-
--- the post of a worker goes on in a session
-session-goes_on : (session : ServerSession) → PostGoesOn session.before session.after.post
-session-goes_on session =
-    calls-go_on MachineGives clock_failures ClientSays session.session.calls (new_station session.before session.client) session.after session.session.talked
-
-pub served-next : (first before after : PostState ClockState) → HasServed first before → ServesOne before after → HasServed first after
-served-next first before after has (inl same) = subst (HasServed first) (sym same) has
-served-next first before after has (inr (session, from, to)) =
-    let begins : PostGoesOn first session.before = subst (PostGoesOn first) (sym from) has.goes in
-    let here : PostGoesOn before session.after.post = subst (λ (p : PostState ClockState). PostGoesOn p session.after.post) from (session-goes_on session) in
-    let goes : PostGoesOn before after = subst (PostGoesOn before) to here in
-    record {
-      sessions = session ∷ has.sessions;
-      goes = post-both first before after has.goes goes;
-      in_turn = All-cons (IsServedBetween first after) session has.sessions (begins, post-same session.after.post after (sym to)) (served-later first before after goes has.sessions has.in_turn);
-    }
-
--- a worker that has served its sessions hands back what its watch has seen
-pub handed-back : (watch : WatchState) (terms : Terms) (first now : PostState ClockState) (end : WorkerEnd) → first.watch ≡ watch → first.lease ≡ terms.lease → first.stampers ≡ terms.stampers → first.ahead ≡ terms.ahead → first.max_width ≡ terms.max_width
-    → HasServed first now → end.seen ≡ seen_of now.watch → HandsBack watch terms end
-handed-back watch terms first now end watch_is lease_is stampers_is ahead_is width_is has seen = record {
-  worker = record { post = first; last = now; sessions = has.sessions };
+-- ---- what a worker hands back
+-- a worker that began with this watch and these terms, and ended, hands back what its watch had seen
+pub handed-back : (watch seen : WatchState) (terms : Terms) (first : PostState ClockState) (seat : SeatState) (end : WorkerEnd)
+    → first.watch ≡ watch → first.lease ≡ terms.lease → first.stampers ≡ terms.stampers → first.ahead ≡ terms.ahead → first.max_width ≡ terms.max_width
+    → WorkerServed first seen seat → end.seen ≡ seen_of seen → HandsBack watch terms end
+handed-back watch seen terms first seat end watch_is lease_is stampers_is ahead_is width_is served seen_is = record {
+  worker = record { post = first; last = served.last; sessions = served.sessions };
   watch_is = watch_is;
   lease_is = lease_is;
   stampers_is = stampers_is;
   ahead_is = ahead_is;
   width_is = width_is;
-  goes = has.goes;
-  in_turn = has.in_turn;
-  seen_is = seen;
+  goes = served.goes;
+  between = served.between;
+  by_turns = served.by_turns;
+  seen_is = seen_is ∙ ap seen_of served.watch_is;
 }
 
 -- the same of an equal watch and equal terms
@@ -217,7 +144,8 @@ record Fits (watch : WatchState) (terms : Terms) (published : List Publication) 
   pub stampers_is : worker.post.stampers ≡ terms.stampers
   pub ahead_is : worker.post.ahead ≡ terms.ahead
   pub width_is : worker.post.max_width ≡ terms.max_width
-  pub in_turn : AreServedBetween worker.post worker.last worker.sessions
+  pub between : AreServedBetween worker.post worker.last worker.sessions
+  pub by_turns : ServesByTurns worker
   pub seen : IsPrefix worker.last.watch.items published
 
 abbrev pub Handed : WatchState → Terms → WorkerEnd → Type 0
@@ -249,7 +177,7 @@ told-of watch terms published (end ∷ ends) all begin =
     let begins : IsPrefix (seen_of here.worker.last.watch).items published =
     subst (λ (k : Known). IsPrefix k.items published) here.seen_is (All-head (Begins published) end ends begin) in
     let fits : Fits watch terms published here.worker =
-    record { watch_is = here.watch_is; lease_is = here.lease_is; stampers_is = here.stampers_is; ahead_is = here.ahead_is; width_is = here.width_is; in_turn = here.in_turn; seen = begins } in
+    record { watch_is = here.watch_is; lease_is = here.lease_is; stampers_is = here.stampers_is; ahead_is = here.ahead_is; width_is = here.width_is; between = here.between; by_turns = here.by_turns; seen = begins } in
     let len : length rest.workers ≡ length ends = rest.len in
     record {
       workers = here.worker ∷ rest.workers;
@@ -316,7 +244,7 @@ life-ended settings current end from to shown has configured below new called ha
       stampers = fits.stampers_is;
       ahead = fits.ahead_is;
       width = fits.width_is;
-      in_turn = fits.in_turn;
+      in_turn = fits.between;
       seen = fits.seen;
     } in
     let is_life : IsLife life = record {
@@ -341,6 +269,7 @@ life-ended settings current end from to shown has configured below new called ha
         source = refl;
         published = refl;
         workers = told.len ∙ count;
+        by_turns = All-weaker (Fits watch terms published) ServesByTurns (λ (worker : ServerWorker) fits. fits.by_turns) told.workers told.fit;
         ends = told.each;
       },
     )

@@ -1,28 +1,17 @@
 -- What is proved of a life of the server, from what its threads hand back.
-use Rattle.std.specs.Prelude.{◌≡◌, ◌⊎◌, ℕ, List, [], ◌∷◌, length}
+use Rattle.std.specs.Prelude.{◌≡◌, List, [], ◌∷◌, length, All}
 use Rattle.tt_publish.specs.Known.{WatchState, seen_of}
-use Rattle.tt_connections.specs.Station.{PostState}
-use Rattle.tt_connections.specs.Sessions.{WorkerSession, AreServedBetween}
+use Rattle.tt_connections.specs.Sessions.{AreServedBetween}
 use Rattle.tt_connections.specs.Turns.{PostGoesOn}
 use Rattle.tt_connections.specs.declared.posts.Terms.{Terms}
-use Rattle.tt_connections.specs.Clock.{ClockState, MachineGives, ClientSays}
+use Rattle.tt_connections.specs.Clock.{MachineGives, ClientSays}
+use Rattle.tt_workers.specs.Happening.{AreAllByTurns}
+use Rattle.tt_workers.specs.Worker.{clock_failures, max_waits}
 use Rattle.tt_settings.specs.Settings.{Meaning}
 use Rattle.tt_consistency.specs.Lives.{Life, WorkerLife, IsLife}
 use Rattle.tt_server.specs.Thread.{widest_in}
 use Rattle.tt_server.specs.declared.lives.LifeEnd.{LifeEnd}
 use Rattle.tt_server.specs.declared.lives.WorkerEnd.{WorkerEnd}
-
--- how often the clock of a machine has failed
-abbrev pub clock_failures : ClockState → ℕ
-clock_failures clock = clock.failures
-
--- the most release steps of one line
-abbrev pub max_waits : ℕ
-max_waits = 1
-
--- a session of a worker of the server
-abbrev pub ServerSession : Type 0
-ServerSession = WorkerSession MachineGives clock_failures ClientSays max_waits
 
 -- a worker of the server
 abbrev pub ServerWorker : Type 0
@@ -32,11 +21,11 @@ ServerWorker = WorkerLife MachineGives clock_failures ClientSays max_waits
 abbrev pub ServerLife : Type 0
 ServerLife = Life MachineGives clock_failures ClientSays max_waits
 
--- the post of a worker after it was given a client: a session went from the one post to the other, or there was none
-abbrev pub ServesOne : PostState ClockState → PostState ClockState → Type 0
-ServesOne before after = (after ≡ before) ⊎ ((session : ServerSession) × (session.before ≡ before) × (session.after.post ≡ after))
+-- all that a worker did was turns of its sessions
+abbrev pub ServesByTurns : ServerWorker → Type 0
+ServesByTurns worker = AreAllByTurns worker.post worker.sessions worker.last
 
--- what a worker handed back: it began with this watch and these terms, its post went on, it served its sessions meanwhile, and it tells what its watch had seen at the end
+-- what a worker handed back: it began with this watch and these terms, its post went on by turns of its sessions, which it served meanwhile, and it tells what its watch had seen at the end
 pub record HandsBack (watch : WatchState) (terms : Terms) (end : WorkerEnd) : Type 0 where
   pub worker : ServerWorker
   pub watch_is : worker.post.watch ≡ watch
@@ -45,7 +34,8 @@ pub record HandsBack (watch : WatchState) (terms : Terms) (end : WorkerEnd) : Ty
   pub ahead_is : worker.post.ahead ≡ terms.ahead
   pub width_is : worker.post.max_width ≡ terms.max_width
   pub goes : PostGoesOn worker.post worker.last
-  pub in_turn : AreServedBetween worker.post worker.last worker.sessions
+  pub between : AreServedBetween worker.post worker.last worker.sessions
+  pub by_turns : ServesByTurns worker
   pub seen_is : end.seen ≡ seen_of worker.last.watch
 
 -- each end tells what the watch of its worker had seen
@@ -67,4 +57,5 @@ pub record TellsOf (settings : Meaning) (end : LifeEnd) (life : ServerLife) : Ty
   pub source : life.source ≡ end.published.source
   pub published : life.published ≡ end.published.items
   pub workers : length life.workers ≡ settings.config.workers
+  pub by_turns : All ServesByTurns life.workers
   pub ends : TellOfEach end.workers.items life.workers

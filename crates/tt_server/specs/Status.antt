@@ -178,6 +178,7 @@ status_of machine t shown notices unsent seals strangers work now = record {
   waiting = work.waiting;
   workers = machine.config.workers;
   busy = work.busy;
+  open_sessions = work.open_sessions;
   commits_waiting = work.commits_waiting;
   commit_waits = work.commit_waits;
   left_out = work.left_out;

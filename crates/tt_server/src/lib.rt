@@ -13,8 +13,8 @@
 //! ```
 //!
 //! [`serve`] runs the machine in threads. One thread makes the rounds of the daemon. One accepts the connections of
-//! clients, and each worker is a thread that takes one after the other and serves its session by a service of its own. All
-//! workers take their stamps from one sequencer, and read one list of publications. `tt_report` has the threads that write
+//! clients, and each worker is a thread that serves the sessions of some of them by turns (`tt_workers`). All workers take
+//! their stamps from one sequencer, and read one list of publications. `tt_report` has the threads that write
 //! the log and the status, so that no other thread waits for standard error or a file.
 //!
 //! `tt_settings` decides what the settings mean, `tt_session` and `tt_connections` decide the replies to a session, and
@@ -39,8 +39,9 @@
 //! Of a life that ends in order, [`serve`] proves from what its threads hand back: the daemon began new, in the epoch that
 //! the store gave; its calls came one after the other, at readings of its clock that do not fall; each worker began with a
 //! new watch, by a clock with the drift of the settings, with the lease, the interval of the stampers and the bound for
-//! floors of the settings; it served its sessions one after the other; and the workers read nothing but what this daemon published. Of a life that is killed
-//! each turn of a loop is one call with a contract of its own.
+//! floors of the settings; all that it did was turns of its sessions, one after the other, and each session is its turns; and
+//! the workers read nothing but what this daemon published. Of a life that is killed each turn of a loop is one call with a
+//! contract of its own.
 #![tactic(auto)]
 
 mod breaks;

@@ -16,8 +16,8 @@ use crate::modes::Loose;
 use crate::names::{HostNames, Names, start_names};
 use crate::rounds::{Polled, Poller, run_daemon};
 use crate::starts::{
-    acceptor_of, front_of, pages_of, poller_of, publications_of, reporter_of, shows_evidence,
-    side_of, sights_of, watch_all,
+    acceptor_of, backlog_of, front_of, pages_of, poller_of, publications_of, reporter_of,
+    shows_evidence, side_of, sights_of, watch_all,
 };
 use crate::states::{Ending, Life, ServerState, ThreadContext, say};
 use crate::workers::{WorkerHandle, WorkerSeat, start_worker, worker_seats_of};
@@ -120,11 +120,15 @@ fn start_workers<'s, E, R: Wait + SystemClock + Sync>(
         ) else {
             return false;
         };
-        let backlog = match &listeners.side {
-            Some(side_entry) if number < side => side_entry,
-            _ => &listeners.front,
+        let (backlog, place) = match &listeners.side {
+            Some(side_entry) if number < side => (side_entry, number),
+            _ => (&listeners.front, number.saturating_sub(side)),
         };
-        let Some(handle) = start_worker(scope, context, backlog, worker_seat, watch, sight) else {
+        let Some(inbox) = backlog.inbox(place) else {
+            return false;
+        };
+        let Some(handle) = start_worker(scope, context, backlog, inbox, worker_seat, watch, sight)
+        else {
             return false;
         };
         handles.push_reserved(handle);
@@ -351,14 +355,14 @@ fn run_threads<
         names,
         until_eof,
     ) {
-        server.end(rt);
+        server.end();
         drop(join_workers(rt, handles, ends, &opened, &server.life));
         return Err(ServerFault::NoThread);
     }
     say_started(context, settings.listen());
     let mut clock = MachineClock::new(rt);
     run_daemon(context, &mut poller, &mut clock, teller);
-    server.end(rt);
+    server.end();
     poller.end_names();
     let workers = join_workers(rt, handles, ends, &opened, &server.life);
     let published = teller.tell();
@@ -595,7 +599,7 @@ fn run_behind<
 /// At the end it wakes all threads, whatever they wait for, joins the workers, and removes the Unix socket if it is still
 /// the one that it made. Then it answers the epoch of the life, what its daemon published, and what each worker had seen
 /// of that. In contracts this is the end of a life with these settings: its daemon began new, its calls came one after the
-/// other, and its workers read nothing but what it published.
+/// other, and its workers read nothing but what it published; all that a worker did was turns of its sessions.
 pub fn serve<
     R: Threads
         + Wait
@@ -616,7 +620,7 @@ pub fn serve<
     ensures life { IfOk result (λ end. (life : ServerLife) × TellsOf settings.now end life) }
 {
     let alloc = rt.alloc();
-    let front = front_of(rt, alloc, settings)?;
+    let front = front_of(rt, settings)?;
     let (acceptor, waker) = acceptor_of(rt, alloc)?;
     let pages = pages_of(rt, settings)?;
     let (polling, link_waker) = link_to(rt, alloc, settings)?;
@@ -624,7 +628,10 @@ pub fn serve<
         Ok(store) => store,
         Err(fault) => return Err(ServerFault::Epoch(fault)),
     };
-    let side = side_of(rt, alloc, settings)?;
+    let workers = settings.config().workers();
+    let side_workers = side_workers_of(workers, settings.socket().is_some());
+    let front = backlog_of(rt, alloc, front, workers - side_workers)?;
+    let side = side_of(rt, alloc, settings, side_workers)?;
     let listeners = Listeners::new(front, side, waker);
     let start = Start {
         settings,

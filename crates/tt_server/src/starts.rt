@@ -21,7 +21,7 @@ use std::sync::Wait;
 use std::thread::Threads;
 use std::time::Clock as SystemClock;
 use tt_connections::{
-    Acceptor, Backlog, Listener, ListenerFault, Listeners, MachineClock, Queue, Sight,
+    Acceptor, Backlog, Inbox, Listener, ListenerFault, Listeners, MachineClock, Sight,
 };
 use tt_daemon::Daemon;
 use tt_files::Reason;
@@ -49,23 +49,43 @@ pub(crate) fn fault_of(kind: ErrorKind, fault: ServerFault) -> ServerFault
     }
 }
 
-/// The TCP address, where no connection waits.
+/// The listener at the TCP address.
 pub(crate) fn front_of<R: Net<Listener = TcpListener, Stream = TcpStream>>(
     rt: &R,
-    alloc: Global,
     settings: &Settings,
-) -> Result<Backlog, ServerFault> {
-    let listener = match Listener::at_port(rt, settings.listen()) {
-        Ok(listener) => listener,
-        Err(error) => return Err(fault_of(
-            error.kind(),
-            ServerFault::CannotListen(Reason::of(&error)),
-        )),
-    };
-    match Queue::new(alloc) {
-        Ok(queue) => Ok(Backlog { listener, queue }),
-        Err(_) => Err(ServerFault::Memory),
+) -> Result<Listener, ServerFault> {
+    match Listener::at_port(rt, settings.listen()) {
+        Ok(listener) => Ok(listener),
+        Err(error) => Err(fault_of(error.kind(), ServerFault::CannotListen(Reason::of(&error)))),
     }
+}
+
+/// The inboxes of so many workers, which have no session so far.
+fn inboxes_of<R: Net>(rt: &R, alloc: Global, workers: usize) -> Result<Vec<Inbox>, ServerFault> {
+    let mut inboxes = Vec::new(alloc);
+    for _ in 0..workers {
+        let inbox = match Inbox::new(rt, alloc) {
+            Ok(inbox) => inbox,
+            Err(error) => return Err(fault_of(
+                error.kind(),
+                ServerFault::CannotListen(Reason::of(&error)),
+            )),
+        };
+        if inboxes.push(inbox).is_err() {
+            return Err(ServerFault::Memory);
+        }
+    }
+    Ok(inboxes)
+}
+
+/// A listener with so many workers, where no connection waits.
+pub(crate) fn backlog_of<R: Net>(
+    rt: &R,
+    alloc: Global,
+    listener: Listener,
+    workers: usize,
+) -> Result<Backlog, ServerFault> {
+    Ok(Backlog::new(listener, inboxes_of(rt, alloc, workers)?))
 }
 
 /// Where pages are given over HTTP, if the settings say so.
@@ -89,20 +109,20 @@ pub(crate) fn pages_of<R: Net<Listener = TcpListener, Stream = TcpStream>>(
     }
 }
 
-/// The Unix socket, if the settings name one. The memory of its queue comes first, so that no socket is left behind.
+/// The Unix socket with so many workers, if the settings name one. Their inboxes come first, so that no socket is left
+/// behind.
 pub(crate) fn side_of<R: Files + Net>(
     rt: &R,
     alloc: Global,
     settings: &Settings,
+    workers: usize,
 ) -> Result<Option<Backlog>, ServerFault> {
     let Some(path) = settings.socket() else {
         return Ok(None);
     };
-    let Ok(queue) = Queue::new(alloc) else {
-        return Err(ServerFault::Memory);
-    };
+    let inboxes = inboxes_of(rt, alloc, workers)?;
     match Listener::at_path(rt, path.as_str()) {
-        Ok(listener) => Ok(Some(Backlog { listener, queue })),
+        Ok(listener) => Ok(Some(Backlog::new(listener, inboxes))),
         Err(ListenerFault::NotSocket) => Err(ServerFault::NotSocket),
         Err(ListenerFault::Failed(reason)) => Err(ServerFault::CannotListenSocket(reason)),
     }

@@ -157,8 +157,8 @@ impl<'a> ServerState<'a> {
     }
 
     /// Ends the machine: wakes the acceptor, the workers that wait for a client, and the daemon, also within a round.
-    pub(crate) fn end<R: Wait>(&self, rt: &R) {
-        self.listeners.end(rt);
+    pub(crate) fn end(&self) {
+        self.listeners.end();
         self.ending.ask();
     }
 
@@ -177,6 +177,7 @@ impl<'a> ServerState<'a> {
             refused_lines: self.counts.refused.load(Ordering::SeqCst),
             waiting: self.listeners.waiting(),
             busy: self.counts.busy.load(Ordering::SeqCst),
+            open_sessions: self.counts.open.load(Ordering::SeqCst),
             commits_waiting: self.counts.commits_waiting.load(Ordering::SeqCst),
             commit_waits: waits_in(&self.counts),
             left_out: self.reporter.left_out(),

@@ -20,8 +20,10 @@ pub(crate) struct Work {
     pub(crate) refused_lines: u64,
     /// The connections that wait for a worker.
     pub(crate) waiting: u64,
-    /// The workers that serve a session.
+    /// The workers that have a session.
     pub(crate) busy: u64,
+    /// The sessions that are open.
+    pub(crate) open_sessions: u64,
     /// The commits that wait until their stamp has passed.
     pub(crate) commits_waiting: u64,
     /// How long commits have waited.
@@ -324,6 +326,7 @@ pub(crate) fn status_of(machine: &Machine, account: &Account<'_>, work: &Work, n
         waiting: work.waiting,
         workers: config.workers() as u64,
         busy: work.busy,
+        open_sessions: work.open_sessions,
         commits_waiting: work.commits_waiting,
         commit_waits: work.commit_waits,
         left_out: work.left_out,

@@ -198,8 +198,9 @@ client_metrics s =
 -- who serves clients, and what they wait for
 abbrev pub worker_metrics : Status → List Metric
 worker_metrics s =
-    single (codes "truetime_workers") (codes "Workers, each of which serves one connection at a time.") Gauge (Whole s.workers) ∷
-    single (codes "truetime_workers_busy") (codes "Workers that serve a connection.") Gauge (Whole s.busy) ∷
+    single (codes "truetime_workers") (codes "Workers, each of which serves its sessions by turns.") Gauge (Whole s.workers) ∷
+    single (codes "truetime_workers_busy") (codes "Workers that have a session.") Gauge (Whole s.busy) ∷
+    single (codes "truetime_sessions_open") (codes "Sessions that are open.") Gauge (Whole s.open_sessions) ∷
     single (codes "truetime_commits_waiting") (codes "Commits that wait.") Gauge (Whole s.commits_waiting) ∷
     []
 

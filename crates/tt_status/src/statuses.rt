@@ -159,10 +159,12 @@ pub struct Status {
     pub refused_lines: u64,
     /// How many connections wait for a worker.
     pub waiting: u64,
-    /// How many workers there are. Each serves one connection at a time.
+    /// How many workers there are. Each serves its sessions by turns.
     pub workers: u64,
-    /// How many of them serve a connection.
+    /// How many of them have a session.
     pub busy: u64,
+    /// How many sessions are open.
+    pub open_sessions: u64,
     /// How many commits wait.
     pub commits_waiting: u64,
     /// How long commits have waited.
@@ -685,15 +687,21 @@ fn push_workers(text: &mut String, status: &Status) -> Result<(), AllocError>
         &[
             Row {
                 name: "truetime_workers",
-                help: "Workers, each of which serves one connection at a time.",
+                help: "Workers, each of which serves its sessions by turns.",
                 kind: Kind::Gauge,
                 value: Value::Whole(status.workers),
             },
             Row {
                 name: "truetime_workers_busy",
-                help: "Workers that serve a connection.",
+                help: "Workers that have a session.",
                 kind: Kind::Gauge,
                 value: Value::Whole(status.busy),
+            },
+            Row {
+                name: "truetime_sessions_open",
+                help: "Sessions that are open.",
+                kind: Kind::Gauge,
+                value: Value::Whole(status.open_sessions),
             },
             Row {
                 name: "truetime_commits_waiting",

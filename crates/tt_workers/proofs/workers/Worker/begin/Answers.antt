@@ -1,0 +1,7 @@
+use Rattle.tt_workers.proofs.Working.{session-begins}
+use Rattle.tt_workers.proofs.workers.Worker.begin.Goals as goal
+
+pub invariant_of-self : goal.invariant_of-self
+invariant_of-self g c =
+    let said = c.insert.ensures in
+    session-begins c.self.inside.first.value c.self.inside.post c.self.inside.visits c.insert.new.self c.new.result c.insert.result c.new.ensures.made said.was_vacant said.updates said.err c.self.invariant

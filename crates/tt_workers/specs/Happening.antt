@@ -1,0 +1,63 @@
+-- What happened at a worker that serves its sessions by turns. Each list has the newest first.
+use Rattle.std.specs.Prelude.{◌≡◌, ◌⊎◌, ℕ, Bool, List, [], ◌∷◌, ◌++◌, nat_eq, if◌then◌else◌, Option}
+use mathlib.Core.Logic.{inl, inr}
+use Rattle.tt_session.specs.Conversation.{Conversation}
+use Rattle.tt_session.specs.declared.calls.Call.{Call}
+use Rattle.tt_connections.specs.Station.{PostState, StationState, Allows}
+use Rattle.tt_connections.specs.Sessions.{WorkerSession}
+use Rattle.tt_connections.specs.declared.presence.Question.{Question}
+
+-- a turn of the session at a place: its calls, from what it found to what it left
+pub record SessionTurn {C V : Type 0} (gives : C → Option ℕ → C → Type 0) (failed : C → ℕ) (says : V → Question → Bool → Type 0) : Type 0 where
+  pub place : ℕ
+  pub before : StationState C V
+  pub calls : List Call
+  pub after : StationState C V
+  pub talked : Conversation (Allows gives failed says) before calls after
+
+-- the end of the session at a place
+pub record SessionEnd {C V : Type 0} (gives : C → Option ℕ → C → Type 0) (failed : C → ℕ) (says : V → Question → Bool → Type 0) (waits : ℕ) : Type 0 where
+  pub place : ℕ
+  pub session : WorkerSession gives failed says waits
+
+-- what happens at a worker
+abbrev pub WorkerEvent : {C V : Type 0} → (C → Option ℕ → C → Type 0) → (C → ℕ) → (V → Question → Bool → Type 0) → ℕ → Type 0
+WorkerEvent gives failed says waits = SessionTurn gives failed says ⊎ SessionEnd gives failed says waits
+
+module _ {C V : Type 0} {gives : C → Option ℕ → C → Type 0} {failed : C → ℕ} {says : V → Question → Bool → Type 0} {waits : ℕ} where
+  -- the calls of the session at a place behind this event, where they were these before it
+  abbrev pub calls_behind : ℕ → List Call → WorkerEvent gives failed says waits → List Call
+  calls_behind place calls (inl turn) = if nat_eq place turn.place then calls ++ turn.calls else calls
+  calls_behind place calls (inr end) = if nat_eq place end.place then [] else calls
+
+  -- the calls of the session at a place: those of its turns, since the session before it ended
+  abbrev pub calls_at : ℕ → List (WorkerEvent gives failed says waits) → List Call
+  calls_at place [] = []
+  calls_at place (event ∷ events) = calls_behind place (calls_at place events) event
+
+  -- behind these events this one led from one post to the other: a turn began with the first and left the other; a session that ended had the calls at its place, and the post stayed
+  abbrev pub Leads : List (WorkerEvent gives failed says waits) → PostState C → WorkerEvent gives failed says waits → PostState C → Type 0
+  Leads events before (inl turn) after = (turn.before.post ≡ before) × (turn.after.post ≡ after)
+  Leads events before (inr end) after = (after ≡ before) × (end.session.session.calls ≡ calls_at end.place events)
+
+  -- these events led from the first post to the last, one after the other
+  abbrev pub LeadFrom : PostState C → List (WorkerEvent gives failed says waits) → PostState C → Type 0
+  LeadFrom first [] last = last ≡ first
+  LeadFrom first (event ∷ events) last = (mid : PostState C) × LeadFrom first events mid × Leads events mid event last
+
+  -- the session that ended with this event, if one did, before others
+  abbrev pub with_ended : WorkerEvent gives failed says waits → List (WorkerSession gives failed says waits) → List (WorkerSession gives failed says waits)
+  with_ended (inl turn) sessions = sessions
+  with_ended (inr end) sessions = end.session ∷ sessions
+
+  -- the sessions that ended
+  abbrev pub sessions_of : List (WorkerEvent gives failed says waits) → List (WorkerSession gives failed says waits)
+  sessions_of [] = []
+  sessions_of (event ∷ events) = with_ended event (sessions_of events)
+
+-- these are all sessions of a worker whose post went from the first to the last: turns led there, one after the other; each was of one of these sessions, and each session is its turns
+pub record AreAllByTurns {C V : Type 0} {gives : C → Option ℕ → C → Type 0} {failed : C → ℕ} {says : V → Question → Bool → Type 0} {waits : ℕ} (first : PostState C) (sessions : List (WorkerSession gives failed says waits)) (last : PostState C) : Type 0 where
+  pub events : List (WorkerEvent gives failed says waits)
+  pub lead : LeadFrom first events last
+  pub sessions_are : sessions ≡ sessions_of events
+  pub none_goes_on : (place : ℕ) → calls_at place events ≡ []

@@ -1,0 +1,2 @@
+pub mod Happening
+pub mod Worker
