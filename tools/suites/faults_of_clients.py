@@ -71,7 +71,7 @@ def far_floor(address):
 
 @suite.case()
 def end_with_all_workers_busy(trial):
-    """Commits wait for a far floor, others are idle, and more clients wait for a worker."""
+    """Commits wait for a far floor, others are idle, and each worker has more sessions than one."""
     node = trial.running_node(trial.masters(3), workers=8, floor_ahead="10s")
     floor = far_floor(node.address)
     with contextlib.ExitStack() as doors:
@@ -139,7 +139,7 @@ def next_is_served(trial, address, seconds, what):
 
 @suite.case(quiet=True)
 def broken_connection_with_bytes_unread(trial):
-    """The client of the one worker has a commit that waits and more lines behind it, and breaks off."""
+    """A client of the one worker has a commit that waits and more lines behind it, and breaks off."""
     node = trial.running_node(trial.masters(3), workers=1, socket=None, floor_ahead="10s")
     floor = far_floor(node.address)
     door = socket.create_connection(node.address, 2)
@@ -196,26 +196,19 @@ def commit_of_a_half_closed_client(trial):
 
 
 @suite.case()
-def waiting_in_turn(trial):
-    """Clients that wait for a worker are counted, and served in the order in which they came."""
+def more_clients_than_workers(trial):
+    """They are served as long as others stay, and share the workers evenly."""
     node = trial.running_node(trial.masters(3), workers=2, socket=None)
     with contextlib.ExitStack() as doors:
-        sessions = [doors.enter_context(truetime.Session(node.address, 2)) for _ in range(2)]
-        for session in sessions:
-            session.now()
-        waiting = []
-        for _ in range(5):
-            waiting.append(doors.enter_context(socket.create_connection(node.address, 2)))
-            waiting[-1].sendall(b"now\n")
-            time.sleep(0.02)
-        yield from node.comes_to("connections_waiting", 5, 1)
-        sessions[0].close()
-        for number, door in enumerate(waiting):
-            door.settimeout(0.5)
+        for number in range(7):
+            door = doors.enter_context(socket.create_connection(node.address, 2))
+            door.sendall(b"now\n")
             if not door.recv(100).startswith(b"now "):
-                yield f"client {number} has no reply in its turn"
-            door.close()
-    yield from node.comes_to("connections_waiting", 0, 1)
+                yield f"client {number} has no reply"
+        yield from node.comes_to("sessions_open", 7, 1)
+        yield from node.comes_to("workers_busy", 2, 1)
+    yield from node.comes_to("sessions_open", 0, 1)
+    yield from node.comes_to("workers_busy", 0, 1)
 
 
 # The command `ask`.

@@ -51,7 +51,7 @@ LAST = {
     "fusions_701": 'truetime_fusions_refused_total{number="701"}', "strangers": "truetime_strangers_total", "breaks": "truetime_assumption_breaks_total",
     "slept": "truetime_slept_seconds_total", "sessions": "truetime_sessions_total", "lines": "truetime_lines_total",
     "lines_refused": "truetime_lines_refused_total", "waiting": "truetime_connections_waiting", "workers": "truetime_workers",
-    "busy": "truetime_workers_busy", "commits_waiting": "truetime_commits_waiting",
+    "busy": "truetime_workers_busy", "sessions_open": "truetime_sessions_open", "commits_waiting": "truetime_commits_waiting",
     "commits_waited": "truetime_commit_wait_seconds_sum", "commits_released": "truetime_commit_wait_seconds_count",
     "round_trips": "truetime_round_trip_seconds_sum", "answers": "truetime_round_trip_seconds_count",
     "widths": "truetime_reading_width_seconds_sum", "widths_counted": "truetime_reading_width_seconds_count",

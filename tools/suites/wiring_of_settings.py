@@ -187,21 +187,17 @@ def has_reply(door, seconds):
 
 @suite.case()
 def workers(trial):
-    """Of five, three serve `listen` and two `socket`. One more client at each waits until another leaves."""
+    """Of five, three serve `listen` and two `socket`: one more client at each shares a worker."""
     node = trial.running_node(trial.scripts(honest), workers=5)
     with contextlib.ExitStack() as doors:
-        waiting = []
-        for name, address, number in (("listen", node.address, 3), ("socket", node.path("socket"), 2)):
+        sessions = 0
+        for name, address, number, busy in (("listen", node.address, 4, 3), ("socket", node.path("socket"), 3, 5)):
             served = [ask_at(doors, address) for _ in range(number)]
             trial.equal(f"setting {name}", sum(has_reply(door, 5) for door in served), number)
-            last = ask_at(doors, address)
-            trial.check("setting workers", not has_reply(last, 0.4), f"of 5 more than {number} serve {name}")
-            waiting.append((served[0], last))
-        trial.numbers(node, waiting=2, busy=5, workers=5)
-        for served, last in waiting:
-            served.close()
-            trial.check("setting workers", has_reply(last, 5), "a client that waited is not served when another has left")
-    trial.numbers(node, waiting=0, busy=0)
+            sessions += number
+            status = trial.numbers(node, waiting=0, busy=busy, sessions_open=sessions, workers=5)
+            trial.equal("setting workers", status["busy"], busy)
+    trial.numbers(node, waiting=0, busy=0, sessions_open=0)
 
 
 @suite.case()

@@ -53,7 +53,7 @@ def rounds(trial):
     trial.logs(node, "started", machine=3, epoch=EPOCH + 1, port=node.address[1])
     made = TOO_FEW + NO_POINT + 1 + len(REFUSED)
     eventually(lambda: len(masters[0].polls) > made, 15)
-    nothing = "waiting left_out sessions lines lines_refused breaks slept busy commits_waiting commits_released".split()
+    nothing = "waiting left_out sessions lines lines_refused breaks slept busy sessions_open commits_waiting commits_released".split()
     wanted = {"epoch": EPOCH + 1, "sources": 7, "known": 6, "suspect": [int(source in LIARS) for source in range(7)],
               "answers_refused": sum(map(len, REFUSED)), "fusions_701": TOO_FEW, "fusions_504": NO_POINT, "rounds_stale": TOO_FEW,
               "sharing": 1, "workers": 4, "refused": [0] * 7, "unsent": [0] * 7, **dict.fromkeys(nothing, 0)}
@@ -356,19 +356,34 @@ def ends_of_waits(session, latest, number):
 
 
 @suite.case()
+def connections_waiting(trial):
+    """A second connection waits until the only worker no longer waits for what the first one sends: for a fifth of a second at most."""
+    node = trial.running_node(trial.scripts(honest), workers=1, socket=None, poll="20ms", wait="20ms")
+
+    def waits():
+        eventually(lambda: status_of(node)["sessions_open"] == 0)
+        with truetime.Session(node.address, 5) as session:
+            session.now()
+            with socket.create_connection(node.address, 5):
+                return eventually(lambda: status_of(node)["waiting"] == 1, 0.2, 0.002)
+    trial.check("status waiting", eventually(waits), "no connection that waits is counted")
+    trial.numbers(node, waiting=0, busy=0)
+
+
+@suite.case()
 def commits(trial):
     """Three wait for a floor that is far ahead, and are counted as long as they do; five are released, and one of them waited for long."""
     node = trial.running_node(trial.scripts(honest), workers=6, socket=None, poll="50ms", floor_ahead="10s")
     with truetime.Session(node.address, 10) as session:
         latest = latest_of(session)
-        trial.numbers(node, busy=1, workers=6, commits_waiting=0)
+        trial.numbers(node, busy=1, sessions_open=1, workers=6, commits_waiting=0)
         doors = [socket.create_connection(node.address, 5) for _ in range(3)]
         for door in doors:
             door.sendall(b"commit 1 %d\n" % (latest + 9 * SECOND))
-        trial.numbers(node, busy=4, commits_waiting=3, commits_released=0)
+        trial.numbers(node, busy=4, sessions_open=4, commits_waiting=3, commits_released=0)
         for door in doors:
             reset(door)
-        trial.numbers(node, busy=1, commits_waiting=0, commits_released=0)
+        trial.numbers(node, busy=1, sessions_open=1, commits_waiting=0, commits_released=0)
         took = ends_of_waits(session, latest_of(session), 5)
         status = trial.numbers(node, commits_released=5, commits_waiting=0)
     trial.between("status commits_waited", SECOND // 4 - SECOND // 50, status["commits_waited"], sum(took))

@@ -1,0 +1,434 @@
+"""Opens many sessions on a machine of the time service at once.
+
+- 2,000 on four workers, which have room for 1,280: a new one takes the place of the one that has been silent for longest, of those without a
+  pending commit, and nobody else is closed. 10,000 on 32 workers: each answers, soon, and takes little memory; in the end all is as before.
+- Sessions of one worker do not wait for each other: not for commits that wait, nor for a client that reads nothing, and that loses no reply.
+- Lines that come in pieces, or before the client closes its side, are answered. A client is let go after `idle` without a whole line.
+- A machine with 500 sessions ends soon. One session more than there are workers is served at once.
+
+How long something takes is printed. The bounds leave room for a busy host; where one was passed, the case is tried again alone.
+"""
+import contextlib
+import resource
+import selectors
+import socket
+import statistics
+import time
+
+from harness.processes import SECOND, WORKERS
+from harness.suite import Suite
+from harness.trial import Trial
+from harness.trouble import reset
+from harness.users import is_closed_within
+
+#: How many sessions a worker has at most, as docs/FORMATS.md says.
+MOST = 320
+MANY = 10_000
+#: How many descriptors `MANY` sessions take, with what else is open, here and in the machine.
+DESCRIPTORS = 11_000
+MILLISECOND = SECOND // 1000
+
+
+class Machines(Trial):
+    """Machines, each with room for many descriptors."""
+
+    def running_node(self, masters, name="A", **settings):
+        _, most = resource.getrlimit(resource.RLIMIT_NOFILE)
+        resource.setrlimit(resource.RLIMIT_NOFILE, (most, most))  # the machine has it from here
+        return super().running_node(masters, name, **{"socket": None, "floor_ahead": "10s", **settings})
+
+
+suite = Suite(__name__, Machines, at_once=4, longest_s=60, again=2)
+
+
+@suite.last_line
+def last_line(results):
+    return f"{len(results)} scenarios, {sum(bool(result.wrong) for result in results)} wrong"
+
+
+class Door:
+    """A connection, which sends lines and has their replies."""
+
+    def __init__(self, doors, address, seconds=5.0):
+        self.door = doors.enter_context(socket.create_connection(address, seconds))
+        self.door.setsockopt(socket.IPPROTO_TCP, socket.TCP_NODELAY, 1)
+        self.came = b""
+
+    def send(self, text):
+        self.door.sendall(text)
+
+    def reply(self):
+        """The next line; "" at the end."""
+        while b"\n" not in self.came:
+            if not (more := self.door.recv(65536)):
+                return ""
+            self.came += more
+        line, _, self.came = self.came.partition(b"\n")
+        return line.decode()
+
+    def ask(self, line):
+        self.send(f"{line}\n".encode())
+        return self.reply()
+
+    def now(self):
+        """What is wrong with a reading, or nothing; and how many nanoseconds it took."""
+        before, began = time.time_ns(), time.monotonic_ns()
+        word, *ends = self.ask("now").split()
+        took, after = time.monotonic_ns() - began, time.time_ns()
+        if word != "now" or len(ends) != 2 or int(ends[0]) > after or int(ends[1]) < before:
+            return f"the reading {word} {ends} between {before} and {after}", took
+        return "", took
+
+    def is_open(self):
+        """Whether it has its reply, and is not closed."""
+        try:
+            return not self.now()[0]
+        except (OSError, ValueError):
+            return False
+
+
+def wrong_in(doors):
+    """What is wrong with a reading of each of these, and how long they took, in nanoseconds."""
+    readings = [door.now() for door in doors]
+    return [what for what, _ in readings if what][:3], sorted(took for _, took in readings)
+
+
+def median_and_tail(took):
+    """The median, and what 99 of 100 are within."""
+    return statistics.median(took), took[len(took) * 99 // 100]
+
+
+def in_us(times):
+    return " and ".join(f"{took / 1000:.0f}" for took in times)
+
+
+# Many sessions.
+
+@suite.case()
+def the_most_silent_makes_room(trial):
+    node = trial.running_node(trial.masters(3), workers=4)
+    with contextlib.ExitStack() as stack:
+        doors = []
+        for number in range(4 * MOST):
+            doors.append(Door(stack, node.address))
+            # The commits of the second four stay pending for all of this.
+            said = doors[-1].ask(f"commit 1 {time.time_ns() + 9 * SECOND}" if 4 <= number < 8 else "now")
+            if said.split()[0] != ("waiting" if 4 <= number < 8 else "now"):
+                yield f"session {number} has the reply {said!r}"
+        for door in doors[:4]:
+            door.now()
+        yield from node.comes_to("sessions_open", 4 * MOST, 1)
+        one_more = Door(stack, node.address)
+        if what := one_more.now()[0]:
+            yield what
+        closed = [number for number, door in enumerate(doors[:12]) if is_closed_within(door.door, 0.01)]
+        if len(closed) != 1 or not 8 <= closed[0] < 12:
+            yield f"of the first twelve {closed} were closed, and one of those from 8 to 11 is wanted"
+        left = [door for number, door in enumerate(doors) if number not in closed and not 4 <= number < 8] + [one_more]
+        if lost := sum(not door.is_open() for door in left):
+            yield f"{lost} others were closed"
+        yield from node.comes_to("sessions_open", 4 * MOST, 1)
+        # They share the workers evenly: each is open until it has had its first line.
+        more = [Door(stack, node.address) for _ in range(2000 - 4 * MOST - 1)]
+        if lost := sum(not door.is_open() for door in more):
+            yield f"{lost} of {len(more)} new sessions were closed, though others were silent for longer"
+        open_now = sum(door.is_open() for door in left + more)
+        if open_now != 4 * MOST - 4:
+            yield f"{open_now} of 2,000 sessions are open beside four with commits, and {4 * MOST - 4} are wanted"
+        for number, door in enumerate(doors[4:8]):
+            if not door.ask("now").startswith("now "):
+                yield f"session {number + 4}, whose commit is pending, is closed"
+
+
+def measure(doors, rounds):
+    """The least median and tail of a line over some rounds, and what is wrong."""
+    found, wrong = [], []
+    for _ in range(rounds):
+        faults, took = wrong_in(doors)
+        wrong += faults
+        found.append(median_and_tail(took))
+    return tuple(map(min, zip(*found))), wrong
+
+
+@suite.case(quiet=True, missing=lambda: "" if resource.getrlimit(resource.RLIMIT_NOFILE)[1] >= DESCRIPTORS else
+            f"it wants {DESCRIPTORS} descriptors (ulimit -Hn)")
+def ten_thousand(trial):
+    """Little memory and little time for each; and nothing of them is left."""
+    node = trial.running_node(trial.masters(3), workers=WORKERS)
+    with contextlib.ExitStack() as stack:
+        few = [Door(stack, node.address) for _ in range(WORKERS)]
+        first, wrong = measure(few * 16, 3)
+        yield from wrong
+        few_memory, _, _ = node.resources()
+        began = time.monotonic()
+        doors = few + [Door(stack, node.address) for _ in range(MANY - WORKERS)]
+        wrong, _ = wrong_in(doors)
+        yield from wrong
+        took = time.monotonic() - began
+        yield from node.comes_to("sessions_open", MANY, 2)
+        then, wrong = measure(doors[::MANY // 500], 3)
+        yield from wrong
+        memory, descriptors, _ = node.resources()
+        of_one = (memory - few_memory) * 1024 / (MANY - WORKERS)
+        trial.note(f"{MANY} sessions, opened and asked in {took:.1f} s; a line takes {in_us(then)} us (median, 99th percentile), and {in_us(first)} "
+                   f"with {WORKERS}; {of_one:.0f} bytes of memory each, {memory} KiB in all")
+        if of_one > 4096:
+            yield f"{of_one:.0f} bytes of memory for each session"
+        if descriptors < MANY:
+            yield f"{descriptors} descriptors"
+        if then[0] > 4 * first[0] or then[1] > 4 * first[1] + 10 * MILLISECOND:
+            yield f"a line takes {in_us(then)} us with {MANY} sessions, and {in_us(first)} with {WORKERS}"
+        if not (idle := idle_cost(node)) < SECOND // 5:
+            yield f"{idle // MILLISECOND} ms of processor time in a second in which no line comes"
+        for door in doors:
+            reset(door.door)
+    yield from node.comes_to("sessions_open", 0, 3)
+    yield from node.comes_to("workers_busy", 0, 1)
+    with contextlib.ExitStack() as stack:
+        doors = [Door(stack, node.address) for _ in range(WORKERS)]
+        again, wrong = measure(doors * 16, 3)
+        yield from wrong
+        left = node.resources()
+        trial.note(f"after them a line takes {in_us(again)} us, and {left[0]} KiB are in use")
+        if left[1] > descriptors - MANY + WORKERS:
+            yield f"{left[1]} descriptors are left, of which {WORKERS} are of sessions"
+        if again[0] > 3 * first[0]:
+            yield f"a line takes {in_us(again)} us after them, and took {in_us(first)} before"
+    yield from node.answers()
+
+
+def idle_cost(node):
+    """The processor time of a second, in nanoseconds."""
+    before = node.processor_ns()
+    time.sleep(1)
+    return node.processor_ns() - before
+
+
+@suite.case(quiet=True)
+def one_more_than_workers(trial):
+    """It is served soon though each worker waits for one session alone, and then all are served at once."""
+    node = trial.running_node(trial.masters(3), workers=WORKERS)
+    with contextlib.ExitStack() as stack:
+        doors = [Door(stack, node.address) for _ in range(WORKERS)]
+        for _ in range(3):
+            wrong, _ = wrong_in(doors)
+            yield from wrong
+            time.sleep(0.1)
+        one_more = Door(stack, node.address)
+        what, first = one_more.now()
+        took = sorted(one_more.now()[1] for _ in range(200))
+        wrong, of_others = wrong_in(doors * 4)
+        yield from [what, *wrong] if what else wrong
+        trial.note(f"its first line took {first / MILLISECOND:.0f} ms, others {in_us(median_and_tail(took))} us (median, 99th percentile), those of others "
+                   f"{in_us(median_and_tail(of_others))}")
+        if first > 300 * MILLISECOND or max(median_and_tail(took)[1], median_and_tail(of_others)[1]) > 10 * MILLISECOND:
+            yield f"its first line took {first // MILLISECOND} ms, others up to {took[-1] // MILLISECOND} ms, those of others {of_others[-1] // MILLISECOND} ms"
+
+
+# One worker.
+
+@suite.case(quiet=True)
+def commits_wait_side_by_side(trial):
+    """A hundred on one worker take about as long as one, and another session is answered meanwhile."""
+    node = trial.running_node([trial.master(source, 0, 100_000_000) for source in range(3)], workers=1)
+    with contextlib.ExitStack() as stack:
+        doors, other = [Door(stack, node.address) for _ in range(100)], Door(stack, node.address)
+        alone = released(doors[:1], other)[1]
+        stamps, took, of_other = released(doors, other)
+        trial.note(f"one commit took {alone:.3f} s, {len(doors)} at once {took:.3f} s; a line of another session meanwhile "
+                   f"{in_us(median_and_tail(of_other))} us (median, 99th percentile)")
+        if len(set(stamps)) != len(doors):
+            yield f"{len(set(stamps))} stamps of {len(doors)} commits"
+        if alone < 0.1 or took > 1.5 * alone + 0.5:
+            yield f"{len(doors)} commits took {took:.2f} seconds, and one alone {alone:.2f}"
+        if statistics.median(of_other) > 10 * MILLISECOND or of_other[-1] > 200 * MILLISECOND:
+            yield f"a line took {in_us(median_and_tail(of_other))} us meanwhile, and at most {of_other[-1] // MILLISECOND} ms"
+
+
+def released(doors, other):
+    """Commits on all of these, each asked for again as long as it waits: the stamps, how long it took, and how long lines of the other took
+    meanwhile."""
+    stamps, of_other, began = [], [], time.monotonic()
+    with selectors.DefaultSelector() as selector:
+        for door in doors:
+            selector.register(door.door, selectors.EVENT_READ, door)
+            door.send(b"commit 1 0\n")
+        while len(stamps) < len(doors) and time.monotonic() < began + 20:
+            for key, _ in selector.select(0.005):
+                word, _, stamp = key.data.reply().split()
+                if word == "committed":
+                    stamps.append(int(stamp))
+                else:
+                    key.data.send(b"commit 1 0\n")
+            of_other.append(other.now()[1])
+    return stamps, time.monotonic() - began, sorted(of_other)
+
+
+@suite.case(quiet=True)
+def commits_with_far_floors(trial):
+    """While it waits a line is answered after about 50 milliseconds, where its session is alone and where it is not. Many such lines behind one
+    another keep nobody waiting, and a session whose client is gone is ended."""
+    node = trial.running_node(trial.masters(3), workers=1)
+    for others in (0, 3):
+        with contextlib.ExitStack() as stack:
+            yield from node.comes_to("sessions_open", 0, 1)
+            for _ in range(others):
+                Door(stack, node.address).now()
+            door, line = Door(stack, node.address), f"commit 1 {time.time_ns() + 9 * SECOND}"
+            door.ask(line)
+            for _ in range(3):
+                began = time.monotonic()
+                said, took = door.ask(line).split()[0], time.monotonic() - began
+                if said != "waiting" or not 0.02 <= took <= 0.2:
+                    yield f"beside {others} others a line is answered by {said!r} after {took:.3f} seconds"
+            door.send(f"{line}\n".encode() * 100)
+            time.sleep(0.02)
+            what, took = Door(stack, node.address).now()
+            if what or took > 300 * MILLISECOND:
+                yield f"{what} a new session is answered after {took // MILLISECOND} ms"
+            reset(door.door)
+            yield from node.comes_to("commits_waiting", 0, 1)
+            yield from node.comes_to("sessions_open", others + 1, 1)
+
+
+@suite.case(quiet=True)
+def a_client_that_reads_nothing(trial):
+    """It does not keep its worker, and has all its replies once it reads."""
+    node = trial.running_node(trial.masters(3), workers=1)
+    with contextlib.ExitStack() as stack:
+        other = Door(stack, node.address)
+        door = stack.enter_context(socket.socket())
+        door.setsockopt(socket.SOL_SOCKET, socket.SO_RCVBUF, 4096)
+        door.connect(node.address)
+        door.setblocking(False)
+        lines, sent, took, began = b"now\n" * 4096, 0, [], time.time_ns()
+        end = time.monotonic() + 1.5
+        while time.monotonic() < end:
+            with contextlib.suppress(BlockingIOError):
+                sent += door.send(lines[sent % 4:])
+            what, nanoseconds = other.now()
+            took.append(nanoseconds)
+            if what:
+                yield what
+        took.sort()
+        time.sleep(0.3)  # nothing more is taken of it now
+        wrong, later = wrong_in([other] * 100)
+        yield from wrong
+        door.setblocking(True)
+        door.settimeout(10)
+        door.shutdown(socket.SHUT_WR)  # a part of a line at the end has no reply
+        replies = door.makefile("rb").read()
+        trial.note(f"{sent // 4} lines; a line of another session took {in_us(median_and_tail(took))} us (median, 99th percentile) meanwhile, and "
+                   f"{in_us(median_and_tail(later))} later")
+        readings = replies.decode().splitlines()
+        if sent < 4000 or len(readings) != sent // 4 or not replies.endswith(b"\n"):
+            yield f"{sent // 4} lines have {len(readings)} replies"
+        yield from other_replies(readings, began, time.time_ns())
+        if statistics.median(took) > 5 * MILLISECOND or took[-1] > 100 * MILLISECOND or statistics.median(later) > 2 * MILLISECOND:
+            yield (f"a line of another session took {in_us(median_and_tail(took))} us, and at most {took[-1] // MILLISECOND} ms; and "
+                   f"{in_us(median_and_tail(later))} us where nothing more was taken of the client that reads nothing")
+
+
+def other_replies(replies, began, ended):
+    """The first of these that is no reading of a time in between."""
+    for number, reply in enumerate(replies):
+        word, *ends = reply.split()
+        if word != "now" or len(ends) != 2 or not int(ends[0]) <= int(ends[1]) or int(ends[0]) > ended or int(ends[1]) < began:
+            yield f"reply {number} is {reply!r} between {began} and {ended}"
+            return
+
+
+# Lines in pieces.
+
+@suite.case()
+def all_replies_and_then_the_end(trial):
+    """Of a client that closes its side, where it is alone and where it is not, also behind a commit."""
+    node = trial.running_node(trial.masters(3), workers=1)
+    for others in (0, 5):
+        with contextlib.ExitStack() as stack:
+            for _ in range(others):
+                Door(stack, node.address).now()
+            for lines in (b"now\n" * 1000, b"now\ncommit 1 0\n" + b"now\n" * 300, b"commit 1 0\n" * 20, b"now\nno"):
+                door = Door(stack, node.address)
+                door.send(lines)
+                door.door.shutdown(socket.SHUT_WR)
+                replies = list(iter(door.reply, ""))
+                words = {b"now": {"now"}, b"commit": {"waiting", "committed", "refused"}}
+                wanted = [words[line.split()[0]] for line in lines.splitlines(keepends=True) if line.endswith(b"\n")]
+                if len(replies) != len(wanted) or not all(reply.split()[0] in word for reply, word in zip(replies, wanted)):
+                    yield f"{lines[:30]}.. beside {others} others has {len(replies)} replies, from {replies[:1]} to {replies[-1:]}"
+        yield from node.comes_to("sessions_open", 0, 1)
+
+
+@suite.case()
+def lines_in_pieces(trial):
+    """Single bytes, and lines that are cut amid a commit, of several sessions of one worker in turn."""
+    node = trial.running_node(trial.masters(3), workers=1)
+    for number in (1, 7):
+        with contextlib.ExitStack() as stack:
+            doors = [Door(stack, node.address) for _ in range(number)]
+            for byte in b"now\ncommit 1 0\nnow\n":
+                for door in doors:
+                    door.send(bytes([byte]))
+                time.sleep(0.002)
+            for door in doors:
+                words = [door.reply().split()[0] for _ in range(3)]
+                if words not in (["now", "waiting", "now"], ["now", "committed", "now"]):
+                    yield f"of {number} sessions: {words} of single bytes"
+            for at in range(1, 23):
+                lines = b"now\ncommit 2 0\ncommit 2 0\nnow\n"
+                for door in doors:
+                    door.send(lines[:at])
+                time.sleep(0.002)
+                for door in doors:
+                    door.send(lines[at:])
+                for door in doors:
+                    words = [door.reply().split()[0] for _ in range(4)]
+                    said = words[-1], set(words[1:3]) <= {"waiting", "committed", "refused"}, words[0]
+                    if said != ("now", True, "now"):
+                        yield f"of {number} sessions: {words} where the lines are cut at {at}"
+                    while door.ask("commit 2 0").startswith("waiting"):
+                        pass
+
+
+# Clients that say nothing, and the end.
+
+@suite.case()
+def silent_clients_are_let_go(trial):
+    """After `idle` without a whole line, where they are alone and where they are not; one that sends lines stays."""
+    for workers in (1, 8):
+        node = trial.running_node(trial.masters(3), "AB"[workers > 1], workers=workers, idle="1s")
+        with contextlib.ExitStack() as stack:
+            silent, partial, steady = (Door(stack, node.address) for _ in range(3))
+            began, ends = time.monotonic(), {}
+            steady.now()
+            while time.monotonic() < began + 3.2:
+                time.sleep(0.05)
+                for name, door, text in (("silent", silent, b""), ("partial", partial, b"n")):
+                    if name not in ends:
+                        with contextlib.suppress(OSError):
+                            door.send(text)
+                        if is_closed_within(door.door, 0.01):
+                            ends[name] = time.monotonic() - began
+                if what := steady.now()[0]:
+                    yield what
+            for name in ("silent", "partial"):
+                if not 0.95 <= ends.get(name, 0) <= 2.8:
+                    yield f"with {workers} workers the {name} client was let go after {ends.get(name)} seconds, and idle is one"
+            if not steady.is_open():
+                yield "the client that sends lines is let go"
+
+
+@suite.case(quiet=True)
+def end_with_many_sessions(trial):
+    """Some commits are pending, some lines are held back, and some clients read nothing."""
+    node = trial.running_node(trial.masters(3), workers=8)
+    with contextlib.ExitStack() as stack:
+        doors = [Door(stack, node.address) for _ in range(500)]
+        far = time.time_ns() + 9 * SECOND
+        for number, door in enumerate(doors):
+            door.send((b"now\n", b"commit 1 %d\n" % far, b"commit 1 %d\n" % far * 50, b"no", b"now\n" * 5000)[number % 5])
+        time.sleep(0.3)
+        yield from node.ends(2)
+        if lost := sum(not is_closed_within(door.door, 1) for door in doors):
+            yield f"{lost} connections are open behind the end"
