@@ -1,5 +1,5 @@
 -- What a worker does to its sessions: each change of its post is a turn of one of them.
-use Rattle.std.proofs.Common.{◌≡◌, ◌≢◌, ◌↔◌, ℕ, zero, suc, ◌≤◌, ◌<◌, ◌+◌, ◌^◌, IsTrue, Bool, true, false, nat_eq, if◌then◌else◌, List, [], ◌∷◌, ◌++◌, length, get_or, Option, Some, None, IsSome, Result, Ok, Err, is_ok, IfOk, OnOk, OnErr, refl, sym, ap, ◌∙◌, subst, inl, inr, arith}
+use Rattle.std.proofs.Common.{◌≡◌, ◌≢◌, ℕ, zero, suc, ◌≤◌, ◌+◌, Bool, true, false, nat_eq, if◌then◌else◌, List, [], ◌∷◌, ◌++◌, length, get_or, Option, Some, None, IsSome, Result, Ok, Err, is_ok, IfOk, OnOk, OnErr, refl, sym, ap, ◌∙◌, subst, inl, inr, arith}
 use borrow.Author.Tests.{eq-eqb, ne_eqb}
 use Rattle.std.proofs.lemmas.Bool.{cases_eq}
 use Rattle.std.proofs.lemmas.List.{get_or_past}
@@ -15,7 +15,7 @@ use Rattle.tt_connections.specs.Turns.{PostGoesOn}
 use Rattle.tt_connections.specs.Visits.{VisitState, StandsAt, StandsOn, TurnsOn, BreaksTurn, new_visit, station_at}
 use Rattle.tt_connections.proofs.Turning.{post-same, post-both}
 use Rattle.tt_workers.specs.Happening.{SessionTurn, calls_at, sessions_of}
-use Rattle.tt_workers.specs.Worker.{IsSpent, Turned, MachineSession, MachineEvent, GoesOn, IsOpenWith, HasWorked, WorkerServed, clock_failures, max_waits}
+use Rattle.tt_workers.specs.Worker.{MachineSession, MachineEvent, GoesOn, IsOpenWith, HasWorked, WorkerServed, post_or, clock_failures, max_waits}
 use Rattle.slab.specs.Slab.{Slab, get, with_value, Updates}
 use Rattle.slab.proofs.SlabLemmas.{Updates-with_value}
 
@@ -37,6 +37,11 @@ put-is place slot slots other value here there =
       | inl same ↦ here same ∙ sym (if-at other place slot (slots other) same)
       | inr differs ↦ there differs ∙ sym (if-other other place slot (slots other) differs)
     ]
+
+-- ---- the post
+-- what was lent to a turn is what was there
+pub worked-at : (first post : PostState ClockState) (found : Option (PostState ClockState)) (open_at : ℕ → Option VisitState) → Some post ≡ found → HasWorked first (post_or first found) open_at → HasWorked first post open_at
+worked-at first post found open_at is w = subst (λ (p : Option (PostState ClockState)). HasWorked first (post_or first p) open_at) (sym is) w
 
 -- ---- sessions that are open
 -- a session that goes on, as one that ends
@@ -287,26 +292,3 @@ module _ (first post : PostState ClockState) where
         watch_is = watch_is;
         seat_is = seat_is;
       }
-
--- ---- why a session ends
--- where there is none, no lines can be counted
-pub spent-none : (count : ℕ) (found : Option VisitState) → None ≡ found → IsSpent count found
-spent-none count found none = subst (IsSpent count) none tt
-
--- where there is one, its lines can't be
-not_below : (can : Bool) (n m : ℕ) → (IsTrue can ↔ (n < m)) → can ≡ false → m ≤ n
-not_below can n m room cannot = grind (arith, room.1, cannot)
-
-pub spent-some : (count : ℕ) (found : Option VisitState) (visit : VisitState) (can : Bool) → Some visit ≡ found → (IsTrue can ↔ (visit.talk.served.lines + count < 2 ^ 64)) → can ≡ false → IsSpent count found
-spent-some count found visit can some room cannot = subst (IsSpent count) some (not_below can (visit.talk.served.lines + count) (2 ^ 64) room cannot)
-
--- ---- a session that goes on
-pub turned-at : {E : Type 0} (old : Slab VisitState) (place : ℕ) (visit visit' : VisitState) (bytes : List ℕ) (took takes : Option (List ℕ)) (post later : PostState ClockState) (answer : Result (Unit {0}) E)
-    → Some visit ≡ get old place → is_ok answer ≡ true
-    → OnOk answer (TurnsOn MachineGives clock_failures ClientSays max_waits took takes tt bytes visit post visit' later)
-    → Turned took takes tt bytes (get old place) post (get (with_value old place visit') place) later
-turned-at old place visit visit' bytes took takes post later (Err fault) is went turns = absurd (cc)
-turned-at old place visit visit' bytes took takes post later (Ok done) is went turns =
-    let u : Updates old (with_value old place visit') place (Some visit') = Updates-with_value old place visit' (subst (λ (s : Option VisitState). IsSome s) is refl) in
-    subst (λ (s : Option VisitState). Turned took takes tt bytes s post (get (with_value old place visit') place) later) is
-    (subst (λ (s : Option VisitState). Turned took takes tt bytes (Some visit) post s later) (sym u.changed) turns)

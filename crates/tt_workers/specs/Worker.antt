@@ -1,5 +1,5 @@
 -- A worker between two turns: its post, and the sessions that are open.
-use Rattle.std.specs.Prelude.{◌≡◌, ◌≤◌, ◌+◌, ◌^◌, ℕ, Bool, false, nat_lt, List, [], length, Option, Some, None}
+use Rattle.std.specs.Prelude.{◌≡◌, ◌≤◌, ◌+◌, ◌^◌, ℕ, Bool, false, nat_lt, List, [], length, Option, Some, None, IsSome}
 use Rattle.tt_publish.specs.Known.{WatchState}
 use Rattle.tt_stamp.specs.History.{waiting_of}
 use Rattle.tt_stamp.specs.Stamping.{SeatState}
@@ -8,7 +8,7 @@ use Rattle.tt_connections.specs.Clock.{ClockState, MachineGives, ClientSays}
 use Rattle.tt_connections.specs.Station.{PostState}
 use Rattle.tt_connections.specs.Turns.{PostGoesOn}
 use Rattle.tt_connections.specs.Sessions.{WorkerSession, AreServedBetween}
-use Rattle.tt_connections.specs.Visits.{VisitState, StandsAt, TurnsOn}
+use Rattle.tt_connections.specs.Visits.{VisitState, StandsAt, TurnsOn, BreaksTurn}
 use Rattle.tt_workers.specs.Happening.{WorkerEvent, AreAllByTurns, calls_at, LeadFrom, sessions_of}
 use Rattle.slab.specs.Slab.{Slab}
 
@@ -57,6 +57,16 @@ pub record HasWorked (first post : PostState ClockState) (open_at : ℕ → Opti
   pub ended : AreServedBetween first post (sessions_of events)
   pub each : (place : ℕ) → IsOpenWith first post (calls_at place events) (open_at place)
 
+-- the post, or else this one
+abbrev pub post_or : PostState ClockState → Option (PostState ClockState) → PostState ClockState
+post_or other (Some post) = post
+post_or other None = other
+
+-- a worker between two turns has its post, and has worked
+pub record IsAt (first : PostState ClockState) (post : Option (PostState ClockState)) (open_at : ℕ → Option VisitState) : Type 0 where
+  pub is_there : IsSome post
+  pub worked : HasWorked first (post_or first post) open_at
+
 -- what a worker did that began with this post, and handed back this watch and this seat: all was turns of these sessions, which were served meanwhile
 pub record WorkerServed (first : PostState ClockState) (watch : WatchState) (seat : SeatState) : Type 0 where
   pub last : PostState ClockState
@@ -71,6 +81,11 @@ pub record WorkerServed (first : PostState ClockState) (watch : WatchState) (sea
 abbrev pub Turned : Option (List ℕ) → Option (List ℕ) → Unit {0} → List ℕ → Option VisitState → PostState ClockState → Option VisitState → PostState ClockState → Type 0
 Turned taken taken' client bytes (Some visit) post (Some visit') post' = TurnsOn MachineGives clock_failures ClientSays max_waits taken taken' client bytes visit post visit' post'
 Turned taken taken' client bytes _ post _ post' = ⊥
+
+-- a turn of the session at a place, over these bytes, with which it ended, since its writer failed: there was a session before
+abbrev pub Broken : {W : Type 0} → (W → Option (List ℕ)) → (W → Bool) → W → W → Unit {0} → List ℕ → Option VisitState → PostState ClockState → PostState ClockState → Type 0
+Broken shows flushed old new client bytes (Some visit) post post' = (visit' : VisitState) × BreaksTurn MachineGives clock_failures ClientSays max_waits shows flushed old new client bytes visit post visit' post'
+Broken shows flushed old new client bytes None post post' = ⊥
 
 -- the lines of so many further bytes can't be counted in this session; where there is none, none can
 abbrev pub IsSpent : ℕ → Option VisitState → Type 0

@@ -4,6 +4,7 @@ ghost use Rattle.std.specs.Prelude.{◌≡◌};
 
 use crate::connections::{Came, Connection, ReplyWriter, SOON, part_of};
 use crate::workers::{MAX_SESSIONS, Worker};
+use memchr::memchr;
 use std::alloc::Global;
 use std::net::TcpStream;
 use std::sync::atomic::Ordering;
@@ -60,15 +61,19 @@ struct ConnectionTable<'a, R> {
     /// How many connections there are, and of how many bytes are held.
     open: usize,
     held: usize,
+    /// The last clock reading, in nanoseconds: behind the last wait.
+    clock: u64,
     /// The clock reading at the last look for clients that have had their time.
     looked: u64,
     replies: Replies,
 }
 
 impl<'a, R: Wait + SystemClock> ConnectionTable<'a, R> {
-    /// What the clock shows, in nanoseconds. 0 if it can't be read.
-    fn now(&self) -> u64 {
-        reading_of(self.tools.rt).unwrap_or(0)
+    /// Reads the clock. It stays as it was if that fails.
+    fn read_clock(&mut self) {
+        if let Some(now) = reading_of(self.tools.rt) {
+            self.clock = now;
+        }
     }
 
     /// The only connection, if there is one alone, no other session has to share this worker, and nothing of it is held
@@ -145,10 +150,10 @@ impl<'a, R: Wait + SystemClock> ConnectionTable<'a, R> {
         }
     }
 
-    /// Takes the bytes that are held at this place, if they are due when the clock shows `now`.
-    fn take_held(&mut self, place: usize, now: u64) -> Option<Vec<u8>> {
+    /// Takes the bytes that are held at this place, if they are due at the last clock reading.
+    fn take_held(&mut self, place: usize) -> Option<Vec<u8>> {
         match self.connections.get_mut(place) {
-            Some(Some(connection)) if connection.is_due(now) => {
+            Some(Some(connection)) if connection.is_due(self.clock) => {
                 self.held = self.held.saturating_sub(1);
                 Some(connection.take_held(self.tools.alloc))
             }
@@ -156,18 +161,19 @@ impl<'a, R: Wait + SystemClock> ConnectionTable<'a, R> {
         }
     }
 
-    /// How long the next wait is at most, in milliseconds, when the clock shows `now`: until held bytes are due, and a
-    /// second if there are sessions. None if it ends only when something comes.
-    fn longest_wait(&self, now: u64) -> Option<u64> {
+    /// How long the next wait is at most, in milliseconds: until held bytes are due, and a second if there are sessions.
+    /// None if it ends only when something comes.
+    fn longest_wait(&mut self) -> Option<u64> {
         if self.open == 0 {
             return None;
         }
         let mut most = LOOK;
         if self.held > 0 {
+            self.read_clock();
             for slot in &self.connections {
                 if let Some(connection) = slot {
                     if !connection.held.is_empty() {
-                        most = most.min(connection.due.saturating_sub(now));
+                        most = most.min(connection.due.saturating_sub(self.clock));
                     }
                 }
             }
@@ -273,12 +279,12 @@ fn begin_all<'a, R: Wait + SystemClock>(
 
 /// One turn of the session at this place, over these bytes. Answers whether it goes on.
 fn hear<'a, R: Wait + SystemClock>(
-    worker: Worker<'a, R>,
+    worker: &mut Worker<'a, R>,
     table: &mut ConnectionTable<'a, R>,
     place: usize,
     bytes: &[u8],
-) -> (Worker<'a, R>, bool)
-    ensures first { result.0.first ≡ worker.entry.first }
+) -> bool
+    ensures first { worker.new.first ≡ worker.old.first }
 {
     match table.connections.get_mut(place) {
         Some(Some(connection)) => take_turn(
@@ -290,21 +296,21 @@ fn hear<'a, R: Wait + SystemClock>(
             place,
             bytes,
         ),
-        _ => (worker, false),
+        _ => false,
     }
 }
 
 /// One turn of the session at this place, on this connection. Answers whether it goes on.
 fn take_turn<'a, R: Wait + SystemClock>(
-    worker: Worker<'a, R>,
+    worker: &mut Worker<'a, R>,
     tools: &Tools<'a, R>,
     sight: &Mutex<Sight>,
     replies: &mut Replies,
     connection: &mut Connection,
     place: usize,
     bytes: &[u8],
-) -> (Worker<'a, R>, bool)
-    ensures first { result.0.first ≡ worker.entry.first }
+) -> bool
+    ensures first { worker.new.first ≡ worker.old.first }
 {
     let ended = &tools.listeners.ended;
     let unsent = mem::replace(&mut connection.unsent, Vec::new(tools.alloc));
@@ -319,11 +325,11 @@ fn take_turn<'a, R: Wait + SystemClock>(
         &connection.attendance,
     );
     let mut writer = ReplyWriter::new(&connection.stream, ended, unsent);
-    let (worker, goes_on) = worker.turn(place, &client, bytes, &mut writer, replies);
+    let goes_on = worker.turn(place, &client, bytes, &mut writer, replies);
     connection.unsent = writer.into_unsent();
     connection.is_within = bytes.last() != Some(&b'\n');
-    count(tools.counts, connection, &worker, place);
-    (worker, goes_on)
+    count(tools.counts, connection, worker, place);
+    goes_on
 }
 
 /// Counts the lines of the session at this place that were answered since the last time.
@@ -347,14 +353,13 @@ fn count<'a, R: Wait + SystemClock>(
 /// Hears these bytes of the session at this place. Where a line may be one of a commit that has to wait for longer than a
 /// turn may, it is held, with all behind it. Answers whether the session goes on.
 fn feed<'a, R: Wait + SystemClock>(
-    worker: Worker<'a, R>,
+    worker: &mut Worker<'a, R>,
     table: &mut ConnectionTable<'a, R>,
     place: usize,
     bytes: &[u8],
-) -> (Worker<'a, R>, bool)
-    ensures first { result.0.first ≡ worker.entry.first }
+) -> bool
+    ensures first { worker.new.first ≡ worker.old.first }
 {
-    let mut worker = worker;
     let mut rest = bytes;
     for _ in 0..bytes.len() {
         if rest.is_empty() {
@@ -362,20 +367,17 @@ fn feed<'a, R: Wait + SystemClock>(
         }
         let part = part_of(table.is_within(place), rest);
         if part.may_commit {
-            if let Some(due) = table.due(&worker, place) {
-                let is_held = table.hold(place, rest, due);
-                return (worker, is_held);
+            if let Some(due) = table.due(worker, place) {
+                return table.hold(place, rest, due);
             }
         }
         let (front, behind) = rest.split_at(part.count);
-        let (next, goes_on) = hear(worker, table, place, front);
-        worker = next;
-        if !goes_on {
-            return (worker, false);
+        if !hear(worker, table, place, front) {
+            return false;
         }
         rest = behind;
     }
-    (worker, true)
+    true
 }
 
 impl<'a, R: Wait + SystemClock> ConnectionTable<'a, R> {
@@ -402,42 +404,41 @@ impl<'a, R: Wait + SystemClock> ConnectionTable<'a, R> {
 
 /// Reads what has come at this place, and hears it.
 fn serve<'a, R: Wait + SystemClock>(
-    worker: Worker<'a, R>,
+    worker: &mut Worker<'a, R>,
     table: &mut ConnectionTable<'a, R>,
     place: usize,
     buffer: &mut [u8; PIECE],
-) -> (Worker<'a, R>, After)
-    ensures first { result.0.first ≡ worker.entry.first }
+) -> After
+    ensures first { worker.new.first ≡ worker.old.first }
 {
     let came = match table.connections.get(place) {
         Some(Some(connection)) => connection.read(buffer),
-        _ => return (worker, After::Read),
+        _ => return After::Read,
     };
+    table.read_clock();
     let count = match came {
         Came::Bytes(count) => count.min(PIECE),
-        Came::Nothing => return (worker, After::Read),
-        Came::End => return (worker, After::Over),
+        Came::Nothing => return After::Read,
+        Came::End => return After::Over,
     };
     let bytes = &buffer[..count];
-    let (worker, goes_on) = feed(worker, table, place, bytes);
+    let goes_on = feed(worker, table, place, bytes);
     table.note_line(place, bytes);
-    let after = match (goes_on, count == PIECE) {
+    match (goes_on, count == PIECE) {
         (false, _) => After::Over,
         (true, true) => After::More,
         (true, false) => After::Read,
-    };
-    (worker, after)
+    }
 }
 
 impl<'a, R: Wait + SystemClock> ConnectionTable<'a, R> {
-    /// The time of a line begins anew, if a line ended in these bytes.
+    /// The time of a line begins anew, if a line ended in these bytes, which have just come.
     fn note_line(&mut self, place: usize, bytes: &[u8]) {
-        if !bytes.contains(&b'\n') {
+        if memchr(b'\n', bytes).is_none() {
             return;
         }
-        let now = self.now();
         if let Some(Some(connection)) = self.connections.get_mut(place) {
-            connection.begin_line(now);
+            connection.begin_line(self.clock);
         }
     }
 
@@ -468,93 +469,84 @@ impl<'a, R: Wait + SystemClock> ConnectionTable<'a, R> {
 
 /// Serves the session at this place, where the watcher reported this.
 fn serve_ready<'a, R: Wait + SystemClock>(
-    worker: Worker<'a, R>,
+    worker: &mut Worker<'a, R>,
     table: &mut ConnectionTable<'a, R>,
     ready: Ready,
     buffer: &mut [u8; PIECE],
-) -> Worker<'a, R>
-    ensures first { result.first ≡ worker.entry.first }
+)
+    ensures first { worker.new.first ≡ worker.old.first }
 {
     let place = ready.place;
-    let mut worker = worker;
     if table.has_unsent(place) {
         if table.send(place) {
             table.watch_again(place);
         } else {
-            close(&mut worker, table, place);
+            close(worker, table, place);
         }
-        return worker;
+        return;
     }
     if table.holds(place) {
-        return worker;
+        return;
     }
-    let (mut worker, after) = serve(worker, table, place, buffer);
+    let after = serve(worker, table, place, buffer);
     if after == After::Over {
-        close(&mut worker, table, place);
+        close(worker, table, place);
     } else if after == After::More || ready.closed || table.has_unsent(place) {
         table.watch_again(place);
     }
-    worker
 }
 
 /// Waits until something is ready, and serves it.
 fn serve_all<'a, R: Wait + SystemClock>(
-    worker: Worker<'a, R>,
+    worker: &mut Worker<'a, R>,
     table: &mut ConnectionTable<'a, R>,
     buffer: &mut [u8; PIECE],
-    now: u64,
-) -> Worker<'a, R>
-    ensures first { result.first ≡ worker.entry.first }
+)
+    ensures first { worker.new.first ≡ worker.old.first }
 {
-    let mut worker = worker;
-    let most = table.longest_wait(now);
+    let most = table.longest_wait();
     if !table.watcher.wait(most) {
         thread::sleep(table.tools.rt, Duration::from_nanos(SLICE));
     }
+    table.read_clock();
     let count = table.watcher.count().min(MAX_EVENTS);
     for number in 0..count {
         if let Some(ready) = table.watcher.ready(number) {
-            worker = serve_ready(worker, table, ready, buffer);
+            serve_ready(worker, table, ready, buffer);
         }
     }
-    worker
 }
 
-/// Hears the bytes that are held and due when the clock shows `now`.
+/// Hears the bytes that are held and due at the last clock reading.
 fn serve_held<'a, R: Wait + SystemClock>(
-    worker: Worker<'a, R>,
+    worker: &mut Worker<'a, R>,
     table: &mut ConnectionTable<'a, R>,
-    now: u64,
-) -> Worker<'a, R>
-    ensures first { result.first ≡ worker.entry.first }
+)
+    ensures first { worker.new.first ≡ worker.old.first }
 {
-    let mut worker = worker;
     for place in 0..table.connections.len() {
-        if let Some(bytes) = table.take_held(place, now) {
-            let (next, goes_on) = feed(worker, table, place, bytes.as_slice());
-            worker = next;
+        if let Some(bytes) = table.take_held(place) {
+            let goes_on = feed(worker, table, place, bytes.as_slice());
             if !goes_on {
-                close(&mut worker, table, place);
+                close(worker, table, place);
             } else if !table.holds(place) {
                 table.watch_again(place);
             }
         }
     }
-    worker
 }
 
-/// Ends the sessions whose clients have had their time when the clock shows `now`.
+/// Ends the sessions whose clients have had their time at the last clock reading.
 fn end_late<'a, R: Wait + SystemClock>(
     worker: &mut Worker<'a, R>,
     table: &mut ConnectionTable<'a, R>,
-    now: u64,
 )
     ensures first { worker.new.first ≡ worker.old.first }
 {
-    table.looked = now;
+    table.looked = table.clock;
     for place in 0..table.connections.len() {
         let is_late = match table.connections.get(place) {
-            Some(Some(connection)) => connection.is_late(table.tools.idle, now),
+            Some(Some(connection)) => connection.is_late(table.tools.idle, table.clock),
             _ => false,
         };
         if is_late {
@@ -584,6 +576,7 @@ pub fn work<'a, R: Wait + SystemClock>(
         connections,
         open: 0,
         held: 0,
+        clock: 0,
         looked: 0,
         replies: Replies::new(),
     };
@@ -593,17 +586,16 @@ pub fn work<'a, R: Wait + SystemClock>(
             return worker;
         }
         begin_all(&mut worker, &mut table);
-        let now = table.now();
-        worker = match table.only() {
-            Some(place) => serve_only(worker, &mut table, place, &mut buffer),
-            None => serve_all(worker, &mut table, &mut buffer, now),
-        };
-        let now = table.now();
-        if table.held > 0 {
-            worker = serve_held(worker, &mut table, now);
+        match table.only() {
+            Some(place) => serve_only(&mut worker, &mut table, place, &mut buffer),
+            None => serve_all(&mut worker, &mut table, &mut buffer),
         }
-        if now.saturating_sub(table.looked) >= LOOK {
-            end_late(&mut worker, &mut table, now);
+        if table.held > 0 {
+            table.read_clock();
+            serve_held(&mut worker, &mut table);
+        }
+        if table.clock.saturating_sub(table.looked) >= LOOK {
+            end_late(&mut worker, &mut table);
         }
     }
     unreachable!()
@@ -611,18 +603,17 @@ pub fn work<'a, R: Wait + SystemClock>(
 
 /// Serves the session at this place, which is alone: waits for its next bytes, for a fifth of a second at most.
 fn serve_only<'a, R: Wait + SystemClock>(
-    worker: Worker<'a, R>,
+    worker: &mut Worker<'a, R>,
     table: &mut ConnectionTable<'a, R>,
     place: usize,
     buffer: &mut [u8; PIECE],
-) -> Worker<'a, R>
-    ensures first { result.first ≡ worker.entry.first }
+)
+    ensures first { worker.new.first ≡ worker.old.first }
 {
-    let (mut worker, after) = serve(worker, table, place, buffer);
+    let after = serve(worker, table, place, buffer);
     if after == After::Over {
-        close(&mut worker, table, place);
+        close(worker, table, place);
     } else if table.has_unsent(place) {
         table.watch_again(place);
     }
-    worker
 }

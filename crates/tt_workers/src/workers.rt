@@ -4,7 +4,7 @@ ghost use Rattle.std.specs.Prelude.{◌≡◌, ◌≢◌, ◌≤◌, ◌+◌, �
 ghost use Rattle.tt_stream.specs.Counts.{HasFailed};
 ghost use Rattle.tt_session.specs.Commits.{max_pause, pause_margin};
 ghost use Rattle.tt_connections.specs.Visits.{new_visit};
-ghost use Rattle.tt_workers.specs.Worker.{IsSpent, Turned, WorkerServed, counts_in, is_pending_in, max_sessions};
+ghost use Rattle.tt_workers.specs.Worker.{Broken, IsSpent, Turned, WorkerServed, counts_in, is_pending_in, max_sessions};
 ghost use Rattle.slab.specs.Slab.{get, slab_len, Updates};
 
 use slab::Slab;
@@ -32,20 +32,21 @@ pub const MAX_SESSIONS: usize = 320;
 /// session.
 #[derive(Drop)]
 pub struct Worker<'a, R> {
-    post: Post<'a, R, MachineClock<'a, R>>,
+    /// Its post, which is lent to a turn by value. It is there between two turns.
+    post: Option<Post<'a, R, MachineClock<'a, R>>>,
     visits: Slab<Visit>,
     first: Snapshot<Post<'a, R, MachineClock<'a, R>>>,
 }
 
 impl<'a, R> Model for Worker<'a, R> {
     ghost use Rattle.slab.specs.Slab.{get};
-    ghost use Rattle.tt_workers.specs.Worker.{WorkerState, HasWorked};
+    ghost use Rattle.tt_workers.specs.Worker.{WorkerState, IsAt, post_or};
 
     ghost Value = { WorkerState };
 
-    ghost view = { λ w. record { first = w.first.value; post = w.post; visits = w.visits } };
+    ghost view = { λ w. record { first = w.first.value; post = post_or w.first.value w.post; visits = w.visits } };
 
-    ghost invariant = { λ w. HasWorked w.first.value w.post (get w.visits) };
+    ghost invariant = { λ w. IsAt w.first.value w.post (get w.visits) };
 }
 
 /// Ends the session at this place, if there is one.
@@ -70,7 +71,7 @@ impl<'a, R: Wait + SystemClock> Worker<'a, R> {
     {
         let first = Snapshot::of(&post);
         Worker {
-            post,
+            post: Some(post),
             visits: Slab::new(alloc),
             first,
         }
@@ -126,59 +127,39 @@ impl<'a, R: Wait + SystemClock> Worker<'a, R> {
     /// One turn of the session at this place, over these bytes: see [`Post::turn`]. Answers whether the session goes on.
     /// If not, it has ended: the writer failed, or its lines can't be counted any more, or there is no session.
     pub fn turn<'c, O: ByteWriter>(
-        self,
+        &mut self,
         place: usize,
         client: &Client<'c, R>,
         bytes: &[u8],
         writer: &mut O,
         replies: &mut Replies,
-    ) -> (Self, bool)
-        ensures first { result.0.first ≡ self.entry.first }
-        ensures others { (other : ℕ) → other ≢ place → get result.0.visits other ≡ get self.entry.visits other }
-        ensures turned { IsTrue result.1 → Turned (O.taken writer.old) (O.taken writer.new) client.now bytes.now
-            (get self.entry.visits place) self.entry.post (get result.0.visits place) result.0.post }
-        ensures ended { IsFalse result.1 → get result.0.visits place ≡ None }
-        ensures cause { IsFalse result.1 → IsSpent (length bytes.now) (get self.entry.visits place) ⊎ HasFailed (O.failed writer.old) (O.failed writer.new) }
+    ) -> bool
+        ensures first { self.new.first ≡ self.old.first }
+        ensures others { (other : ℕ) → other ≢ place → get self.new.visits other ≡ get self.old.visits other }
+        ensures turned { IsTrue result → Turned (O.taken writer.old) (O.taken writer.new) client.now bytes.now
+            (get self.old.visits place) self.old.post (get self.new.visits place) self.new.post }
+        ensures ended { IsFalse result → get self.new.visits place ≡ None }
+        ensures cause { IsFalse result → (IsSpent (length bytes.now) (get self.old.visits place) × (writer.new ≡ writer.old) × (self.new.post ≡ self.old.post))
+            ⊎ (HasFailed (O.failed writer.old) (O.failed writer.new) × Broken O.taken O.flushed writer.old writer.new client.now bytes.now
+            (get self.old.visits place) self.old.post self.new.post) }
     {
-        let Worker {
-            post,
-            mut visits,
-            first,
-        } = self;
-        let Some(visit) = visits.get_mut(place) else {
-            return (
-                Worker {
-                    post,
-                    visits,
-                    first,
-                },
-                false,
-            );
+        let Some(visit) = self.visits.get_mut(place) else {
+            return false;
         };
         if !visit.can_hear(bytes.len()) {
-            finish_at(&mut visits, place, client);
-            return (
-                Worker {
-                    post,
-                    visits,
-                    first,
-                },
-                false,
-            );
+            finish_at(&mut self.visits, place, client);
+            return false;
         }
+        let Some(post) = self.post.take() else {
+            unreachable!()
+        };
         let (post, done) = post.turn(client, visit, bytes, writer, replies, WAITS);
+        self.post = Some(post);
         let goes_on = done.is_ok();
         if !goes_on {
-            finish_at(&mut visits, place, client);
+            finish_at(&mut self.visits, place, client);
         }
-        (
-            Worker {
-                post,
-                visits,
-                first,
-            },
-            goes_on,
-        )
+        goes_on
     }
 
     /// Ends the session at this place, if there is one.
@@ -222,6 +203,9 @@ impl<'a, R: Wait + SystemClock> Worker<'a, R> {
             ..
         } = self;
         visits.clear();
-        post.into_parts()
+        match post {
+            Some(post) => post.into_parts(),
+            None => unreachable!(),
+        }
     }
 }

@@ -4,4 +4,10 @@ use Rattle.tt_workers.proofs.workers.Worker.begin.Goals as goal
 pub invariant_of-self : goal.invariant_of-self
 invariant_of-self g c =
     let said = c.insert.ensures in
-    session-begins c.self.inside.first.value c.self.inside.post c.self.inside.visits c.insert.new.self c.new.result c.insert.result c.new.ensures.made said.was_vacant said.updates said.err c.self.invariant
+    let first = c.self.inside.first.value in
+    record {
+      is_there = c.self.invariant.is_there;
+      worked =
+          session-begins first _ c.self.inside.visits c.insert.new.self c.new.result c.insert.result c.new.ensures.made said.was_vacant said.updates said.err
+          c.self.invariant.worked;
+    }
