@@ -37,10 +37,12 @@ pub(crate) enum Call {
     PushSvg,
     NewInbox,
     TurnAtPost,
+    BeginSession,
+    Outline,
 }
 
 /// All calls, in the order in which they are made.
-pub(crate) const CALLS: [Call; 27] = [
+pub(crate) const CALLS: [Call; 29] = [
     Call::WriteText,
     Call::ReadScript,
     Call::Audit,
@@ -68,6 +70,8 @@ pub(crate) const CALLS: [Call; 27] = [
     Call::PushSvg,
     Call::NewInbox,
     Call::TurnAtPost,
+    Call::BeginSession,
+    Call::Outline,
 ];
 
 impl Call {
@@ -101,6 +105,8 @@ impl Call {
             Call::PushSvg => "tt_top::push_svg",
             Call::NewInbox => "tt_connections::Inbox::new",
             Call::TurnAtPost => "tt_connections::Post::turn",
+            Call::BeginSession => "tt_workers::Worker::begin",
+            Call::Outline => "tt_outline::outline",
         }
     }
 
@@ -138,6 +144,8 @@ impl Call {
             Call::PushSvg => pictures::document(alloc),
             Call::NewInbox => services::inbox(rt, alloc),
             Call::TurnAtPost => services::session(rt, alloc),
+            Call::BeginSession => services::worker(rt, alloc),
+            Call::Outline => services::settings_outline(alloc),
         }
     }
 }

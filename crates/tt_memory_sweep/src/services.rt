@@ -1,4 +1,4 @@
-//! What a machine that serves is made of: its settings, its epoch, its log, its inboxes and its sessions.
+//! What a machine that serves is made of: its settings, its epoch, its log, its inboxes, its workers and their sessions.
 
 use crate::commits::watch_of;
 use crate::devices::SheetWriter;
@@ -7,15 +7,18 @@ use arrayvec::ArrayVec;
 use std::alloc::{AllocError, Global};
 use std::net::Net;
 use std::sync::Wait;
-use tt_connections::{AlwaysThere, Inbox, Post, Terms, Visit};
+use std::time::Clock as SystemClock;
+use tt_connections::{AlwaysThere, Inbox, MachineClock, Post, Terms, Visit};
 use tt_epoch::{MemoryStore, next_epoch};
+use tt_outline::outline;
 use tt_pages::{Asked, Limits, Page, Report, Wanted, push_answer};
 use tt_publish::MemoryClock;
 use tt_session::Replies;
-use tt_settings::read;
+use tt_settings::{Settings, read};
 use tt_span::Span;
 use tt_stamp::Sequencer;
 use tt_status::{LogEvent, LogFormat, RefusedFusion, push_event};
+use tt_workers::Worker;
 
 /// The settings of a machine with three masters, one of which may be faulty, and five paths.
 const SETTINGS: &str = "machine = 3
@@ -36,6 +39,36 @@ key = 3
 
 [[master]]
 address = \"[::1]:5701\"
+";
+
+/// What a machine with these settings would do. A reading grows by twice what the drift makes of `poll` and `wait`, 1.25 s.
+/// There are a thread for each of 32 workers, one for the status, one for the names of masters, and four more.
+const OUTLINE: &str = "machine 3
+listen 127.0.0.1:5601
+master 10.1.0.1:5701 key 1 2
+master clock.example:5701 key 3
+master [::1]:5701
+faulty 1
+workers 32
+drift 200
+poll 1000000000
+wait 250000000
+floor_ahead 1000000000
+idle 60000000000
+lease 0 4000000000000000000
+on_break end
+growth 500000
+width 100000 600020
+width 1000000 1500200
+width 10000000 10502000
+width 100000000 100520000
+threads 38
+memory 8388608
+state state
+socket socket
+shared run/time
+status run/status
+keys keys
 ";
 
 /// The line of a log.
@@ -97,6 +130,24 @@ fn read_settings(alloc: Global) -> Result<bool, u16> {
             && settings.state() == "state"
             && is_shared,
     )
+}
+
+/// Writes what a machine with the settings would do.
+pub(crate) fn settings_outline(alloc: Global) -> Outcome {
+    let Ok(settings) = read(alloc, SETTINGS) else {
+        return Outcome::Unprepared;
+    };
+    match Outcome::at_once(write_outline(alloc, &settings)) {
+        Some(outcome) => outcome,
+        None => Outcome::again(write_outline(alloc, &settings)),
+    }
+}
+
+fn write_outline(alloc: Global, settings: &Settings) -> Result<bool, u16> {
+    match outline(alloc, settings) {
+        Ok(text) => Ok(text.as_str() == OUTLINE),
+        Err(AllocError) => Err(MEMORY),
+    }
 }
 
 /// Takes the epoch after 6. This takes no memory.
@@ -167,6 +218,16 @@ fn make_inbox<R: Net>(rt: &R, alloc: Global) -> Result<bool, u16> {
     }
 }
 
+/// The terms of a post: stamps lie in the whole of time.
+fn terms() -> Terms {
+    Terms {
+        lease: Span::whole(),
+        stampers: None,
+        ahead: 0,
+        max_width: u64::MAX,
+    }
+}
+
 /// Serves a turn of a session, with two readings and a commit. If its commit is refused for memory, the next session of the same post
 /// has the replies worked out by hand.
 pub(crate) fn session<R: Wait>(rt: &R, alloc: Global) -> Outcome {
@@ -179,14 +240,8 @@ pub(crate) fn session<R: Wait>(rt: &R, alloc: Global) -> Outcome {
     let Some(seat) = seats.pop() else {
         return Outcome::Wrong;
     };
-    let terms = Terms {
-        lease: Span::whole(),
-        stampers: None,
-        ahead: 0,
-        max_width: u64::MAX,
-    };
     let clock = MemoryClock::new(&CLOCK, None);
-    let post = Post::new(rt, alloc, watch, clock, seat, &sequencer, terms);
+    let post = Post::new(rt, alloc, watch, clock, seat, &sequencer, terms());
     let (post, replies) = serve_one(post, alloc);
     if replies.as_slice() != REFUSED {
         return Outcome::of(replies.as_slice() == REPLIES, false);
@@ -205,4 +260,30 @@ fn serve_one<'a, 'c, R: Wait>(
     let mut visit = Visit::new(alloc);
     let (post, _) = post.turn(&AlwaysThere, &mut visit, LINES, &mut writer, &mut room, 1);
     (post, writer.written())
+}
+
+/// Begins the first session of a worker. One that is refused for memory leaves none, and has the same place when it is begun again.
+pub(crate) fn worker<R: Wait + SystemClock>(rt: &R, alloc: Global) -> Outcome {
+    let Some(watch) = watch_of(rt, alloc) else {
+        return Outcome::Unprepared;
+    };
+    let Ok((sequencer, mut seats)) = Sequencer::open(alloc, 1) else {
+        return Outcome::Unprepared;
+    };
+    let Some(seat) = seats.pop() else {
+        return Outcome::Wrong;
+    };
+    let clock = MachineClock::new(rt);
+    let post = Post::new(rt, alloc, watch, clock, seat, &sequencer, terms());
+    let mut worker = Worker::new(alloc, post);
+    let first = worker.begin(alloc);
+    if first.is_some() {
+        return Outcome::of(first == Some(0) && worker.open_sessions() == 1, false);
+    }
+    let is_as_before = worker.open_sessions() == 0;
+    let again = worker.begin(alloc);
+    Outcome::of(
+        is_as_before && again == Some(0) && worker.open_sessions() == 1,
+        true,
+    )
 }
