@@ -144,7 +144,7 @@ fn threads_of(workers: u64, helpers: u64) -> u64
     workers + helpers + 4
 }
 
-/// The most memory that a machine with `workers` workers takes, in bytes, as far as was observed.
+/// The most memory that a machine with `workers` workers and one session of each takes, in bytes, as far as was observed.
 fn memory_of(workers: u64) -> u64
     requires { workers ≤ 32 }
     ensures { result ≡ memory_of workers }

@@ -1,6 +1,6 @@
 //! The program `ttd`: the commands of `ttd_commands`, and the services, which talk to other processes: `master` answers
 //! polls (`ttd_masters`), `serve` runs a machine, `ask` sends lines to a machine, `read` reads the time that a machine shares
-//! in a file, and `key` makes a line for a file of keys.
+//! in a file, `top` shows its status, and `key` makes a line for a file of keys.
 //!
 //! [`run`](program::run) does what the arguments ask for, with the process's standard input and standard output. A
 //! refusal is also explained in a sentence on standard error.

@@ -134,7 +134,7 @@ fn say_no_key<H: Eprint>(rt: &H, settings: &Settings, number: u32) {
 /// machine ends because it knows that an assumption is broken, the program ends with status 3.
 ///
 /// Refuses with 1604 `ReadFailed` where the file is not a regular one or can't be read, with 1603 `BadFile` where it is
-/// longer than 1 MiB or is not UTF-8, with 1801 to 1806, 1810, 1817 or 1818 where the configuration is refused, and with
+/// longer than 1 MiB or is not UTF-8, with 1801 to 1806, 1810, 1817, 1818, 1825 or 1826 where the configuration is refused, and with
 /// what ended the server, or would refuse its start.
 pub(crate) fn run_server<
     S: Read + Send + Drop,

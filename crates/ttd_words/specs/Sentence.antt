@@ -19,7 +19,7 @@ sentence_of n =
     else if nat_eq n 1103 then codes "the id of the commit is below the last one of this connection"
     else if nat_eq n 1104 then codes "another commit of this connection is pending"
     else if nat_eq n 1708 then codes "the clock is past the last reading at which the publication may be used"
-    else if nat_eq n 1821 then codes "the floor is further ahead than the machine allows"
+    else if nat_eq n 1821 then codes "the floor, or the lower end of the lease, is further ahead than the machine allows"
     else if nat_eq n 1822 then codes "the connection or the machine ended while the commit was pending"
     else if nat_eq n 1823 then codes "the machine knows that one of its assumptions is broken"
     else if nat_eq n 1824 then codes "the reading is wider than max_width of the machine: its sources answered long ago, or slowly (see its status)"

@@ -308,7 +308,7 @@ fn plain_top_command<'a>(alloc: Global) -> Result<Command<'a>, AllocError>
     let bare = plain_command(
         alloc,
         "top",
-        "Shows the status of a machine or a master, once a second",
+        "Shows the status of a machine, twice a second",
         ABOUT_TOP,
     );
     let place = place(

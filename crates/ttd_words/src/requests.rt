@@ -162,7 +162,7 @@ pub enum Service<'a> {
         /// The path of the file.
         file: &'a str,
     },
-    /// `top`: shows the status of a machine or a master.
+    /// `top`: shows the status of a machine.
     Top {
         /// Where the status comes from.
         place: TopPlace<'a>,

@@ -24,7 +24,8 @@ pub fn sentence_of(number: u64) -> &'static str
         1103 => "the id of the commit is below the last one of this connection",
         1104 => "another commit of this connection is pending",
         1708 => "the clock is past the last reading at which the publication may be used",
-        1821 => "the floor is further ahead than the machine allows",
+        1821 =>
+            "the floor, or the lower end of the lease, is further ahead than the machine allows",
         1822 => "the connection or the machine ended while the commit was pending",
         1823 => "the machine knows that one of its assumptions is broken",
         1824 =>

@@ -52,7 +52,11 @@ Refused:
   2211          the file of keys can't be read; the status is 4
   2212, 2213    its mode is neither 0600 nor 0400, or its owner is another user
   2214 to 2216  it is too long; a line is no key, or has the number of an earlier one
-  1501          the socket can't be had; the status is 4";
+  1604, 1603    the file of --ntp-keys can't be read (the status is 4); it is too long or not UTF-8
+  2411 to 2414  it has no line with the number of --ntp-key; that line is no key
+  1829          the system gives no random bytes; the status is 4
+  1501          a socket can't be had; the status is 4
+  1816          a thread can't be started";
 
 /// What `serve` does.
 pub(crate) const ABOUT_SERVE: &str = "\
@@ -75,9 +79,12 @@ Refused:
   1801 to 1806  the configuration: standard error says why
   1810          the configuration: a Unix socket, and one worker
   1817, 1818    the configuration: a path with two purposes, a master that is named twice
+  1825, 1826    the configuration: `masters` and `[[master]]`, two masters with one key
   1807 to 1816  the server does not start: its sockets, epoch or threads; the status is 4 for 1807
                 to 1809, 1811 and 1812
   1819          what is at the path of the Unix socket is not a socket
+  1828          masters of IPv4 and of IPv6, or with a name, where one socket can't poll both
+  1829          the system gives no random bytes; the status is 4
   1830          the address of `http` can't be listened at; the status is 4
   2211 to 2216  the file of keys, as with `ttd master`; 1827: it has no key with a number of `key`";
 
