@@ -1,7 +1,7 @@
 /* Spoils calls of the program that it is loaded into, each kind for as long as a file of its name is in the folder that SPOIL names:
  * the monotonic clock shows ten seconds less (`clock`), no packet is received (`receive`), none is sent to port N (`send-N`), sending
- * one lasts until the file is gone (`sending`), and so does a rename (`rename`); there are no random bytes (`random`), and no IPv6
- * (`six`). It stands before the C library by LD_PRELOAD.
+ * one lasts until the file is gone (`sending`), and so does a rename (`rename`); a connection takes seven bytes at a time (`few`);
+ * there are no random bytes (`random`), and no IPv6 (`six`). It stands before the C library by LD_PRELOAD.
  *
  * Others say in their file what is shown. `course` has lines FROM SHOWN RATE, in nanoseconds and parts per million: once the monotonic
  * clock shows FROM it shows SHOWN, and runs by RATE faster; so it stands still by a RATE of -1000000. /proc/uptime goes with that clock, as
@@ -19,7 +19,7 @@
 #include <time.h>
 #include <unistd.h>
 
-enum { PATH_BYTES = 4096 };
+enum { PATH_BYTES = 4096, FEW = 7 };
 
 static const long long SECOND = 1000000000, HUNDREDTH = 10000000, MILLION = 1000000, LESS = 10000000000;
 
@@ -141,6 +141,11 @@ ssize_t sendto(int file, const void *bytes, size_t size, int flags, const struct
         last("sending");
     }
     return syscall(SYS_sendto, file, bytes, size, flags, address, length);
+}
+
+ssize_t send(int file, const void *bytes, size_t size, int flags) {
+    size_t few = size > FEW && !is_datagram(file) && is_spoiled("few") ? FEW : size;
+    return syscall(SYS_sendto, file, bytes, few, flags, NULL, 0);
 }
 
 int bind(int file, const struct sockaddr *address, socklen_t length) {

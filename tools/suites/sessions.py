@@ -1,14 +1,18 @@
 """Opens many sessions on a machine of the time service at once.
 
 - 2,000 on four workers, which have room for 1,280: a new one takes the place of the one that has been silent for longest, of those without a
-  pending commit, and nobody else is closed. 10,000 on 32 workers: each answers, soon, and takes little memory; in the end all is as before.
+  pending commit and without replies to take, and nobody else is closed. 10,000 on 32 workers: each answers, soon, and takes little memory; in
+  the end all is as before.
+- A new one comes to the worker that has the fewest, also after others have left, and of 300 at once none is forgotten.
 - Sessions of one worker do not wait for each other: not for commits that wait, nor for a client that reads nothing, and that loses no reply.
 - Lines that come in pieces, or before the client closes its side, are answered. A client is let go after `idle` without a whole line.
-- A machine with 500 sessions ends soon. One session more than there are workers is served at once.
+- A machine with 500 sessions ends soon. One session more than there are workers is served at once, and so are those behind it.
 
 How long something takes is printed. The bounds leave room for a busy host; where one was passed, the case is tried again alone.
 """
 import contextlib
+import itertools
+import os
 import resource
 import selectors
 import socket
@@ -37,6 +41,10 @@ class Machines(Trial):
         resource.setrlimit(resource.RLIMIT_NOFILE, (most, most))  # the machine has it from here
         return super().running_node(masters, name, **{"socket": None, "floor_ahead": "10s", **settings})
 
+    def node_of_two(self):
+        """A machine with one worker for each of two addresses."""
+        return self.running_node(self.masters(3), workers=2, socket=os.path.join(self.room, "A", "socket"))
+
 
 suite = Suite(__name__, Machines, at_once=4, longest_s=60, again=2)
 
@@ -50,8 +58,12 @@ class Door:
     """A connection, which sends lines and has their replies."""
 
     def __init__(self, doors, address, seconds=5.0):
-        self.door = doors.enter_context(socket.create_connection(address, seconds))
-        self.door.setsockopt(socket.IPPROTO_TCP, socket.TCP_NODELAY, 1)
+        is_unix = isinstance(address, str)
+        self.door = doors.enter_context(socket.socket(socket.AF_UNIX if is_unix else socket.AF_INET))
+        self.door.settimeout(seconds)
+        self.door.connect(address)
+        if not is_unix:
+            self.door.setsockopt(socket.IPPROTO_TCP, socket.TCP_NODELAY, 1)
         self.came = b""
 
     def send(self, text):
@@ -140,6 +152,51 @@ def the_most_silent_makes_room(trial):
                 yield f"session {number + 4}, whose commit is pending, is closed"
 
 
+@suite.case()
+def who_reads_nothing_keeps_its_place(trial):
+    """In a full worker, here of the Unix socket, no session makes room that has replies to take, though it has been silent for longest."""
+    node = trial.node_of_two()
+    lines = b"now\n" * 20_000  # more replies than the system keeps
+    with contextlib.ExitStack() as stack:
+        first = Door(stack, node.path("socket"))
+        first.send(lines)
+        time.sleep(0.3)
+        doors = [Door(stack, node.path("socket")) for _ in range(MOST - 1)]
+        yield from wrong_in(doors)[0]
+        yield from wrong_in([Door(stack, node.path("socket"))])[0]
+        if (closed := [number for number, door in enumerate(doors[:3]) if is_closed_within(door.door, 0.05)]) != [0]:
+            yield f"of the three behind it {closed} were closed, and the first one is wanted"
+        first.door.shutdown(socket.SHUT_WR)
+        if (replies := sum(1 for _ in iter(first.reply, ""))) != 20_000:
+            yield f"it has {replies} replies to 20,000 lines"
+
+
+@suite.case()
+def the_worker_with_the_fewest(trial):
+    """It has the next session. Those that have left do not count."""
+    node = trial.running_node(trial.masters(3), workers=4, poll="20ms", wait="20ms")
+    yield from node.comes_to("sessions_total", 1, 1)  # that of the start
+    with contextlib.ExitStack() as stack:
+        yield from wrong_in([Door(stack, node.address)])[0]
+        for _ in range(3):
+            yield from node.comes_to("sessions_open", 1, 1)
+            with contextlib.ExitStack() as leaves:
+                yield from wrong_in([Door(leaves, node.address) for _ in range(3)])[0]
+                yield from node.comes_to("workers_busy", 4, 1)
+
+
+@suite.case()
+def more_than_may_wait(trial):
+    """Of 300 that come while the only worker waits for another one 256 wait for it, and the others once it has taken these."""
+    node = trial.node_of_two()
+    with contextlib.ExitStack() as stack:
+        doors = [Door(stack, node.path("socket"))]
+        doors[0].now()
+        doors += [Door(stack, node.path("socket")) for _ in range(300)]
+        yield from node.comes_to("sessions_open", 301, 2)
+        yield from wrong_in(doors)[0]
+
+
 def measure(doors, rounds):
     """The least median and tail of a line over some rounds, and what is wrong."""
     found, wrong = [], []
@@ -225,6 +282,26 @@ def one_more_than_workers(trial):
             yield f"its first line took {first // MILLISECOND} ms, others up to {took[-1] // MILLISECOND} ms, those of others {of_others[-1] // MILLISECOND} ms"
 
 
+@suite.case(quiet=True)
+def a_worker_that_is_shared(trial):
+    """While as many sessions are open as there are workers, after more were, a new one need not wait until another has sent something."""
+    node = trial.node_of_two()
+    for address in (node.address, node.path("socket")):
+        with contextlib.ExitStack() as stack:
+            first, took = Door(stack, address), []
+            for _ in range(4):
+                wrong, _ = wrong_in([first])  # a worker that is not shared waits for it again from here on
+                with contextlib.ExitStack() as leaves:
+                    what, nanoseconds = Door(leaves, address).now()
+                    yield from [what, *wrong] if what else wrong
+                    took.append(nanoseconds)
+                    time.sleep(0.03)
+                yield from node.comes_to("sessions_open", 1, 1)
+            if max(took[1:]) > 150 * MILLISECOND:
+                yield f"at {address} new sessions were answered after {in_us(took)} us, and all but the first one are to be at once"
+        yield from node.comes_to("sessions_open", 0, 1)
+
+
 # One worker.
 
 @suite.case(quiet=True)
@@ -266,8 +343,8 @@ def released(doors, other):
 
 @suite.case(quiet=True)
 def commits_with_far_floors(trial):
-    """While it waits a line is answered after about 50 milliseconds, where its session is alone and where it is not. Many such lines behind one
-    another keep nobody waiting, and a session whose client is gone is ended."""
+    """While it waits a line is answered after about 50 milliseconds, where its session is alone and where it is not, and takes little processor
+    time. One that is cut, and many behind one another, keep nobody waiting, and a session whose client is gone is ended."""
     node = trial.running_node(trial.masters(3), workers=1)
     for others in (0, 3):
         with contextlib.ExitStack() as stack:
@@ -276,11 +353,25 @@ def commits_with_far_floors(trial):
                 Door(stack, node.address).now()
             door, line = Door(stack, node.address), f"commit 1 {time.time_ns() + 9 * SECOND}"
             door.ask(line)
+            first, before = time.monotonic_ns(), node.processor_ns()
             for _ in range(3):
                 began = time.monotonic()
                 said, took = door.ask(line).split()[0], time.monotonic() - began
                 if said != "waiting" or not 0.02 <= took <= 0.2:
                     yield f"beside {others} others a line is answered by {said!r} after {took:.3f} seconds"
+            worked, passed = node.processor_ns() - before, time.monotonic_ns() - first
+            if worked > passed // 3:
+                yield f"beside {others} others {worked // MILLISECOND} ms of processor time in {passed // MILLISECOND} ms in which a line waits"
+            other, worst = Door(stack, node.address), []
+            for _ in range(2):
+                for piece in (line[:1], f"{line[1:]}\n{line}\n"):
+                    door.send(piece.encode())
+                    time.sleep(0.005)
+                worst.append(max(other.now()[1] for _ in range(30) if not time.sleep(0.004)))
+                door.reply()
+                door.reply()
+            if min(worst) > 20 * MILLISECOND:
+                yield f"beside {others} others a line of another session takes {in_us(worst)} us behind two that wait, one of them in two pieces"
             door.send(f"{line}\n".encode() * 100)
             time.sleep(0.02)
             what, took = Door(stack, node.address).now()
@@ -288,7 +379,7 @@ def commits_with_far_floors(trial):
                 yield f"{what} a new session is answered after {took // MILLISECOND} ms"
             reset(door.door)
             yield from node.comes_to("commits_waiting", 0, 1)
-            yield from node.comes_to("sessions_open", others + 1, 1)
+            yield from node.comes_to("sessions_open", others + 2, 1)
 
 
 @suite.case(quiet=True)
@@ -342,21 +433,24 @@ def other_replies(replies, began, ended):
 
 @suite.case()
 def all_replies_and_then_the_end(trial):
-    """Of a client that closes its side, where it is alone and where it is not, also behind a commit."""
-    node = trial.running_node(trial.masters(3), workers=1)
-    for others in (0, 5):
+    """Of a client that sends many lines at once, and of one that closes its side behind them, where it is alone and where it is not, also behind
+    a commit. That is refused to nobody who closed its side within `idle`."""
+    node, words = trial.running_node(trial.masters(3), workers=1), {b"now": {"now"}, b"commit": {"waiting", "committed", "refused"}}
+    for others, closes in itertools.product((0, 5), (False, True)):
         with contextlib.ExitStack() as stack:
             for _ in range(others):
                 Door(stack, node.address).now()
-            for lines in (b"now\n" * 1000, b"now\ncommit 1 0\n" + b"now\n" * 300, b"commit 1 0\n" * 20, b"now\nno"):
+            later = b"commit 1 %d\n" % (time.time_ns() + SECOND // 4)
+            for lines in (b"now\n" * 1000, b"now\ncommit 1 0\n" + b"now\n" * 300, b"commit 1 0\n" * 20, later * 6, b"now\nno"):
                 door = Door(stack, node.address)
                 door.send(lines)
-                door.door.shutdown(socket.SHUT_WR)
-                replies = list(iter(door.reply, ""))
-                words = {b"now": {"now"}, b"commit": {"waiting", "committed", "refused"}}
                 wanted = [words[line.split()[0]] for line in lines.splitlines(keepends=True) if line.endswith(b"\n")]
-                if len(replies) != len(wanted) or not all(reply.split()[0] in word for reply, word in zip(replies, wanted)):
-                    yield f"{lines[:30]}.. beside {others} others has {len(replies)} replies, from {replies[:1]} to {replies[-1:]}"
+                if closes:
+                    door.door.shutdown(socket.SHUT_WR)
+                replies = list(iter(door.reply, "")) if closes else [door.reply() for _ in wanted]
+                is_right = len(replies) == len(wanted) and all(reply.split()[0] in word for reply, word in zip(replies, wanted))
+                if not is_right or "refused 1822" in replies:
+                    yield f"{lines[:30]}.. beside {others} others has {len(replies)} replies: {replies[:3]} .. {replies[-3:]}"
         yield from node.comes_to("sessions_open", 0, 1)
 
 

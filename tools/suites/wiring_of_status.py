@@ -323,6 +323,30 @@ def lines_in_pieces(trial):
 
 
 @suite.case()
+def replies_in_pieces(trial):
+    """Where a connection takes seven bytes at a time, all of each reply comes, and in order, of clients that are alone on their worker and of
+    others. Each line is counted once."""
+    node, spoils = trial.spoilable(trial.scripts(honest), workers=2)
+    first = trial.numbers(node, sessions=1)
+    spoils.tell("few")
+    pair, before = ("now\nnonsense\n", ["now", "refused"]), time.time_ns() - SECOND
+    with contextlib.ExitStack() as doors:
+        for address in (node.address, node.path("socket")) * 2:
+            door = doors.enter_context(socket.socket(socket.AF_UNIX if isinstance(address, str) else socket.AF_INET))
+            door.settimeout(2)
+            door.connect(address)
+            replies = doors.enter_context(door.makefile())
+            for lines, words in (pair, (pair[0] * 8, pair[1] * 8), ("now\ncommit 1 0\nnow\n", ["now", "waiting", "now"])):
+                door.sendall(lines.encode())
+                came = [replies.readline() for _ in words]
+                readings = [map(int, line.split()[1:]) for line in came if line.startswith("now ")]
+                is_right = all(before <= low <= high <= time.time_ns() + SECOND for low, high in readings)
+                said = [line.split()[0].replace("committed", "waiting") for line in came]
+                trial.check("status lines", is_right and said == words, f"the replies are {came}")
+        trial.numbers(node, lines=first["lines"] + 84, lines_refused=first["lines_refused"] + 36, sessions_open=4)
+
+
+@suite.case()
 def nothing_published(trial):
     """No master answers: there is no width and no age, and clients get 801. Nothing is shared where nothing is to be."""
     masters = trial.scripts(silent, silent)
@@ -357,16 +381,20 @@ def ends_of_waits(session, latest, number):
 
 @suite.case()
 def connections_waiting(trial):
-    """A second connection waits until the only worker no longer waits for what the first one sends: for a fifth of a second at most."""
-    node = trial.running_node(trial.scripts(honest), workers=1, socket=None, poll="20ms", wait="20ms")
+    """At each address a second connection waits until its only worker no longer waits for what the first one sends: for a fifth of a second at
+    most. It is no open session so far. All is so again once they have left."""
+    node = trial.running_node(trial.scripts(honest), workers=2, poll="20ms", wait="20ms")
 
-    def waits():
+    def waits(address):
         eventually(lambda: status_of(node)["sessions_open"] == 0)
-        with truetime.Session(node.address, 5) as session:
+        with truetime.Session(address, 5) as session:
             session.now()
-            with socket.create_connection(node.address, 5):
-                return eventually(lambda: status_of(node)["waiting"] == 1, 0.2, 0.002)
-    trial.check("status waiting", eventually(waits), "no connection that waits is counted")
+            with socket.socket(socket.AF_UNIX if isinstance(address, str) else socket.AF_INET) as door:
+                door.connect(address)
+                return eventually(lambda: [status_of(node)[name] for name in ("waiting", "sessions_open", "busy")] == [1, 1, 1], 0.2, 0.002)
+    for address in (node.address, node.path("socket")) * 2:
+        seen = [waits(address) for _ in range(3)]
+        trial.check("status waiting", seen.count(True) > 1, f"at {address} one that waits beside one session is counted in {seen}")
     trial.numbers(node, waiting=0, busy=0)
 
 
