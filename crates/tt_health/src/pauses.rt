@@ -4,8 +4,8 @@ ghost use Rattle.std.specs.Prelude.{◌≡◌, ◌≤◌, ℕ, MatchOption};
 ghost use Rattle.tt_health.specs.Pause.{IsBreakRecord, breaks_in_a_row as breaks_of, longest_pause, pause_of, record_after as next_record, text_of};
 ghost use Rattle.tt_health.specs.declared.pauses.BreakRecord.{BreakRecord as TheRecord};
 
-use arrayvec::ArrayString;
-use tt_text::{numbers_behind, short_line};
+use arrayvec::ArrayVec;
+use tt_text::{numbers_behind, put_line};
 
 /// Breaks are in a row where a start comes no later than this after the record of the last one, in nanoseconds.
 const BREAK_WINDOW: u64 = 60_000_000_000;
@@ -26,10 +26,12 @@ pub struct BreakRecord {
 
 /// The text of a record: `tt-break 1 `, the number of breaks, a space and the clock reading, both in decimal digits, and
 /// a line feed. At most 53 bytes.
-pub fn record_text(last: &BreakRecord) -> ArrayString<64>
-    ensures written { result.bytes ≡ text_of last.now }
+pub fn record_text(last: &BreakRecord) -> ArrayVec<u8, 64>
+    ensures written { result.items ≡ text_of last.now }
 {
-    short_line("tt-break 1", &[last.breaks, last.clock])
+    let mut text = ArrayVec::new();
+    put_line(&mut text, "tt-break 1", &[last.breaks, last.clock]);
+    text
 }
 
 /// The record of this text, if it is as [`record_text`] writes it. None for any other text: another version, a number

@@ -85,7 +85,7 @@ pub(crate) fn record_break<R: SystemClock + Files<File = File>>(
         rt,
         path.as_str(),
         draft.as_str(),
-        text.as_str().as_bytes(),
+        text.as_slice(),
         MODE,
         true,
     );

@@ -1,11 +1,12 @@
 //! The replies to lines.
 
-ghost use Rattle.std.specs.Prelude.{◌≡◌};
+ghost use Rattle.std.specs.Prelude.{◌≡◌, ◌+◌, ◌≤◌, ◌++◌, length};
 ghost use Rattle.tt_session.specs.Replies.{text_of, is_refused};
+ghost use Rattle.tt_session.specs.Steps.{reply_room};
 
-use arrayvec::ArrayString;
+use arrayvec::ArrayVec;
 use tt_publish::Reading;
-use tt_text::short_line;
+use tt_text::put_line;
 
 /// The reply to a line.
 #[derive(Clone, Copy, Debug, PartialEq, Eq)]
@@ -50,17 +51,31 @@ impl LineReply {
     }
 
     /// The line of the reply, with its line feed: at most 52 bytes.
-    pub(crate) fn text(&self) -> ArrayString<64>
-        ensures { result.bytes ≡ text_of self.now }
+    pub(crate) fn text(&self) -> ArrayVec<u8, 64>
+        ensures { result.items ≡ text_of self.now }
+    {
+        let mut text = ArrayVec::new();
+        self.put(&mut text);
+        text
+    }
+
+    /// Puts the line of the reply, with its line feed, behind these bytes: at most 52 bytes. Requires: 64 bytes of room.
+    pub(crate) fn put<const N: usize>(&self, bytes: &mut ArrayVec<u8, N>)
+        requires room { length bytes.old.items + reply_room ≤ N }
+        ensures { bytes.new.items ≡ bytes.old.items ++ text_of self.now }
     {
         match self {
-            LineReply::Now(reading) => short_line("now", &[reading.earliest(), reading.latest()]),
-            LineReply::Yes => short_line("yes", &[]),
-            LineReply::No => short_line("no", &[]),
-            LineReply::Committed { number, stamp } => short_line("committed", &[*number, *stamp]),
-            LineReply::Waiting { number, stamp } => short_line("waiting", &[*number, *stamp]),
-            LineReply::Leased { lo, hi } => short_line("leased", &[*lo, *hi]),
-            LineReply::Refused(number) => short_line("refused", &[u64::from(*number)]),
+            LineReply::Now(reading) => {
+                put_line(bytes, "now", &[reading.earliest(), reading.latest()])
+            }
+            LineReply::Yes => put_line(bytes, "yes", &[]),
+            LineReply::No => put_line(bytes, "no", &[]),
+            LineReply::Committed { number, stamp } => {
+                put_line(bytes, "committed", &[*number, *stamp])
+            }
+            LineReply::Waiting { number, stamp } => put_line(bytes, "waiting", &[*number, *stamp]),
+            LineReply::Leased { lo, hi } => put_line(bytes, "leased", &[*lo, *hi]),
+            LineReply::Refused(number) => put_line(bytes, "refused", &[u64::from(*number)]),
         }
     }
 }

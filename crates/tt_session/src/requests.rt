@@ -60,11 +60,8 @@ fn now_of(ended: &[u8]) -> Option<Request>
     ensures none { IfNone result (ended.now ≢ spelling_of Request.Now) }
     ensures some { IfSome result (λ request. Spells ended.now (Some request)) }
 {
-    let Some(numbers) = numbers_behind(b"now", ended) else {
-        return None;
-    };
-    match numbers.as_slice() {
-        [] => Some(Request::Now),
+    match ended {
+        [b'n', b'o', b'w', b'\n'] => Some(Request::Now),
         _ => None,
     }
 }

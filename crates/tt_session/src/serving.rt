@@ -140,7 +140,7 @@ fn take<W: ByteWriter, S: Service>(
     }
     let judged = talk.end_line(service, waits);
     let text = judged.reply.text();
-    write_all(writer, text.as_str().as_bytes())?;
+    write_all(writer, text.as_slice())?;
     writer.flush()
 }
 

@@ -1,11 +1,9 @@
 //! One step of a session: further bytes, the lines that end in them, and the replies to these.
 
-ghost use Rattle.std.specs.Prelude.{◌≡◌, ◌+◌, ◌≤◌, ◌++◌, ◌∷◌, ℕ, List, [], Bool, length, take, IfOk, IfErr};
-ghost use Rattle.tt_session.specs.Replies.{text_of};
+ghost use Rattle.std.specs.Prelude.{◌≡◌, ◌≤◌, ◌++◌, ◌∷◌, ℕ, List, [], Bool, length, take, IfOk, IfErr};
 ghost use Rattle.tt_session.specs.Talks.{TalkState, Stands, first_talk};
-ghost use Rattle.tt_session.specs.Steps.{StepsTo, Steps, StopsAt, StopsBefore, is_behind_commit, step_room, reply_room};
+ghost use Rattle.tt_session.specs.Steps.{StepsTo, Steps, StopsAt, StopsBefore, is_behind_commit};
 
-use crate::replies::LineReply;
 use crate::services::Service;
 use crate::talks::Talk;
 use arrayvec::ArrayVec;
@@ -106,22 +104,8 @@ impl Talk {
             return Err(Stop::Spent);
         }
         let judged = self.end_line(service, waits);
-        put(&judged.reply, replies);
+        judged.reply.put(replies);
         Ok(judged.is_commit)
-    }
-}
-
-/// Puts a reply behind those that are there.
-fn put(reply: &LineReply, replies: &mut Replies)
-    requires { length replies.old.items + reply_room ≤ step_room }
-    ensures { replies.new.items ≡ replies.old.items ++ text_of reply.now }
-{
-    let text = reply.text();
-    if replies
-        .try_extend_from_slice(text.as_str().as_bytes())
-        .is_err()
-    {
-        unreachable!()
     }
 }
 

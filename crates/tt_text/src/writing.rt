@@ -1,9 +1,9 @@
 //! Lines to text.
 
-ghost use Rattle.std.specs.Prelude.{◌≡◌, ◌+◌, ◌*◌, ◌<◌, ◌++◌, length, OnOk, string_bytes};
+ghost use Rattle.std.specs.Prelude.{◌≡◌, ◌+◌, ◌*◌, ◌<◌, ◌≤◌, ◌++◌, length, OnOk, string_bytes};
 ghost use Rattle.tt_text.specs.Line.{line_of};
 
-use arrayvec::ArrayString;
+use arrayvec::ArrayVec;
 use itoa::Buffer;
 use std::alloc::AllocError;
 
@@ -19,20 +19,29 @@ pub fn push_line(text: &mut String, word: &str, numbers: &[u64]) -> Result<(), A
     text.push_str("\n")
 }
 
-/// The line of a word and numbers, in room for `N` bytes: the word, the numbers, each behind one space, and a line feed.
+/// Writes the line of a word and numbers at the end of these bytes: the word, the numbers, each behind one space, and a
+/// line feed.
 ///
-/// A number and its space have at most 21 bytes. Requires: the word and 21 bytes for each number are fewer than `N`
-/// bytes. It takes no memory.
-pub fn short_line<const N: usize>(word: &str, numbers: &[u64]) -> ArrayString<N>
-    requires room { length word.now + 21 * length numbers.now < N }
-    ensures written { result.bytes ≡ line_of word.now numbers.now }
+/// A number and its space have at most 21 bytes. Requires: the bytes, the word and 21 bytes for each number are fewer
+/// than the `N` bytes of room. It takes no memory.
+pub fn put_line<const N: usize>(bytes: &mut ArrayVec<u8, N>, word: &str, numbers: &[u64])
+    requires room { length bytes.old.items + length word.now + 21 * length numbers.now < N }
+    ensures written { bytes.new.items ≡ bytes.old.items ++ line_of word.now numbers.now }
 {
-    let mut text = ArrayString::new();
-    text.push_str(word);
+    put(bytes, word.as_bytes());
     for number in numbers {
-        text.push_str(" ");
-        text.push_str(Buffer::new().format(*number));
+        bytes.push(b' ');
+        put(bytes, Buffer::new().format(*number).as_bytes());
     }
-    text.push_str("\n");
-    text
+    bytes.push(b'\n');
+}
+
+/// Puts these bytes behind those that are there.
+fn put<const N: usize>(bytes: &mut ArrayVec<u8, N>, more: &[u8])
+    requires { length bytes.old.items + length more.now ≤ N }
+    ensures { bytes.new.items ≡ bytes.old.items ++ more.now }
+{
+    if bytes.try_extend_from_slice(more).is_err() {
+        unreachable!()
+    }
 }

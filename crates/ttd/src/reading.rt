@@ -2,12 +2,13 @@
 
 use crate::faults::ServiceFault;
 use crate::services::Stop;
+use arrayvec::ArrayVec;
 use std::fs::{File, Files};
 use std::io::Eprint;
 use std::time::Clock as SystemClock;
 use tt_shared::{BOOT_LEN, FILE_LEN, HEAD_LEN, SharedFault, decode_head, open_view};
 use tt_stream::ByteWriter;
-use tt_text::short_line;
+use tt_text::put_line;
 use ttd_masters::{Monotonic, StartFault, bytes_of};
 use ttd_words::write;
 
@@ -33,11 +34,12 @@ pub(crate) fn read<H: AllocGlobal + Files<File = File> + SystemClock + Eprint, O
     match reader.now(&mut Monotonic::new(rt)) {
         Ok(seen) => {
             let ends = [seen.reading.earliest(), seen.reading.latest()];
-            let line = short_line::<64>("now", &ends);
+            let mut line = ArrayVec::<u8, 64>::new();
+            put_line(&mut line, "now", &ends);
             if !seen.fresh {
                 let _ = eprint!(rt; "stale\n");
             }
-            write(output, line.as_str().as_bytes()).map_err(|_| Stop::Unwritten)
+            write(output, line.as_slice()).map_err(|_| Stop::Unwritten)
         }
         Err(fault) => Err(refused(rt, file, fault)),
     }

@@ -13,8 +13,8 @@ returns-then-byte-ne10-clause-ok g c =
 
 pub returns-in_err-write_all-clause-err : goal.returns-in_err-write_all-clause-err
 returns-in_err-write_all-clause-err g c =
-    let bytes = c.as_bytes.result.now in
-    let is : bytes ≡ text_of c.end_line-judged.result.reply = c.as_bytes.ensures.value ∙ c.as_str.ensures.value ∙ c.text-text.ensures in
+    let bytes = c.as_slice.result.now in
+    let is : bytes ≡ text_of c.end_line-judged.result.reply = c.as_slice.ensures.value ∙ c.text-text.ensures in
     let (n, part, written) = c.in_err-write_all.ensures.err in
     on_err c.from_residual.result
     (rw c.if-byte-ne10.false
@@ -23,7 +23,7 @@ returns-in_err-write_all-clause-err g c =
 
 pub returns-clause-ok : goal.returns-clause-ok
 returns-clause-ok g c =
-    let is = c.as_bytes.ensures.value ∙ c.as_str.ensures.value ∙ c.text-text.ensures in
+    let is = c.as_slice.ensures.value ∙ c.text-text.ensures in
     let written = Appends-kept _ _ _ _ c.in_ok-write_all.ensures.ok c.flush.ensures.bytes in
     on_ok c.flush.result
     (rw c.if-byte-ne10.false
@@ -33,7 +33,7 @@ returns-clause-ok g c =
 pub returns-clause-err : goal.returns-clause-err
 returns-clause-err g c =
     let text = text_of c.end_line-judged.result.reply in
-    let is = c.as_bytes.ensures.value ∙ c.as_str.ensures.value ∙ c.text-text.ensures in
+    let is = c.as_slice.ensures.value ∙ c.text-text.ensures in
     let written = Appends-kept _ _ _ _ c.in_ok-write_all.ensures.ok c.flush.ensures.bytes in
     on_err c.flush.result
     (rw c.if-byte-ne10.false
