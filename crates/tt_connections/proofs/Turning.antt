@@ -16,7 +16,7 @@ use Rattle.tt_session.specs.declared.calls.Call.{Call}
 use Rattle.tt_session.specs.declared.calls.Call.TheVariants as call
 use Rattle.tt_session.specs.declared.serving.Served.{Served}
 use Rattle.tt_connections.specs.Fault.{number_of}
-use Rattle.tt_connections.specs.Station.{PostState, StationState, Allows, AnswersReading, BeginsAt, CommitsAt, PassesAt, LooksThen, Keeps, StampsIn, room_of}
+use Rattle.tt_connections.specs.Station.{PostState, StationState, Allows, AnswersReading, BeginsAt, CommitsAt, PassesAt, LooksThen, Keeps, room_of}
 use Rattle.tt_connections.specs.Turns.{WatchGoesOn, SeatGoesOn, PostGoesOn, AllowsOn}
 use Rattle.tt_connections.specs.declared.faults.StationFault.TheVariants.{FloorAboveCap}
 use Rattle.tt_connections.specs.declared.presence.Question.{Question}

@@ -1,30 +1,22 @@
 -- What a post does from one call of a session to a later one, and what a turn does to a session that was left at an earlier post.
-use Rattle.std.proofs.Common.{◌≡◌, ℕ, Bool, true, false, List, [], ◌∷◌, ◌++◌, if◌then◌else◌, Option, None, Result, Ok, Err, refl, sym, ap, ◌∙◌, subst, arith, append_assoc, append-nil}
-use Rattle.std.specs.Prelude.{MatchBool, nat_lt, ◌+◌, max, count_by}
-use Rattle.std.specs.List.{flat_map}
+use Rattle.std.proofs.Common.{◌≡◌, ℕ, Bool, List, [], ◌∷◌, ◌++◌, Option, None, refl, sym, ap, ◌∙◌, subst, arith, append_assoc, append-nil}
 use Rattle.std.proofs.KnownBytes.{Appends-nil, Appends-trans}
-use Rattle.std.proofs.lemmas.Grind.{flat_map-append}
 use Rattle.std.proofs.lemmas.List.{length-append}
-use Rattle.std.proofs.lemmas.List.Sums.{sum_by-append}
 use Rattle.tt_span.specs.Interval.{Interval}
 use Rattle.tt_stamp.specs.declared.commits.Entry.{Entry}
 use Rattle.tt_session.specs.Conversation.{Conversation}
-use Rattle.tt_session.specs.Answers.{AnswersLines}
-use Rattle.tt_session.specs.Replies.{text_of, is_refused}
 use Rattle.tt_session.specs.Session.{StaysFlushed}
 use Rattle.tt_session.specs.Steps.{Steps}
 use Rattle.tt_session.specs.Talks.{TalkState, Stands}
-use Rattle.tt_session.specs.declared.begun.Begun.{Begun}
 use Rattle.tt_session.specs.declared.calls.Call.{Call}
 use Rattle.tt_session.specs.declared.calls.Call.TheVariants.{Now, Begin, Lease, Pass}
-use Rattle.tt_session.specs.declared.replies.LineReply.{LineReply}
 use Rattle.tt_session.proofs.Following.{Stands-first, AnswersLines-append, refused-append, texts-append}
 use Rattle.tt_session.proofs.Splitting.{Splits-append}
 use Rattle.tt_session.proofs.Talking.{Conversation-append}
 use Rattle.tt_connections.specs.Station.{PostState, StationState, Allows, new_station}
 use Rattle.tt_connections.specs.Turns.{PostGoesOn, AllowsOn}
 use Rattle.tt_connections.specs.Together.{IsPartOfLine, StepsWritten, StepsCut}
-use Rattle.tt_connections.specs.Visits.{VisitState, StandsAt, StoodOn, StandsOn, TurnsOn, BreaksTurn, new_visit, station_at, visit_of}
+use Rattle.tt_connections.specs.Visits.{VisitState, StandsAt, StandsOn, TurnsOn, BreaksTurn, new_visit, station_at, visit_of}
 use Rattle.tt_connections.specs.declared.presence.Question.{Question}
 use Rattle.tt_connections.proofs.Turning.{post-same, post-both, calls-go_on, talks-on}
 

@@ -51,6 +51,11 @@ new_station post client = record { post = post; client = client; lease = whole; 
 abbrev pub id_at : ℕ → Id
 id_at number = record { session = 0; number = number }
 
+-- the book behind this, and where there is none, an empty one
+abbrev pub book_in : {B : Type 0} → Option B → (B → List Entry) → List Entry
+book_in (Some behind) book_of = book_of behind
+book_in None book_of = []
+
 -- the book that a commit is queued into: where none is pending, a new one
 abbrev pub page_if : List (ℕ × Id) → List Entry → List Entry
 page_if [] book = []

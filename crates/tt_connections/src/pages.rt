@@ -3,7 +3,7 @@
 ghost use Rattle.std.specs.Prelude.{◌≡◌, ◌≤◌, nat_lt, length, [], None};
 ghost use Rattle.tt_stamp.specs.History.{waiting_of};
 ghost use Rattle.tt_session.specs.Commits.{ReleasesBy, pause_of};
-ghost use Rattle.tt_connections.specs.Station.{QueuesPage, book_before};
+ghost use Rattle.tt_connections.specs.Station.{QueuesPage};
 
 use std::alloc::Global;
 use std::marker::Model;
@@ -13,10 +13,19 @@ use tt_stamp::{Book, BookFault, Id, Receipt};
 
 /// The book of a session. If no commit is pending, the next one is queued into an empty book. In contracts it is its
 /// book.
+///
+/// It takes memory when the first commit is queued: most sessions have none.
 #[derive(Drop)]
 pub(crate) struct Page {
-    book: Book,
+    /// None before the first commit.
+    commits: Option<Box<Commits>>,
     alloc: Global,
+}
+
+/// The commits of a session.
+#[derive(Drop)]
+struct Commits {
+    book: Book,
     /// The stamp of the commit that was queued last, in nanoseconds.
     stamp: u64,
     /// The last release step of this commit, if one was made, and it was not released.
@@ -51,10 +60,11 @@ impl Missed {
 impl Model for Page {
     ghost use Rattle.std.specs.Prelude.{List};
     ghost use Rattle.tt_stamp.specs.declared.commits.Entry.{Entry};
+    ghost use Rattle.tt_connections.specs.Station.{book_in};
 
     ghost Value = { List Entry };
 
-    ghost view = { λ p. p.book };
+    ghost view = { λ p. book_in p.commits (λ b. b.value.book) };
 }
 
 impl Page {
@@ -63,10 +73,8 @@ impl Page {
         ensures { result ≡ [] }
     {
         Page {
-            book: Book::new(alloc),
+            commits: None,
             alloc,
-            stamp: 0,
-            missed: None,
         }
     }
 
@@ -74,12 +82,18 @@ impl Page {
     pub(crate) fn is_pending(&self) -> bool
         ensures { result ≡ nat_lt 0 (length (waiting_of self.now)) }
     {
-        self.book.waiting() > 0
+        match &self.commits {
+            Some(commits) => commits.book.waiting() > 0,
+            None => false,
+        }
     }
 
     /// The last release step of the commit that was queued last, if one was made, and it was not released.
     pub(crate) fn missed(&self) -> Option<Missed> {
-        self.missed
+        match &self.commits {
+            Some(commits) => commits.missed,
+            None => None,
+        }
     }
 
     /// Notes a release step that did not release the commit: by a reading with this earliest, when the client's device
@@ -87,20 +101,39 @@ impl Page {
     pub(crate) fn miss(&mut self, earliest: u64, clock: Option<u64>)
         ensures { self.new ≡ self.old }
     {
-        self.missed = Some(Missed {
-            stamp: self.stamp,
-            earliest,
-            clock,
-        });
+        if let Some(commits) = &mut self.commits {
+            commits.missed = Some(Missed {
+                stamp: commits.stamp,
+                earliest,
+                clock,
+            });
+        }
+    }
+}
+
+impl Commits {
+    /// No commits.
+    fn new(alloc: Global) -> Self
+        ensures { result.book ≡ [] }
+    {
+        Commits {
+            book: Book::new(alloc),
+            stamp: 0,
+            missed: None,
+        }
     }
 
-    /// Makes the book ready for a commit: if none is pending, a new book begins.
-    fn turn(&mut self)
-        ensures { self.new ≡ book_before self.old }
+    /// Queues a commit; if none is pending, into a new book.
+    fn queue(&mut self, alloc: Global, id: Id, stamp: u64) -> Result<(), BookFault>
+        ensures { QueuesPage self.old.book id stamp result self.new.book }
     {
         if self.book.waiting() == 0 {
-            self.book = Book::new(self.alloc);
+            self.book = Book::new(alloc);
         }
+        self.book.queue_commit(id, stamp)?;
+        self.stamp = stamp;
+        self.missed = None;
+        Ok(())
     }
 }
 
@@ -110,14 +143,23 @@ impl CommitBook for Page {
     ghost releases = { ReleasesBy };
 
     fn queue_commit(&mut self, id: Id, stamp: u64) -> Result<(), BookFault> {
-        self.turn();
-        self.book.queue_commit(id, stamp)?;
-        self.stamp = stamp;
-        self.missed = None;
-        Ok(())
+        match &mut self.commits {
+            Some(commits) => commits.queue(self.alloc, id, stamp),
+            None => {
+                let Ok(mut commits) = Box::new(self.alloc, Commits::new(self.alloc)) else {
+                    return Err(BookFault::Memory);
+                };
+                let queued = commits.queue(self.alloc, id, stamp);
+                self.commits = Some(commits);
+                queued
+            }
+        }
     }
 
     fn release_commits(&mut self, reading: &Reading, id: Id) -> Option<Receipt> {
-        self.book.release_commits(reading, id)
+        match &mut self.commits {
+            Some(commits) => commits.book.release_commits(reading, id),
+            None => None,
+        }
     }
 }
