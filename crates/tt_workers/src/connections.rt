@@ -116,13 +116,17 @@ impl Connection {
         mem::replace(&mut self.held, Vec::new(alloc))
     }
 
-    /// Has the connection take more of the replies that it has not taken. Answers whether it did not fail.
-    pub(crate) fn send(&mut self) -> bool {
+    /// Has the connection take more of the replies that it has not taken. Once it has taken all, they have no room any
+    /// more. Answers whether it did not fail.
+    pub(crate) fn send(&mut self, alloc: Global) -> bool {
         let mut device = &self.stream;
         match device.write(self.unsent.as_slice()) {
             Ok(0) => false,
             Ok(count) => {
                 self.unsent.drain(..count);
+                if self.unsent.is_empty() {
+                    self.unsent = Vec::new(alloc);
+                }
                 true
             }
             Err(error) => is_slow(error.kind()),

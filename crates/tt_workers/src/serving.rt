@@ -26,6 +26,10 @@ const MILLISECOND: u64 = 1_000_000;
 /// How often the worker looks for clients that have had their time, in nanoseconds: every second.
 const LOOK: u64 = 1_000_000_000;
 
+/// How often a busy worker adds the lines that it answered to the counts that all workers share, in nanoseconds: every
+/// millisecond. Each addition takes the counts away from the other processors.
+const TELL: u64 = MILLISECOND;
+
 /// How a session stands after the worker read from its connection.
 #[derive(Clone, Copy, PartialEq, Eq)]
 enum After {
@@ -65,7 +69,17 @@ struct ConnectionTable<'a, R> {
     clock: u64,
     /// The clock reading at the last look for clients that have had their time.
     looked: u64,
+    /// The clock reading at which the shared counts were last told of the lines that were answered.
+    told: u64,
+    untold: Untold,
     replies: Replies,
+}
+
+/// The lines that were answered, and those of them that were refused, that the shared counts do not have yet.
+#[derive(Clone, Copy)]
+struct Untold {
+    lines: u64,
+    refused: u64,
 }
 
 impl<'a, R: Wait + SystemClock> ConnectionTable<'a, R> {
@@ -190,6 +204,7 @@ fn close<'a, R: Wait + SystemClock>(
 )
     ensures first { worker.new.first ≡ worker.old.first }
 {
+    table.tell();
     let Some(slot) = table.connections.get_mut(place) else {
         return;
     };
@@ -292,6 +307,7 @@ fn hear<'a, R: Wait + SystemClock>(
             &table.tools,
             &table.sight,
             &mut table.replies,
+            &mut table.untold,
             connection,
             place,
             bytes,
@@ -306,6 +322,7 @@ fn take_turn<'a, R: Wait + SystemClock>(
     tools: &Tools<'a, R>,
     sight: &Mutex<Sight>,
     replies: &mut Replies,
+    untold: &mut Untold,
     connection: &mut Connection,
     place: usize,
     bytes: &[u8],
@@ -328,26 +345,42 @@ fn take_turn<'a, R: Wait + SystemClock>(
     let goes_on = worker.turn(place, &client, bytes, &mut writer, replies);
     connection.unsent = writer.into_unsent();
     connection.is_within = bytes.last() != Some(&b'\n');
-    count(tools.counts, connection, worker, place);
+    count(untold, connection, worker, place);
     goes_on
 }
 
 /// Counts the lines of the session at this place that were answered since the last time.
 fn count<'a, R: Wait + SystemClock>(
-    counts: &Counts,
+    untold: &mut Untold,
     connection: &mut Connection,
     worker: &Worker<'a, R>,
     place: usize,
 ) {
     let (lines, refused) = worker.served(place);
     let more = lines.saturating_sub(connection.lines);
-    counts.lines.fetch_add(more, Ordering::SeqCst);
-    if refused > connection.refused {
-        let more = refused.saturating_sub(connection.refused);
-        counts.refused.fetch_add(more, Ordering::SeqCst);
-        connection.refused = refused;
-    }
+    untold.lines = untold.lines.saturating_add(more);
+    let more = refused.saturating_sub(connection.refused);
+    untold.refused = untold.refused.saturating_add(more);
     connection.lines = lines.max(connection.lines);
+    connection.refused = refused.max(connection.refused);
+}
+
+impl<'a, R: Wait + SystemClock> ConnectionTable<'a, R> {
+    /// Tells the shared counts of the lines that were answered since the last time.
+    fn tell(&mut self) {
+        self.told = self.clock;
+        let counts = self.tools.counts;
+        if self.untold.lines > 0 {
+            counts.lines.fetch_add(self.untold.lines, Ordering::SeqCst);
+            self.untold.lines = 0;
+        }
+        if self.untold.refused > 0 {
+            counts
+                .refused
+                .fetch_add(self.untold.refused, Ordering::SeqCst);
+            self.untold.refused = 0;
+        }
+    }
 }
 
 /// Hears these bytes of the session at this place. Where a line may be one of a commit that has to wait for longer than a
@@ -434,7 +467,7 @@ fn serve<'a, R: Wait + SystemClock>(
 impl<'a, R: Wait + SystemClock> ConnectionTable<'a, R> {
     /// The time of a line begins anew, if a line ended in these bytes, which have just come.
     fn note_line(&mut self, place: usize, bytes: &[u8]) {
-        if memchr(b'\n', bytes).is_none() {
+        if bytes.last() != Some(&b'\n') && memchr(b'\n', bytes).is_none() {
             return;
         }
         if let Some(Some(connection)) = self.connections.get_mut(place) {
@@ -445,7 +478,7 @@ impl<'a, R: Wait + SystemClock> ConnectionTable<'a, R> {
     /// Has the connection at this place take more of its replies. Answers whether it did not fail.
     fn send(&mut self, place: usize) -> bool {
         match self.connections.get_mut(place) {
-            Some(Some(connection)) => connection.send(),
+            Some(Some(connection)) => connection.send(self.tools.alloc),
             _ => true,
         }
     }
@@ -505,6 +538,7 @@ fn serve_all<'a, R: Wait + SystemClock>(
     ensures first { worker.new.first ≡ worker.old.first }
 {
     let most = table.longest_wait();
+    table.tell();
     if !table.watcher.wait(most) {
         thread::sleep(table.tools.rt, Duration::from_nanos(SLICE));
     }
@@ -578,11 +612,17 @@ pub fn work<'a, R: Wait + SystemClock>(
         held: 0,
         clock: 0,
         looked: 0,
+        told: 0,
+        untold: Untold {
+            lines: 0,
+            refused: 0,
+        },
         replies: Replies::new(),
     };
     let mut buffer = [0; PIECE];
     for _ in rt.forever() {
         if listeners.ended.load(Ordering::SeqCst) {
+            table.tell();
             return worker;
         }
         begin_all(&mut worker, &mut table);
@@ -593,6 +633,9 @@ pub fn work<'a, R: Wait + SystemClock>(
         if table.held > 0 {
             table.read_clock();
             serve_held(&mut worker, &mut table);
+        }
+        if table.clock.saturating_sub(table.told) >= TELL {
+            table.tell();
         }
         if table.clock.saturating_sub(table.looked) >= LOOK {
             end_late(&mut worker, &mut table);

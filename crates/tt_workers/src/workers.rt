@@ -125,7 +125,8 @@ impl<'a, R: Wait + SystemClock> Worker<'a, R> {
     }
 
     /// One turn of the session at this place, over these bytes: see [`Post::turn`]. Answers whether the session goes on.
-    /// If not, it has ended: the writer failed, or its lines can't be counted any more, or there is no session.
+    /// If not, it has ended: there is no session, or its lines can't be counted any more, and then nothing is written and
+    /// the post stays as it was; or the writer failed, and has what [`Post::turn`] says.
     pub fn turn<'c, O: ByteWriter>(
         &mut self,
         place: usize,
