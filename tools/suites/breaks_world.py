@@ -16,8 +16,9 @@ from suites.wiring_checks import eventually
 MILLISECOND = SECOND // 1000
 # The status with which a machine ends that has noticed a break.
 BROKEN = 3
-# What sessions may be told of a machine that breaks, ends, or has not published: 801, 1822 and 1823.
-OF_A_BREAK = {801, 1822, 1823}
+# What sessions may be told of a machine that breaks, ends, or has not published: 801, 1822 and 1823; and 1104 where they then begin another
+# commit, while that which was refused is pending.
+OF_A_BREAK = {801, 1104, 1822, 1823}
 # How soon the first reading of the next life has to come: a tenth of a second of it is the pause of the start.
 BACK_NS = 300 * MILLISECOND
 
