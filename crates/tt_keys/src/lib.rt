@@ -20,6 +20,8 @@ mod access;
 mod faults;
 mod files;
 mod lines;
+#[cfg(test)]
+mod tests;
 mod texts;
 
 pub use access::access_of;

@@ -33,6 +33,8 @@ mod refusals;
 mod servers;
 mod spans;
 mod tallies;
+#[cfg(test)]
+mod tests;
 mod together;
 mod waits;
 

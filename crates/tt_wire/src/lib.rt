@@ -26,6 +26,8 @@ mod answering;
 mod laws;
 mod nonces;
 mod rings;
+#[cfg(test)]
+mod vectors;
 mod wires;
 
 pub use answering::Requests;
