@@ -12,8 +12,6 @@
 #![tactic(auto)]
 
 mod tallies;
-#[cfg(test)]
-mod tests;
 mod turns;
 
 pub use tallies::{REASONS, Tally, place_of};

@@ -20,8 +20,6 @@ mod access;
 mod faults;
 mod files;
 mod lines;
-#[cfg(test)]
-mod tests;
 mod texts;
 
 pub use access::access_of;

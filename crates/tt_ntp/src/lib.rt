@@ -53,8 +53,6 @@ mod keys;
 mod queries;
 mod replies;
 mod times;
-#[cfg(test)]
-mod vectors;
 
 pub use decoding::decode;
 pub use faults::NtpFault;

@@ -24,8 +24,6 @@ mod faults;
 mod hmac;
 mod keys;
 mod sealing;
-#[cfg(test)]
-mod vectors;
 
 pub use faults::SealFault;
 pub use hmac::hmac_sha256;

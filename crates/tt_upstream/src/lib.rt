@@ -33,8 +33,6 @@ mod refusals;
 mod servers;
 mod spans;
 mod tallies;
-#[cfg(test)]
-mod tests;
 mod together;
 mod waits;
 

@@ -26,8 +26,6 @@ mod answering;
 mod laws;
 mod nonces;
 mod rings;
-#[cfg(test)]
-mod vectors;
 mod wires;
 
 pub use answering::Requests;

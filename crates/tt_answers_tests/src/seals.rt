@@ -1,8 +1,8 @@
 //! What others compute: the vectors of RFC 4231, and envelopes of Python's `hmac`.
 
-use crate::{KEY_LEN, Key, SealFault, hmac_sha256, open, seal};
 use std::process::Abort;
 use std::test::Fail;
+use tt_seal::{KEY_LEN, Key, SealFault, hmac_sha256, open, seal};
 
 /// The key with the bytes 1 to 25.
 const KEY_4: [u8; 25] = [

@@ -1,11 +1,11 @@
 //! A server over some replies, several servers, and a file of keys, worked out by hand.
 
-use crate::{NtpKeyFault, Plan, Server, fused, packet_key_of};
 use std::process::Abort;
 use std::test::Fail;
 use tt_master::Silence;
 use tt_ntp::{NtpFault, PACKET_LEN, encode_keyed};
 use tt_span::{Drift, Span};
+use tt_upstream::{NtpKeyFault, Plan, Server, fused, packet_key_of};
 
 /// A drift of 200 parts per million, a margin of 1,000 ns, a request each second, replies of up to 1,000 s.
 fn server() -> Result<Server, Fail> {

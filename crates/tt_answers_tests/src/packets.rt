@@ -1,12 +1,12 @@
 //! Packets of chronyd 4.3 and ntpsec 1.2.2, as these sent them. What they say was computed apart, by Python's `fractions` in
 //! seconds, and their digests by its `hashlib`.
 
-use crate::{
+use std::process::Abort;
+use std::test::Fail;
+use tt_ntp::{
     KEYED_LEN, KeyHash, Leap, NtpFault, PACKET_LEN, PacketKey, Query, decode, decode_keyed,
     encode_keyed, encode_request,
 };
-use std::process::Abort;
-use std::test::Fail;
 use tt_span::Drift;
 
 /// What a reply says: the ends of its span, and its stratum.

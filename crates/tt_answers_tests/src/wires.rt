@@ -1,9 +1,9 @@
 //! What others compute: a poll over the wire, in envelopes of Python's `hmac`.
 
-use crate::{Requests, Ring, Wire};
 use std::alloc::{AllocError, Global};
 use std::test::Fail;
 use tt_seal::{KEY_LEN, Key};
+use tt_wire::{Requests, Ring, Wire};
 
 /// The key with the bytes 0 to 31.
 const COUNTED: [u8; KEY_LEN] = [

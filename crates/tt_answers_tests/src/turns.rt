@@ -1,7 +1,7 @@
 //! Values worked out by hand.
 
-use crate::{Tally, Turn, answer_turn, place_of};
 use std::test::Fail;
+use tt_answers::{Tally, Turn, answer_turn, place_of};
 use tt_master::{MemorySpanReference, NoAnswer, Silence, SpanMaster};
 use tt_rounds::{Link, LinkFault, PACKET_LEN};
 use tt_span::Span;

@@ -1,11 +1,11 @@
 //! A text and a file of keys, worked out by hand.
 
-use crate::{KeysFault, key_of_line, keys_at, keys_of_text, line_of};
 use std::fs::{self, Permissions};
 use std::io::Write;
 use std::os::unix::fs::PermissionsExt;
 use std::test::Fail;
 use tt_files::{Reason, create_new, facts_of};
+use tt_keys::{KeysFault, key_of_line, keys_at, keys_of_text, line_of};
 use tt_seal::{Key, open, seal};
 
 const TEXT: &str = "# keys of host a
