@@ -12,7 +12,7 @@ use Rattle.tt_settings.specs.declared.forms.OnBreak.TheVariants.{End, Warn}
 use Rattle.tt_settings.specs.Settings.{Meaning}
 use Rattle.tt_settings.specs.Master.{Master}
 use Rattle.tt_server.specs.Name.{has_names}
-use Rattle.tt_server.specs.Share.{period_of}
+use Rattle.tt_sharing.specs.Share.{period_of}
 
 -- a word, a space, a text and a line feed
 abbrev pub word_line : List ℕ → List ℕ → List ℕ

@@ -7,8 +7,9 @@ ghost use Rattle.tt_outline.specs.Outline.{outline_text, word_line, path_line, m
 
 use std::alloc::{AllocError, Global};
 use tt_daemon::Config;
-use tt_server::{has_names, period_of};
+use tt_server::has_names;
 use tt_settings::{FilePath, MasterSettings, OnBreak, Pauses, Settings};
+use tt_sharing::period_of;
 use tt_span::{Drift, Span};
 use tt_text::push_line;
 

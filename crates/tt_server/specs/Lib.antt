@@ -2,12 +2,8 @@ pub mod Fault
 pub mod Ring
 pub mod Own
 pub mod Name
-pub mod Records
-pub mod Share
 pub mod Mode
 pub mod Round
 pub mod Life
 pub mod Thread
-pub mod Notice
-pub mod Status
 pub mod Evidence

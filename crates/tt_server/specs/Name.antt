@@ -5,7 +5,7 @@ use Rattle.std.specs.Option.{is_some}
 use Rattle.std.specs.declared.net.socket_addr.SocketAddr.{SocketAddr}
 use Rattle.tt_settings.specs.Master.{Master}
 use Rattle.tt_settings.specs.Socket.{host_of}
-use Rattle.tt_server.specs.Records.{one_more}
+use Rattle.tt_telemetry.specs.Records.{one_more}
 use Rattle.tt_server.specs.declared.names.Lookups.{Lookups}
 use Rattle.tt_server.specs.declared.names.NamedSource.{NamedSource}
 

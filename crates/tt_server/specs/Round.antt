@@ -8,7 +8,7 @@ use Rattle.tt_rounds.specs.Making.{Leads}
 use Rattle.tt_consistency.specs.Calls.{AreInTurn, Rise, RiseIn, RoundsCall, kept_after}
 use Rattle.tt_consistency.specs.CourseSteps.{kept_in}
 use Rattle.tt_consistency.specs.Steps.{Kept}
-use Rattle.tt_server.specs.declared.records.Totals.{Totals}
+use Rattle.tt_telemetry.specs.declared.records.Totals.{Totals}
 
 -- a daemon, and these publications as their readers see them
 abbrev pub kept_with : DaemonState → List Publication → Kept

@@ -3,7 +3,7 @@
 ghost use Rattle.std.specs.Prelude.{◌≡◌, ◌++◌, OnOk, IfOk, string_bytes};
 ghost use Rattle.std.specs.List.{flat_map};
 ghost use Rattle.tt_server.specs.Evidence.{span_line};
-ghost use Rattle.tt_server.specs.Records.{published_in};
+ghost use Rattle.tt_telemetry.specs.Records.{published_in};
 
 use crate::states::ThreadContext;
 use std::alloc::{AllocError, Global};

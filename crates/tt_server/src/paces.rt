@@ -3,7 +3,7 @@
 ghost use Rattle.std.specs.Prelude.{◌≡◌, ◌≤◌};
 ghost use Rattle.tt_server.specs.Round.{turns_of, waits_on, renewal_after, pause_of};
 
-use crate::records::Totals;
+use tt_telemetry::Totals;
 
 /// How long the rounds before the first publication follow each other quickly, in nanoseconds: two seconds.
 const FIRST: u64 = 2_000_000_000;

@@ -4,22 +4,17 @@ ghost use Rattle.std.specs.Prelude.{◌≡◌, ◌≤◌, List, [], map};
 ghost use Rattle.tt_publish.specs.Reading.{fused_span_of};
 ghost use Rattle.tt_consistency.specs.Calls.{AreInTurn, RiseIn, RoundsCall, kept_after};
 ghost use Rattle.tt_server.specs.Name.{IsNews};
-ghost use Rattle.tt_server.specs.Notice.{event_of_unmet};
+ghost use Rattle.tt_telemetry.specs.Notice.{event_of_unmet};
 ghost use Rattle.tt_server.specs.Round.{MakesCall, kept_with, renewal_after};
-ghost use Rattle.tt_server.specs.Status.{seals_of, unsent_of};
+ghost use Rattle.tt_telemetry.specs.Status.{seals_of, unsent_of};
 
 use crate::evidence::{keep_break, published_in, show_evidence};
 use crate::links::socket_again;
 use crate::names::{Lookups, NO_LOOKUPS, NameTable, has_missed, news_of};
-use crate::notices::{Notices, Unmet, fresh_answers, is_stale, needed_by, unmet_of};
 use crate::owns::Reach;
 use crate::paces::{pause_of, renewal_after, turns_of, waits_on};
-use crate::records::{RoundRecords, RoundTerms, Shown, Totals, UnsentPackets, records_of};
-use crate::shares::{ended_at, period_of, withdrawn};
-use crate::sharing::Share;
 use crate::signs::{GuestWatch, Sleep, SleepWatch};
 use crate::states::{ThreadContext, say};
-use crate::statuses::{Account, Machine, NO_SEALS, SourceSeals, status_of};
 use std::alloc::Global;
 use std::fs::{File, Files};
 use std::net::{Net, SocketAddr};
@@ -30,7 +25,13 @@ use tt_daemon::{Daemon, Fused, MAX_SOURCES};
 use tt_publish::{Clock, Teller};
 use tt_rounds::{NodeFault, RoundLink, RoundReport, Rounds, RoundsPlan, report_rounds};
 use tt_settings::OnBreak;
+use tt_shared::SharedSpan;
+use tt_sharing::{RoundTerms, Share, ended_at, period_of, withdrawn};
 use tt_status::LogEvent;
+use tt_telemetry::{
+    Account, Machine, NO_SEALS, Notices, RoundRecords, Shown, SourceSeals, Totals, Unmet,
+    UnsentPackets, fresh_answers, is_stale, needed_by, records_of, status_of, unmet_of,
+};
 
 /// The link to the masters, as the daemon's thread has it.
 #[derive(Drop)]
@@ -294,10 +295,27 @@ fn break_off<R: Wait + SystemClock + Files<File = File>>(
             poller.totals.published,
             server.life.config.drift(),
         );
-        poller.share.put(context, nothing, now);
+        share(context, poller, nothing, now);
     }
     poller.notices.breaks = poller.notices.breaks.saturating_add(1);
     say(context, event);
+}
+
+/// Shares a publication when the clock shows `now`, and logs what is to be logged of it.
+fn share<R: Wait + SystemClock + Files<File = File>>(
+    context: ThreadContext<'_, R>,
+    poller: &mut Poller<'_, R>,
+    span: SharedSpan,
+    now: u64,
+)
+    ensures same { poller.new.daemon ≡ poller.old.daemon }
+    ensures totals { poller.new.totals ≡ poller.old.totals }
+    ensures renewal { poller.new.renewal ≡ poller.old.renewal }
+{
+    let poll = context.server.life.pauses.poll;
+    if let Some(event) = poller.share.put(span, poll, now).event {
+        say(context, event);
+    }
 }
 
 /// The event of a publication that does not meet the last one.
@@ -411,7 +429,7 @@ fn hand_on<R: Wait + SystemClock + Files<File = File>>(
     }
     if let Some(span) = span {
         if !poller.broken {
-            poller.share.put(context, span, now);
+            share(context, poller, span, now);
         }
     }
     if poller.totals.published == 0 && totals.published > 0 {
@@ -538,7 +556,7 @@ fn end<R: Wait + SystemClock + Files<File = File>>(
         return;
     };
     let now = now_of(clock);
-    poller.share.put(context, ended_at(&last, now), now);
+    share(context, poller, ended_at(&last, now), now);
 }
 
 /// Makes the rounds of the daemon until the machine ends, each before a pause, or until it knows that an assumption is

@@ -9,9 +9,7 @@ ghost use Rattle.tt_server.specs.declared.faults.ServerFault.TheVariants.{Memory
 
 use crate::faults::ServerFault;
 use crate::rounds::{Polled, Poller};
-use crate::shares::folder_and_name;
-use crate::sharing::{Share, SharePath};
-use crate::states::ThreadContext;
+use crate::states::{ThreadContext, say};
 use mio::Waker;
 use std::alloc::Global;
 use std::fs::{File, Files};
@@ -29,6 +27,7 @@ use tt_pages::Limits;
 use tt_publish::{Clock, Teller, Watch, open};
 use tt_report::{Disk, Pages, Reporter, ReporterFault};
 use tt_settings::Settings;
+use tt_sharing::{Share, SharePath, folder_and_name};
 
 /// The acceptor of connections, and what ends its waits.
 pub(crate) fn acceptor_of<R: Net>(rt: &R, alloc: Global) -> Result<(Acceptor, Waker), ServerFault> {
@@ -248,7 +247,9 @@ pub(crate) fn poller_of<'a, R: Wait + SystemClock + Files<File = File>>(
     };
     let mut share = Share::new(rt, context.alloc, path);
     let mut clock = MachineClock::new(rt);
-    share.begin(context, clock.read().unwrap_or(0));
+    if let Some(event) = share.begin(server.life.pauses.poll, clock.read().unwrap_or(0)) {
+        say(context, event);
+    }
     let daemon = Daemon::new(settings.machine(), &server.life.config, server.life.epoch);
     let vmclock = match settings.vmclock() {
         Some(path) => Some(path.as_str()),

@@ -3,7 +3,6 @@
 ghost use Rattle.std.specs.Prelude.{◌≡◌};
 ghost use Rattle.tt_server.specs.Thread.{terms_in, widest_in};
 
-use crate::statuses::Work;
 use mio::Waker;
 use std::alloc::Global;
 use std::sync::atomic::{AtomicBool, Ordering};
@@ -16,6 +15,7 @@ use tt_report::Reporter;
 use tt_settings::{OnBreak, Pauses, Settings};
 use tt_span::Span;
 use tt_status::{Histogram, LogEvent};
+use tt_telemetry::Work;
 
 /// The number, the epoch and the settings of the machine in this life.
 #[derive(Clone, Copy)]

@@ -13,8 +13,9 @@ use std::net::{Ipv4Addr, SocketAddr};
 use thiserror::Error;
 use tt_files::{Facts, facts_at};
 use tt_outline::outline;
-use tt_server::{HostNames, MAX_FOUND, ServerFault, check_start, folder_and_name};
+use tt_server::{HostNames, MAX_FOUND, ServerFault, check_start};
 use tt_settings::{FilePath, MasterSettings, Settings};
+use tt_sharing::folder_and_name;
 use tt_stream::ByteWriter;
 use ttd_words::write;
 

@@ -1,7 +1,7 @@
 -- What is kept of the packets from each source is taken.
 use Rattle.std.proofs.Common.{arith}
 use Rattle.std.proofs.lemmas.List.FromFn.{fill_by_all}
-use Rattle.tt_server.specs.Status.{no_seals, seals_at, seals_of}
+use Rattle.tt_telemetry.specs.Status.{no_seals, seals_at, seals_of}
 use Rattle.tt_server.proofs.rounds.seals_by.Goals as goal
 
 pub returns : goal.returns

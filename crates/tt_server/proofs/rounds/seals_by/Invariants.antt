@@ -1,6 +1,6 @@
 -- What is kept of the packets from the sources so far is taken.
 use Rattle.std.proofs.Common.{◌≡◌, ℕ, ◌<◌, get_or, length}
-use Rattle.tt_server.specs.Status.{no_seals, seals_at}
+use Rattle.tt_telemetry.specs.Status.{no_seals, seals_at}
 use Rattle.tt_server.proofs.rounds.seals_by.Given as goal
 
 abbrev pub invariant-loop-source : goal.invariant-loop-source

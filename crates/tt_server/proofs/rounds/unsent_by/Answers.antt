@@ -2,7 +2,7 @@
 use Rattle.std.proofs.Common.{arith}
 use Rattle.std.proofs.lemmas.List.FromFn.{fill_by_all}
 use Rattle.tt_rounds.specs.Awaiting.{unsent_at}
-use Rattle.tt_server.specs.Status.{unsent_of}
+use Rattle.tt_telemetry.specs.Status.{unsent_of}
 use Rattle.tt_server.proofs.rounds.unsent_by.Goals as goal
 
 pub returns : goal.returns

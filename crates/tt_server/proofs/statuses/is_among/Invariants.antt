@@ -1,7 +1,0 @@
--- None of the numbers so far is it.
-use Rattle.std.proofs.Common.{◌≡◌, false, take}
-use Rattle.tt_server.specs.Status.{is_among}
-use Rattle.tt_server.proofs.statuses.is_among.Given as goal
-
-abbrev pub invariant-loop-other : goal.invariant-loop-other
-invariant-loop-other l = is_among l.number (take l.other-index l.numbers) ≡ false
