@@ -5,6 +5,7 @@ ghost use Rattle.std.specs.Prelude.{◌≡◌, ◌≤◌, ◌↔◌, ℕ, true, 
 ghost use Rattle.tt_poll.specs.Reading.{read_of2};
 ghost use Rattle.tt_source.specs.Table.{TableState, Sending, CanBeCalled, source_at, take_of};
 ghost use Rattle.tt_rounds.specs.Awaiting.{full_slot, slot_at, answers, poll_in, fate_of, is_handed, slots_after, slot_sent, unsent_at, unsent_after, handed_in, slot_after_all, NoneAnswers, poll_waiting};
+ghost use Rattle.tt_seal.specs.Sealing.{IsBytes};
 ghost use Rattle.tt_rounds.specs.Hearing.{no_opening, opening_at, heard_from};
 ghost use Rattle.tt_rounds.specs.declared.awaiting.PeerSlot.{PeerSlot};
 
@@ -200,6 +201,7 @@ impl PeerTable {
         ensures handed { MatchOption result ((heard_from wire.now self.old from bytes.now).handed ≡ None)
             (λ came. (heard_from wire.now self.old from bytes.now).handed ≡ Some (record { peer = came.0; bytes = came.1.items })) }
         ensures sender { IfSome result (λ came. from ≡ Some came.0) }
+        ensures small { IfSome result (λ _. IsBytes bytes.now) }
         ensures after { self.new ≡ (heard_from wire.now self.old from bytes.now).table }
     {
         let peer = from?;

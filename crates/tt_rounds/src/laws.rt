@@ -11,6 +11,7 @@ ghost use Rattle.tt_wire.specs.Moving.{moved, moved_back};
 ghost use Rattle.tt_wire.specs.Wire.{Wiring, IsWiring, Asking, keys_of, incoming_as, incoming_of, answer_of};
 ghost use Rattle.tt_rounds.specs.Link.{Packet, Gift, Came};
 ghost use Rattle.tt_rounds.specs.Hearing.{Arrived, Heard, heard_from, opening_at, opening_without, CameFrom, Drops};
+ghost use Rattle.tt_rounds.specs.RoundLinks.{HandsUp};
 ghost use Rattle.tt_rounds.specs.Answering.{Desk, HandsOn, AskedSealed};
 ghost use Rattle.tt_rounds.specs.Delaying.{IsSealedAnswer, IsDelayed, CostsDelay};
 ghost use Rattle.tt_rounds.specs.declared.awaiting.PeerTable.{PeerTable};
@@ -25,6 +26,9 @@ pub fn hearing_laws()
     // What is handed up from a peer with keys came from this peer, sealed under one of its keys, with its nonce moved.
     ensures came_sealed { (wire : Wiring) (table : PeerTable) (peer : ℕ) (first : SealKey) (others : List SealKey) (bytes : List ℕ) (packet : Packet) → IsWiring wire → IsBytes bytes →
         keys_of wire peer ≡ first ∷ others → (heard_from wire table (Some peer) bytes).handed ≡ Some packet → CameFrom (first ∷ others) wire.ahead peer bytes packet }
+    // So what a round's link hands up from a peer with keys is such a packet.
+    ensures handed_up { (wire : Wiring) (first : SealKey) (others : List SealKey) (packet : Packet) → IsWiring wire → keys_of wire packet.peer ≡ first ∷ others → HandsUp wire (Came packet) →
+        (bytes : List ℕ) × CameFrom (first ∷ others) wire.ahead packet.peer bytes packet }
 {}
 
 /// Laws of the link of a master that answers sealed requests.

@@ -1,11 +1,12 @@
 //! A link for the rounds of a daemon.
 
-ghost use Rattle.std.specs.Prelude.{◌≡◌, ◌↔◌, ◌≤◌, true, false, None, is_some, count_by, replicate, length, slice_set, IsErr, IfSome, OnOk, OnErr};
+ghost use Rattle.std.specs.Prelude.{◌≡◌, ◌↔◌, ◌≤◌, true, false, None, is_some, count_by, replicate, length, slice_set, IsErr, IfSome, IfOk, OnOk, OnErr};
 ghost use Rattle.std.specs.Duration.{as_nanos};
 ghost use Rattle.tt_stream.specs.Counts.{HasFailed};
+ghost use Rattle.tt_wire.specs.Wire.{open_wire};
 ghost use Rattle.tt_rounds.specs.Awaiting.{full_slot, slot_at, slot_sent, unsent_at, unsent_after};
 ghost use Rattle.tt_rounds.specs.Hearing.{opening_at};
-ghost use Rattle.tt_rounds.specs.RoundLinks.{FitsDrained, Reads, goes_on as goes_on_after, nanos_left};
+ghost use Rattle.tt_rounds.specs.RoundLinks.{DoesOver, FitsDrained, Reads, goes_on as goes_on_after, nanos_left};
 
 use crate::awaiting::{Fate, PeerTable};
 use crate::datagrams::Arrival;
@@ -120,6 +121,7 @@ impl<'a, R: SystemClock> Hearing<'a, R> {
     /// Begins a round: drops the packets that are there, and sets the time.
     fn begin(&mut self)
         ensures table { self.new.table ≡ record self.old.table { slots = replicate 256 full_slot } }
+        ensures wire { self.new.wire ≡ self.old.wire }
         ensures begun { self.new.sending ≡ true }
     {
         let mut bytes = [0; PACKET_LEN];
@@ -142,6 +144,7 @@ impl<'a, R: SystemClock> Hearing<'a, R> {
     fn send(&mut self, peer: u8, bytes: &[u8]) -> Fate
         ensures begins { self.old.sending ≡ false → self.new.table ≡ record self.old.table { slots = replicate 256 full_slot } }
         ensures goes_on { self.old.sending ≡ true → self.new.table ≡ self.old.table }
+        ensures wire { self.new.wire ≡ self.old.wire }
         ensures begun { self.new.sending ≡ true }
     {
         if !self.sending {
@@ -176,6 +179,7 @@ impl<'a, R: SystemClock> Hearing<'a, R> {
         ensures whole { length buffer.new ≡ 64 }
         ensures fits { FitsDrained result }
         ensures reads { Reads self.old.wire self.old.table result buffer.new self.new.table }
+        ensures wire { self.new.wire ≡ self.old.wire }
         ensures none_awaited { count_by (λ slot. is_some slot.poll) self.old.table.slots ≡ 0 → result ≡ Drained.Empty }
         ensures woken { self.old.woken ≡ true → result ≡ Drained.Empty }
     {
@@ -246,6 +250,7 @@ impl<'a, R: SystemClock> RoundLink<'a, R> {
     ) -> io::Result<(RoundLink<'a, R>, Waker)>
     where
         R: Net,
+        ensures wire { IfOk result (λ made. made.0.hearing.wire ≡ open_wire) }
     {
         let mut addresses = Vec::new(alloc);
         for peer in &peers {
@@ -273,6 +278,7 @@ impl<'a, R: SystemClock> RoundLink<'a, R> {
     ) -> io::Result<(RoundLink<'a, R>, Waker)>
     where
         R: Net,
+        ensures wire { IfOk result (λ made. made.0.hearing.wire ≡ wire) }
     {
         let events = match Events::with_capacity(alloc, MAX_EVENTS) {
             Ok(events) => events,
@@ -300,11 +306,12 @@ impl<'a, R: SystemClock> RoundLink<'a, R> {
         Ok((link, waker))
     }
 
-    /// Goes on over this socket, to the same peers, with a new round. The call makes the socket non-blocking. Refuses
-    /// with the error of the system if this fails, if the socket has no address of its own, or if it cannot be waited for;
-    /// then nothing has changed.
+    /// Goes on over this socket, to the same peers and over the same wire, with a new round. The call makes the socket
+    /// non-blocking. Refuses with the error of the system if this fails, if the socket has no address of its own, or if
+    /// it cannot be waited for; then nothing has changed.
     pub fn renew(&mut self, socket: UdpSocket) -> io::Result<()>
         ensures same { self.new.failures ≡ self.old.failures }
+        ensures wire { self.new.hearing.wire ≡ self.old.hearing.wire }
     {
         let is_six = is_six(&socket)?;
         listen(&self.hearing.poll, &socket)?;
@@ -320,6 +327,7 @@ impl<'a, R: SystemClock> RoundLink<'a, R> {
     pub fn set_address(&mut self, peer: u8, address: Option<SocketAddr>)
         ensures addresses { self.new.hearing.hosts.addresses.items ≡ slice_set self.old.hearing.hosts.addresses.items peer address }
         ensures table { self.new.hearing.table ≡ self.old.hearing.table }
+        ensures wire { self.new.hearing.wire ≡ self.old.hearing.wire }
         ensures same { self.new.failures ≡ self.old.failures }
     {
         self.hearing.hosts.set_address(peer, address);
@@ -348,6 +356,7 @@ impl<'a, R: SystemClock> RoundLink<'a, R> {
         ensures taken { result ≡ self.old.hearing.hosts.stranger }
         ensures after { self.new.hearing.hosts.stranger ≡ None }
         ensures table { self.new.hearing.table ≡ self.old.hearing.table }
+        ensures wire { self.new.hearing.wire ≡ self.old.hearing.wire }
         ensures same { self.new.failures ≡ self.old.failures }
     {
         self.hearing.hosts.stranger()
@@ -365,6 +374,7 @@ impl<'a, R: SystemClock> RoundLink<'a, R> {
         ensures rose { HasFailed self.old.failures self.new.failures }
         ensures over { self.new.hearing.sending ≡ false }
         ensures table { self.new.hearing.table ≡ self.old.hearing.table }
+        ensures wire { self.new.hearing.wire ≡ self.old.hearing.wire }
     {
         self.hearing.sending = false;
         self.failures = self.failures.saturating_add(1);
@@ -374,6 +384,7 @@ impl<'a, R: SystemClock> RoundLink<'a, R> {
     /// Notes what became of these bytes, which were to be sent to the peer. A packet that was lost is no fault.
     fn settle(&mut self, peer: u8, bytes: &[u8], fate: Fate) -> Result<(), LinkFault>
         ensures lost { IsErr result ↔ (fate ≡ Fate.Broke) }
+        ensures wire { self.new.hearing.wire ≡ self.old.hearing.wire }
         ensures slots { self.new.hearing.table.slots ≡ slice_set self.old.hearing.table.slots peer (slot_sent fate bytes.now (slot_at self.old.hearing.table.slots peer)) }
         ensures unsent { self.new.hearing.table.unsent ≡ slice_set self.old.hearing.table.unsent peer (unsent_after fate (unsent_at self.old.hearing.table.unsent peer)) }
         ensures sound { OnOk result (self.new.failures ≡ self.old.failures) }
@@ -396,7 +407,7 @@ fn listen(poll: &Poll, socket: &UdpSocket) -> io::Result<()> {
 }
 
 impl<'a, R: SystemClock> Link for RoundLink<'a, R> {
-    ghost does = { λ _ _ _ _. Unit {0} };
+    ghost does = { λ before call gift after. DoesOver before.hearing.wire call gift after.hearing.wire };
 
     ghost failed = { λ link. link.failures };
 

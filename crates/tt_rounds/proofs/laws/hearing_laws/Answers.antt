@@ -9,4 +9,6 @@ returns c = record {
   dropped = Drops-slots;
   came_sealed = λ wire table peer first others bytes packet valid small keys handed.
       heard-came_sealed wire table peer first others bytes packet (incoming_of wire peer bytes) valid small keys refl handed;
+  handed_up = λ wire first others packet valid keys up.
+      (up.0, heard-came_sealed wire up.2 packet.peer first others up.0 packet (incoming_of wire packet.peer up.0) valid up.1 keys refl up.3);
 }

@@ -3,4 +3,4 @@ use Rattle.std.proofs.Common.{◌≡◌}
 use Rattle.tt_rounds.proofs.round_links.Hearing.begin.Given as goal
 
 abbrev pub invariant-loop : goal.invariant-loop
-invariant-loop g l = l.self.table ≡ l.initial.self.table
+invariant-loop g l = record { table : l.self.table ≡ l.initial.self.table; wire : l.self.wire ≡ l.initial.self.wire }
