@@ -34,5 +34,8 @@ mod WorkedNode
 mod Working
 mod WorkedLife
 mod BesideSessions
+pub mod Cutting
+pub mod LeastCuts
+mod WorkedBreak
 mod Terming
 mod WorkedTerms

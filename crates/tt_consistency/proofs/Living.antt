@@ -33,7 +33,7 @@ use Rattle.tt_consistency.proofs.Holding.{publications-hold}
 use Rattle.tt_consistency.proofs.Serving.{served-timed}
 
 -- ---- beginnings of lists
-prefix-map : {A B : Type 0} (f : A → B) (xs ys : List A) → IsPrefix xs ys → IsPrefix (map f xs) (map f ys)
+pub prefix-map : {A B : Type 0} (f : A → B) (xs ys : List A) → IsPrefix xs ys → IsPrefix (map f xs) (map f ys)
 prefix-map f xs ys p = (map f p.0, sym (map-append f xs p.0) ∙ ap (map f) p.1)
 
 module _ {C V : Type 0} (gives : C → Option ℕ → C → Type 0) (failed : C → ℕ) (says : V → Question → Bool → Type 0) where
@@ -47,7 +47,7 @@ module _ {C V : Type 0} (gives : C → Option ℕ → C → Type 0) (failed : C 
     call-looks before (Lease lo hi answer) after allowed time seen read = tt
     call-looks before (Pass number answer) after allowed time seen read = record { seen = seen; read = read }
 
-    calls-look : (calls : List Call) (before after : StationState C V) (talked : Conversation (AllowsOn gives failed says) before calls after) (times : List CallTimes) → before.post.watch.drift ≡ machine.config.drift → IsPrefix (map fused_span_of after.post.watch.items) (published_by machine)
+    pub calls-look : (calls : List Call) (before after : StationState C V) (talked : Conversation (AllowsOn gives failed says) before calls after) (times : List CallTimes) → before.post.watch.drift ≡ machine.config.drift → IsPrefix (map fused_span_of after.post.watch.items) (published_by machine)
         → AllReadAt gives failed says machine.config.drift (clock_moments machine) before calls after talked times → AllLookAt gives failed says machine before calls after talked times
     calls-look [] before after talked times drift seen read = read
     calls-look (call ∷ calls) before after talked [] drift seen read = absurd read

@@ -12,6 +12,7 @@ use Rattle.tt_publish.specs.Known.{WatchState}
 use Rattle.tt_publish.specs.Looks.{Looks}
 use Rattle.tt_publish.specs.Reading.{reading_at, fused_span_of}
 use Rattle.tt_publish.specs.declared.faults.ReadFault.TheVariants.{Nothing}
+use Rattle.tt_session.specs.Conversation.{Conversation}
 use Rattle.tt_session.specs.Lines.{HasNoEnd, ended}
 use Rattle.tt_session.specs.Replies.{text_of}
 use Rattle.tt_session.specs.Requests.{commit_word, now_word, spelling_of}
@@ -26,7 +27,7 @@ use Rattle.tt_session.specs.declared.serving.Served.{Served}
 use Rattle.tt_stamp.specs.declared.commits.Entry.TheVariants.{Queued, Passed}
 use Rattle.tt_stamp.proofs.Ids.{Contains-here, Contains-there}
 use Rattle.tt_connections.specs.Fault.{number_of}
-use Rattle.tt_connections.specs.Sessions.{WorkerSession, IsServedBetween}
+use Rattle.tt_connections.specs.Sessions.{WorkerSession, AreServedBetween, IsServedBetween}
 use Rattle.tt_connections.specs.Station.{PostState, StationState, Allows, CommitsAt, Keeps, id_at, new_station}
 use Rattle.tt_connections.specs.Turns.{AllowsOn}
 use Rattle.tt_connections.specs.declared.faults.StationFault.TheVariants.{FloorAboveCap}
@@ -36,27 +37,27 @@ use Rattle.tt_connections.specs.Clock.{ClockState, MachineGives, ClientSays}
 use Rattle.tt_consistency.specs.Order.{IsSeen}
 use Rattle.tt_consistency.specs.Timed.{CallTimes, timed_of}
 use Rattle.tt_consistency.specs.Reads.{IsTakenAt}
-use Rattle.tt_consistency.specs.Assumed.{IsAssumed, IsLived, IsSeenInOneOf, IsServedIn, IsTimedIn, TimedLife, moments_in}
+use Rattle.tt_consistency.specs.Assumed.{AllReadAt, IsAssumed, IsLived, IsSeenInOneOf, IsServedIn, IsTimedIn, TimedLife, moments_in}
 use Rattle.tt_consistency.specs.Lives.{Life, WorkerLife, WorksIn, IsLife}
 use Rattle.tt_consistency.specs.Running.{clock_moments}
 use Rattle.tt_consistency.proofs.WorkedOrder.{fused, seat, seat_after, gives_at, queues_at, below_cap, receipt, read_at, reads_at, admitted, keeps, among-by, call_at, first}
 use Rattle.tt_consistency.proofs.WorkedRun.{one, start, timeline_of, call_of, machine, is_running-0, published-0}
 
 -- the clock of a machine fails as often as it has counted
-abbrev failed : ClockState → ℕ
+abbrev pub failed : ClockState → ℕ
 failed clock = clock.failures
 
 -- ---- the worker: its watch has seen nothing, and then what the daemon published
-abbrev unseen : WatchState
+abbrev pub unseen : WatchState
 unseen = record { source = record { book = record { number = 0; log_name = 0; cells_name = 0 }; chain = 0 }; drift = 100; items = [] }
 
 abbrev seen : WatchState
 seen = record unseen { items = fused ∷ [] }
 
-abbrev clock_at : ℕ → ClockState
+abbrev pub clock_at : ℕ → ClockState
 clock_at last = record { last = last; failures = 0 }
 
-abbrev post : WatchState → ClockState → PostState ClockState
+abbrev pub post : WatchState → ClockState → PostState ClockState
 post watch clock = record { watch = watch; clock = clock; seat = seat; lease = whole; stampers = None; ahead = 0; max_width = 1000 }
 
 abbrev station : WatchState → ClockState → StationState ClockState (Unit {0})
@@ -137,7 +138,7 @@ allows_now = record {
 abbrev resumed : StationState ClockState (Unit {0})
 resumed = record begun { post = stamped (clock_at 130) }
 
-abbrev released : StationState ClockState (Unit {0})
+abbrev pub released : StationState ClockState (Unit {0})
 released = record begun { post = stamped (clock_at 150); book = Passed (receipt 1030 1038) ∷ Queued (id_at 1) 1030 ∷ [] }
 
 pub allows_pass : Allows MachineGives failed ClientSays resumed (call.Pass 1 (Ok true)) released
@@ -178,6 +179,20 @@ allows_broken = record {
   look = record { looked = Ok (reading_at 100 (fused_span_of fused) 500000); looks = looks_broken; admits = (true, tt, refl) };
   rest = (refl, record { seat = refl; book = refl });
 }
+
+-- its last call, and the calls before it
+pub late_talked : Conversation (AllowsOn MachineGives failed ClientSays) released (call.Now (Err 1823) ∷ []) jumped
+late_talked = (jumped, allows-on MachineGives failed ClientSays released (call.Now (Err 1823)) jumped allows_broken, refl)
+
+abbrev pub early_calls : List Call
+early_calls = call.Now (Err 801) ∷ call.Begin 1 0 (Ok 1030) ∷ call.Pass 1 (Ok true) ∷ []
+
+pub early_talked : Conversation (AllowsOn MachineGives failed ClientSays) (station unseen (clock_at 0)) early_calls released
+early_talked = (
+  station unseen (clock_at 0),
+  allows-on MachineGives failed ClientSays (station unseen (clock_at 0)) (call.Now (Err 801)) (station unseen (clock_at 0)) allows_early,
+  (begun, allows-on MachineGives failed ClientSays (station unseen (clock_at 0)) (call.Begin 1 0 (Ok 1030)) begun allows_begin, (released, passes_on, refl)),
+)
 
 -- ---- its session, of three lines
 abbrev calls : List Call
@@ -227,11 +242,7 @@ talks = record {
   talked = (
     station unseen (clock_at 0),
     allows-on MachineGives failed ClientSays (station unseen (clock_at 0)) (call.Now (Err 801)) (station unseen (clock_at 0)) allows_early,
-    (
-      begun,
-      allows-on MachineGives failed ClientSays (station unseen (clock_at 0)) (call.Begin 1 0 (Ok 1030)) begun allows_begin,
-      (released, passes_on, (jumped, allows-on MachineGives failed ClientSays released (call.Now (Err 1823)) jumped allows_broken, refl)),
-    ),
+    (begun, allows-on MachineGives failed ClientSays (station unseen (clock_at 0)) (call.Begin 1 0 (Ok 1030)) begun allows_begin, (released, passes_on, late_talked)),
   );
   answered = (
     call.Now (Err 801) ∷ [],
@@ -267,7 +278,7 @@ talks = record {
   refused_are = refl;
 }
 
-abbrev session : WorkerSession MachineGives failed ClientSays 1
+abbrev pub session : WorkerSession MachineGives failed ClientSays 1
 session = record {
   client = tt;
   before = post unseen (clock_at 0);
@@ -304,7 +315,7 @@ other_talks = record {
   refused_are = refl;
 }
 
-abbrev other : WorkerSession MachineGives failed ClientSays 1
+abbrev pub other : WorkerSession MachineGives failed ClientSays 1
 other = record {
   client = tt;
   before = stamped (clock_at 120);
@@ -318,7 +329,7 @@ other = record {
 }
 
 -- ---- the worker has served both
-abbrev worker : WorkerLife MachineGives failed ClientSays 1
+abbrev pub worker : WorkerLife MachineGives failed ClientSays 1
 worker = record { post = post unseen (clock_at 0); last = jumped.post; sessions = session ∷ other ∷ [] }
 
 session_between : IsServedBetween worker.post worker.last session
@@ -348,18 +359,13 @@ life = record {
   workers = worker ∷ [];
 }
 
-works_in : WorksIn life worker
-works_in =
+pub sessions_between : AreServedBetween worker.post worker.last worker.sessions
+sessions_between =
     let Between : WorkerSession MachineGives failed ClientSays 1 → Type 0 = IsServedBetween worker.post worker.last in
-    record {
-      watch = refl;
-      lease = refl;
-      stampers = refl;
-      ahead = refl;
-      width = refl;
-      in_turn = All-cons Between session (other ∷ []) session_between (All-cons Between other [] other_between (All-nil Between));
-      seen = ([], refl);
-    }
+    All-cons Between session (other ∷ []) session_between (All-cons Between other [] other_between (All-nil Between))
+
+works_in : WorksIn life worker
+works_in = record { watch = refl; lease = refl; stampers = refl; ahead = refl; width = refl; in_turn = sessions_between; seen = ([], refl) }
 
 is_life : IsLife life
 is_life = record {
@@ -372,7 +378,7 @@ is_life = record {
   workers = All-cons (WorksIn life) worker [] works_in (All-nil (WorksIn life));
 }
 
-is_assumed : IsAssumed life start (timeline_of 0)
+pub is_assumed : IsAssumed life start (timeline_of 0)
 is_assumed = record {
   lives = refl;
   at = is_running-0.at;
@@ -405,18 +411,34 @@ is_taken last clock rises late early = record {
 }
 
 is_timed : IsTimedIn life start (timeline_of 0) session times
-unfolding talks passes_on allows_early allows_begin allows_pass allows_broken
+unfolding talks late_talked passes_on allows_early allows_begin allows_pass allows_broken
 is_timed = record {
   in_order = (omega arith, omega arith, omega arith, (omega arith, omega arith, omega arith, (omega arith, omega arith, omega arith, (omega arith, omega arith, omega arith, tt))));
   read = (tt, (is_taken 0 120 (omega arith) (omega arith) (omega arith), (is_taken 130 150 (omega arith) (omega arith) (omega arith), (tt, refl))));
 }
 
-is_other_timed : IsTimedIn life start (timeline_of 0) other (call_at 130 ∷ [])
+pub is_other_timed : IsTimedIn life start (timeline_of 0) other (call_at 130 ∷ [])
 unfolding other_talks allows_now
 is_other_timed = record {
   in_order = (omega arith, omega arith, omega arith, tt);
   read = (is_taken 120 130 (omega arith) (omega arith) (omega arith), refl);
 }
+
+-- ---- up to the answer that the commit is released
+abbrev pub early_times : List CallTimes
+early_times = record { came = 1000; read = 1001; answered = 1002 } ∷ call_at 120 ∷ call_at 150 ∷ []
+
+pub early_read : AllReadAt MachineGives failed ClientSays 100 (moments_in start (timeline_of 0)) (station unseen (clock_at 0)) early_calls released early_talked early_times
+unfolding early_talked passes_on allows_early allows_begin allows_pass
+early_read = (tt, (is_taken 0 120 (omega arith) (omega arith) (omega arith), (is_taken 130 150 (omega arith) (omega arith) (omega arith), refl)))
+
+pub session_calls : session.session.calls ≡ early_calls ++ call.Now (Err 1823) ∷ []
+unfolding talks
+session_calls = refl
+
+pub other_calls : other.session.calls ≡ call.Now (Ok (read_at 130)) ∷ []
+unfolding other_talks
+other_calls = refl
 
 -- ---- so all premises of the law hold, and the commit was seen at a session of the life
 abbrev lived : TimedLife MachineGives failed ClientSays 1

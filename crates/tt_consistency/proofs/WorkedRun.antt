@@ -59,12 +59,12 @@ came_to m = record { call = Receive; gift = Came (record { peer = 0; bytes = byt
 abbrev begin : ℕ → List Exchange → Stand
 begin m exchanges = stand_of (new_daemon m one 1) [] no_tally exchanges
 
-abbrev stand_in : Stand → Outcome (Unit {0}) → Stand
+abbrev pub stand_in : Stand → Outcome (Unit {0}) → Stand
 stand_in begun (GoesOn value stand given) = stand
 stand_in begun (Ends fault stand given) = stand
 stand_in begun Lacks = begun
 
-abbrev ended : ℕ → List Exchange → Stand
+abbrev pub ended : ℕ → List Exchange → Stand
 ended m exchanges = record (stand_in (begin m []) (rounds_of 1 1 (begin m []) (given_to m))) { exchanges = exchanges }
 
 abbrev pub call_of : ℕ → RoundsCall

@@ -14,4 +14,5 @@ pub mod Worked
 pub mod Lives
 pub mod Assumed
 pub mod Stampers
+pub mod Cuts
 pub mod Terms

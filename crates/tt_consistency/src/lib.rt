@@ -29,7 +29,7 @@
 //! # Lives
 //!
 //! A life is one run of the service on a machine. The law of lives has two kinds of premises: what a run proves of its
-//! own life, and what no program can prove of it.
+//! own life, and what no program can prove of it. The law of cuts asks for the second kind up to some moment alone.
 //!
 //! # Terms
 //!
@@ -40,9 +40,10 @@
 //!   `meeting_laws`.
 //! - `orders`: `session_laws`, `lease_laws`, `reply_laws`, `order_laws` and `sequencer_laws`.
 //! - `services`: `machine_laws`, `service_laws`, `consistency_laws` and `node_laws`.
-//! - `lives`: `life_laws`. `stampers`: `stamper_laws`. `terms`: `term_laws`.
+//! - `lives`: `life_laws`. `cuts`: `cut_laws` and `broken_life_laws`. `stampers`: `stamper_laws`. `terms`: `term_laws`.
 #![tactic(auto)]
 
+mod cuts;
 mod lives;
 mod meeting;
 mod orders;
@@ -51,6 +52,7 @@ mod services;
 mod stampers;
 mod terms;
 
+pub use cuts::{broken_life_laws, cut_laws};
 pub use lives::life_laws;
 pub use meeting::meeting_laws;
 pub use orders::{lease_laws, order_laws, reply_laws, sequencer_laws, session_laws};
