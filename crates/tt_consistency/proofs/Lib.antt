@@ -37,5 +37,7 @@ mod BesideSessions
 pub mod Cutting
 pub mod LeastCuts
 mod WorkedBreak
+mod Coming
+mod Sealing
 mod Terming
 mod WorkedTerms

@@ -15,4 +15,6 @@ pub mod Lives
 pub mod Assumed
 pub mod Stampers
 pub mod Cuts
+pub mod Coming
+pub mod Sealed
 pub mod Terms

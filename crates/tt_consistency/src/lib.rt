@@ -31,6 +31,11 @@
 //! A life is one run of the service on a machine. The law of lives has two kinds of premises: what a run proves of its
 //! own life, and what no program can prove of it. The law of cuts asks for the second kind up to some moment alone.
 //!
+//! # Keys
+//!
+//! What is assumed of sources follows from what is assumed of masters and of those who hold keys. The law of seals says
+//! so.
+//!
 //! # Terms
 //!
 //! Where the leader of a shard moves, an engine with consensus grants leases to its terms. If each lease begins above the
@@ -41,6 +46,7 @@
 //! - `orders`: `session_laws`, `lease_laws`, `reply_laws`, `order_laws` and `sequencer_laws`.
 //! - `services`: `machine_laws`, `service_laws`, `consistency_laws` and `node_laws`.
 //! - `lives`: `life_laws`. `cuts`: `cut_laws` and `broken_life_laws`. `stampers`: `stamper_laws`. `terms`: `term_laws`.
+//!   `sealed`: `seal_laws`.
 #![tactic(auto)]
 
 mod cuts;
@@ -48,6 +54,7 @@ mod lives;
 mod meeting;
 mod orders;
 mod runs;
+mod sealed;
 mod services;
 mod stampers;
 mod terms;
@@ -57,6 +64,7 @@ pub use lives::life_laws;
 pub use meeting::meeting_laws;
 pub use orders::{lease_laws, order_laws, reply_laws, sequencer_laws, session_laws};
 pub use runs::{assumption_laws, reading_laws, round_laws, step_laws, timeline_laws};
+pub use sealed::seal_laws;
 pub use services::{consistency_laws, machine_laws, node_laws, service_laws};
 pub use stampers::stamper_laws;
 pub use terms::term_laws;
