@@ -111,6 +111,23 @@ def strangers(trial):
 
 
 @suite.case()
+def sealed_after_renewal(trial):
+    """Over a socket that took the place of one that failed, polls are sealed as before, and answers are opened."""
+    masters = [scripted(trial, {7: FIRST}, honest), scripted(trial, {8: SECOND_KEY}, honest)]
+    node, spoils = trial.spoilable([table(masters[0], 7), table(masters[1], 8)], faulty=0, poll="200ms", wait="100ms", keys=keys_at(trial))
+    with spoils.spoiled("receive"):
+        trial.logs(node, "socket_renewed", number=1501, pause_ns=100_000_000)
+    before = [(len(master.numbers), accepted) for master, accepted in zip(masters, status_of(node)["accepted"])]
+
+    def look():
+        after = zip(masters, status_of(node)["accepted"])
+        return all(len(master.numbers) > polls + 2 and heard > accepted + 2 for (master, heard), (polls, accepted) in zip(after, before))
+
+    trial.check("renewal", eventually(look), f"no sealed polls and answers behind {before}")
+    trial.equal("renewal", [({*master.numbers}, master.strange) for master in masters], [({7}, []), ({8}, [])])
+
+
+@suite.case()
 def nonces_of_lives(trial):
     """They begin elsewhere in each life, also where the folder of the state is lost: an answer of the life before is refused."""
     kept = []
