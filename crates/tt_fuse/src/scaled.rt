@@ -21,7 +21,7 @@ use tt_span::{Drift, MAX_DRIFT, MAX_SOURCES, MAX_TIME, Span};
 
 /// What a source stated last: the span of its answer, and the clock readings at which its poll was sent and the answer
 /// came.
-#[derive(Clone, Copy, Debug)]
+#[derive(Clone, Copy)]
 struct Answered {
     span: Span,
     sent: u64,
@@ -46,7 +46,7 @@ impl Model for Answered {
 ///
 /// The keys are kept in ascending order, each with its source. An accepted answer changes one key of each kind. A
 /// fusion compares a few keys and ages two. The ends of spans that are already aged are put in order without a sort.
-#[derive(Debug, Drop)]
+#[derive(Drop)]
 pub struct Ends {
     drift: Drift,
     answers: [Option<Answered>; MAX_SOURCES],
