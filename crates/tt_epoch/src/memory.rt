@@ -4,7 +4,7 @@ use crate::stores::{ReadFault, Store};
 use tt_files::Reason;
 
 /// A store in memory, for tests: it fails at one of its calls, if it is told to, and keeps what a crash would leave.
-#[derive(Clone, Copy, Debug, Drop)]
+#[derive(Drop)]
 pub struct MemoryStore {
     /// The number that a read gives.
     shown: Option<u64>,
