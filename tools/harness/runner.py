@@ -49,6 +49,7 @@ def add_options(add) -> None:
     add("--seconds", type=float, metavar="N", help="how long `service`, `clients`, `fuzz`, `demo`, `failover`, `soak`, `fleet` and `masters` go on")
     add("--seed", type=int, metavar="N", help="the seed of `judge`, `sweep`, `epochs`, `fuzz`, `failover`, `soak`, `fleet` and `masters`, which is drawn else")
     add("--number", type=int, metavar="N", help="how many histories `judge` tries, and clients in Python `soak` has")
+    add("--proved", type=float, metavar="SECONDS", help="when the `rt ci` began that proved the crates, by `date +%%s`, for `wrong_bodies`")
     add("--long", action="store_true", help="run the cases that take half a minute, too")
 
 
@@ -56,7 +57,7 @@ def options_of(given: argparse.Namespace) -> Options:
     """The options that were given."""
     stamps = given.stamps or (STAMPS if os.path.isfile(STAMPS) else None)
     return Options(program=os.path.realpath(given.program or PROGRAM), rows=given.rows, stamps=stamps, seconds=given.seconds, seed=given.seed,
-                   number=given.number, long=given.long)
+                   number=given.number, long=given.long, proved=given.proved)
 
 
 def main(about: str) -> int:

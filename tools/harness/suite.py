@@ -19,7 +19,8 @@ from harness.program import in_top
 from harness.trial import Options, Result, Trial
 
 # All suites, in the order of the gate.
-NAMES = "examples cases judge bench sweep hostile clients clients_as_installed packages alerts service wiring faults sessions breaks epochs fuzz demo failover soak fleet masters".split()
+NAMES = ("wrong_bodies examples cases judge bench sweep hostile clients clients_as_installed packages alerts service "
+         "wiring faults sessions breaks epochs fuzz demo failover soak fleet masters").split()
 SUITES: dict[str, "Suite"] = {}
 
 

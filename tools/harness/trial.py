@@ -23,6 +23,8 @@ class Options:
     number: int | None = None
     #: Whether cases that take long are run.
     long: bool = False
+    #: When the `rt ci` began, in seconds since 1970, that proved the crates, or None where none just did.
+    proved: float | None = None
 
 
 @dataclasses.dataclass
