@@ -129,6 +129,8 @@ class Says:
     key: Key | None = None
     #: What comes from another address before the reply.
     elsewhere: typing.Optional["Says"] = None
+    #: How many packets come before the reply that are none.
+    strays: int = 0
 
 
 def kiss(code: str) -> Says:
@@ -168,6 +170,8 @@ class FakeServer(threading.Thread):
                     if self.says.elsewhere:
                         with socket.socket(socket.AF_INET, socket.SOCK_DGRAM) as other:
                             other.sendto(self.reply_to(packet, self.says.elsewhere), sender)
+                    for _ in range(self.says.strays):
+                        self.door.sendto(bytes(PACKET.size - 1), sender)
                     if reply := self.reply_to(packet, self.says):
                         self.door.sendto(reply, sender)
 

@@ -7,7 +7,7 @@ import subprocess
 import time
 
 from harness.processes import SECOND, free_port, truetime
-from harness.trouble import Answerer, full_listener, reset
+from harness.trouble import Answerer, Spoils, full_listener, reset
 from suites.faults import suite
 
 # The end.
@@ -196,6 +196,23 @@ def commit_of_a_half_closed_client(trial):
 
 
 @suite.case()
+def pending_commits_of_a_half_closed_client(trial):
+    """A commit that is asked for again and again is refused by 1822 once `idle` is over. Each such line waits for a twentieth of a second."""
+    node = trial.running_node(trial.masters(3), workers=1, socket=None, floor_ahead="10s", idle="1s")
+    floor, replies = far_floor(node.address), b""
+    with socket.create_connection(node.address, 8) as door:
+        door.sendall(f"commit 1 {floor}\n".encode() * 100)
+        door.shutdown(socket.SHUT_WR)
+        with contextlib.suppress(OSError):
+            while part := door.recv(65536):
+                replies += part
+    words = [line.partition(b" ")[0] + b" " + line.split()[1] for line in replies.splitlines()]
+    waiting = words.count(b"waiting 1")
+    if waiting > 25 or words[waiting:] != [b"refused 1822"] * (100 - waiting):
+        yield f"{waiting} replies are waiting, and behind them are {words[waiting:][:3]}, {len(words)} in all"
+
+
+@suite.case()
 def more_clients_than_workers(trial):
     """They are served as long as others stay, and share the workers evenly."""
     node = trial.running_node(trial.masters(3), workers=2, socket=None)
@@ -220,17 +237,26 @@ def ask_of(trial, act, *words, **how):
     return ran.status, ran.said, ran.error, time.monotonic() - began
 
 
-def drip(door, _):
-    for _ in range(60):
-        door.sendall(b"n")
-        time.sleep(1)
-
-
-@suite.case(long=True)
+@suite.case()
 def ask_of_a_slow_service(trial):
-    """A reply that comes a byte a second is given up after 30 seconds in all."""
-    status, said, error, took = ask_of(trial, drip, "now", seconds=45)
-    if status != 4 or not 25 <= took <= 35 or "no whole reply within 30 seconds" not in error:
+    """A reply that comes byte for byte is waited for until 30 seconds are over in all, by a clock that is moved on meanwhile."""
+    spoils, waited = Spoils(trial.room), []
+
+    def drip(door, _):
+        spoils.turn(jump_ns=27 * SECOND)
+        for _ in range(10):
+            door.sendall(b"n")
+            time.sleep(0.1)
+        waited.append(True)
+        spoils.turn(jump_ns=3 * SECOND)
+        for _ in range(100):
+            door.sendall(b"n")
+            time.sleep(0.1)
+
+    status, said, error, took = ask_of(trial, drip, "now", env=spoils.environment)
+    if not waited:
+        yield "it is given up before 30 seconds are over"
+    if status != 4 or took > 8 or "no whole reply within 30 seconds" not in error:
         yield f"status {status} after {took:.1f} seconds, {said!r} and {error!r}"
 
 

@@ -89,6 +89,22 @@ EVENTS = {
     "server_refused": "warn server number", "server_silent": "warn server",
 }
 
+# How long something lasts, in nanoseconds, as documents and doc comments say.
+TIMES = {
+    # A session; the looks of a worker at its clients; the wait for the first publication; a read and a write of a connection.
+    "session": 86_400 * SECOND, "look": SECOND, "first": 2 * SECOND, "read": SECOND // 5, "write": SECOND // 1000,
+    # What a round may last longer than `wait`; a pause before the first publication; the sleep of a writer of records.
+    "slow": SECOND, "quick round": SECOND // 10, "records": SECOND,
+    # A request over HTTP, and the answer to it; the looks for what is not written at the end.
+    "page": SECOND, "end look": SECOND // 500,
+    # A connection of `ask`, a read of its reply, and its pause; a connection of `top`, and its pause.
+    "ask link": 30 * SECOND, "ask read": SECOND // 10, "ask again": SECOND // 10, "top link": 5 * SECOND, "top again": SECOND // 2,
+    # A packet that a master awaits; the reply of a server of its host.
+    "packet": SECOND, "near reply": SECOND // 250,
+}
+# The reply of a server of another host, and the longest sleep before a request to it: they are looked at by root alone.
+TIMES_OF_OTHERS = {"far reply": SECOND, "far look": SECOND}
+
 # The forms of a line. Addresses are the only texts.
 ADDRESS = r"(?:[0-9.]+|\[[0-9a-f:.]+\]):[0-9]+"
 MOMENT = r"[0-9]{4}-[0-9]{2}-[0-9]{2}T[0-9]{2}:[0-9]{2}:[0-9]{2}\.[0-9]{9}Z"
@@ -101,7 +117,7 @@ FORMS = {
 NAMES = [*(f"setting {name}" for name in SETTINGS), *(f"option {name}" for name in OPTIONS), *(f"act {name}" for name in ACTS),
          *(f"status {name}" for name in ("build_info", "form", *FIRST, *OF_SOURCES, *LAST, *BUCKETS)), *(f"shared {name}" for name in SHARED),
          *(f"master {name}" for name in OF_MASTERS),
-         *(f"log {name}" for name in EVENTS)]
+         *(f"log {name}" for name in EVENTS), *(f"time {name}" for name in TIMES)]
 for unreached in UNREACHED:
     NAMES.remove(f"status refused_{unreached}")
 
@@ -166,9 +182,10 @@ class Checks(Trial):
         """Masters that keep each poll. Each has its acts, one for each poll in turn, and the last one for all further ones."""
         return [self.keep(Scripted(*(one if isinstance(one, (list, tuple)) else [one]))) for one in acts]
 
-    def spoilable(self, masters, **settings):
+    def spoilable(self, masters, name="A", **settings):
         """A machine that has published, and what spoils its calls."""
-        spoils, node = Spoils(self.room), self.node(masters, **settings)
+        node = self.node(masters, name, **settings)
+        spoils = Spoils(self.room if name == "A" else node.folder)
         node.environment = spoils.environment
         node.run()
         node.wait_until_ready()

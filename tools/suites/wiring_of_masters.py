@@ -236,7 +236,7 @@ def address_of_masters(trial):
 
 @suite.case()
 def lines_of_keys(trial):
-    """Each has other bytes, and without `--id` another number."""
+    """Each has other bytes, and without `--id` another number, which tells nothing of the bytes."""
     lines = [trial.command("key", "--id", "7", "--name", "host-a").said for _ in range(2)]
     for line in lines:
         trial.check("option id", re.fullmatch(r"7 [0-9a-f]{64} host-a\n", line), line)
@@ -245,3 +245,7 @@ def lines_of_keys(trial):
     for line in drawn:
         trial.check("option id", re.fullmatch(r"(0|[1-9][0-9]{0,9}) [0-9a-f]{64}\n", line), line)
     trial.check("option id", drawn[0].split()[0] != drawn[1].split()[0], "the same number twice")
+    # By chance 57 windows of 4 bytes, either way round, have that number once in 38 million times.
+    for number, digits in map(str.split, drawn):
+        told = [at for at in range(29) if int(number) in [int.from_bytes(bytes.fromhex(digits)[at:at + 4], order) for order in ("big", "little")]]
+        trial.equal("option id", told, [])

@@ -139,6 +139,8 @@ def servers_of_masters(trial):
     trial.check("option ntp", len(firsts) == 3 and 0 not in firsts, f"the upper halves of the first nonces are {firsts}")
     server, = servers_of(trial, Says(elsewhere=Says(ahead_ns=30 * SECOND)))
     trial.check("option ntp", Over(trial, [server], every=[OFTEN]).holds(), "it takes what another address says")
+    server, = servers_of(trial, Says(strays=10))
+    trial.check("option ntp", Over(trial, [server], every=[OFTEN]).holds(), "ten packets before a reply hide it")
     ran = trial.command("master", "--source", "0", "--listen", "127.0.0.1:1", "--ntp", "127.0.0.1:123", "--uncertainty", "5")
     trial.equal("option ntp", ran.status, 2)
 

@@ -6,13 +6,14 @@ import socket
 import time
 import typing
 
-from harness.metrics import faults_in
+from harness.metrics import faults_in, numbers_in
 from harness.processes import free_port
 from harness.program import read_text, run, write
 from harness.trouble import disrupt, honest, page, silent
 from suites.wiring import suite
 from suites.wiring_checks import eventually, spans
 
+ROUNDS = "truetime_rounds_total"
 PLAIN = "text/plain; charset=utf-8"
 METRICS = "text/plain; version=0.0.4; charset=utf-8"
 
@@ -250,3 +251,35 @@ def port_of_pages_in_use(trial):
     line = f"ttd: 127.0.0.1:{port}: the address for pages can't be listened at: Address already in use (os error 98)"
     trial.check("refusal 1830", line in ran.error.splitlines(), f"{ran.error!r} has no line {line!r}")
     trial.equal("setting http", os.listdir(node.path("state")), [])
+
+
+@suite.case()
+def first_look_after_rounds(trial):
+    """A page that nobody asked for meanwhile shows the newest status, and is well."""
+    node, port = with_pages(trial, trial.scripts(honest), evidence="evidence", poll="100ms", wait="100ms")
+    node.run(cwd=node.folder)
+    node.wait_until_ready()
+    for path in ("/metrics", "/health"):
+        # A status may be three seconds old by the limit of this machine.
+        time.sleep(3.5)
+        before, seen, after = node.status()[ROUNDS], get(port, path), node.status()[ROUNDS]
+        trial.equal("setting http", (path, seen.words), (path, "200 OK"))
+        if path == "/metrics":
+            trial.between("setting http", before - 1, numbers_in(seen.text)[ROUNDS], after + 1)
+    seen = []
+    for _ in range(3):
+        # The page has it before the file.
+        eventually(lambda: read_text(node.path("evidence")) not in seen)
+        seen.append(get(port, "/evidence").text)
+    trial.equal("setting http", len(set(seen)), 3)
+
+
+@suite.case()
+def first_look_at_rounds_that_stand_still(trial):
+    """Nobody asks before the rounds stand still, and the status is old all the same."""
+    port = free_port(socket.SOCK_STREAM)
+    node, spoils = trial.spoilable(trial.scripts(honest), http=f"127.0.0.1:{port}", poll="50ms", wait="100ms")
+    time.sleep(2)
+    with spoils.spoiled("sending"):
+        time.sleep(4)
+        trial.equal("setting http", reasons_of(get(port, "/health")), ["status_old"])

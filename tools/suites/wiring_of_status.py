@@ -191,6 +191,16 @@ def round_trips(trial):
         trial.between("status answer_buckets", surely, counted, perhaps)
 
 
+@suite.case()
+def trips_of_silent_sources(trial):
+    """The histogram of round trips has one entry for each accepted answer, also where a source falls silent."""
+    node = trial.node(trial.scripts(honest, honest, [honest, honest, silent]), poll="100ms", wait="50ms")
+    node.run()
+    node.wait_until_ready()
+    status = eventually(lambda: (seen := status_of(node))["rounds"] > 8 and seen) or status_of(node)
+    trial.equal("status answers", status["answers"], sum(status["accepted"]))
+
+
 @suite.case(quiet=True)
 def widths(trial):
     """The one source is 200 ms wide: each publication is that wide, and wider by no more than the round trip."""

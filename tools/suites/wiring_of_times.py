@@ -1,0 +1,249 @@
+"""Scenarios of the suite `wiring`: for how long is waited, by the list in wiring_checks.py; what is synced before it is renamed; and modes.
+
+tools/note_calls.c notes for how long a command asks the system to wait, so that nobody waits as long here. What is compared with readings of the
+clock sees one that tools/spoil_calls.c moves on.
+"""
+import contextlib
+import os
+import socket
+import stat
+import subprocess
+import time
+
+from harness.ntp import FakeServer
+from harness.processes import SECOND, Process, free_port, truetime
+from harness.program import compile_c, read_text, write
+from harness.trouble import Answerer, disrupt, honest, page, silent
+from suites.wiring import suite
+from suites.wiring_checks import TIMES as TIMES_OF_ALL, TIMES_OF_OTHERS, eventually, lies
+from suites.wiring_of_pages import get, with_pages
+
+FLAGS = "-Wall", "-Wextra", "-Wshadow", "-Wconversion", "-Werror", "-shared", "-fPIC"
+MILLISECOND = SECOND // 1000
+TIMES = TIMES_OF_ALL | TIMES_OF_OTHERS
+
+
+class Notes:
+    """What tools/note_calls.c notes of a program that has this environment."""
+
+    def __init__(self, trial, name):
+        self.path, library = os.path.join(trial.room, f"{name}.notes"), os.path.join(trial.room, "note_calls")
+        if not os.path.exists(library):
+            compile_c("note_calls", trial.room, *FLAGS)
+        self.environment = dict(os.environ, LD_PRELOAD=library, NOTES=self.path)
+
+    def calls(self):
+        return [line.split() for line in read_text(self.path).splitlines()] if os.path.exists(self.path) else []
+
+    def waits(self, kind):
+        """For how long something of this kind is waited for, in nanoseconds, in order."""
+        return sorted({int(words[1]) for words in self.calls() if words[0] == kind and int(words[1]) > 0})
+
+
+class Noted(Process):
+    """A command whose calls are noted, behind these words."""
+
+    def __init__(self, trial, name, words, prefix=()):
+        self.notes, self.prefix = Notes(trial, name), prefix
+        super().__init__(trial, name, words)
+
+    def start(self):
+        with open(self.log, "ab") as log:
+            self.running = subprocess.Popen([*self.prefix, self.program, *self.words], stdin=subprocess.PIPE, stdout=log, stderr=log,
+                                            env=self.notes.environment)
+
+
+def waits_for(trial, notes, kind, *names, others=()):
+    """Something of this kind comes to be waited for as long as these names of the list say, and never for another time but within these bounds."""
+    wanted = {TIMES[name] for name in names}
+
+    def strange():
+        return [wait for wait in notes.waits(kind) if wait not in wanted and not any(low <= wait <= high for low, high in others)]
+
+    eventually(lambda: wanted.issubset(notes.waits(kind)))
+    for name in names:
+        trial.check(f"time {name}", TIMES[name] in notes.waits(kind) and not strange(), f"{kind} {notes.waits(kind)}, and {TIMES[name]} is wanted")
+
+
+@suite.case()
+def waits_of_machines(trial):
+    """Its connections, its rounds, its pages and its threads, with a dead source and two sessions that say nothing."""
+    node, port = with_pages(trial, trial.scripts(honest, honest, silent), wait="30ms", poll="70ms", workers=2)
+    notes = Notes(trial, "machine")
+    node.environment = notes.environment
+    node.run()
+    node.wait_until_ready()
+    with truetime.Session(node.address, 5) as one, truetime.Session(node.path("socket"), 5) as other:
+        for session in (one, other):
+            session.now()
+        get(port, "/metrics")
+        waits_for(trial, notes, "poll", "first", "look", others=[(1, 30 * MILLISECOND)])
+    patience = (TIMES["page"] - TIMES["page"] // 4, TIMES["page"])
+    waits_for(trial, notes, "receive", "read", others=[patience])
+    waits_for(trial, notes, "send", "write", others=[patience])
+    for kind in ("receive", "send"):
+        longest = max(notes.waits(kind), default=0)
+        trial.check("time page", patience[0] <= longest <= patience[1], f"an answer may {kind} for {longest} ns")
+    waits_for(trial, notes, "park", "records", others=[(70 * MILLISECOND, 70 * MILLISECOND)])
+    for what in node.ends():
+        trial.check("time end look", False, what)
+    waits_for(trial, notes, "sleep", "end look")
+
+
+@suite.case()
+def waits_before_a_publication(trial):
+    """Rounds follow each other quickly for two seconds where nobody answers, however long `poll` is, and then no more."""
+    node, notes = trial.node(trial.scripts(silent), wait="20ms", poll="1300ms"), Notes(trial, "machine")
+    node.environment = notes.environment
+    node.run()
+    waits_for(trial, notes, "park", "quick round", "records", others=[(1300 * MILLISECOND, 1300 * MILLISECOND)])
+    trial.check("time quick round", eventually(lambda: 1300 * MILLISECOND in notes.waits("park")), f"{notes.waits('park')}")
+
+
+def is_near(trial, name, waits):
+    """The longest wait for a connection is as long, less what went by."""
+    longest = max(waits, default=0)
+    trial.check(f"time {name}", TIMES[name] - SECOND <= longest <= TIMES[name], f"{waits}, and {TIMES[name]} is wanted")
+
+
+@suite.case()
+def waits_of_commands(trial):
+    """`ask` of a machine that has published nothing, and `top` of one that has."""
+    service = trial.keep(Answerer(lambda door, _: door.sendall(b"refused 801\n")))
+    ask = trial.keep(Noted(trial, "ask", ["ask", service.address, "now", "--retry", "2"]))
+    ask.running.wait(20)
+    waits_for(trial, ask.notes, "send", "ask link")
+    waits_for(trial, ask.notes, "receive", "ask read")
+    waits_for(trial, ask.notes, "sleep", "ask again")
+    is_near(trial, "ask link", ask.notes.waits("poll"))
+    node, port = with_pages(trial, trial.scripts(honest))
+    node.run()
+    node.wait_until_ready()
+    top = trial.keep(Noted(trial, "top", ["top", f"127.0.0.1:{port}"]))
+    waits_for(trial, top.notes, "sleep", "top again")
+    waits_for(trial, top.notes, "receive", "top link")
+    waits_for(trial, top.notes, "send", "top link")
+    is_near(trial, "top link", top.notes.waits("poll"))
+
+
+@suite.case()
+def waits_of_masters(trial):
+    """One by the clock of its host, and one by a server of its host."""
+    server = trial.keep(FakeServer())
+    for name, more in (("stated", ["--uncertainty", "5"]), ("near", ["--ntp", server.address])):
+        words = ["master", "--source", "0", "--listen", f"127.0.0.1:{free_port(socket.SOCK_DGRAM)}", "--status", os.path.join(trial.room, name), *more]
+        notes = trial.keep(Noted(trial, f"master-{name}", words)).notes
+        waits_for(trial, notes, "receive", "packet", *(["near reply"] if name == "near" else []))
+        waits_for(trial, notes, "park", "records")
+
+
+@suite.case(root=True, programs=("unshare",))
+def waits_of_masters_of_other_hosts(trial):
+    """A server on another host, from a network without a route: no packet leaves it. It is asked at once, and about a minute later."""
+    words = ["master", "--source", "0", "--listen", "127.0.0.1:1", "--ntp", "192.0.2.1:123"]
+    started = trial.keep(Noted(trial, "master", words, ("unshare", "--net")))
+    waits_for(trial, started.notes, "receive", "far reply", "packet")
+    waits_for(trial, started.notes, "sleep", "far look", others=[(1, TIMES["far look"])])
+
+
+# What is compared with readings of the clock.
+
+@suite.case()
+def longest_session(trial):
+    """It lasts a day, whatever it says meanwhile, and not longer."""
+    node, spoils = trial.spoilable(trial.scripts(honest), idle="86400s", on_break="warn", workers=2, poll="50ms")
+    with socket.create_connection(node.address, 5) as door, door.makefile("rb") as replies:
+        def reply():
+            with contextlib.suppress(OSError):
+                door.sendall(b"now\n")
+                return replies.readline()
+            return b""
+
+        trial.check("time session", reply().startswith(b"now "), "no reply")
+        spoils.turn(jump_ns=TIMES["session"] - 60 * SECOND)
+        time.sleep(1.5)
+        trial.check("time session", reply().startswith(b"now "), "it ends a minute before it is a day old")
+        spoils.turn(jump_ns=70 * SECOND)
+        door.settimeout(6)
+        ended = None
+        with contextlib.suppress(OSError):
+            ended = replies.readline()
+        trial.equal("time session", ended, b"")
+
+
+@suite.case()
+def slow_publications(trial):
+    """One that lasts a second longer than `wait` is told of within a second more, and one that is made at once never is, however long the pause
+    behind it."""
+    quick = trial.running_node(trial.scripts(honest), "E", poll="3s", wait="50ms")
+    spoiled = [trial.spoilable(trial.scripts(honest), name, wait="50ms", poll="50ms") for name in "BCD"]
+    with contextlib.ExitStack() as stack:
+        for _, spoils in spoiled:
+            stack.enter_context(spoils.spoiled("sending"))
+        for node, _ in spoiled:
+            lasted = int(trial.logs(node, "publication_slow").get("lasted_ns", 0))
+            least = TIMES["slow"] + 50 * MILLISECOND
+            trial.between("time slow", least, lasted, least + TIMES["records"] + SECOND)
+    eventually(lambda: quick.status()["truetime_rounds_total"] >= 2)
+    trial.equal("time slow", quick.said("publication_slow"), [])
+
+
+# Files.
+
+@suite.case()
+def synced_files(trial):
+    """Each draft of what has to last is synced before it is renamed, and the folder of the epoch behind that: a loss of power takes no epoch back."""
+    vmclock = os.path.join(trial.room, "vmclock0")
+    write(vmclock, page(1))
+    node, notes = trial.node(trial.scripts(honest), vmclock=vmclock), Notes(trial, "machine")
+    node.environment = notes.environment
+    node.run()
+    node.wait_until_ready()
+    eventually(lambda: os.path.exists(node.path("shared")) and os.path.exists(node.path("status")))
+    disrupt(vmclock, 2)
+    trial.equal("setting on_break", node.running.wait(20), 3)
+    calls = [tuple(words) for words in notes.calls() if words[0] in ("open", "fsync", "fdatasync", "rename")]
+    for name in ("state/epoch", "state/break", "shared"):
+        path = node.path(name)
+        seen = [call for call in calls if call[0] != "open" and call[1] == f"{path}.new"]
+        trial.equal(f"sync of {name}", seen, [("fsync", f"{path}.new"), ("rename", f"{path}.new", path)])
+    renamed = ("rename", node.path("state/epoch.new"), node.path("state/epoch"))
+    behind = calls[calls.index(renamed):] if renamed in calls else []
+    # Nothing of the life is made before its epoch is there to stay.
+    trial.check("sync of state", ("fsync", node.path("state")) in behind[:3], f"behind the epoch come {behind[:3]}")
+    status = node.path("status")
+    trial.check("sync of status", ("rename", f"{status}.new", status) in calls and ("open", status) not in calls, "it is written in its place")
+
+
+# The modes of what a machine makes, where the umask takes nothing.
+MODES = {"state": 0o700, "state/epoch": 0o600, "state/lock": 0o600, "folder": 0o755, "folder/shared": 0o644, "folder/shared.lock": 0o600,
+         "status": 0o644, "evidence": 0o644, "socket": 0o777}
+# Those of what it makes beside these at a break.
+AT_A_BREAK = {"state/break": 0o600, "evidence.break-1": 0o644, "evidence.break-2": 0o644}
+
+
+def modes_of(node, names):
+    """The mode of each that is there; that of one that is another user's is nothing."""
+    facts = {name: os.lstat(node.path(name)) for name in names if os.path.lexists(node.path(name))}
+    return {name: stat.S_IMODE(fact.st_mode) if (fact.st_uid, fact.st_gid) == (os.geteuid(), os.getegid()) else None for name, fact in facts.items()}
+
+
+@suite.case()
+def modes_of_files(trial):
+    """Each file, folder and socket has its owner and its mode, less what the umask takes, in two lives, the first of which ends by a break."""
+    for name, umask in (("A", 0), ("B", 0o077)):
+        folder, masters = os.path.join(trial.room, name), trial.scripts(honest)
+        node = trial.node(masters, name, shared=os.path.join(folder, "folder/shared"), evidence=os.path.join(folder, "evidence"))
+        os.rmdir(node.path("state"))
+        wanted = {path: mode & ~umask for path, mode in MODES.items()}
+        for _ in range(2):
+            node.run(umask=umask)
+            node.wait_until_ready()
+            eventually(lambda node=node, wanted=wanted: modes_of(node, wanted) == wanted)
+            trial.equal("setting state", modes_of(node, wanted), wanted)
+            trial.equal("log state_loose", [node.said(f"{what}_loose") for what in ("state", "epoch", "shared")], [[], [], []])
+            masters[0].acts = [lies(5 * SECOND)]
+            eventually(lambda node=node: node.running.poll() is not None)
+            made = {path: mode & ~umask for path, mode in AT_A_BREAK.items()}
+            trial.equal("setting evidence", modes_of(node, made), made)
+            masters[0].acts = [honest]
