@@ -327,10 +327,10 @@ def ask_that_is_refused(trial):
             yield f"status {status}, {said!r} and {error!r}"
 
 
-@suite.case(long=True)
+@suite.case()
 def ask_that_waits(trial):
     """A commit that is never released has status 5 after all tries."""
-    status, said, _, _ = ask_of(trial, lambda door, _: door.sendall(b"waiting 1 200\n"), "commit", "1", "0", seconds=45)
+    status, said, _, _ = ask_of(trial, lambda door, _: door.sendall(b"waiting 1 200\n"), "commit", "1", "0", seconds=25)
     if status != 5 or said != "waiting 1 200\n":
         yield f"status {status}, {said!r}"
 

@@ -13,7 +13,7 @@ import time
 from harness.ntp import FakeServer
 from harness.processes import SECOND, Process, free_port, truetime
 from harness.program import compile_c, read_text, write
-from harness.trouble import Answerer, disrupt, honest, page, silent
+from harness.trouble import Answerer, disrupt, full_pipe, honest, page, silent
 from suites.wiring import suite
 from suites.wiring_checks import TIMES as TIMES_OF_ALL, TIMES_OF_OTHERS, eventually, lies
 from suites.wiring_of_pages import get, with_pages
@@ -65,19 +65,27 @@ def waits_for(trial, notes, kind, *names, others=()):
         trial.check(f"time {name}", TIMES[name] in notes.waits(kind) and not strange(), f"{kind} {notes.waits(kind)}, and {TIMES[name]} is wanted")
 
 
+def is_near(trial, name, waits):
+    """The longest wait for a connection is as long, less what went by."""
+    longest = max(waits, default=0)
+    trial.check(f"time {name}", TIMES[name] - SECOND <= longest <= TIMES[name], f"{waits}, and {TIMES[name]} is wanted")
+
+
 @suite.case()
 def waits_of_machines(trial):
-    """Its connections, its rounds, its pages and its threads, with a dead source and two sessions that say nothing."""
+    """Its connections, its rounds, its pages and its threads, with a dead source, and a session more than a worker waits for alone."""
     node, port = with_pages(trial, trial.scripts(honest, honest, silent), wait="30ms", poll="70ms", workers=2)
     notes = Notes(trial, "machine")
     node.environment = notes.environment
     node.run()
     node.wait_until_ready()
-    with truetime.Session(node.address, 5) as one, truetime.Session(node.path("socket"), 5) as other:
-        for session in (one, other):
-            session.now()
+    with contextlib.ExitStack() as doors:
+        for _ in range(2):
+            doors.enter_context(truetime.Session(node.address, 5)).now()
         get(port, "/metrics")
-        waits_for(trial, notes, "poll", "first", "look", others=[(1, 30 * MILLISECOND)])
+        # What went by since the start is left out of the wait for the first publication.
+        waits_for(trial, notes, "poll", "look", others=[(1, 30 * MILLISECOND), (TIMES["look"] + MILLISECOND, TIMES["first"])])
+    is_near(trial, "first", notes.waits("poll"))
     patience = (TIMES["page"] - TIMES["page"] // 4, TIMES["page"])
     waits_for(trial, notes, "receive", "read", others=[patience])
     waits_for(trial, notes, "send", "write", others=[patience])
@@ -85,9 +93,23 @@ def waits_of_machines(trial):
         longest = max(notes.waits(kind), default=0)
         trial.check("time page", patience[0] <= longest <= patience[1], f"an answer may {kind} for {longest} ns")
     waits_for(trial, notes, "park", "records", others=[(70 * MILLISECOND, 70 * MILLISECOND)])
-    for what in node.ends():
+
+
+@suite.case()
+def waits_at_the_end(trial):
+    """Where standard error takes no line, a machine looks for a fifth of a second whether it does, and then ends all the same."""
+    node, notes = trial.node(trial.scripts(honest)), Notes(trial, "machine")
+    node.environment = notes.environment
+    reading, writing = full_pipe()
+    node.run(stderr=writing)
+    node.wait_until_ready()
+    for what in node.ends(2):
         trial.check("time end look", False, what)
     waits_for(trial, notes, "sleep", "end look")
+    looks = sum(words[0] == "sleep" for words in notes.calls())
+    trial.between("time end look", 2, looks, SECOND // 5 // TIMES["end look"])
+    for door in (reading, writing):
+        os.close(door)
 
 
 @suite.case()
@@ -98,12 +120,6 @@ def waits_before_a_publication(trial):
     node.run()
     waits_for(trial, notes, "park", "quick round", "records", others=[(1300 * MILLISECOND, 1300 * MILLISECOND)])
     trial.check("time quick round", eventually(lambda: 1300 * MILLISECOND in notes.waits("park")), f"{notes.waits('park')}")
-
-
-def is_near(trial, name, waits):
-    """The longest wait for a connection is as long, less what went by."""
-    longest = max(waits, default=0)
-    trial.check(f"time {name}", TIMES[name] - SECOND <= longest <= TIMES[name], f"{waits}, and {TIMES[name]} is wanted")
 
 
 @suite.case()
