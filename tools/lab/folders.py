@@ -35,6 +35,8 @@ UNITS = {".master": "truetime-master@.service", ".toml": "truetime@.service"}
 #: What a host has of this computer's /etc.
 SHARED_ETC = ("passwd", "group", "ld.so.cache", "localtime")
 READY_S = 20.0
+#: The columns of a row, and what it says of a reading that does not hold the time.
+HEAD, WRONG = ("machine", "width, ms", "right", "sources heard"), "no: wrong"
 #: Goes on with its own folders in place of this computer's.
 MOUNT = 'mount --bind "$0/etc" /etc && mount --bind "$0/run" /run && mount --bind "$0/lib" /var/lib && exec "$@"'
 
@@ -131,7 +133,7 @@ class Instance(OnHost):
         low, high = map(int, words[1:])
         known = self.numbers().get("truetime_sources_known")
         is_right = low <= time.time_ns() and before <= high
-        return self.name, f"{(high - low) / 1e6:.2f}", "yes" if is_right else "no: wrong", "-" if known is None else str(known)
+        return self.name, f"{(high - low) / 1e6:.2f}", "yes" if is_right else WRONG, "-" if known is None else str(known)
 
 
 class Folder(Lab):
@@ -175,7 +177,7 @@ class Folder(Lab):
         while True:
             rows = [machine.row() for machine in machines]
             if all(row[2] == "yes" for row in rows) or time.monotonic() > end:
-                return [("machine", "width, ms", "right", "sources heard"), *rows]
+                return [HEAD, *rows]
             time.sleep(0.2)
 
 

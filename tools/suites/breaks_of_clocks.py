@@ -1,10 +1,11 @@
 """Scenarios of the suite `breaks`: clocks that stand still, jump or run fast, hosts that sleep, and guests that are disrupted."""
+import contextlib
 import os
 import random
 import signal
 import time
 
-from harness.processes import SECOND
+from harness.processes import SECOND, truetime
 from harness.program import read, write
 from harness.trouble import disrupt, page
 from suites.breaks import suite
@@ -118,16 +119,36 @@ def clock_jumps_ahead(trial):
     yield from world.goes_on_rightly()
 
 
+def show(world, since, until):
+    """Whether two publications of this time, one behind the other, show that the clock is fast: by what it gained they are narrow."""
+    kept = {}
+    with world.node.client() as client:
+        while time.time_ns() < until and not world.unit.ends:
+            with contextlib.suppress(truetime.Refused):
+                one = client.read()
+                if one.number not in kept and time.time_ns() > since + SECOND // 5:
+                    kept[one.number] = one
+            time.sleep(0.005)
+    for number, one in kept.items():
+        if other := kept.get(number + 1):
+            gained = (other.clock_ns - one.clock_ns) * FAST // 1_000_000
+            if gained > 2 * (one.hi_ns - one.lo_ns + other.hi_ns - other.lo_ns):
+                return True
+    return False
+
+
 @suite.case()
 def clock_runs_fast(trial):
-    """By 1 %, 50 times the drift. Narrow masters are a fifth of a millisecond wide, and it gains one in a round."""
+    """By 1 %, 50 times the drift. Narrow masters are a fiftieth of a millisecond wide, and it gains one in a round: it is noticed soon, or, where
+    answers are late, before two narrow publications show it."""
     masters = [trial.master(source, uncertainty=10_000) for source in range(3)]
     world = World(trial, masters, poll="100ms")
     since = world.spoils.turn(FAST)
+    is_shown = show(world, since, since + 4 * SECOND)
     line = world.line("assumption_broken", since)
     took = (line["time"] - since) / SECOND if line else 0
     trial.note(f"it was noticed {took:.2f} seconds later")
-    if not line or took > 0.5:
+    if not line or took > 0.5 and is_shown:
         yield f"it was noticed {took:.2f} seconds later: {line}"
     elif world.end(line["time"])[1] != 3:
         yield f"the life ended with status {world.end(line['time'])[1]}"

@@ -10,7 +10,7 @@ import typing
 from harness.processes import SECOND, truetime
 from harness.program import read_text, run
 from harness.trial import Trial
-from harness.trouble import Fake, Spoils
+from harness.trouble import Fake, Spoils, honest
 from suites.wiring_checks import eventually
 
 MILLISECOND = SECOND // 1000
@@ -19,8 +19,9 @@ BROKEN = 3
 # What sessions may be told of a machine that breaks, ends, or has not published: 801, 1822 and 1823; and 1104 where they then begin another
 # commit, while that which was refused is pending.
 OF_A_BREAK = {801, 1104, 1822, 1823}
-# How soon the first reading of the next life has to come: a tenth of a second of it is the pause of the start.
-BACK_NS = 300 * MILLISECOND
+# How soon the first reading of the next life has to come: a tenth of a second of it is the pause of the start. Where the host is busy, it may
+# take so many times as long as the start of another machine at that time.
+BACK_NS, PAUSE_NS, TIMES_AS_LONG = 300 * MILLISECOND, 100 * MILLISECOND, 4
 
 
 class Breaks(Trial):
@@ -171,6 +172,16 @@ class World:
         ran = run([self.node.program, "read", self.node.path("shared")], env=self.spoils.environment)
         return ran.said, "stale" in ran.error
 
+    def start_of_another(self):
+        """How long a start may take now, which is measured by another machine over masters of its own."""
+        took = []
+        for name in ("first", "second"):
+            began, node = time.monotonic_ns(), self.trial.running_node(self.trial.fakes(*[honest] * 3), name, poll="25ms", wait="50ms")
+            took.append(time.monotonic_ns() - began)
+            node.kill()
+        self.trial.note(f"another machine starts in {' and '.join(f'{ns / MILLISECOND:.0f}' for ns in took)} ms")
+        return PAUSE_NS + TIMES_AS_LONG * max(took)
+
     # What a break has to look like.
 
     def breaks(self, event, since, rounds, began=None):
@@ -199,7 +210,7 @@ class World:
             yield f"after the epochs {epochs} it started {started}"
             return
         first = eventually(lambda: next((got for got in self.users.readings if got.before >= ended), None), 5)
-        if not first or first.is_wrong or first.after - ended > BACK_NS:
+        if not first or first.is_wrong or first.after - ended > BACK_NS and first.after - ended > self.start_of_another():
             yield f"the first reading after the end at {ended} is {first}"
         self.trial.note(f"the life ended {(ended - told) / MILLISECOND:.0f} ms after the line, and the next one reads "
                         f"{first and (first.after - ended) / MILLISECOND:.0f} ms later")
