@@ -63,7 +63,7 @@ NOT_BY_INSTALL = re.compile(r"usr/share/(pkgconfig|cmake)/|usr/lib/python3")
 
 def build(trial, folder, **env):
     """The packages, made into a folder."""
-    ran = run([in_top("packaging/build-deb"), trial.program, folder], seconds=100, env={**os.environ, **env}, cwd="/")
+    ran = run([in_top("packaging/build-deb"), trial.program, folder], seconds=300, env={**os.environ, **env}, cwd="/")
     if ran.status != 0:
         raise Fault(f"build-deb ends with status {ran.status}: {ran.said[-1500:]}{ran.error[-1500:]}")
     return ran.said.split()
