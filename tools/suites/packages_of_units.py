@@ -390,6 +390,8 @@ def by_systemd(trial):
     trial.equal("asked then", host.do(*ASK).status, 0)
     trial.check("status of a master", eventually(lambda: host.exists("run/truetime-master/m2/status.prom")), "none is written")
     trial.equal("timer", host.systemctl("is-active", TIMER)[0], "active")
+    try_owners(trial, host)
+    try_sandbox(trial, host)
     with Clients(host) as clients:
         time.sleep(0.5)
         trial.equal("reloads", {host.systemctl("reload", "truetime@a") for _ in range(RELOADS)}, {("", 0)})
@@ -402,11 +404,76 @@ def by_systemd(trial):
     try_standing(trial, host)
     host.do("kill", "-KILL", host.process())
     trial.check("killed", eventually(lambda: host.do(*ASK).status == 0), "it is not started again")
+    try_masters(trial, host)
     trial.equal("stop", host.systemctl("stop", "truetime@a"), ("", 0))
     age(host, 100)
     trial.equal("watch, stopped", host.systemctl("start", "truetime-watch@a"), ("", 0))
     trial.equal("stopped", host.systemctl("is-active", "truetime@a")[0], "inactive")
     trial.equal("timer, stopped", host.systemctl("is-active", TIMER)[0], "inactive")
+    try_bad_files(trial, host)
+
+
+# What lies where a machine and its masters run: kind and mode, owner and group.
+OWNERS = {
+    "/etc/truetime": "drwxr-xr-x root root", "/var/lib/truetime": "drwxr-xr-x root root", "/run/truetime": "drwxr-xr-x root root",
+    "/run/truetime-master": "drwxr-xr-x root root", "/run/truetime/a": "drwxr-xr-x truetime truetime",
+    "/var/lib/truetime/a": "drwx------ truetime truetime",
+    **{f"/var/lib/truetime/a/{name}": "-rw------- truetime truetime" for name in ("epoch", "lock")},
+    **{f"/run/truetime/a/{name}": "-rw-r--r-- truetime truetime" for name in ("time", "status.prom", "evidence")},
+    "/run/truetime/a/time.lock": "-rw------- truetime truetime", "/run/truetime/a/socket": "srwxr-xr-x truetime truetime",
+    **{f"/run/truetime-master/m{source}": "drwxr-xr-x truetime truetime" for source in range(3)},
+    **{f"/run/truetime-master/m{source}/status.prom": "-rw-r--r-- truetime truetime" for source in range(3)},
+}
+
+
+def try_owners(trial, host):
+    """Whose the files, folders and sockets of a machine and of its masters are, and who else may do what with them. There is no other one."""
+    folders = [path for path in OWNERS if path.endswith(("/truetime", "/truetime-master"))]
+    trial.check("evidence", eventually(lambda: host.exists("run/truetime/a/evidence")), "none is written")
+    found = host.do("find", *folders, "-printf", "%M %u %g %p\n").said.splitlines()
+    # A file is written beside the one that it replaces.
+    found = {path: rest for rest, _, path in (line.rpartition(" ") for line in found) if not path.endswith((".new", ".toml", ".master"))}
+    trial.equal("owners and modes", sorted((found.items() ^ OWNERS.items())), [])
+    said = host.do("journalctl", "--no-pager", "-o", "cat", "-u", "truetime@a").said
+    trial.check("log", "event=" in said, f"the journal has no line of the machine: {said[:300]!r}")
+    trial.equal("log: what others can write", re.findall(r"event=(\w+_loose)", said), [])
+
+
+def try_sandbox(trial, host):
+    """What the kernel lets the processes of the units do."""
+    for unit, limit in ("truetime@a", "16384"), ("truetime-master@m0", None):
+        process = host.systemctl("show", "-P", "MainPID", unit)[0]
+        status = dict(line.split(":\t", 1) for line in host.do("cat", f"/proc/{process}/status").said.splitlines() if ":\t" in line)
+        user = host.do("id", "-u", "truetime").said.strip()
+        trial.equal(f"{unit}: user", set(status.get("Uid", "").split()), {user})
+        trial.equal(f"{unit}: umask, new privileges, filter of calls", [status.get(key) for key in ("Umask", "NoNewPrivs", "Seccomp")], ["0022", "1", "2"])
+        trial.equal(f"{unit}: capabilities", {int(status.get(key, "1"), 16) for key in ("CapInh", "CapPrm", "CapEff", "CapBnd", "CapAmb")}, {0})
+        found = re.search(r"^Max open files +(\d+) +(\d+)", host.do("cat", f"/proc/{process}/limits").said, re.MULTILINE)
+        trial.check(f"{unit}: descriptors", found and limit in (None, found[1]) and limit in (None, found[2]), f"{found and found[0]}")
+
+
+def try_masters(trial, host):
+    """A master that is killed is started again, and the machine goes on meanwhile."""
+    def process():
+        return host.systemctl("show", "-P", "MainPID", "truetime-master@m0")[0]
+
+    before, machine = process(), host.process()
+    host.do("kill", "-KILL", before)
+    trial.check("a master that is killed", eventually(lambda: process() not in (before, "0")), "it is not started again")
+    trial.equal("the machine of a master that is killed", (host.process(), host.do(*ASK).status), (machine, 0))
+
+
+def try_bad_files(trial, host):
+    """What ends with status 2 is not started again: the file stays as it is."""
+    put(host, "machine = 9")
+    text = read_text(f"{host.root}/etc/truetime/m0.master")
+    write(f"{host.root}/etc/truetime/m0.master", text.replace("SOURCE=0", "SOURCE=-1").encode())
+    for unit in "truetime@a", "truetime-master@m0":
+        host.systemctl("stop", unit)
+        host.systemctl("start", unit)
+        is_failed = eventually(lambda unit=unit: host.systemctl("is-active", unit)[0] == "failed")
+        shown = sorted(host.systemctl("show", "-p", "ExecMainStatus", "-p", "NRestarts", unit)[0].split())
+        trial.equal(f"{unit}, with a bad file", (bool(is_failed), shown), (True, ["ExecMainStatus=2", "NRestarts=0"]))
 
 
 def try_standing(trial, host):
