@@ -1,0 +1,75 @@
+"""Each rule against a list that was written by hand: when an alert fires, how long that has to last, and whom it wakes."""
+import re
+
+from harness.program import read_text
+from suites.alerts import RULES, alerts_in, settings_in, suite
+
+STATUS = '{file=~".*truetime.*[.]prom"}'
+PAGE, TICKET, AT_ONCE = "page", "ticket", ""
+
+
+def risen(metric, in_time="5m"):
+    """That a counter has risen in this time."""
+    return f"increase(truetime_{metric}[{in_time}]) > 0"
+
+
+def not_within(metric, rounds=3):
+    """That an age is above so many rounds, or none."""
+    return f"truetime_{metric} unless truetime_{metric} <= {rounds} * scalar(truetime:round_seconds)"
+
+
+def against_hour(now, before, more):
+    """That what is now is above twice that of the hour before, and more."""
+    return f"{now} > {more} + 2 * {before}"
+
+
+MEAN = "rate(truetime_commit_wait_seconds_sum[{0}]) / rate(truetime_commit_wait_seconds_count[{0}])"
+WANTED = {
+    "TruetimeStatusOld": (f"timestamp(node_textfile_mtime_seconds{STATUS}) - node_textfile_mtime_seconds > 4 * scalar(truetime:round_seconds)",
+                          "1m", PAGE),
+    "TruetimeStatusGone": (f"last_over_time(node_textfile_mtime_seconds{STATUS}[1d]) unless node_textfile_mtime_seconds", "1m", PAGE),
+    "TruetimeAssumptionBroken": (risen("assumption_breaks_total", "15m"), AT_ONCE, PAGE),
+    "TruetimeRestarted": ("changes(truetime_epoch[15m]) > 0", AT_ONCE, TICKET),
+    "TruetimeEpochFell": ("resets(truetime_epoch[1d]) > 0", AT_ONCE, PAGE),
+    "TruetimeSourcesOld": (not_within("needed_answer_age_seconds"), "30s", PAGE),
+    "TruetimeRoundsStale": (risen("rounds_stale_total"), AT_ONCE, TICKET),
+    "TruetimeSourceOld": (not_within("source_answer_age_seconds"), "1m", TICKET),
+    "TruetimeClockRate": ("abs(truetime_source_clock_rate_ratio) - truetime_source_clock_rate_error_ratio > scalar(truetime:drift_ratio)",
+                          "1m", PAGE),
+    "TruetimeSourceSuspect": ("truetime_source_suspect == 1", "1m", TICKET),
+    "TruetimeNoTimePossible": (risen('fusions_refused_total{number="504"}'), AT_ONCE, PAGE),
+    "TruetimeFusionOld": (not_within("fusion_age_seconds"), "1m", PAGE),
+    "TruetimeTooFewSources": (risen('fusions_refused_total{number="701"}'), "1m", PAGE),
+    "TruetimeSourceRefused": (risen("source_rounds_refused_total"), AT_ONCE, TICKET),
+    "TruetimeAnswersRefused": (risen("answers_refused_total"), AT_ONCE, TICKET),
+    "TruetimePacketsUnsent": (risen("source_packets_unsent_total"), AT_ONCE, TICKET),
+    "TruetimePacketsUnopened": (risen("source_packets_unopened_total"), AT_ONCE, TICKET),
+    "TruetimeStrangers": (risen("strangers_total"), AT_ONCE, TICKET),
+    "TruetimeWide": ("truetime_width_seconds > 0.5 * scalar(truetime:max_width_seconds)", "15s", PAGE),
+    "TruetimeMasterSilent": (risen('master_unanswered_total{number=~"24.."}', "2m"), "2m", TICKET),
+    "TruetimeMasterWide": ("truetime_master_width_seconds > scalar(truetime:warn_width_seconds)", "1m", TICKET),
+    "TruetimeNotSharing": ("truetime_sharing == 0", "1m", TICKET),
+    "TruetimeSessionsFull": ("truetime_sessions_open > 0.45 * 320 * truetime_workers", "1m", TICKET),
+    "TruetimeConnectionsWaiting": ("truetime_connections_waiting > 0", "1m", TICKET),
+    "TruetimeCommitsWaiting": (against_hour("avg_over_time(truetime_commits_waiting[5m])", "avg_over_time(truetime_commits_waiting[1h] offset 5m)", 1),
+                               "5m", TICKET),
+    "TruetimeCommitWait": (against_hour(MEAN.format("5m"), MEAN.format("1h").replace("]", "] offset 5m"), 0.001), "5m", TICKET),
+    "TruetimeRecordsLeftOut": (risen("records_left_out_total"), AT_ONCE, TICKET),
+    "TruetimeLinesRefused": (risen("lines_refused_total"), AT_ONCE, TICKET),
+}
+SETTINGS = {"truetime:round_seconds", "truetime:drift_ratio", "truetime:max_width_seconds", "truetime:warn_width_seconds"}
+
+
+@suite.case()
+def list_of_rules(trial):
+    """Each alert: its expression, how long that has to hold, and its severity."""
+    text = read_text(RULES)
+    found = {}
+    for alert in alerts_in(text):
+        lasting, severity = re.search(r"^(?:for: (\w+)\n +)?labels: \{severity: (\w+)\}\n", alert.text).groups()
+        found[alert.name] = alert.expr, lasting or AT_ONCE, severity
+    trial.equal("alerts", list(found), list(WANTED))
+    for name, wanted in WANTED.items():
+        trial.equal(name, found.get(name), wanted)
+    trial.equal("settings", set(settings_in(text)), SETTINGS)
+    trial.note(f"{len(WANTED)} alerts; {len(trial.result.wrong)} wrong")
