@@ -131,12 +131,27 @@ def files(trial):
             if source and (f"{file}.gz" in found or file in found):
                 content = read(f"{root}/{file}") if file in found else gzip.decompress(read(f"{root}/{file}.gz"))
                 trial.check(file, content == read(source), f"it is not {source}")
-        modes = {file: stat.S_IMODE(os.stat(f"{root}/{file}").st_mode) for file in files_below(root)}
-        trial.equal(f"modes of {name}", {file: oct(mode) for file, mode in modes.items() if mode != (0o755 if file in PROGRAMS else 0o644)}, {})
+        trial.equal(f"modes of {name}", wrong_modes(root), {})
+        listed = [line.split(None, 2)[:2] for line in run(["dpkg-deb", "-c", path]).said.splitlines()]
+        trial.equal(f"owners of {name}", {owner for _, owner in listed}, {"root/root"})
     try_program(trial, f"{trial.room}/truetime/usr/bin/ttd")
-    trial.equal("install", run([in_top("packaging/install"), f"{trial.room}/by_hand"], env={**os.environ, "TTD": trial.program}).status, 0)
+    before = os.umask(0o077)
+    try:
+        trial.equal("install", run([in_top("packaging/install"), f"{trial.room}/by_hand"], env={**os.environ, "TTD": trial.program}).status, 0)
+    finally:
+        os.umask(before)
+    trial.equal("modes by packaging/install", wrong_modes(f"{trial.room}/by_hand/usr") | wrong_modes(f"{trial.room}/by_hand/etc"), {})
     wanted = {name.removesuffix(".gz").replace(UNITS, f"usr/{UNITS}") for of in FILES.values() for name in of if not NOT_BY_INSTALL.match(name)}
     trial.equal("files of packaging/install", set(files_below(f"{trial.room}/by_hand")), wanted)
+
+
+def wrong_modes(root):
+    """The modes of files and folders that are not as they should be: everybody may read, and nobody but the owner write."""
+    found = {os.path.relpath(os.path.join(at, name), root): os.lstat(os.path.join(at, name)).st_mode
+             for at, folders, names in os.walk(root) for name in (*folders, *names)}
+    programs = {name.removeprefix("usr/") if os.path.basename(root) == "usr" else name for name in PROGRAMS}
+    return {name: oct(mode) for name, mode in found.items()
+            if mode != (stat.S_IFDIR | 0o755 if stat.S_ISDIR(mode) else stat.S_IFREG | (0o755 if name in programs else 0o644))}
 
 
 def try_program(trial, made):
