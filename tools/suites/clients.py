@@ -1,7 +1,8 @@
 """Tests the readers and sessions of clients/: each is compiled without a warning, gives the answers that are wanted for the same
 vectors, the same files, mapped and not, a file that becomes shorter, and the same conversations with a stand-in for the service, and the C
 reader is put beside a writer that never pauses, also with the compiler's checks of addresses, undefined behaviour and threads. The cases
-of stampers are in clients_of_stampers.py. Sessions are put beside a machine that is killed and started again, too. Go has tests of its own,
+of stampers are in clients_of_stampers.py, those of what is opened and closed in clients_of_openings.py, and how long each of them waits in
+clients_of_waits.py. Sessions are put beside a machine that is killed and started again, too. Go has tests of its own,
 which are run in each way in which it is built, with checks of races, and beside a machine, and Python has some for asyncio.
 
 The readers run beside writers for 10 seconds, or as many as --seconds says. A language whose compiler is not here is left out, with a line
@@ -95,6 +96,22 @@ def vectors(seed, number):
         drift = chance.choice([0, 1, 200, 99_999, 100_000, chance.randrange(100_001)])
         usable = chance.choice([NO_LIMIT, NO_LIMIT, now, now + 1, max(now, 1) - 1, a_time(), chance.randrange(2**64)])
         yield clock, lo, hi, drift, usable, now
+
+
+def whole_vectors(tried):
+    """Each of these vectors with what a reading hands on, and what has to be said of all of it: until when the publication is no late one, its
+    life and number, and a time that is compared."""
+    chance = random.Random(3)
+    for numbers in tried:
+        answer, now = reading_at(*numbers), numbers[5]
+        valid = chance.choice([now, now + 1, max(now, 1) - 1, 0, NO_LIMIT, chance.randrange(2**64)])
+        valid, epoch, number = min(valid, NO_LIMIT), chance.randrange(2**64), chance.randrange(2**64)
+        ends = [int(end) for end in answer.split()] if not answer.startswith("refused") else [0, 0]
+        t = max(chance.choice(ends) + chance.choice([-1, 0, 1]), 0)
+        if not answer.startswith("refused"):
+            is_so = [now <= valid, t < ends[0], t > ends[1]]
+            answer += f" {epoch} {number} {'fresh' if is_so[0] else 'stale'} {' '.join('yes' if one else 'no' for one in is_so[1:])}"
+        yield (*numbers, valid, epoch, number, t), answer
 
 
 def index_of(count):
@@ -658,9 +675,8 @@ def languages(trial):
 @suite.case()
 def readers(trial):
     """Ageing by vectors, files and files that become shorter, in each language."""
-    tried = [numbers for numbers, _ in BY_HAND] + list(vectors(1, 20_000))
+    tried, wanted = zip(*whole_vectors([numbers for numbers, _ in BY_HAND] + list(vectors(1, 20_000))))
     lines = "".join(" ".join(map(str, numbers)) + "\n" for numbers in tried)
-    wanted = [reading_at(*numbers) for numbers in tried]
     for numbers, answer in BY_HAND:
         trial.check("by hand", answer == reading_at(*numbers), f"{numbers}: {answer} by hand, and {reading_at(*numbers)}")
     for name, words in trial.shared:

@@ -1,12 +1,15 @@
 /* probe.c: what the reader answers, for the tests.
  *
- *     probe vectors < LINES    for each line `CLOCK LO HI DRIFT USABLE_UNTIL NOW`, the reading `EARLIEST LATEST`, or `refused N`
+ *     probe vectors < LINES    for each line `CLOCK LO HI DRIFT USABLE_UNTIL NOW VALID_UNTIL EPOCH NUMBER T`, the reading
+ *                              `EARLIEST LATEST EPOCH NUMBER fresh|stale`, and whether T has passed and is ahead by it, `yes` or
+ *                              `no` each; or `refused N`
  *     probe open PATH          `published CLOCK LO HI VALID_UNTIL USABLE_UNTIL EPOCH NUMBER DRIFT` of the file, or `refused N`
  *     probe files < LINES      for each line `open PATH` the same of a file that is not mapped, and for `again` of that file now
  *     probe session < CALLS    for each call of a session, what it gives, `refused N`, `timed out`, `invalid` or `failed`.
  *                              The calls are `open tcp PORT MILLISECONDS`, `open unix PATH MILLISECONDS`, `now`, `after T`,
  *                              `before T`, `lease LO HI`, `begin FLOOR`, `wait`, `commit FLOOR`, `ask LINE`, `close`
  *     probe stamper < LINES    for each line what a stamper says; tools/suites/clients_of_stampers.py has the lines
+ *     probe openings < LINES   for each line what was opened or closed; tools/suites/clients_of_openings.py has the lines
  */
 #include "../truetime_session.h"
 
@@ -15,22 +18,25 @@
 #include <pthread.h>
 #include <stdlib.h>
 
-static void print_reading_at(const tt_publication *published, uint64_t now_ns) {
+static void print_reading_at(const tt_publication *published, uint64_t now_ns, uint64_t t_ns) {
     tt_reading reading;
     int refused = tt_read_at(published, now_ns, &reading);
     if (refused != 0)
         printf("refused %d\n", refused);
     else
-        printf("%" PRIu64 " %" PRIu64 "\n", reading.earliest_ns, reading.latest_ns);
+        printf("%" PRIu64 " %" PRIu64 " %" PRIu64 " %" PRIu64 " %s %s %s\n", reading.earliest_ns, reading.latest_ns,
+               reading.epoch, reading.number, reading.fresh ? "fresh" : "stale", tt_after(&reading, t_ns) ? "yes" : "no",
+               tt_before(&reading, t_ns) ? "yes" : "no");
 }
 
 static int try_vectors(void) {
     tt_publication p;
-    uint64_t now_ns;
+    uint64_t now_ns, t_ns;
     memset(&p, 0, sizeof p);
-    while (scanf("%" SCNu64 "%" SCNu64 "%" SCNu64 "%" SCNu64 "%" SCNu64 "%" SCNu64, &p.clock_ns, &p.lo_ns, &p.hi_ns,
-                 &p.drift_ppm, &p.usable_until_ns, &now_ns) == 6)
-        print_reading_at(&p, now_ns);
+    while (scanf("%" SCNu64 "%" SCNu64 "%" SCNu64 "%" SCNu64 "%" SCNu64 "%" SCNu64 "%" SCNu64 "%" SCNu64 "%" SCNu64 "%" SCNu64,
+                 &p.clock_ns, &p.lo_ns, &p.hi_ns, &p.drift_ppm, &p.usable_until_ns, &now_ns, &p.valid_until_ns, &p.epoch,
+                 &p.number, &t_ns) == 10)
+        print_reading_at(&p, now_ns, t_ns);
     return 0;
 }
 
@@ -273,12 +279,81 @@ static int try_stampers(void) {
     return 0;
 }
 
+/* What is opened many times: a reader, one with a stamper, or a session. */
+typedef struct opening {
+    tt_client client;
+    tt_stamper stamper;
+    tt_session session;
+} opening;
+
+enum { MOST_OPENINGS = 200, QUESTIONS = 3 };
+
+/* Opens what is named, and says whether that went well. */
+static bool open_one(opening *one, const char *kind, const char *where, int timeout_ms) {
+    memset(&one->client, 0, sizeof one->client);
+    memset(&one->session, 0, sizeof one->session);
+    one->session.socket = -1;
+    if (strcmp(kind, "tcp") == 0)
+        return tt_session_open_tcp(&one->session, "127.0.0.1", (uint16_t)strtoul(where, NULL, 10), timeout_ms) == 0;
+    if (strcmp(kind, "unix") == 0) return tt_session_open_unix(&one->session, where, timeout_ms) == 0;
+    if (strcmp(kind, "unmapped") == 0) return tt_open_unmapped(&one->client, where, geteuid()) == 0;
+    return tt_open(&one->client, where, geteuid()) == 0 &&
+           tt_stamper_open(&one->stamper, &one->client, 0, TT_MAX_TIME_NS) == 0;
+}
+
+/* How many questions it answers. */
+static int answers_of(opening *one, const char *kind) {
+    int answers = 0;
+    for (int turn = 0; turn < QUESTIONS; turn++) {
+        tt_reading reading;
+        tt_interval now;
+        tt_stamp stamp;
+        if (strcmp(kind, "stamper") == 0)
+            answers += tt_stamper_stamp(&one->stamper, 0, &stamp) == 0;
+        else if (one->session.length != 0)
+            answers += tt_session_now(&one->session, &now) == 0;
+        else
+            answers += tt_now(&one->client, &reading) == 0;
+    }
+    return answers;
+}
+
+static void close_one(opening *one) {
+    tt_session_close(&one->session);
+    tt_close(&one->client);
+}
+
+static int try_openings(void) {
+    static opening all[MOST_OPENINGS];
+    char line[512], kind[9], where[256];
+    int wanted, timeout_ms, count = 0;
+    while (fgets(line, sizeof line, stdin) != NULL) {
+        int opened = 0, answers = 0;
+        if (sscanf(line, "open %8s %255s %d %d", kind, where, &wanted, &timeout_ms) == 4 && wanted <= MOST_OPENINGS) {
+            for (count = 0; count < wanted; count++) {
+                bool is_open = open_one(&all[count], kind, where, timeout_ms);
+                opened += is_open;
+                if (is_open) answers += answers_of(&all[count], kind);
+            }
+            printf("%d opened, %d answers\n", opened, answers);
+        } else if (strcmp(line, "close\n") == 0) {
+            for (int place = 0; place < count; place++) close_one(&all[place]);
+            puts("closed");
+        } else {
+            puts("rested");
+        }
+        fflush(stdout);
+    }
+    return 0;
+}
+
 int main(int count, char **words) {
     if (count == 2 && strcmp(words[1], "vectors") == 0) return try_vectors();
     if (count == 3 && strcmp(words[1], "open") == 0) return try_file(words[2]);
     if (count == 2 && strcmp(words[1], "files") == 0) return try_files();
     if (count == 2 && strcmp(words[1], "session") == 0) return try_sessions();
     if (count == 2 && strcmp(words[1], "stamper") == 0) return try_stampers();
-    fprintf(stderr, "usage: probe vectors | probe open PATH | probe files | probe session | probe stamper\n");
+    if (count == 2 && strcmp(words[1], "openings") == 0) return try_openings();
+    fprintf(stderr, "usage: probe vectors | probe open PATH | probe files | probe session | probe stamper | probe openings\n");
     return 2;
 }

@@ -30,9 +30,12 @@ public final class Probe {
         long usable = Long.parseUnsignedLong(words[4]);
         // A clock reading past 2^63 shows as negative, and is refused like each one past the greatest time.
         long now = Long.parseUnsignedLong(words[5]);
+        long[] more = numbers(words, 6);
         try {
-            TrueTime.Reading found = new TrueTime.Publication(clock, lo, hi, 0, usable, 0, 0, drift).readAt(now);
-            return found.earliestNs() + " " + found.latestNs();
+            TrueTime.Reading found = new TrueTime.Publication(clock, lo, hi, more[0], usable, more[1], more[2], drift).readAt(now);
+            return found.earliestNs() + " " + found.latestNs() + " " + Long.toUnsignedString(found.epoch()) + " "
+                + Long.toUnsignedString(found.number()) + (found.fresh() ? " fresh" : " stale") + (found.after(more[3]) ? " yes" : " no")
+                + (found.before(more[3]) ? " yes" : " no");
         } catch (TrueTime.Refused refused) {
             return "refused " + refused.number();
         }
@@ -223,7 +226,77 @@ public final class Probe {
         }
     }
 
-    public static void main(String[] words) throws IOException, InterruptedException, ExecutionException {
+    private static final int QUESTIONS = 3;
+
+    /** A reader, one with a stamper, or a session. */
+    private static AutoCloseable openedOne(String[] words) throws IOException {
+        String user = System.getProperty("user.name");
+        switch (words[1]) {
+            case "unmapped":
+                return TrueTime.openUnmapped(Path.of(words[2]), user);
+            case "mapped":
+            case "stamper":
+                return TrueTime.open(Path.of(words[2]), user);
+            default:
+                return opened(words[1] + " " + words[2] + " " + words[4]);
+        }
+    }
+
+    /** How many questions it answers. */
+    private static int answers(AutoCloseable one, boolean isStamper) {
+        int answers = 0;
+        for (int turn = 0; turn < QUESTIONS; turn++) {
+            try {
+                if (one instanceof Session session) {
+                    session.now();
+                } else if (isStamper) {
+                    new Stamper((TrueTime) one).stamp(0);
+                } else {
+                    ((TrueTime) one).now();
+                }
+                answers++;
+            } catch (IOException | TrueTime.Refused failed) {
+                // It is not counted.
+            }
+        }
+        return answers;
+    }
+
+    private static String openedAll(String[] words, List<AutoCloseable> all) {
+        int answers = 0;
+        for (int turn = 0; turn < Integer.parseInt(words[3]); turn++) {
+            try {
+                all.add(openedOne(words));
+                answers += answers(all.get(all.size() - 1), words[1].equals("stamper"));
+            } catch (IOException | TrueTime.Refused failed) {
+                // It is not counted.
+            }
+        }
+        return all.size() + " opened, " + answers + " answers";
+    }
+
+    private static void tryOpenings(BufferedReader lines) throws Exception {
+        List<AutoCloseable> all = new ArrayList<>();
+        for (String line = lines.readLine(); line != null; line = lines.readLine()) {
+            String[] words = line.split(" ");
+            if (words[0].equals("open")) {
+                all.clear();
+                System.out.println(openedAll(words, all));
+            } else if (words[0].equals("close")) {
+                for (AutoCloseable one : all) {
+                    one.close();
+                }
+                System.out.println("closed");
+            } else {
+                // What is closed is kept until here, but for mapped readers: their memory goes with them.
+                all.removeIf(one -> one instanceof TrueTime);
+                System.gc();
+                System.out.println("rested");
+            }
+        }
+    }
+
+    public static void main(String[] words) throws Exception {
         if (words.length == 2 && words[0].equals("open")) {
             System.out.println(published(() -> TrueTime.open(Path.of(words[1]), System.getProperty("user.name"))));
             return;
@@ -239,6 +312,10 @@ public final class Probe {
         }
         if (words.length == 1 && words[0].equals("stamper")) {
             tryStampers(lines);
+            return;
+        }
+        if (words.length == 1 && words[0].equals("openings")) {
+            tryOpenings(lines);
             return;
         }
         StringBuilder answers = new StringBuilder();

@@ -1,5 +1,6 @@
 """What the reader answers, for the tests: as ../../c/test/probe.c. `probe.py asyncio` is the same for sessions of truetime.aio."""
 import asyncio
+import gc
 import inspect
 import os
 import pathlib
@@ -14,10 +15,11 @@ from truetime import aio  # noqa: E402
 
 def answer(lines):
     for line in lines:
-        clock, lo, hi, drift, usable, now = map(int, line.split())
+        clock, lo, hi, drift, usable, now, valid, epoch, number, t = map(int, line.split())
         try:
-            reading = truetime.Publication(clock, lo, hi, 0, usable, 0, 0, drift).read_at(now)
-            print(reading.earliest_ns, reading.latest_ns)
+            reading = truetime.Publication(clock, lo, hi, valid, usable, epoch, number, drift).read_at(now)
+            print(reading.earliest_ns, reading.latest_ns, reading.epoch, reading.number, "fresh" if reading.fresh else "stale",
+                  *("yes" if is_so else "no" for is_so in (reading.after(t), reading.before(t))))
         except truetime.Refused as refused:
             print("refused", refused.number)
 
@@ -160,6 +162,61 @@ def try_stampers(lines):
             print("refused", refused.number, flush=True)
 
 
+QUESTIONS = 3
+
+
+class Opening:
+    """A reader, one with a stamper, or a session, and how many questions it answered."""
+
+    def __init__(self, loop, kind, where, timeout_s):
+        self.loop = loop
+        address = where if kind == "unix" else ("127.0.0.1", int(where)) if kind == "tcp" else None
+        if address and loop:
+            self.opened = loop.run_until_complete(aio.Session.connect(address, timeout_s))
+        elif address:
+            self.opened = truetime.Session(address, timeout_s)
+        else:
+            self.opened = truetime.Client(where, os.geteuid(), mapped=kind != "unmapped")
+        self.ask = truetime.Stamper(self.opened).stamp if kind == "stamper" else self.opened.now
+        self.answers = sum(map(self.answer, range(QUESTIONS)))
+
+    def made(self, given):
+        return self.loop.run_until_complete(given) if inspect.isawaitable(given) else given
+
+    def answer(self, _):
+        try:
+            return bool(self.made(self.ask()))
+        except (truetime.Refused, OSError):
+            return False
+
+    def close(self):
+        self.made(self.opened.close())
+
+
+def try_openings(loop, lines):
+    opened = []
+    for line in lines:
+        name, *words = line.split()
+        if name == "open":
+            kind, where, number, milliseconds = words
+            opened = []
+            for _ in range(int(number)):
+                try:
+                    opened.append(Opening(loop, kind, where, int(milliseconds) / 1000))
+                except (truetime.Refused, OSError):
+                    pass
+            print(len(opened), "opened,", sum(one.answers for one in opened), "answers", flush=True)
+        elif name == "close":
+            for one in opened:
+                one.close()
+            print("closed", flush=True)
+        else:
+            gc.collect()
+            print("rested", flush=True)
+    if loop:
+        loop.close()
+
+
 if sys.argv[1:] == ["vectors"]:
     answer(sys.stdin)
 elif len(sys.argv) == 3 and sys.argv[1] == "open":
@@ -172,5 +229,10 @@ elif sys.argv[1:] == ["asyncio", "session"]:
     try_sessions(aio.Session, sys.stdin)
 elif sys.argv[1:] == ["stamper"]:
     try_stampers(sys.stdin)
+elif sys.argv[1:] == ["openings"]:
+    try_openings(None, sys.stdin)
+elif sys.argv[1:] == ["asyncio", "openings"]:
+    try_openings(asyncio.new_event_loop(), sys.stdin)
 else:
-    sys.exit("usage: probe.py vectors | probe.py open PATH | probe.py files | probe.py [asyncio] session | probe.py stamper")
+    sys.exit("usage: probe.py vectors | probe.py open PATH | probe.py files | probe.py [asyncio] session | probe.py stamper | "
+             "probe.py [asyncio] openings")

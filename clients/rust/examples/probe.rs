@@ -14,10 +14,17 @@ fn answer_vectors() -> io::Result<()> {
     let mut out = BufWriter::new(io::stdout().lock());
     for line in io::stdin().lines() {
         let numbers: Vec<u64> = line?.split(' ').map(|word| word.parse().expect("a number")).collect();
-        let [clock_ns, lo_ns, hi_ns, drift_ppm, usable_until_ns, now_ns] = numbers[..] else { panic!("six numbers") };
-        let published = Publication { clock_ns, lo_ns, hi_ns, valid_until_ns: 0, usable_until_ns, epoch: 0, number: 0, drift_ppm };
+        let [clock_ns, lo_ns, hi_ns, drift_ppm, usable_until_ns, now_ns, valid_until_ns, epoch, number, t_ns] = numbers[..] else {
+            panic!("ten numbers")
+        };
+        let published = Publication { clock_ns, lo_ns, hi_ns, valid_until_ns, usable_until_ns, epoch, number, drift_ppm };
+        let yes_or_no = |answer| if answer { "yes" } else { "no" };
         match published.read_at(now_ns) {
-            Ok(reading) => writeln!(out, "{} {}", reading.earliest_ns, reading.latest_ns)?,
+            Ok(reading) => {
+                let fresh = if reading.fresh { "fresh" } else { "stale" };
+                write!(out, "{} {} {} {} {fresh} ", reading.earliest_ns, reading.latest_ns, reading.epoch, reading.number)?;
+                writeln!(out, "{} {}", yes_or_no(reading.after(t_ns)), yes_or_no(reading.before(t_ns)))?
+            }
             Err(refused) => writeln!(out, "refused {}", refused.number())?,
         }
     }
@@ -196,6 +203,60 @@ fn try_stampers() -> io::Result<()> {
     Ok(())
 }
 
+/// What is opened many times.
+enum Opening {
+    Reader(Client),
+    Stamper(Stamper),
+    Session(Session),
+}
+
+const QUESTIONS: usize = 3;
+
+impl Opening {
+    fn new(kind: &str, place: &str, milliseconds: &str) -> Option<Opening> {
+        Some(match kind {
+            "mapped" => Opening::Reader(Client::open(place, user().ok()?).ok()?),
+            "unmapped" => Opening::Reader(Client::open_unmapped(place, user().ok()?).ok()?),
+            "stamper" => Opening::Stamper(Stamper::new(Client::open(place, user().ok()?).ok()?)),
+            _ => Opening::Session(open_session(&format!("{kind} {place} {milliseconds}")).ok()?),
+        })
+    }
+
+    /// How many questions it answers.
+    fn answers(&mut self) -> usize {
+        let mut answers = 0;
+        for _ in 0..QUESTIONS {
+            answers += usize::from(match self {
+                Opening::Reader(client) => client.now().is_ok(),
+                Opening::Stamper(stamper) => stamper.stamp(0).is_ok(),
+                Opening::Session(session) => session.now().is_ok(),
+            });
+        }
+        answers
+    }
+}
+
+fn try_openings() -> io::Result<()> {
+    let mut opened = Vec::new();
+    for line in io::stdin().lines() {
+        let line = line?;
+        match line.split(' ').collect::<Vec<_>>()[..] {
+            ["open", kind, place, number, milliseconds] => {
+                let number = number.parse().expect("a number");
+                opened = (0..number).filter_map(|_| Opening::new(kind, place, milliseconds)).collect();
+                let answers: usize = opened.iter_mut().map(Opening::answers).sum();
+                println!("{} opened, {answers} answers", opened.len());
+            }
+            ["close"] => {
+                opened.clear();
+                println!("closed");
+            }
+            _ => println!("rested"),
+        }
+    }
+    Ok(())
+}
+
 fn main() -> io::Result<()> {
     let words: Vec<String> = env::args().skip(1).collect();
     match words.iter().map(String::as_str).collect::<Vec<_>>()[..] {
@@ -207,6 +268,7 @@ fn main() -> io::Result<()> {
         ["files"] => try_files(),
         ["session"] => try_sessions(),
         ["stamper"] => try_stampers(),
-        _ => panic!("usage: probe vectors | probe open PATH | probe files | probe session | probe stamper"),
+        ["openings"] => try_openings(),
+        _ => panic!("usage: probe vectors | probe open PATH | probe files | probe session | probe stamper | probe openings"),
     }
 }

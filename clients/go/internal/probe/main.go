@@ -7,6 +7,7 @@ import (
 	"errors"
 	"fmt"
 	"os"
+	"runtime"
 	"strconv"
 	"strings"
 	"sync"
@@ -30,8 +31,10 @@ func main() {
 		trySessions(lines)
 	case len(words) == 1 && words[0] == "stamper":
 		tryStampers(lines)
+	case len(words) == 1 && words[0] == "openings":
+		tryOpenings(lines)
 	default:
-		fmt.Fprintln(os.Stderr, "usage: probe vectors | probe open PATH | probe files | probe session | probe stamper")
+		fmt.Fprintln(os.Stderr, "usage: probe vectors | probe open PATH | probe files | probe session | probe stamper | probe openings")
 		os.Exit(2)
 	}
 }
@@ -41,9 +44,12 @@ func tryVectors(lines *bufio.Scanner) {
 	defer out.Flush()
 	for lines.Scan() {
 		n := numbers(lines.Text())
-		publication := truetime.Publication{Clock: n[0], Lo: n[1], Hi: n[2], Drift: n[3], UsableUntil: n[4]}
+		publication := truetime.Publication{
+			Clock: n[0], Lo: n[1], Hi: n[2], Drift: n[3], UsableUntil: n[4], ValidUntil: n[6], Epoch: n[7], Number: n[8]}
 		reading, err := publication.At(n[5])
-		fmt.Fprintln(out, said(fmt.Sprint(reading.Earliest, reading.Latest), err))
+		fresh, yes := map[bool]string{true: "fresh", false: "stale"}, map[bool]string{true: "yes", false: "no"}
+		fmt.Fprintln(out, said(fmt.Sprintln(reading.Earliest, reading.Latest, reading.Epoch, reading.Number, fresh[reading.Fresh],
+			yes[reading.After(n[9])], yes[reading.Before(n[9])]), err))
 	}
 }
 
@@ -253,6 +259,80 @@ func stampInGoroutines(out *bufio.Writer, stamper *truetime.Stamper, goroutines,
 		}
 	}
 	fmt.Fprintln(out, "end")
+}
+
+const questions = 3
+
+// An opening is a reader, one with a stamper, or a session: how to ask it the time, and how to close it.
+type opening struct {
+	ask   func() error
+	close func() error
+}
+
+func openOne(kind, where string, timeout time.Duration) (opening, error) {
+	owner := uint32(os.Geteuid())
+	switch kind {
+	case "mapped", "stamper", "unmapped":
+		open := map[bool]func(string, uint32) (*truetime.Client, error){true: truetime.OpenUnmapped, false: truetime.Open}[kind == "unmapped"]
+		client, err := open(where, owner)
+		if err != nil {
+			return opening{}, err
+		}
+		stamper := truetime.NewStamper(client)
+		ask := func() error { _, err := client.Now(); return err }
+		if kind == "stamper" {
+			ask = func() error { _, err := stamper.Stamp(0); return err }
+		}
+		return opening{ask, client.Close}, nil
+	}
+	session, err := dial(kind, where, timeout)
+	if err != nil {
+		return opening{}, err
+	}
+	return opening{func() error { _, err := session.Now(context.Background()); return err }, session.Close}, nil
+}
+
+// openAll opens as many as a line wants, and counts what they answer.
+func openAll(kind, where string, count int, timeout time.Duration) (all []opening, answers int) {
+	for turn := 0; turn < count; turn++ {
+		one, err := openOne(kind, where, timeout)
+		if err != nil {
+			continue
+		}
+		all = append(all, one)
+		for question := 0; question < questions; question++ {
+			if one.ask() == nil {
+				answers++
+			}
+		}
+	}
+	return all, answers
+}
+
+// tryOpenings keeps what it closed: nothing of it may need the collector, but for the memory that Close let go.
+func tryOpenings(lines *bufio.Scanner) {
+	var all []opening
+	for lines.Scan() {
+		words := strings.Fields(lines.Text())
+		switch words[0] {
+		case "open":
+			var answers int
+			all, answers = openAll(words[1], words[2], int(number(words[3])), time.Duration(number(words[4]))*time.Millisecond)
+			fmt.Printf("%d opened, %d answers\n", len(all), answers)
+		case "close":
+			for _, one := range all {
+				one.close()
+			}
+			fmt.Println("closed")
+		default:
+			runtime.GC()
+			for turn := 0; turn < 100 && runtime.NumGoroutine() > 1; turn++ {
+				time.Sleep(10 * time.Millisecond)
+			}
+			fmt.Println(map[bool]string{true: "rested", false: "goroutines are left"}[runtime.NumGoroutine() == 1])
+			runtime.KeepAlive(all)
+		}
+	}
 }
 
 func numbers(line string) (n []uint64) {

@@ -1,0 +1,198 @@
+"""Cases of the suite `clients`: no wait is longer than it has to be, in each language.
+
+A wait is judged by a sleep of the same length beside it, which this process makes with a question to the same probe. The host may be busy, so
+one of many tries has to be short enough; where none is, the shortest of the waits counts against the shortest of the sleeps. No wait ends
+early.
+"""
+import os
+import socket
+import threading
+import time
+from concurrent.futures import ThreadPoolExecutor
+
+from suites.clients import MAX, Reader, session_probes, suite
+from suites.clients_of_openings import Answering, Listening
+from suites.clients_of_stampers import Shared
+
+# How much longer than a sleep a wait may be, and how often that is tried.
+MORE, TRIES = 1.5, 40
+MS = 1_000_000
+
+
+def tried(length_ms, call, question):
+    """The shortest of these calls, and of sleeps of that length with a question, in milliseconds: of as many tries as it takes."""
+    shortest, beside = 10**9, 10**9
+    for _ in range(TRIES):
+        began = time.monotonic()
+        call()
+        called = time.monotonic()
+        time.sleep(length_ms / 1000)
+        question()
+        shortest, beside = min(shortest, 1000 * (called - began)), min(beside, 1000 * (time.monotonic() - called))
+        if shortest <= MORE * length_ms:
+            break
+    return shortest, beside
+
+
+def judge(trial, what, length_ms, call, question, least_ms=None):
+    """Tries a call that has to take so long, or at least that much of it, and no longer."""
+    shortest, beside = tried(length_ms, call, question)
+    least_ms = length_ms if least_ms is None else least_ms
+    is_right = least_ms <= shortest <= MORE * max(length_ms, beside if beside < 10**9 else 0)
+    trial.check(what, is_right, f"{shortest:.1f} ms, beside a sleep of {length_ms} ms that took {beside:.1f}")
+
+
+def wants(trial, what, say, line, wanted):
+    said = say(line)
+    trial.check(what, said == wanted, f"{line}: {said!r} in place of {wanted!r}")
+
+
+def stamp_and_wait(trial, what, say):
+    """A commit that waits for its own stamp."""
+    stamp = say("stamp 0").split()[1]
+    wants(trial, what, say, f"wait {stamp} 60000", "yes")
+
+
+def wait_ahead(trial, what, say, shared, ahead_ms):
+    """A wait for a stamp that is so far ahead of the earliest."""
+    wants(trial, what, say, f"wait {shared.now() + ahead_ms * MS} 60000", "yes")
+
+
+def wait_for_publication(trial, what, say, shared, after_ms):
+    """A wait that is over by a publication that comes so long after its beginning."""
+    shared.publish()
+    stamp = shared.now() + 60_000 * MS
+    later = threading.Timer(after_ms / 1000, lambda: shared.publish(ahead=90_000 * MS))
+    later.start()
+    wants(trial, what, say, f"wait {stamp} 10000", "yes")
+    later.join()
+
+
+def try_stamper(trial, name, words):
+    """The waits of a stamper."""
+    path = os.path.join(trial.room, "waits")
+    with Shared(path) as shared, Reader(words, "stamper") as probe:
+        late = threading.Timer(120, probe.probe.kill)
+        late.start()
+        say = probe.say
+        wants(trial, name, say, f"open {path} 0 {MAX}", "open")
+        shared.publish()
+        for _ in range(200):  # until a runtime has compiled what it runs often
+            say("past 0")
+
+        def question():
+            say("past 0")
+
+        for width_ms in 4, 10, 30:
+            what = f"{name}: a commit, where readings are {width_ms} ms wide"
+            shared.publish(early=width_ms * MS // 2, late=width_ms * MS // 2)
+            judge(trial, what, width_ms, lambda what=what: stamp_and_wait(trial, what, say), question)
+        shared.publish()
+        for ahead_ms in 5, 20, 70:
+            what = f"{name}: {ahead_ms} ms ahead"
+            judge(trial, what, ahead_ms, lambda what=what, ahead_ms=ahead_ms: wait_ahead(trial, what, say, shared, ahead_ms), question)
+        for timeout_ms in 5, 20, 70:
+            what = f"{name}: a time-out of {timeout_ms} ms"
+            judge(trial, what, timeout_ms, lambda what=what, ms=timeout_ms: wants(trial, what, say, f"wait {MAX} {ms}", "no"), question)
+        what = f"{name}: what has passed"
+        judge(trial, what, 5, lambda: wants(trial, what, say, f"wait {shared.now() - MS} 60000", "yes"), question, 0)
+        what_later = f"{name}: a new publication"
+        # A stamper looks each 50 milliseconds: it is over at the end of the first sleep.
+        judge(trial, what_later, 50, lambda: wait_for_publication(trial, what_later, say, shared, 10), question, 20)
+        late.cancel()
+
+
+@suite.case()
+def waits_of_stampers(trial):
+    """Commit waits are as long as readings are wide, others as long as the stamp is ahead or the time-out."""
+    for name, words in trial.shared:
+        before = len(trial.result.wrong)
+        try_stamper(trial, name, words)
+        trial.note(f"{name}: {len(trial.result.wrong) - before} wrong")
+
+
+# Sessions.
+
+class Releasing(Answering):
+    """A session whose commits are released 30 milliseconds after they began, but for the one that `never` names. It keeps how long a line came
+    after the reply to the same one: from the third time on, since a wait begins with a line."""
+    wait_s = 0.03
+
+    def handle(self):
+        begun, told = {}, {}
+        for line in self.rfile:
+            number, now = line.split()[1], time.monotonic()
+            if number in told and number != self.server.never:
+                self.server.pauses.append(1000 * (now - told[number]))
+            is_over = now > begun.get(number, now) + self.wait_s and number != self.server.never
+            if number in begun:
+                told[number] = time.monotonic()
+            begun.setdefault(number, now)
+            self.wfile.write(b"%s %s 200\n" % (b"committed" if is_over else b"waiting", number))
+
+
+TIMEOUT_MS = 150
+# What the system may take off a time-out, since it counts in ticks.
+TICK_MS = 11
+COMMITS = 5
+
+
+def shortest_sleep_ms(sleeps):
+    """The shortest of so many sleeps of a millisecond, in milliseconds."""
+    began = [time.monotonic()]
+    for _ in range(sleeps):
+        time.sleep(0.001)
+        began.append(time.monotonic())
+    return 1000 * min(later - earlier for earlier, later in zip(began, began[1:]))
+
+
+def try_pauses(trial, what, say, releasing):
+    """Commits that wait, whose lines come a millisecond behind the reply before."""
+    for _ in range(COMMITS):
+        wants(trial, what, say, "commit 0", "200")
+    pauses, beside = sorted(releasing.pauses), shortest_sleep_ms(20)
+    trial.check(what, len(pauses) >= COMMITS // 2 and 0.95 <= pauses[0] <= 3 * beside,
+                f"{len(pauses)} lines came again, after {pauses[:3]} ms at the soonest, beside a sleep that took {beside:.1f}")
+
+
+def try_session(trial, name, words, silent, full):
+    """The waits of a session: of its time-outs, and between its lines."""
+    with Listening(Releasing) as releasing, Reader(words, "session") as probe:
+        late = threading.Timer(120, probe.probe.kill)
+        late.start()
+        releasing.pauses, releasing.never, say = [], b"%d" % (COMMITS + 1), probe.say
+        wants(trial, name, say, f"open tcp {releasing.server_address[1]} {TIMEOUT_MS}", "open")
+        try_pauses(trial, f"{name}: lines of a wait", say, releasing)
+        wants(trial, name, say, "begin 0", "200")
+        ways = {"no release in time": "wait", "no reply in time": "now", "no connection in time": f"open tcp {full} {TIMEOUT_MS}"}
+        for what, line in ways.items():
+            if line == "now":
+                wants(trial, name, say, "close", "closed")
+                wants(trial, name, say, f"open tcp {silent} {TIMEOUT_MS}", "open")
+            what = f"{name}: {what}"
+            judge(trial, what, TIMEOUT_MS, lambda what=what, line=line: wants(trial, what, say, line, "timed out"), lambda: None,
+                  TIMEOUT_MS - TICK_MS)
+        late.cancel()
+
+
+class Silent(Answering):
+    """A session without replies."""
+    reply = b""
+
+
+@suite.case()
+def waits_of_sessions(trial):
+    """Time-outs of connecting, of a reply and of a release are no longer than was said, and a commit is asked for each millisecond."""
+    with Listening(Silent) as silent, socket.socket() as full, ThreadPoolExecutor() as pool:
+        full.bind(("127.0.0.1", 0))
+        full.listen(0)
+        waiting = [socket.socket() for _ in range(3)]  # from then on nobody is let in
+        for one in waiting:
+            one.setblocking(False)
+            one.connect_ex(full.getsockname())
+        ports = silent.server_address[1], full.getsockname()[1]
+        probes = list(session_probes(trial.shared))
+        list(pool.map(lambda probe: try_session(trial, *probe, *ports), probes))
+        for one in waiting:
+            one.close()
+    trial.note(f"{len(probes)} kinds of sessions; {len(trial.result.wrong)} wrong")
