@@ -3,3 +3,4 @@ pub mod Running
 pub mod Waiting
 pub mod Fusing
 pub mod Words
+pub mod Exchanging

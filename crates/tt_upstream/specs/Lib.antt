@@ -5,3 +5,4 @@ pub mod Span
 pub mod Run
 pub mod Fused
 pub mod KeyFile
+pub mod Exchange

@@ -6,10 +6,9 @@
 //!
 //! ```text
 //! let mut server = Server::new(plan);
-//! if server.is_due(now) {                    // send `encode_request(nonce)`, with a nonce that nobody can guess
-//!     server.ask(nonce, now);
+//! if server.is_due(now) {
+//!     ask_once(&mut line, None, wait, &mut server);  // sends `encode_request(nonce)`, and hears the packets that come
 //! }
-//! server.hear(&bytes, None, now)?;           // the bytes that came, and when
 //! let span = server.span(now)?;
 //! ```
 //!
@@ -18,12 +17,14 @@
 //!
 //! - `plans`: how servers are asked, and what is assumed of them.
 //! - `news`: what a request and its reply leave. `leaps`: leap seconds. `refusals`: what a refusal means. `tallies`: counts.
+//! - `exchanges`: one request and its reply, over any line to the server: [`ask_once`].
 //! - `servers`: what is known of one server. `spans`: what it says. `together`: what several say. `laws`: laws of whole runs.
 //! - `waits`: what is waited for. `key_files`: the key of a server, in a text as chrony's file of keys.
 //!
 //! All times are in nanoseconds. Nothing here takes memory, reads a clock or holds a socket.
 #![tactic(auto)]
 
+mod exchanges;
 mod key_files;
 mod laws;
 mod leaps;
@@ -36,6 +37,7 @@ mod tallies;
 mod together;
 mod waits;
 
+pub use exchanges::{Exchange, Line, RECEIVED_LEN, Receipt, ask_once};
 pub use key_files::{NtpKeyFault, packet_key_of};
 pub use laws::{fused_law, leap_law, server_law};
 pub use plans::Plan;

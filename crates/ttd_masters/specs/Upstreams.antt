@@ -1,12 +1,12 @@
 -- How a master asks NTP servers.
-use Rattle.std.specs.Prelude.{ℕ, ◌+◌, ◌%◌, ◌^◌, Bool, true, false, Option, Some, None, Result, Ok, Err, if◌then◌else◌}
+use Rattle.std.specs.Prelude.{ℕ, ◌+◌, min, Bool, true, false, Option, Some, None, if◌then◌else◌}
 use Rattle.std.specs.declared.io.ErrorKind.{ErrorKind}
-use Rattle.std.specs.declared.io.ErrorKind.TheVariants.{ConnectionRefused, ConnectionReset, HostUnreachable, NetworkUnreachable, NetworkDown, Interrupted}
-use Rattle.tt_ntp.specs.declared.faults.NtpFault.{NtpFault}
+use Rattle.std.specs.declared.io.ErrorKind.TheVariants.{ConnectionReset, HostUnreachable, NetworkUnreachable, NetworkDown, Interrupted}
+use Rattle.tt_upstream.specs.Refusal.{sum_of}
 use Rattle.tt_upstream.specs.declared.plans.Plan.{Plan}
 use Rattle.ttd_words.specs.declared.requests.NtpTime.{NtpTime}
-use Rattle.ttd_masters.specs.declared.upstreams.Exchange.{Exchange}
-use Rattle.ttd_masters.specs.declared.upstreams.Exchange.TheVariants.{Taken, Refused}
+use Rattle.tt_upstream.specs.declared.exchanges.Exchange.{Exchange}
+use Rattle.tt_upstream.specs.declared.exchanges.Exchange.TheVariants.{Silent, Unasked}
 
 -- the pause between two requests: what was given, or else a millisecond on this host, and 64 seconds elsewhere
 abbrev pub every_of : Option ℕ → Bool → ℕ
@@ -23,21 +23,23 @@ plan_of time is_near = record {
   takes_local = time.local;
 }
 
--- the nonce after one: 0 follows the greatest of 64 bits
-abbrev pub nonce_after : ℕ → ℕ
-nonce_after nonce = (nonce + 1) % 2 ^ 64
-
--- what a reply that ended the wait gave
-abbrev pub exchanged_of : Result (Unit {0}) NtpFault → Exchange
-exchanged_of (Ok _) = Taken
-exchanged_of (Err fault) = Refused fault
-
--- a failed receipt tells of an earlier packet, and the reply may still come
+-- a failed receipt tells of an earlier packet, and the reply may still come; one that was refused tells that nobody listens there
 abbrev pub is_passing_receipt : ErrorKind → Bool
-is_passing_receipt ConnectionRefused = true
 is_passing_receipt ConnectionReset = true
 is_passing_receipt HostUnreachable = true
 is_passing_receipt NetworkUnreachable = true
 is_passing_receipt NetworkDown = true
 is_passing_receipt Interrupted = true
 is_passing_receipt _ = false
+
+-- the clock reading before which a server is not asked again: 100 ms after a silence on this host, and a second after a request that could not be sent
+abbrev pub put_off_by : Exchange → Bool → ℕ → ℕ
+put_off_by Silent is_near now = if is_near then sum_of now 100000000 else 0
+put_off_by Unasked is_near now = sum_of now 1000000000
+put_off_by _ is_near now = 0
+
+-- how many requests in a row had no reply, at most 2^32 - 1
+abbrev pub silences_after : Exchange → ℕ → ℕ
+silences_after Silent silences = min (silences + 1) 4294967295
+silences_after Unasked silences = silences
+silences_after _ silences = 0

@@ -6,7 +6,7 @@ ghost use Rattle.ttd_masters.specs.Upstreams.{plan_of as plan_for};
 use crate::faults::StartFault;
 use crate::files::bytes_of;
 use crate::references::{KnownTime, NtpServers};
-use crate::upstreams::{Nonces, Upstream, every_of, follow};
+use crate::upstreams::{Upstream, every_of, follow};
 use std::fs::{File, Files};
 use std::io::{Eprint, ErrorKind};
 use std::net::{Net, SocketAddr};
@@ -66,13 +66,13 @@ fn say_refusal<H: Eprint>(rt: &H, path: &str, number: u32, fault: NtpKeyFault) {
     let _ = eprint!(rt; "{path}: key {number}: {fault}\n");
 }
 
-/// Nonces that begin at a random number.
-fn nonces_of<H: RandomSource>(rt: &H) -> Result<Nonces, StartFault> {
+/// Refuses where there are no random numbers, of which each request takes 64 bits.
+fn check_random<H: RandomSource>(rt: &H) -> Result<(), StartFault> {
     let mut bytes = [0; 8];
-    if rt.fill_bytes(&mut bytes).is_err() {
-        return Err(StartFault::NoRandom);
+    match rt.fill_bytes(&mut bytes) {
+        Ok(()) => Ok(()),
+        Err(_) => Err(StartFault::NoRandom),
     }
-    Ok(Nonces::new(u64::from_be_bytes(bytes)))
 }
 
 /// The server at this address, which has this place among the servers.
@@ -83,9 +83,9 @@ fn upstream_of<H: Net + Files<File = File> + Eprint + RandomSource + AllocGlobal
     address: SocketAddr,
 ) -> Result<Upstream, StartFault> {
     let key = key_of(rt, time)?;
-    let nonces = nonces_of(rt)?;
+    check_random(rt)?;
     let plan = plan_of(time, address.ip().is_loopback());
-    match Upstream::new(rt, place, address, key, nonces, plan) {
+    match Upstream::new(rt, place, address, key, plan) {
         Ok(upstream) => Ok(upstream),
         Err(error) if error.kind() == ErrorKind::OutOfMemory => Err(StartFault::Memory),
         Err(error) => Err(StartFault::CannotAsk(address, Reason::of(&error))),
@@ -93,7 +93,7 @@ fn upstream_of<H: Net + Files<File = File> + Eprint + RandomSource + AllocGlobal
 }
 
 /// Starts the thread that asks a server on another host.
-fn start_following<H: Threads + Wait + SystemClock + Copy + Send + 'static>(
+fn start_following<H: Threads + Wait + SystemClock + Net + RandomSource + Copy + Send + 'static>(
     rt: &H,
     reporter: &Reporter,
     upstream: Upstream,

@@ -5,6 +5,8 @@ ghost use Rattle.ttd_masters.specs.Playing.{event_of, is_silent_after, silence_i
 
 use crate::clocks::RealTime;
 use crate::references::KnownTime;
+use std::net::Net;
+use std::random::RandomSource;
 use std::sync::Wait;
 use std::thread;
 use std::time::{Clock as SystemClock, Duration};
@@ -83,7 +85,7 @@ pub(crate) struct Honest<'a, H> {
     warn_width: Option<u64>,
 }
 
-impl<'a, H: Wait + SystemClock> Honest<'a, H> {
+impl<'a, H: Wait + SystemClock + Net + RandomSource> Honest<'a, H> {
     /// The master over this, which logs an answer that is wider than the limit in nanoseconds.
     pub(crate) fn new(master: SpanMaster<KnownTime<'a, H>>, warn_width: Option<u64>) -> Self {
         Honest {
@@ -160,7 +162,7 @@ pub(crate) struct Acting<'a, H> {
     played: usize,
 }
 
-impl<'a, H: Wait + SystemClock> Acting<'a, H> {
+impl<'a, H: Wait + SystemClock + Net + RandomSource> Acting<'a, H> {
     /// The master that plays these acts, and the last of them for all further polls.
     pub(crate) fn new(master: Master<RealTime<'a, H>>, acts: &'a [Act]) -> Self {
         Acting {
@@ -181,7 +183,7 @@ pub(crate) enum Player<'a, H> {
 }
 
 /// Takes one turn: answers a poll that comes.
-pub(crate) fn take_turn<H: Wait + SystemClock, L: Link>(
+pub(crate) fn take_turn<H: Wait + SystemClock + Net + RandomSource, L: Link>(
     rt: &H,
     reporter: &Reporter,
     link: &mut L,
@@ -194,7 +196,7 @@ pub(crate) fn take_turn<H: Wait + SystemClock, L: Link>(
 }
 
 /// Answers a poll that comes with what the master knows.
-fn answer<H: Wait + SystemClock, L: Link>(
+fn answer<H: Wait + SystemClock + Net + RandomSource, L: Link>(
     rt: &H,
     reporter: &Reporter,
     link: &mut L,
@@ -212,7 +214,7 @@ fn answer<H: Wait + SystemClock, L: Link>(
 }
 
 /// For a poll that comes it does the act that is next.
-fn act<H: Wait + SystemClock, L: Link>(
+fn act<H: Wait + SystemClock + Net + RandomSource, L: Link>(
     rt: &H,
     reporter: &Reporter,
     link: &mut L,
@@ -230,7 +232,7 @@ fn act<H: Wait + SystemClock, L: Link>(
 }
 
 /// Logs a failure, and waits before it goes on.
-fn fail<H: Wait + SystemClock>(rt: &H, reporter: &Reporter, number: u64) {
+fn fail<H: Wait + SystemClock + Net + RandomSource>(rt: &H, reporter: &Reporter, number: u64) {
     reporter.log(rt, LogEvent::MasterFailed { number });
     thread::sleep(rt, Duration::from_millis(PAUSE))
 }

@@ -5,6 +5,8 @@ ghost use Rattle.tt_span.specs.Time.{max_time};
 
 use crate::clocks::{Monotonic, RealTime};
 use crate::upstreams::{SharedServer, Upstream};
+use std::net::Net;
+use std::random::RandomSource;
 use std::sync::Wait;
 use std::time::Clock as SystemClock;
 use tt_fuse::check_counts;
@@ -73,7 +75,7 @@ pub(crate) struct NtpServers<'a, H> {
     faulty: usize,
 }
 
-impl<'a, H: Wait + SystemClock> NtpServers<'a, H> {
+impl<'a, H: Wait + SystemClock + Net + RandomSource> NtpServers<'a, H> {
     /// These servers, of which those of `near` are on this host.
     pub(crate) fn new(
         rt: &'a H,
@@ -115,7 +117,7 @@ impl<'a, H: Wait + SystemClock> NtpServers<'a, H> {
     }
 }
 
-impl<'a, H: Wait + SystemClock> SpanReference for NtpServers<'a, H> {
+impl<'a, H: Wait + SystemClock + Net + RandomSource> SpanReference for NtpServers<'a, H> {
     ghost gives = { λ _ _ _. Unit {0} };
 
     /// What the servers say, fused.
@@ -142,7 +144,7 @@ pub(crate) enum KnownTime<'a, H> {
     Ntp(NtpServers<'a, H>),
 }
 
-impl<'a, H: Wait + SystemClock> SpanReference for KnownTime<'a, H> {
+impl<'a, H: Wait + SystemClock + Net + RandomSource> SpanReference for KnownTime<'a, H> {
     ghost gives = { λ _ _ _. Unit {0} };
 
     fn read(&mut self) -> Result<Span, Silence> {

@@ -9,6 +9,8 @@ use crate::players::{Player, take_turn};
 use crate::standing::{Told, numbers_of, sealed_status};
 use crate::telling::told_by;
 use std::fs::{File, Files};
+use std::net::Net;
+use std::random::RandomSource;
 use std::sync::Wait;
 use std::time::Clock as SystemClock;
 use tt_keys::KeysFault;
@@ -46,7 +48,7 @@ impl<'a> Sealed<'a> {
     }
 
     /// Looks at the file, and takes its keys if it has changed. If they are refused, the keys stay. Either is logged.
-    fn look<H: Wait + SystemClock + Files<File = File> + AllocGlobal>(
+    fn look<H: Wait + SystemClock + Net + RandomSource + Files<File = File> + AllocGlobal>(
         &mut self,
         rt: &H,
         reporter: &Reporter,
@@ -62,7 +64,11 @@ impl<'a> Sealed<'a> {
     }
 
     /// Logs how many packets did not open so far, where there are more than at the look before.
-    fn tell_unopened<H: Wait + SystemClock>(&mut self, rt: &H, reporter: &Reporter) {
+    fn tell_unopened<H: Wait + SystemClock + Net + RandomSource>(
+        &mut self,
+        rt: &H,
+        reporter: &Reporter,
+    ) {
         let [length, unknown, wrong] = self.link.dropped();
         let count = length.saturating_add(unknown).saturating_add(wrong);
         if self.unopened < count {
@@ -105,7 +111,9 @@ fn refused(fault: KeysFault) -> LogEvent {
 
 /// Answers sealed polls, and never ends. About once a second it looks at its file of keys, logs that packets did not open
 /// and, if there is a status file, shows its status.
-pub(crate) fn answer_sealed<H: Wait + SystemClock + Files<File = File> + AllocGlobal>(
+pub(crate) fn answer_sealed<
+    H: Wait + SystemClock + Net + RandomSource + Files<File = File> + AllocGlobal,
+>(
     rt: &H,
     reporter: &Reporter,
     plan: &MasterPlan<'_>,

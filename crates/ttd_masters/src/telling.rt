@@ -8,6 +8,8 @@ use crate::players::Player;
 use crate::references::KnownTime;
 use crate::standing::Told;
 use std::alloc::AllocError;
+use std::net::Net;
+use std::random::RandomSource;
 use std::sync::Wait;
 use std::time::Clock as SystemClock;
 use tt_publish::Clock;
@@ -37,7 +39,7 @@ fn status_of(server: &Server, now: u64) -> ServerStatus
 }
 
 /// What is told of the servers from which the time is known.
-fn statuses_of<H: Wait + SystemClock + AllocGlobal>(
+fn statuses_of<H: Wait + SystemClock + Net + RandomSource + AllocGlobal>(
     rt: &H,
     known: &KnownTime<'_, H>,
 ) -> Result<Vec<ServerStatus>, AllocError> {
@@ -56,7 +58,7 @@ fn statuses_of<H: Wait + SystemClock + AllocGlobal>(
 }
 
 /// What a master tells of itself now. The greatest width is counted anew from here on.
-pub(crate) fn told_by<H: Wait + SystemClock + AllocGlobal>(
+pub(crate) fn told_by<H: Wait + SystemClock + Net + RandomSource + AllocGlobal>(
     rt: &H,
     player: &mut Player<'_, H>,
 ) -> Result<Told, AllocError> {

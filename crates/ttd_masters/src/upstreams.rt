@@ -1,32 +1,42 @@
 //! NTP servers above a master: for each a socket by which it is asked, and what is known of it.
 
 ghost use Rattle.std.specs.Prelude.{◌≡◌};
-ghost use Rattle.ttd_masters.specs.Upstreams.{every_of as pause_between, exchanged_of, is_passing_receipt, nonce_after};
+ghost use Rattle.ttd_masters.specs.Upstreams.{every_of as pause_between, is_passing_receipt, put_off_by, silences_after};
 
 use crate::clocks::Monotonic;
 use std::alloc::{AllocError, Global};
 use std::io::{self, ErrorKind};
 use std::net::{Ipv4Addr, Ipv6Addr, Net, SocketAddr, UdpSocket};
+use std::random::RandomSource;
 use std::sync::{Arc, Mutex, Wait};
 use std::thread;
 use std::time::{Clock as SystemClock, Duration};
-use tt_ntp::{NtpFault, PacketKey, encode_keyed, encode_request};
+use tt_ntp::{PacketKey, encode_keyed, encode_request};
 use tt_publish::Clock;
 use tt_report::Reporter;
 use tt_status::LogEvent;
-use tt_upstream::{Plan, Server};
+use tt_upstream::{Exchange, Line, Plan, RECEIVED_LEN, Receipt, Server, ask_once};
 
-/// The most packets that are looked at while a reply is awaited.
-const MAX_PACKETS: u32 = 16;
+/// The most packets that are dropped before a request. More do not lie in a socket.
+const MAX_STALE: u32 = 1_024;
 
-/// The most bytes of a packet that are looked at. No reply is as long.
-const RECEIVED_LEN: usize = 128;
+/// After so many requests in a row without a reply the socket is made anew.
+const MAX_SILENCES: u32 = 4;
 
 /// How long the reply of a server on this host is waited for, in milliseconds. The polls of machines wait meanwhile.
 const NEAR_WAIT: u64 = 4;
 
 /// How long the reply of a server on another host is waited for, in milliseconds.
 const FAR_WAIT: u64 = 1_000;
+
+/// How long a server on this host is left alone after a silence, in nanoseconds. Polls are answered by what is known meanwhile.
+const NEAR_REST: u64 = 100_000_000;
+
+/// How long a server is left alone where no request could be sent, in nanoseconds.
+const UNSENT_REST: u64 = 1_000_000_000;
+
+/// The number that the log names where there are no random numbers.
+const NO_RANDOM: u64 = 1829;
 
 /// The longest sleep of a thread that asks a server, in nanoseconds.
 const LONGEST_SLEEP: u64 = 1_000_000_000;
@@ -51,65 +61,98 @@ pub(crate) fn every_of(given: Option<u64>, is_near: bool) -> u64
     }
 }
 
-/// The nonces of the requests to one server: they count up from the first, and 0 follows 2^64 - 1.
-#[derive(Drop)]
-pub(crate) struct Nonces {
-    next: u64,
-}
-
-impl Nonces {
-    /// The nonces that begin with this one, which nobody can know who is not told of it.
-    pub(crate) fn new(first: u64) -> Nonces
-        ensures { result.next ≡ first }
-    {
-        Nonces { next: first }
-    }
-
-    /// The next one. It is another one than the 2^64 - 1 before it.
-    fn next(&mut self) -> u64
-        ensures value { result ≡ self.old.next }
-        ensures after { self.new.next ≡ nonce_after self.old.next }
-    {
-        let nonce = self.next;
-        self.next = nonce.wrapping_add(1);
-        nonce
-    }
-}
-
-/// What asking a server gave.
-#[derive(Clone, Copy, Debug, PartialEq, Eq)]
-enum Exchange {
-    /// Its reply was taken.
-    Taken,
-    /// Its reply was refused.
-    Refused(NtpFault),
-    /// No reply came in time.
-    Silent,
-}
-
-/// What a reply that ended the wait gave.
-fn exchanged(heard: Result<(), NtpFault>) -> Exchange
-    ensures { result ≡ exchanged_of heard }
-{
-    match heard {
-        Ok(()) => Exchange::Taken,
-        Err(fault) => Exchange::Refused(fault),
-    }
-}
-
 /// Whether a failed receipt says nothing of the reply that is awaited.
 fn is_passing(kind: ErrorKind) -> bool
     ensures { result ≡ is_passing_receipt kind }
 {
     matches!(
         kind,
-        ErrorKind::ConnectionRefused
-            | ErrorKind::ConnectionReset
+        ErrorKind::ConnectionReset
             | ErrorKind::HostUnreachable
             | ErrorKind::NetworkUnreachable
             | ErrorKind::NetworkDown
             | ErrorKind::Interrupted
     )
+}
+
+/// The clock reading before which the server is not asked again after this exchange, in nanoseconds.
+fn put_off(exchange: Exchange, is_near: bool, now: u64) -> u64
+    ensures { result ≡ put_off_by exchange is_near now }
+{
+    match exchange {
+        Exchange::Silent => {
+            if is_near {
+                now.saturating_add(NEAR_REST)
+            } else {
+                0
+            }
+        }
+        Exchange::Unasked => now.saturating_add(UNSENT_REST),
+        Exchange::Taken | Exchange::Refused(_) => 0,
+    }
+}
+
+/// How many requests in a row had no reply, with this exchange.
+fn silences_with(exchange: Exchange, silences: u32) -> u32
+    ensures { result ≡ silences_after exchange silences }
+{
+    match exchange {
+        Exchange::Silent => silences.saturating_add(1),
+        Exchange::Unasked => silences,
+        Exchange::Taken | Exchange::Refused(_) => 0,
+    }
+}
+
+/// The socket by which one request is sent, and the source of its nonce.
+#[derive(Drop)]
+struct UdpLine<'a, H> {
+    rt: &'a H,
+    socket: &'a UdpSocket,
+    key: Option<&'a PacketKey>,
+}
+
+impl<'a, H: RandomSource + SystemClock> Line for UdpLine<'a, H> {
+    ghost does = { λ _ _ _. Unit {0} };
+
+    fn draw(&mut self) -> Option<u64> {
+        let mut bytes = [0; 8];
+        self.rt.fill_bytes(&mut bytes).ok()?;
+        Some(u64::from_be_bytes(bytes))
+    }
+
+    fn empty(&mut self) {
+        if self.socket.set_nonblocking(true).is_err() {
+            return;
+        }
+        let mut bytes = [0; RECEIVED_LEN];
+        for _ in 0..MAX_STALE {
+            if let Err(error) = self.socket.recv(&mut bytes) {
+                if error.kind() == ErrorKind::WouldBlock {
+                    break;
+                }
+            }
+        }
+        let _ = self.socket.set_nonblocking(false);
+    }
+
+    fn now(&mut self) -> Option<u64> {
+        Monotonic::new(self.rt).read().ok()
+    }
+
+    fn send(&mut self, nonce: u64) {
+        let _ = match self.key {
+            Some(key) => self.socket.send(&encode_keyed(nonce, key)),
+            None => self.socket.send(&encode_request(nonce)),
+        };
+    }
+
+    fn receive(&mut self, buffer: &mut [u8; RECEIVED_LEN]) -> Receipt {
+        match self.socket.recv(buffer) {
+            Ok(length) => Receipt::Came(length),
+            Err(error) if is_passing(error.kind()) => Receipt::Passing,
+            Err(_) => Receipt::Ended,
+        }
+    }
 }
 
 /// One server of a master.
@@ -118,10 +161,16 @@ pub(crate) struct Upstream {
     /// Its place among the servers of the master.
     place: u64,
     address: SocketAddr,
-    socket: UdpSocket,
+    /// Whether it is on this host.
+    is_near: bool,
+    /// A socket that takes packets of the server alone. None where there is no way to the server yet.
+    socket: Option<UdpSocket>,
     key: Option<PacketKey>,
-    nonces: Nonces,
     server: SharedServer,
+    /// How many requests in a row had no reply.
+    silences: u32,
+    /// The clock reading before which it is not asked, in nanoseconds.
+    not_before: u64,
 }
 
 impl Upstream {
@@ -132,26 +181,22 @@ impl Upstream {
         place: u64,
         address: SocketAddr,
         key: Option<PacketKey>,
-        nonces: Nonces,
         plan: Plan,
     ) -> io::Result<Upstream> {
-        let socket = socket_for(rt, address)?;
-        let wait = if address.ip().is_loopback() {
-            NEAR_WAIT
-        } else {
-            FAR_WAIT
-        };
-        socket.set_read_timeout(Some(Duration::from_millis(wait)))?;
+        let is_near = address.ip().is_loopback();
+        let socket = socket_for(rt, address, wait_of(is_near))?;
         let Ok(server) = Arc::new(rt.alloc(), Mutex::new(Server::new(plan))) else {
             return Err(io::Error::from(ErrorKind::OutOfMemory));
         };
         Ok(Upstream {
             place,
             address,
-            socket,
+            is_near,
+            socket: connected(socket, address),
             key,
-            nonces,
             server,
+            silences: 0,
+            not_before: 0,
         })
     }
 
@@ -160,84 +205,78 @@ impl Upstream {
         Arc::try_clone(&self.server)
     }
 
-    /// Asks the server once, and waits for its reply. Logs a reply that was refused, and that none came.
-    pub(crate) fn ask<H: Wait + SystemClock>(&mut self, rt: &H, reporter: &Reporter) {
-        match self.exchange(rt) {
+    /// Asks the server once, and waits for its reply. Logs a reply that was refused, that none came, and that there were no
+    /// random numbers.
+    pub(crate) fn ask<H: Wait + SystemClock + Net + RandomSource>(
+        &mut self,
+        rt: &H,
+        reporter: &Reporter,
+    ) {
+        let exchange = self.exchange(rt);
+        self.silences = silences_with(exchange, self.silences);
+        self.not_before = put_off(exchange, self.is_near, now_of(rt));
+        let server = self.place;
+        match exchange {
             Exchange::Taken => {}
             Exchange::Refused(fault) => {
                 let number = u64::from(fault.number());
-                let server = self.place;
                 reporter.log(rt, LogEvent::ServerRefused { server, number })
             }
-            Exchange::Silent => {
-                let server = self.place;
-                reporter.log(rt, LogEvent::ServerSilent { server })
+            Exchange::Silent => reporter.log(rt, LogEvent::ServerSilent { server }),
+            Exchange::Unasked => {
+                let number = NO_RANDOM;
+                reporter.log(rt, LogEvent::ServerRefused { server, number })
             }
         }
     }
 
     /// Asks the server if a request is due. A server on this host is asked so, before a poll is answered.
-    pub(crate) fn ask_if_due<H: Wait + SystemClock>(&mut self, rt: &H, reporter: &Reporter) {
+    pub(crate) fn ask_if_due<H: Wait + SystemClock + Net + RandomSource>(
+        &mut self,
+        rt: &H,
+        reporter: &Reporter,
+    ) {
         let mut clock = Monotonic::new(rt);
         let Ok(now) = clock.read() else {
             return;
         };
-        if self.server.lock(rt).is_due(now) {
+        if now >= self.not_before && self.server.lock(rt).is_due(now) {
             self.ask(rt, reporter)
         }
     }
 
     /// Sends a request, and looks for the reply to it.
-    fn exchange<H: Wait + SystemClock>(&mut self, rt: &H) -> Exchange {
-        let mut clock = Monotonic::new(rt);
-        let Ok(sent) = clock.read() else {
-            return Exchange::Silent;
+    fn exchange<H: Wait + SystemClock + Net + RandomSource>(&mut self, rt: &H) -> Exchange {
+        self.renew(rt);
+        let mut server = *self.server.lock(rt);
+        let exchange = match &self.socket {
+            Some(socket) => {
+                let key = self.key.as_ref();
+                let mut line = UdpLine { rt, socket, key };
+                let wait = wait_of(self.is_near).saturating_mul(1_000_000);
+                ask_once(&mut line, key, wait, &mut server)
+            }
+            None => {
+                server.ask(0, now_of(rt));
+                Exchange::Silent
+            }
         };
-        let nonce = self.nonces.next();
-        self.server.lock(rt).ask(nonce, sent);
-        self.send(nonce);
-        for _ in 0..MAX_PACKETS {
-            let mut bytes = [0; RECEIVED_LEN];
-            match self.socket.recv_from(&mut bytes) {
-                Ok((length, sender)) => {
-                    if sender == self.address {
-                        let length = length.min(RECEIVED_LEN);
-                        if let Some(exchange) = self.hear(rt, &mut clock, &bytes[..length]) {
-                            return exchange;
-                        }
-                    }
-                }
-                Err(error) if is_passing(error.kind()) => {}
-                Err(_) => return Exchange::Silent,
+        *self.server.lock(rt) = server;
+        exchange
+    }
+
+    /// Makes the socket anew where there is none, and after four silences: then also the port is another one. What there is
+    /// stays if that fails.
+    fn renew<H: Net>(&mut self, rt: &H) {
+        if self.socket.is_some() && self.silences < MAX_SILENCES {
+            return;
+        }
+        if let Ok(socket) = socket_for(rt, self.address, wait_of(self.is_near)) {
+            if let Some(socket) = connected(socket, self.address) {
+                self.socket = Some(socket);
+                self.silences = 0;
             }
         }
-        Exchange::Silent
-    }
-
-    /// Sends the request with this nonce. One that can't be sent is lost.
-    fn send(&self, nonce: u64) {
-        let _ = match &self.key {
-            Some(key) => self.socket.send_to(&encode_keyed(nonce, key), self.address),
-            None => self.socket.send_to(&encode_request(nonce), self.address),
-        };
-    }
-
-    /// Hears a packet of the server. None if the reply is still awaited.
-    fn hear<H: Wait + SystemClock>(
-        &self,
-        rt: &H,
-        clock: &mut Monotonic<'_, H>,
-        bytes: &[u8],
-    ) -> Option<Exchange> {
-        let Ok(now) = clock.read() else {
-            return Some(Exchange::Silent);
-        };
-        let mut server = self.server.lock(rt);
-        let heard = server.hear(bytes, self.key.as_ref(), now);
-        if server.is_awaited() {
-            return None;
-        }
-        Some(exchanged(heard))
     }
 
     /// How long it is until the next request is due, in nanoseconds, and at most a second.
@@ -247,23 +286,49 @@ impl Upstream {
             return LONGEST_SLEEP;
         };
         match self.server.lock(rt).left(now) {
-            Some(left) => left.min(LONGEST_SLEEP),
+            Some(left) => left
+                .max(self.not_before.saturating_sub(now))
+                .min(LONGEST_SLEEP),
             None => LONGEST_SLEEP,
         }
     }
 }
 
-/// A socket to ask a server at this address by.
-fn socket_for<H: Net>(rt: &H, address: SocketAddr) -> io::Result<UdpSocket> {
-    if address.is_ipv4() {
-        UdpSocket::bind(rt, SocketAddr::from((Ipv4Addr::UNSPECIFIED, 0)))
+/// How long a reply is waited for, in milliseconds.
+fn wait_of(is_near: bool) -> u64 {
+    if is_near { NEAR_WAIT } else { FAR_WAIT }
+}
+
+/// What the clock of this host shows, or 0 where it can't be read.
+fn now_of<H: SystemClock>(rt: &H) -> u64 {
+    Monotonic::new(rt).read().unwrap_or(0)
+}
+
+/// A socket to ask a server at this address by. A receipt waits so many milliseconds.
+fn socket_for<H: Net>(rt: &H, address: SocketAddr, wait: u64) -> io::Result<UdpSocket> {
+    let socket = if address.is_ipv4() {
+        UdpSocket::bind(rt, SocketAddr::from((Ipv4Addr::UNSPECIFIED, 0)))?
     } else {
-        UdpSocket::bind(rt, SocketAddr::from((Ipv6Addr::UNSPECIFIED, 0)))
+        UdpSocket::bind(rt, SocketAddr::from((Ipv6Addr::UNSPECIFIED, 0)))?
+    };
+    socket.set_read_timeout(Some(Duration::from_millis(wait)))?;
+    Ok(socket)
+}
+
+/// The socket, which takes packets from this address alone from now on. None where there is no way there.
+fn connected(socket: UdpSocket, address: SocketAddr) -> Option<UdpSocket> {
+    match socket.connect(address) {
+        Ok(()) => Some(socket),
+        Err(_) => None,
     }
 }
 
 /// Asks a server on another host whenever a request is due, and never ends.
-pub(crate) fn follow<H: Wait + SystemClock>(rt: &H, upstream: Upstream, reporter: &Reporter) {
+pub(crate) fn follow<H: Wait + SystemClock + Net + RandomSource>(
+    rt: &H,
+    upstream: Upstream,
+    reporter: &Reporter,
+) {
     let mut upstream = upstream;
     for _ in rt.forever() {
         let left = upstream.left(rt);
