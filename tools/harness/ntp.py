@@ -149,6 +149,8 @@ class FakeServer(threading.Thread):
         self.address, self.says, self.ended = f"{host}:{self.port}", says or Says(), False
         self.requests: list[bytes] = []
         self.times: list[float] = []
+        #: The address that asked last.
+        self.client: tuple[str, int] | None = None
         self.start()
 
     def close(self) -> None:
@@ -165,6 +167,7 @@ class FakeServer(threading.Thread):
             with contextlib.suppress(OSError):
                 packet, sender = self.door.recvfrom(2048)
                 if len(packet) >= PACKET.size:
+                    self.client = sender
                     self.requests.append(packet)
                     self.times.append(time.monotonic())
                     if self.says.elsewhere:

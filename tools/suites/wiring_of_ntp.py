@@ -129,20 +129,75 @@ def radius_ns(delay=0, dispersion=0):
 
 @suite.case()
 def servers_of_masters(trial):
-    """It answers what its server says, and nothing of its host's clock. Nobody can know the nonce of its first request."""
-    firsts = set()
+    """It answers what its server says, and nothing of its host's clock."""
     for ahead_ns, delay, dispersion in ((0, 0, 655), (7 * SECOND, 6554, 0), (-9 * SECOND, 655, 13107)):
         server, = servers_of(trial, Says(ahead_ns=ahead_ns, delay=delay, dispersion=dispersion))
         over = Over(trial, [server], every=[OFTEN])
         trial.check("option ntp", over.holds(ahead_ns, 2 * radius_ns(delay, dispersion)), f"{over.span()} of a server {ahead_ns} ns ahead")
-        firsts.add(PACKET.unpack(server.requests[0][:PACKET.size])[-1] >> 32)
-    trial.check("option ntp", len(firsts) == 3 and 0 not in firsts, f"the upper halves of the first nonces are {firsts}")
     server, = servers_of(trial, Says(elsewhere=Says(ahead_ns=30 * SECOND)))
     trial.check("option ntp", Over(trial, [server], every=[OFTEN]).holds(), "it takes what another address says")
     server, = servers_of(trial, Says(strays=10))
     trial.check("option ntp", Over(trial, [server], every=[OFTEN]).holds(), "ten packets before a reply hide it")
     ran = trial.command("master", "--source", "0", "--listen", "127.0.0.1:1", "--ntp", "127.0.0.1:123", "--uncertainty", "5")
     trial.equal("option ntp", ran.status, 2)
+
+
+def nonce_of(request):
+    """The nonce of a request."""
+    return PACKET.unpack(request[:PACKET.size])[-1]
+
+
+@suite.case()
+def nonces_of_masters(trial):
+    """Each request has 64 random bits of its own. Who saw one can't reply to the next: what lies in the socket before a request is no reply to it,
+    be it a time, or a word that ends all requests."""
+    server, = servers_of(trial, Says())
+    over = Over(trial, [server], every=["500ms"]).polled(trial)
+    eventually(lambda: len(server.requests) > 4, SOON_S)
+    nonces = [nonce_of(request) for request in server.requests]
+    near = [(one, other) for place, one in enumerate(nonces) for other in nonces[:place] if abs(one - other) < 2**32]
+    trial.check("option ntp", len(nonces) > 4 and not near and 0 not in nonces, f"the nonces {nonces} are near to one another")
+    for lie in (Says(ahead_ns=3600 * SECOND), kiss("DENY")):
+        asked = len(server.requests)
+        eventually(lambda asked=asked: len(server.requests) > asked, SOON_S)
+        seen = server.requests[-1]
+        for guess in range(-1, 4):
+            request = seen[:40] + ((nonce_of(seen) + guess) % 2**64).to_bytes(8, "big")
+            server.door.sendto(FakeServer.reply_to(request, lie), server.client)
+        replies = over.numbers()["server_replies_total"][0]
+        over.comes_to(trial, server_silence=[0])
+        trial.check("option ntp", eventually(lambda replies=replies: over.numbers()["server_replies_total"][0] > replies + 1, SOON_S), "no further reply is taken")
+        trial.check("option ntp", over.holds(), f"{over.span()} after replies that nobody asked for")
+
+
+@suite.case()
+def strangers_of_masters(trial):
+    """Packets of strangers to the socket by which a server is asked cost no reply, and packets of the server's address that lie there cost none."""
+    server, = servers_of(trial, Says())
+    over = Over(trial, [server], every=["400ms"]).polled(trial)
+    trial.check("option ntp", over.holds(), "no answer")
+    for door in (trial.keep(socket.socket(socket.AF_INET, socket.SOCK_DGRAM)), server.door):
+        asked = len(server.requests)
+        eventually(lambda asked=asked: len(server.requests) > asked, SOON_S)
+        before = over.numbers()
+        for _ in range(300):
+            door.sendto(b"x", server.client)
+        eventually(lambda asked=asked: len(server.requests) > asked + 5, SOON_S)
+        after = over.numbers()
+        asked, taken = (after[name][0] - before[name][0] for name in ("server_requests_total", "server_replies_total"))
+        trial.check("option ntp", asked >= 3 and taken >= asked - 1, f"of {asked} requests {taken} replies were taken")
+
+
+@suite.case()
+def silent_servers_of_masters(trial):
+    """A server on the master's host that is silent, or whose port is closed, costs the polls nothing: they are answered by what is known."""
+    server, = servers_of(trial, Says())
+    over = Over(trial, [server])
+    for name, silence in (("silent", lambda: setattr(server, "says", Says(silent=True))), ("closed", server.close)):
+        trial.check("option ntp", over.holds(), "no answer")
+        silence()
+        answered = sum(over.span(0.25) is not None for _ in range(200))
+        trial.check("option ntp", answered >= 199, f"a server that is {name}: {answered} of 200 polls are answered")
 
 
 @suite.case()
