@@ -85,7 +85,7 @@ pub fn ask_once<L: Line>(
     wait: u64,
     server: &mut Server,
 ) -> Exchange
-    ensures { Exchanges L.does line.old (option_copied key.entry) server.old line.new server.new result }
+    ensures asks { Exchanges L.does line.old (option_copied key.entry) server.old line.new server.new result }
 {
     let Some(nonce) = line.draw() else {
         return Exchange::Unasked;
