@@ -30,7 +30,7 @@ pub const MAX_WAITING: usize = 65_536;
 /// history, newest first.
 ///
 /// Receipts are kept until their session is forgotten.
-#[derive(Debug, Drop)]
+#[derive(Drop)]
 pub struct Book {
     history: Vec<Entry>,
     // The pending commits, least stamp first.

@@ -35,7 +35,7 @@ pub enum Entry {
 }
 
 /// The standing of a commit that was queued: it is pending, or its receipt has this place in the history, oldest first.
-#[derive(Clone, Copy, Debug)]
+#[derive(Clone, Copy)]
 pub(crate) enum Standing {
     Waits,
     Released(usize),

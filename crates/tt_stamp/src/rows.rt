@@ -15,7 +15,7 @@ pub const MAX_AHEAD: u64 = 10_000_000_000;
 
 /// The stamps of one thread, in order. In contracts a row is the greatest stamp that it has given, which is the last
 /// one.
-#[derive(Debug, Drop)]
+#[derive(Drop)]
 pub struct Row {
     last: Option<u64>,
 }

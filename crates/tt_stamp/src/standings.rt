@@ -1,7 +1,8 @@
 //! Where commits stand, by their ids.
 
-ghost use Rattle.std.specs.Prelude.{◌≡◌, ℕ, ◌<◌, ◌==◌, ◌&&◌, if◌then◌else◌, IsTrue, Some, None, IsSome, is_some, IfSome, IfNone, OnOk, IfOk, OnErr};
+ghost use Rattle.std.specs.Prelude.{◌≡◌, ℕ, ◌<◌, ◌≤◌, ◌↔◌, ◌==◌, true, false, length, nat_lt, ◌&&◌, if◌then◌else◌, IsTrue, Some, None, IsSome, is_some, IfSome, IfNone, OnOk, IfOk, OnErr};
 ghost use Rattle.std.specs.List.{AllByRecursion};
+ghost use Rattle.std.specs.List.Sorted.{IsPartitionPoint};
 ghost use Rattle.tt_stamp.specs.Ids.{same_id};
 ghost use Rattle.tt_stamp.specs.Standings.{Ascends, IsKeyAt, GoesTo, AreRisen, IsInOrder, at_key, risen_in, standing_in};
 ghost use Rattle.tt_stamp.specs.declared.commits.Id.{Id};
@@ -19,7 +20,7 @@ const FEW_SESSIONS: usize = 4_096;
 
 /// Where commits stand, by their ids. A session mostly numbers its commits upwards, so a new number goes to the end of
 /// the session's numbers. A tree has the ids that did not rise.
-#[derive(Debug, Drop)]
+#[derive(Drop)]
 pub(crate) struct Standings {
     // The sessions in order, each with the numbers that rose.
     sessions: Vec<(u64, Numbers)>,
@@ -129,7 +130,7 @@ fn place_for(sessions: &[(u64, Numbers)], session: u64) -> Option<usize>
     if sessions.len() > FEW_SESSIONS {
         return None;
     }
-    Some(sessions.partition_point(|entry| entry.0 < session))
+    Some(count_below(sessions, session))
 }
 
 // Puts a pending commit, whose number is above all, at the end of its session's.
@@ -184,7 +185,7 @@ fn is_above<V>(entries: &[(u64, V)], key: u64) -> bool
 }
 
 // The place of a key. It is first looked for where it stands if keys follow one another, then where it stands if they are
-// evenly apart. A product that wraps is a bad guess, and no more.
+// evenly apart.
 fn find<V>(entries: &[(u64, V)], key: u64) -> Option<usize>
     requires { Ascends entries.now }
     ensures found { IfSome result (λ place. IsKeyAt entries.now key place) }
@@ -199,16 +200,40 @@ fn find<V>(entries: &[(u64, V)], key: u64) -> Option<usize>
         return None;
     }
     let near = (key - first) as usize;
-    if near < len && entries[near].0 == key {
+    if is_at(entries, near, key) {
         return Some(near);
     }
-    let even = ((key - first).wrapping_mul(len as u64 - 1) / (last - first).max(1)) as usize;
-    if even < len && entries[even].0 == key {
+    let even = even_place(first, last, len, key);
+    if is_at(entries, even, key) {
         return Some(even);
     }
-    let place = entries.partition_point(|entry| entry.0 < key);
-    if place < len && entries[place].0 == key {
-        return Some(place);
+    let place = count_below(entries, key);
+    if is_at(entries, place, key) {
+        Some(place)
+    } else {
+        None
     }
-    None
+}
+
+// Whether the entry at this place is there and has this key.
+fn is_at<V>(entries: &[(u64, V)], place: usize, key: u64) -> bool
+    ensures { IsTrue result ↔ IsKeyAt entries.now key place }
+{
+    place < entries.len() && entries[place].0 == key
+}
+
+// The place of a key where keys are evenly apart. A product that wraps is a bad guess, and no more.
+fn even_place(first: u64, last: u64, len: usize, key: u64) -> usize
+    requires { (0 < len) × (first ≤ key) × (key ≤ last) }
+{
+    ((key - first).wrapping_mul(len as u64 - 1) / (last - first).max(1)) as usize
+}
+
+// How many keys are below this one.
+fn count_below<V>(entries: &[(u64, V)], key: u64) -> usize
+    requires { Ascends entries.now }
+    ensures within { result ≤ length entries.now }
+    ensures divided { IsPartitionPoint (λ entry. nat_lt entry.0 key ≡ true) (λ entry. nat_lt entry.0 key ≡ false) entries.now result }
+{
+    entries.partition_point(|entry| entry.0 < key)
 }
