@@ -12,14 +12,14 @@ use tt_stamp::Receipt;
 use tt_world::{Action, Event, MAX_MACHINES, Reply};
 
 /// A worker of a machine.
-#[derive(Clone, Copy, Debug, PartialEq, Eq)]
+#[derive(Clone, Copy)]
 pub struct Position {
     pub machine: u8,
     pub worker: u8,
 }
 
 /// A stamp, in nanoseconds, and the worker that it was given to.
-#[derive(Clone, Copy, Debug, PartialEq, Eq)]
+#[derive(Clone, Copy)]
 pub struct Stamping {
     pub place: Position,
     pub stamp: u64,

@@ -12,7 +12,7 @@ const MILLION: u128 = 1_000_000;
 /// What is kept of the moments of a clock, to tell whether a later one breaks the drift bound with any of them. Each
 /// moment has two marks, and the greatest of each is kept. A moment breaks the bound exactly if one of its marks is
 /// below the greatest by a million or more.
-#[derive(Clone, Copy, Debug, PartialEq, Eq)]
+#[derive(Clone, Copy)]
 pub struct Pace {
     pub slow: u128,
     pub fast: u128,

@@ -7,7 +7,7 @@ use tt_world::{Action, Reply};
 
 /// A packet in transit between a machine and a source, and whether it lies: its bytes were made up, or its span does
 /// not hold the true time at which it was sent.
-#[derive(Clone, Copy, Debug, PartialEq, Eq)]
+#[derive(Clone, Copy)]
 pub struct Carried {
     pub machine: u8,
     pub source: u8,
@@ -15,7 +15,7 @@ pub struct Carried {
 }
 
 /// A machine, and what its clock shows, in nanoseconds.
-#[derive(Clone, Copy, Debug, PartialEq, Eq)]
+#[derive(Clone, Copy)]
 pub struct Tick {
     pub machine: u8,
     pub clock: u64,

@@ -15,7 +15,7 @@ use tt_daemon::Config;
 use tt_world::{Action, Event, Reply, World, WorldFault};
 
 /// A worker's look at a publication.
-#[derive(Clone, Copy, Debug)]
+#[derive(Clone, Copy)]
 pub(crate) struct Glance {
     pub worker: u8,
     pub clock: u64,

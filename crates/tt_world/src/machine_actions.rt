@@ -4,7 +4,7 @@ use crate::workers::Arrival;
 use tt_span::Span;
 
 /// An action that changes one machine alone.
-#[derive(Clone, Copy, Debug)]
+#[derive(Clone, Copy)]
 pub enum MachineAction {
     /// It restarts when its clock shows this, in nanoseconds.
     Restart(u64),
@@ -15,7 +15,7 @@ pub enum MachineAction {
 }
 
 /// An action of a worker.
-#[derive(Clone, Copy, Debug)]
+#[derive(Clone, Copy)]
 pub enum WorkerAction {
     /// It reads from the publication with this number when the clock shows this, in nanoseconds.
     Read { clock: u64, publication: u64 },

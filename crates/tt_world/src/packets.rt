@@ -7,7 +7,7 @@ use crate::events::Payload;
 use tt_poll::{Answer2, Request2};
 
 /// A packet between a machine and a source.
-#[derive(Clone, Debug, Drop)]
+#[derive(Drop)]
 pub enum Packet {
     /// A machine's request.
     Asked(Request2),

@@ -7,14 +7,14 @@ use tt_publish::Reading;
 use tt_stamp::Id;
 
 /// A commit that a worker was asked for: its id, and its floor, the least that its stamp may be, in nanoseconds.
-#[derive(Clone, Copy, Debug, PartialEq, Eq)]
+#[derive(Clone, Copy)]
 pub struct Arrival {
     pub id: Id,
     pub floor: u64,
 }
 
 /// A worker's task: a commit that has no stamp yet, or one that has.
-#[derive(Clone, Copy, Debug, PartialEq, Eq)]
+#[derive(Clone, Copy)]
 pub enum Task {
     /// The commit was asked for.
     Arrived(Arrival),
@@ -24,7 +24,7 @@ pub enum Task {
 
 /// A worker: the number of the last publication that it read from (0 before the first), its task, its last reading, and
 /// this reading again if it was taken after the last commit that the worker was asked for.
-#[derive(Clone, Copy, Debug, Default)]
+#[derive(Clone, Copy, Default)]
 pub struct Worker {
     pub seen: u64,
     pub task: Option<Task>,
