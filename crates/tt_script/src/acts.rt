@@ -22,7 +22,7 @@ use tt_span::MAX_TIME;
 pub const MAX_ACTS: usize = 64;
 
 /// The acts of a master, in the order in which it plays them: from one to [`MAX_ACTS`].
-#[derive(Debug, Drop)]
+#[derive(Drop)]
 pub struct Acts {
     items: Vec<Act>,
 }

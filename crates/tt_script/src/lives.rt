@@ -24,7 +24,7 @@ use tt_span::Span;
 pub const MAX_LIMIT: u64 = 1000;
 
 /// One line of a session, as the script has it. It may be any text, also one that holds line feeds.
-#[derive(Debug, Drop)]
+#[derive(Drop)]
 pub struct Line {
     text: String,
 }
@@ -47,7 +47,7 @@ impl Line {
 }
 
 /// The lines of a session, in the order in which they are sent.
-#[derive(Debug, Drop)]
+#[derive(Drop)]
 pub struct Session {
     lines: Vec<Line>,
 }
@@ -70,7 +70,7 @@ impl Session {
 }
 
 /// A master of a run in threads: its uncertainty, and its acts, one for each request in order.
-#[derive(Debug, Drop)]
+#[derive(Drop)]
 pub struct LiveMaster {
     uncertainty: u64,
     acts: Acts,
@@ -107,7 +107,7 @@ impl LiveMaster {
 }
 
 /// The part of a script for a run in threads.
-#[derive(Debug, Drop)]
+#[derive(Drop)]
 pub struct Live {
     base: u64,
     rounds: u32,

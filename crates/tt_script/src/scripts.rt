@@ -17,7 +17,7 @@ use tt_daemon::Config;
 use tt_world::Event;
 
 /// A script: the machines of a run, its events, and perhaps a part for a run in threads.
-#[derive(Debug, Drop)]
+#[derive(Drop)]
 pub struct Script {
     configs: Vec<Config>,
     events: Vec<Event>,

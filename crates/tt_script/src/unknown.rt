@@ -120,10 +120,31 @@ fn near(name: &str, keys: &[Key]) -> Option<Key> {
 
 /// Whether two names differ in one place by at most two letters.
 fn is_near(one: &[u8], other: &[u8]) -> bool {
-    let front = one.iter().zip(other).take_while(|(a, b)| a == b).count();
+    let front = same_front(one, other);
     let one = one.get(front..).unwrap_or_default();
     let other = other.get(front..).unwrap_or_default();
-    let pairs = one.iter().rev().zip(other.iter().rev());
-    let back = pairs.take_while(|(a, b)| a == b).count();
+    let back = same_back(one, other);
     one.len().max(other.len()).saturating_sub(back) <= 2
+}
+
+/// How many letters are the same at the front of both names.
+fn same_front(one: &[u8], other: &[u8]) -> usize {
+    let most = one.len().min(other.len());
+    for i in 0..most {
+        if one[i] != other[i] {
+            return i;
+        }
+    }
+    most
+}
+
+/// How many letters are the same at the end of both names.
+fn same_back(one: &[u8], other: &[u8]) -> usize {
+    let most = one.len().min(other.len());
+    for i in 0..most {
+        if one[one.len() - 1 - i] != other[other.len() - 1 - i] {
+            return i;
+        }
+    }
+    most
 }
