@@ -9,12 +9,12 @@ use Rattle.tt_world.specs.declared.events.Action.TheVariants as does
 use Rattle.tt_world.specs.declared.events.Reply.{Reply}
 use Rattle.tt_world.specs.declared.events.Reply.TheVariants as replies
 use Rattle.tt_trace.specs.declared.lookups.Errand.{Errand}
-use Rattle.tt_trace.specs.declared.lookups.Task.{Task}
+use Rattle.tt_trace.specs.declared.lookups.Times.{Times}
 use Rattle.tt_trace.specs.declared.marks.Band.{Band}
 use Rattle.tt_trace.specs.declared.marks.Mark.{Mark}
 use Rattle.tt_trace.specs.declared.marks.Mark.TheVariants.{Lie, Forgery}
-use Rattle.tt_trace.specs.Lookups.{errand_of, task_of}
-use Rattle.tt_trace.specs.Marks.{answer_marks, packet_marks, task_marks, course_marks, courses_of, marks_by, marks_between, marks_at, marks_of, is_right}
+use Rattle.tt_trace.specs.Lookups.{errand_of, times_of}
+use Rattle.tt_trace.specs.Marks.{answer_marks, packet_marks, times_marks, course_marks, courses_of, marks_by, marks_between, marks_at, marks_of, is_right}
 use Rattle.tt_trace.specs.Bands.{reading_in, reading_between, readings_of, band_in, bands_of}
 
 -- an answer is no reading
@@ -39,16 +39,16 @@ taken (Some errand) at = by_forged errand.is_forged
     by_forged false = refl
 
 -- a commit is no reading
-course : (task : Option Task) (machine at : ℕ) (receipt : Receipt) → bands_of (task_marks task machine at receipt) ≡ []
+course : (times : Option Times) (machine at : ℕ) (receipt : Receipt) → bands_of (times_marks times machine at receipt) ≡ []
 course None machine at receipt = refl
-course (Some task) machine at receipt = refl
+course (Some times) machine at receipt = refl
 
 -- nor are commits
 released : (before : List (Event × Reply)) (machine at : ℕ) (receipts : List Receipt) → bands_of (courses_of before machine at receipts) ≡ []
 released before machine at [] = refl
 released before machine at (receipt ∷ receipts) =
     flat_map-append band_in (course_marks before machine at receipt) (courses_of before machine at receipts)
-    ∙ ap (λ l. l ++ bands_of (courses_of before machine at receipts)) (course (task_of machine receipt.id before) machine at receipt)
+    ∙ ap (λ l. l ++ bands_of (courses_of before machine at receipts)) (course (times_of machine receipt before) machine at receipt)
     ∙ released before machine at receipts
 
 -- what is drawn of an action and the reply to it

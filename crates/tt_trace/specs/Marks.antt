@@ -8,11 +8,11 @@ use Rattle.tt_world.specs.declared.events.Action.TheVariants as does
 use Rattle.tt_world.specs.declared.events.Reply.{Reply}
 use Rattle.tt_world.specs.declared.events.Reply.TheVariants as replies
 use Rattle.tt_trace.specs.declared.lookups.Errand.{Errand}
-use Rattle.tt_trace.specs.declared.lookups.Task.{Task}
+use Rattle.tt_trace.specs.declared.lookups.Times.{Times}
 use Rattle.tt_trace.specs.declared.marks.Band.{Band}
 use Rattle.tt_trace.specs.declared.marks.Mark.{Mark}
 use Rattle.tt_trace.specs.declared.marks.Mark.TheVariants.{Fusion, Reading, Commit, Lie, Forgery}
-use Rattle.tt_trace.specs.Lookups.{errand_of, task_of}
+use Rattle.tt_trace.specs.Lookups.{errand_of, times_of}
 
 -- whether the span holds the true time
 abbrev pub is_right : Band → Bool
@@ -38,15 +38,15 @@ packet_marks (Some errand) at = if errand.is_forged then Forgery (record { machi
 abbrev pub forgery_marks : List (Event × Reply) → ℕ → ℕ → List Mark
 forgery_marks before at packet = packet_marks (errand_of packet before) at
 
--- the mark of a commit that is released, if its arrival is known
-abbrev pub task_marks : Option Task → ℕ → ℕ → Receipt → List Mark
-task_marks None machine at receipt = []
-task_marks (Some task) machine at receipt =
-    Commit (record { machine = machine; id = receipt.id; stamp = receipt.stamp; arrived = task.arrived; queued = task.queued; released = at }) ∷ []
+-- the mark of a commit that is released, if it is known when it arrived
+abbrev pub times_marks : Option Times → ℕ → ℕ → Receipt → List Mark
+times_marks None machine at receipt = []
+times_marks (Some times) machine at receipt =
+    Commit (record { machine = machine; id = receipt.id; stamp = receipt.stamp; arrived = times.arrived; queued = times.queued; released = at }) ∷ []
 
 -- the mark of a commit that this machine releases
 abbrev pub course_marks : List (Event × Reply) → ℕ → ℕ → Receipt → List Mark
-course_marks before machine at receipt = task_marks (task_of machine receipt.id before) machine at receipt
+course_marks before machine at receipt = times_marks (times_of machine receipt before) machine at receipt
 
 -- the marks of all commits that this machine releases at once
 abbrev pub courses_of : List (Event × Reply) → ℕ → ℕ → List Receipt → List Mark

@@ -5,7 +5,7 @@ ghost use Rattle.std.specs.List.{zip};
 ghost use Rattle.tt_trace.specs.Marks.{marks_of, marks_by, course_marks, courses_of, lie_marks, forgery_marks, is_right};
 ghost use Rattle.tt_span.specs.Interval.{Interval};
 
-use crate::lookups::{find_errand, find_task};
+use crate::lookups::{find_errand, find_times};
 use std::alloc::{AllocError, Global};
 use tt_stamp::{Id, Receipt};
 use tt_world::{Action, Event, Reply};
@@ -205,13 +205,13 @@ fn push_course(
 ) -> Result<(), AllocError>
     ensures { OnOk result (marks.new.items ≡ marks.old.items ++ course_marks (zip events.now replies.now) machine at receipt.now) }
 {
-    if let Some(task) = find_task(machine, receipt.id, events, replies) {
+    if let Some(times) = find_times(machine, receipt, events, replies) {
         marks.push(Mark::Commit(Course {
             machine,
             id: receipt.id,
             stamp: receipt.stamp,
-            arrived: task.arrived,
-            queued: task.queued,
+            arrived: times.arrived,
+            queued: times.queued,
             released: at,
         }))?;
     }
