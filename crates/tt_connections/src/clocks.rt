@@ -19,7 +19,8 @@ fn nanos_of(elapsed: Duration) -> Option<u64>
     if time <= MAX_TIME { Some(time) } else { None }
 }
 
-/// The host's monotonic clock now, in nanoseconds. None if it can't be read, or shows a time above [`MAX_TIME`].
+/// A time of at most [`MAX_TIME`], or None. It is the host's monotonic clock now, in nanoseconds, of which no clause
+/// speaks. None if that can't be read, or shows a time above.
 pub fn reading_of<R: SystemClock>(rt: &R) -> Option<u64>
     ensures in_time { IfSome result (λ time. time ≤ max_time) }
 {

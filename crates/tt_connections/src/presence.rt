@@ -19,12 +19,14 @@ pub trait Presence {
     /// behind a connection anything may be answered.
     ghost says: { Self → Question → Bool → Type 0 };
 
-    /// Whether the client has left. The call does not wait, and takes no bytes of the session.
+    /// An answer that `says` allows to the question whether the client has left. Of a client behind a connection any is
+    /// allowed. The call is not to wait, and not to take bytes of the session.
     fn has_left(&self) -> bool
         ensures said { says self.now Question.HasLeft result };
 
-    /// Whether the machine knows that one of its assumptions is broken: more than f sources are faulty, or its clock is
-    /// past the drift bound. The call does not wait.
+    /// An answer that `says` allows to the question whether the machine knows that one of its assumptions is broken: more
+    /// than f sources are faulty, or its clock is past the drift bound. Of a client behind a connection any is allowed. The
+    /// call is not to wait.
     fn is_broken(&self) -> bool
         ensures said { says self.now Question.IsBroken result };
 

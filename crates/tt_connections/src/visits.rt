@@ -80,9 +80,9 @@ impl Visit {
         count as u64 <= u64::MAX - self.talk.served().lines
     }
 
-    /// For how many nanoseconds the pending commit should still wait before its next release step, where the client's
-    /// device shows this now: what is left of the pause behind the step before. None if no commit is pending, or if no
-    /// release step of it was made.
+    /// At most a pause and its margin, and None if no commit is pending. So many nanoseconds the pending commit should
+    /// still wait before its next release step, where the client's device shows this now: what is left of the pause behind
+    /// the step before. None too if no release step of it was made.
     pub fn left(&self, clock: Option<u64>) -> Option<u64>
         ensures none { length (waiting_of self.now.book) ≡ 0 → result ≡ None }
         ensures most { IfSome result (λ left. left ≤ max_pause + pause_margin) }

@@ -92,7 +92,7 @@ impl<T> ShownNumber<T> {
         })
     }
 
-    /// Raises the number by 1 if it is `number`. Afterwards it is above `number`. Requires: it was seen to be `number` or
+    /// Afterwards the number is above `number`. The call adds 1 if it is `number`. Requires: it was seen to be `number` or
     /// more, and `number` is below 2^64 - 1.
     pub fn raise(&mut self, number: u64)
         requires known { number ≤ self.old.number }

@@ -103,8 +103,8 @@ pub(crate) fn keys_in_file<R: Files<File = File>>(
     }
 }
 
-/// How far the nonces of this life are ahead on the wire: drawn at random below 2^63. Refuses where the operating system
-/// gives no random bytes.
+/// A number below 2^63: how far the nonces of this life are ahead on the wire. It comes of random bytes of the operating
+/// system, of which no clause speaks. Refuses where that gives none.
 pub(crate) fn draw_ahead<R: RandomSource>(rt: &R) -> Result<u64, ServerFault>
     ensures below { IfOk result (λ ahead. ahead < 2 ^ 63) }
 {

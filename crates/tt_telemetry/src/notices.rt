@@ -192,7 +192,8 @@ impl Notices {
         count_width(&mut self.widths, span.hi() - span.lo());
     }
 
-    /// The spans of the sources that answered in a round with this report, and this fusion, are noticed.
+    /// Leaves the counts of answers as they are. It notices this fusion, and the spans of the sources that answered in a
+    /// round with this report.
     pub fn track(&mut self, sources: &[SourceReport; MAX_SOURCES], fused: &Fused)
         ensures same { self.new.answers ≡ self.old.answers }
     {

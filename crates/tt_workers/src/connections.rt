@@ -231,9 +231,9 @@ pub(crate) struct Part {
     pub(crate) may_commit: bool,
 }
 
-/// What of these bytes is heard by one turn: all up to the end of the first line that may be one of a commit, or all. Such
-/// a line has a `c`, or began in bytes before these if `is_within` a line. So no turn hears the line of a commit and
-/// another line behind it.
+/// At most these bytes, and at least one if there is one: what of them is heard by one turn. That is all up to the end of
+/// the first line that may be one of a commit, or all. Such a line has a `c`, or began in bytes before these if
+/// `is_within` a line. So no turn hears the line of a commit and another line behind it.
 pub(crate) fn part_of(is_within: bool, bytes: &[u8]) -> Part
     ensures within { result.count ≤ length bytes.now }
     ensures some { 0 < length bytes.now → 0 < result.count }

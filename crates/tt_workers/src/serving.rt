@@ -589,9 +589,9 @@ fn end_late<'a, R: Wait + SystemClock>(
     }
 }
 
-/// Answers this worker once the machine ends: it began with the same post. Until then it serves its sessions by turns. A
-/// worker whose only session need not share it waits for the next bytes of that session alone; else it waits for all at
-/// once.
+/// Answers a worker that began with the same post. It does so once the machine ends, and until then it serves its
+/// sessions by turns. A worker whose only session need not share it waits for the next bytes of that session alone; else
+/// it waits for all at once.
 pub fn work<'a, R: Wait + SystemClock>(
     tools: Tools<'a, R>,
     watcher: Watcher,

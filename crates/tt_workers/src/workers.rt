@@ -113,7 +113,8 @@ impl<'a, R: Wait + SystemClock> Worker<'a, R> {
         }
     }
 
-    /// For how many nanoseconds the pending commit of the session at this place should still wait: see [`Visit::left`].
+    /// At most a pause and its margin, and None where no commit is pending in the session at this place. So many
+    /// nanoseconds the pending commit should still wait: see [`Visit::left`].
     pub fn left(&self, place: usize, clock: Option<u64>) -> Option<u64>
         ensures none { is_pending_in (get self.now.visits place) ≡ false → result ≡ None }
         ensures most { IfSome result (λ left. left ≤ max_pause + pause_margin) }
