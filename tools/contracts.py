@@ -3,7 +3,7 @@ import re
 import typing
 
 FUNCTION = re.compile(r"( *)(pub(?:\([a-z]+\))? )?(?:const )?(?:unsafe )?fn (\w+)")
-CLAUSE = re.compile(r" *ensures\*?(?: (\w+))? \{")
+CLAUSE = re.compile(r"^ *ensures\*?(?: (\w+))? \{", re.MULTILINE)
 BLOCK = re.compile(r"(?:pub(?:\([a-z]+\))? )?(?:unsafe )?(?:trait (\w+)|impl *(?:([\w:]+) for )?&?(?:mut )?([\w:]+))")
 
 
@@ -80,3 +80,14 @@ def clauses_in(contract):
             clauses.append((found[1] or "", tuple(comment)))
             behind = True
     return clauses
+
+
+def facts_in(contract):
+    """What each clause of a contract says, the text between its braces, in the order of `clauses_in`."""
+    text = "\n".join(contract)
+    for found in CLAUSE.finditer(text):
+        depth, end = 1, found.end()
+        while depth and end < len(text):
+            depth += {"{": 1, "}": -1}.get(text[end], 0)
+            end += 1
+        yield " ".join(text[found.end():end - 1].split())
