@@ -132,24 +132,29 @@ RUNNING: set[int] = set()
 STOPPED = threading.Event()
 
 
+def end(group: int) -> None:
+    """Ends a call, with all that it started."""
+    with contextlib.suppress(OSError):
+        os.killpg(group, signal.SIGKILL)
+
+
 def end_all() -> None:
     """Ends all calls that run, and lets none begin."""
     STOPPED.set()
     for group in [*RUNNING]:
-        with contextlib.suppress(OSError):
-            os.killpg(group, signal.SIGKILL)
+        end(group)
 
 
 def run(call: list[str], folder: str, on_line: typing.Callable[[str, int], None] | None = None) -> Ran:
     """Runs a call in a folder, and ends it where it takes too long. `on_line` is given each line, and the process."""
     if STOPPED.is_set():
         raise Fault("it was stopped")
-    guarded = ["sh", "-c", f'ulimit -t {LONGEST_CPU_S}; ulimit -c 0; exec "$@"', "sh", *call]
+    guarded = ["sh", "-c", f'ulimit -S -t {LONGEST_CPU_S}; ulimit -c 0; exec "$@"', "sh", *call]
     how = {"stdin": subprocess.DEVNULL, "stdout": subprocess.PIPE, "stderr": subprocess.STDOUT}
     with subprocess.Popen(guarded, cwd=folder, text=True, errors="replace", start_new_session=True, **how) as process:
         RUNNING.add(process.pid)
         late = threading.Event()
-        timer = threading.Timer(LONGEST_S, lambda: (late.set(), os.killpg(process.pid, signal.SIGKILL)))
+        timer = threading.Timer(LONGEST_S, lambda: (late.set(), end(process.pid)))
         timer.start()
         try:
             lines = []
@@ -161,8 +166,7 @@ def run(call: list[str], folder: str, on_line: typing.Callable[[str, int], None]
         finally:
             timer.cancel()
             RUNNING.discard(process.pid)
-            with contextlib.suppress(OSError):
-                os.killpg(process.pid, signal.SIGKILL)
+            end(process.pid)
         process.returncode = os.waitstatus_to_exitcode(status)
     is_late = late.is_set() or process.returncode == -signal.SIGXCPU
     return Ran("".join(lines), None if is_late else process.returncode, usage.ru_utime + usage.ru_stime)
