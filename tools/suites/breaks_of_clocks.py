@@ -283,7 +283,7 @@ def records_of_breaks(trial):
     """The pause is half a minute at most. There is none after a minute, after a start of the host, and where the file has another text."""
     now = time.monotonic_ns()
     wanted = [(1, now, 100_000_000), (9, now, 25_600_000_000), (10, now, 30_000_000_000), (2**64 - 1, now, 30_000_000_000),
-              (1, max(now - 61 * SECOND, 0), 0), (1, now + 3600 * SECOND, 0)]
+              (1, max(now - 40 * SECOND, 0), 100_000_000), (1, max(now - 61 * SECOND, 0), 0), (1, now + 3600 * SECOND, 0)]
     for number, (breaks, clock, pause) in enumerate(wanted):
         if (seen := pause_of(trial, f"{number}", b"tt-break 1 %d %d\n" % (breaks, clock))) != pause:
             yield f"after {breaks} breaks, the last one at {clock} and now at {now}, it pauses for {seen} ns"

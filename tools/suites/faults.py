@@ -1,6 +1,6 @@
 """Lets one thing go wrong round a machine of the time service at a time, and looks whether the machine goes on.
 
-One that was wrong is tried again up to three times when nothing runs beside it: some are bound to milliseconds, and the host may be busy.
+One that was wrong is tried once more when nothing runs beside it: some are bound to milliseconds, and the host may be busy.
 The measure:
 whatever happens to at most f sources, to files, pipes, descriptors and clients, a machine publishes each round as long as enough sources
 answer, answers its clients, and ends within a second of the end of its input.
@@ -30,7 +30,7 @@ class Machines(Trial):
                     self.wrong(what)
 
 
-suite = Suite(__name__, Machines, at_once=8, longest_s=30, again=3)
+suite = Suite(__name__, Machines, at_once=8, longest_s=30, again=1)
 
 
 @suite.last_line

@@ -212,18 +212,22 @@ def idle_cost(trial):
     """How often a machine with 16 masters wakes, and its processor time: a poll a second, no client; one of the masters is dead, or none.
 
     Answers that come one by one may wake it once each. The processor time depends on the host and on what else that does: docs/SPEED.md has
-    that of a quiet one."""
+    that of a quiet one. On a busy host a round may take as much as one of a machine that makes nine a second."""
     masters = trial.masters(16)
     dead = f"127.0.0.1:{free_port(socket.SOCK_DGRAM)}"
     nodes = {"one is dead": trial.running_node([*masters[:15], dead], "A", poll="1s", wait=None, workers=None),
              "all alive": trial.running_node(masters, "B", poll="1s", wait=None, workers=None)}
+    quick = trial.running_node(masters, "C", poll="100ms", workers=None)
     time.sleep(1)
     before, seconds = {name: (node.wakes(), node.processor_ns()) for name, node in nodes.items()}, 6
+    first = quick.processor_ns(), quick.status()["truetime_rounds_total"]
     time.sleep(seconds)
+    of_round = (quick.processor_ns() - first[0]) / max(1, quick.status()["truetime_rounds_total"] - first[1]) / 1e6
+    trial.note(f"a round of one that makes many takes {of_round:.2f} ms of processor time")
     for name, node in nodes.items():
         wakes, cost = (node.wakes() - before[name][0]) / seconds, (node.processor_ns() - before[name][1]) / seconds / 1e6
         trial.note(f"{wakes:.1f} wakes and {cost:.2f} ms of processor time a second where {name}")
-        if wakes > 40 or cost > 5:
+        if wakes > 40 or cost > max(5, 2 * of_round):
             yield f"{wakes:.1f} wakes and {cost:.2f} ms of processor time a second where {name}, and 40 and 5 are the most"
 
 

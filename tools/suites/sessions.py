@@ -8,7 +8,7 @@
 - Lines that come in pieces, or before the client closes its side, are answered. A client is let go after `idle` without a whole line.
 - A machine with 500 sessions ends soon. One session more than there are workers is served at once, and so are those behind it.
 
-How long something takes is printed. The bounds leave room for a busy host; where one was passed, the case is tried again alone.
+How long something takes is printed. The bounds leave room for a busy host; where one was passed, the case is tried once more alone.
 """
 import contextlib
 import itertools
@@ -46,7 +46,7 @@ class Machines(Trial):
         return self.running_node(self.masters(3), workers=2, socket=os.path.join(self.room, "A", "socket"))
 
 
-suite = Suite(__name__, Machines, at_once=4, longest_s=60, again=2)
+suite = Suite(__name__, Machines, at_once=4, longest_s=120, again=1)
 
 
 @suite.last_line

@@ -415,8 +415,8 @@ def kisses_of_servers(trial):
     # A reply that comes too late is not heard, and does not double the pause.
     doubled = [gap for before, gap in zip(gaps, gaps[1:]) if gap > 1.5 * before]
     trial.check("master server_kisses_total", len(doubled) >= 2 and gaps[-1] > 0.75, f"requests are {gaps} apart")
-    seen = over.numbers()
-    trial.between("master server_kisses_total", len(server.times) - 1, seen["server_kisses_total"][0] + 1, len(server.times) + 1)
+    eventually(lambda: over.numbers()["server_kisses_total"][0] >= len(doubled), SOON_S)
+    trial.between("master server_kisses_total", len(doubled), over.numbers()["server_kisses_total"][0], len(server.times))
     for code in ("DENY", "RSTR"):
         server, = servers_of(trial, Says())
         over = Over(trial, [server], every=[OFTEN])

@@ -18,7 +18,7 @@ from suites.wiring_checks import (
 
 # The epoch of the life before, and the times of the rounds.
 EPOCH = 41
-POLL_S, WAIT_S = 0.2, 0.2
+POLL_S, WAIT_S = 0.3, 0.6
 
 # The packets that are refused, each by the number behind it.
 REFUSED = [
@@ -105,12 +105,13 @@ def first_publication(trial):
     trial.between("shared clock_ns", before[0], shared.clock_ns, after[0])
     trial.between("shared lo_ns", before[1] - SECOND, shared.lo_ns, after[1])
     trial.between("shared hi_ns", before[1], shared.hi_ns, after[1] + SECOND)
-    periods = 3 * 1100 * SECOND // 1000
-    trial.between("shared valid_until_ns", periods - SECOND // 10, shared.valid_until_ns - shared.clock_ns, periods)
+    periods, fresh = 3 * 1100 * SECOND // 1000, [shared.valid_until_ns - shared.clock_ns]
     trial.equal("shared usable_until_ns", shared.usable_until_ns, 2**64 - 1)
     for number in (2, 4):
         later = published(node, number)
         trial.between("shared number", number, later and later.number, number + 1)
+        fresh.append(later.valid_until_ns - later.clock_ns)
+    trial.between("shared valid_until_ns", periods - SECOND // 10, max(fresh), periods)
     began = time.monotonic_ns()
     for fault in node.ends(5):
         trial.check("log ended", False, fault)
@@ -158,7 +159,7 @@ def ages(trial):
         written, status = os.stat(node.path("status")).st_mtime_ns, status_of(node)
         seen.append([status["age"], (status["newest"], status["needed"]), written - masters[1].times[3]])
         first, second, third = status["age"]
-        return (third is None and first < SECOND // 4 and abs(second - seen[-1][2]) < SECOND // 20
+        return (third is None and first < SECOND // 4 and abs(second - seen[-1][2]) < SECOND // 3
                 and (status["newest"], status["needed"]) == (first, second))
 
     is_right = eventually(look)
@@ -269,7 +270,7 @@ def rates(trial):
 @suite.case()
 def no_more_fusions(trial):
     """The age grows with the time since the last one."""
-    node = trial.running_node(trial.scripts(*([honest, honest, lies(ahead)] for ahead in (0, 10 * SECOND, -10 * SECOND))))
+    node = trial.running_node(trial.scripts(*([honest, honest, lies(ahead)] for ahead in (0, 10 * SECOND, -10 * SECOND))), wait="3s")
     eventually(lambda: status_of(node)["fusions_504"] > 0)
     shared = published(node)
     time.sleep(1.2)
@@ -279,9 +280,9 @@ def no_more_fusions(trial):
         """Whether the age is that by the clock at which the status was written."""
         written = time.monotonic_ns() - time.time_ns() + os.stat(node.path("status")).st_mtime_ns
         seen.append((status_of(node)["fusion_age"], written - shared.clock_ns))
-        return abs(seen[-1][0] - seen[-1][1]) < SECOND // 10
+        return seen[-1][0] > SECOND and abs(seen[-1][0] - seen[-1][1]) < SECOND // 10
 
-    eventually(look, 3)
+    eventually(look)
     age, wanted = seen[-1]
     trial.between("status fusion_age", max(SECOND, wanted - SECOND // 3), age, wanted + SECOND // 3)
     trial.numbers(node, publications=shared.number)
@@ -468,8 +469,8 @@ def breaks(trial):
     line = trial.logs(node, "assumption_broken")
     trial.numbers(node, breaks=4)
     lower, upper, last_lower, last_upper = (int(line.get(f"{name}_ns", 0)) for name in ("lower", "upper", "last_lower", "last_upper"))
-    trial.between("log assumption_broken", 5 * SECOND - SECOND // 10, lower - last_upper, 5 * SECOND)
-    trial.between("log assumption_broken", 2_000_000, upper - lower, SECOND // 10)
-    trial.between("log assumption_broken", 2_000_000, last_upper - last_lower, SECOND // 10)
+    trial.between("log assumption_broken", 4 * SECOND, lower - last_upper, 5 * SECOND)
+    trial.between("log assumption_broken", 2_000_000, upper - lower, SECOND)
+    trial.between("log assumption_broken", 2_000_000, last_upper - last_lower, SECOND)
     trial.between("log assumption_broken", 0, time.monotonic_ns() - int(line.get("clock_ns", 0)), 10 * SECOND)
     trial.check("setting on_break", node.running.poll() is None, "it has ended")

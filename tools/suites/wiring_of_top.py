@@ -85,11 +85,11 @@ def on_terminal(words, environment, folder):
 def top_of_one_that_falls_silent(trial):
     """A source that has answered is silent once its last answer is older than three rounds."""
     masters = trial.scripts(honest, honest, [honest, honest, silent])
-    node = trial.node(masters, evidence="evidence", poll="200ms", wait="50ms")
+    node = trial.node(masters, evidence="evidence", poll="400ms", wait="200ms")
     node.run(cwd=node.folder)
     node.wait_until_ready()
     ran = eventually(lambda: (seen := run([trial.program, "top", node.path("node.toml"), "--once"], env=PLAIN, cwd=node.folder)).said.count(
-        " silent\n") == 1 and seen)
+        " silent\n") == 1 and seen, 20)
     trial.check("top", ran and ran.said.splitlines()[4].startswith("    2 ") and ran.said.splitlines()[4].endswith(" silent"),
                 f"no source is silent, or another one: {ran and ran.said}")
 
@@ -101,12 +101,12 @@ def top_again(trial):
     frames, began = b"", time.monotonic()
     with subprocess.Popen([trial.program, "top", f"127.0.0.1:{port}"], env=PLAIN | {"COLUMNS": "100", "LC_ALL": "en_US.UTF-8"},
                           stdout=subprocess.PIPE) as ran:
-        while frames.count(CLEAR) < 6 and time.monotonic() < began + 25:
+        while frames.count(CLEAR) < 5 and time.monotonic() < began + 30:
             frames += os.read(ran.stdout.fileno(), 65536)
         lasted = time.monotonic() - began
         ran.kill()
-    trial.between("top", 2.4, lasted, 25)
-    last = frames.split(CLEAR)[5].decode().splitlines()
+    trial.between("top", 1.9, lasted, 30)
+    last = frames.split(CLEAR)[4].decode().splitlines()
     fused = next(line for line in last if line.startswith("fused"))
     trial.equal("top", len(fused[6:].split("  ")[0].rstrip()) <= 49, True)
     width = next(line for line in last if line.startswith("width"))
