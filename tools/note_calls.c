@@ -1,11 +1,13 @@
 /* Notes calls of the program that it is loaded into by LD_PRELOAD, a line each, at the end of the file that NOTES names: what is synced,
- * renamed and opened (`fsync PATH`, `rename FROM TO`, `open PATH`), each once it was done, and how long something is waited for at most, in
- * nanoseconds: by a socket (`receive N`, `send N`), asleep (`sleep N`), for descriptors (`poll N`) and for other threads (`park N`). Linux on
- * x86-64 alone. */
+ * renamed and opened (`fsync PATH`, `rename FROM TO`, `open PATH`), each once it was done, that a connection sends at once (`nodelay`), and how
+ * long something is waited for at most, in nanoseconds: by a socket (`receive N`, `send N`), asleep (`sleep N`), for descriptors (`poll N`)
+ * and for other threads (`park N`). Linux on x86-64 alone. */
 #define _GNU_SOURCE
 #include <errno.h>
 #include <fcntl.h>
 #include <linux/futex.h>
+#include <netinet/in.h>
+#include <netinet/tcp.h>
 #include <poll.h>
 #include <stdarg.h>
 #include <stdio.h>
@@ -96,6 +98,7 @@ int setsockopt(int door, int level, int name, const void *value, socklen_t lengt
         memcpy(&wait, value, sizeof wait);
         note("%s %lld\n", name == SO_RCVTIMEO ? "receive" : "send", wait.tv_sec * SECOND + wait.tv_usec * THOUSAND);
     }
+    if (level == IPPROTO_TCP && name == TCP_NODELAY && length == sizeof(int) && *(const int *)value) note("nodelay\n");
     return (int)answered(called(SYS_setsockopt, door, level, name, (long)value, length, 0));
 }
 

@@ -20,8 +20,8 @@ BROKEN = 3
 # commit, while that which was refused is pending.
 OF_A_BREAK = {801, 1104, 1822, 1823}
 # How soon the first reading of the next life has to come: a tenth of a second of it is the pause of the start. Where the host is busy, it may
-# take so many times as long as the start of another machine at that time.
-BACK_NS, PAUSE_NS, TIMES_AS_LONG = 300 * MILLISECOND, 100 * MILLISECOND, 4
+# take so many times as long as the start of another machine at that time, but no two seconds, behind which clients are served in any case.
+BACK_NS, PAUSE_NS, TIMES_AS_LONG, LONGEST_NS = 300 * MILLISECOND, 100 * MILLISECOND, 4, 1600 * MILLISECOND
 
 
 class Breaks(Trial):
@@ -180,7 +180,7 @@ class World:
             took.append(time.monotonic_ns() - began)
             node.kill()
         self.trial.note(f"another machine starts in {' and '.join(f'{ns / MILLISECOND:.0f}' for ns in took)} ms")
-        return PAUSE_NS + TIMES_AS_LONG * max(took)
+        return min(PAUSE_NS + TIMES_AS_LONG * max(took), LONGEST_NS)
 
     # What a break has to look like.
 

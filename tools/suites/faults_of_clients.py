@@ -98,6 +98,18 @@ def end_with_dead_masters(trial):
             yield f"{seconds} seconds after the start: {fault}"
 
 
+@suite.case()
+def end_within_a_long_pause(trial):
+    """The end does not wait for the next round, nor for an answer within one, nor for a session that says nothing."""
+    nodes = [trial.running_node(trial.masters(3), "A", poll="3600s"), trial.node([f"127.0.0.1:{free_port(socket.SOCK_DGRAM)}"], "B", wait="10s")]
+    nodes[1].run()
+    with truetime.Session(nodes[0].address, 2) as session:
+        session.now()
+        time.sleep(0.5)
+        for node in nodes:
+            yield from node.ends(2)
+
+
 # The start.
 
 @suite.case(quiet=True)

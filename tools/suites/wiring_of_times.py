@@ -1,4 +1,4 @@
-"""Scenarios of the suite `wiring`: for how long is waited, by the list in wiring_checks.py; what is synced before it is renamed; and modes.
+"""Scenarios of the suite `wiring`: for how long is waited, by the list in wiring_checks.py; what is synced before it is renamed; modes, and addresses.
 
 tools/note_calls.c notes for how long a command asks the system to wait, so that nobody waits as long here. What is compared with readings of the
 clock sees one that tools/spoil_calls.c moves on.
@@ -86,6 +86,7 @@ def waits_of_machines(trial):
         # What went by since the start is left out of the wait for the first publication.
         waits_for(trial, notes, "poll", "look", others=[(1, 30 * MILLISECOND), (TIMES["look"] + MILLISECOND, TIMES["first"])])
     is_near(trial, "first", notes.waits("poll"))
+    trial.check("time write", notes.calls().count(["nodelay"]) >= 2, "a reply waits for others to be sent with")
     patience = (TIMES["page"] - TIMES["page"] // 4, TIMES["page"])
     waits_for(trial, notes, "receive", "read", others=[patience])
     waits_for(trial, notes, "send", "write", others=[patience])
@@ -132,6 +133,8 @@ def waits_of_commands(trial):
     waits_for(trial, ask.notes, "receive", "ask read")
     waits_for(trial, ask.notes, "sleep", "ask again")
     is_near(trial, "ask link", ask.notes.waits("poll"))
+    trial.equal("time ask again", sum(words[0] == "sleep" for words in ask.notes.calls()), 2)
+    trial.check("time ask link", ["nodelay"] in ask.notes.calls(), "a line waits for others to be sent with")
     node, port = with_pages(trial, trial.scripts(honest))
     node.run()
     node.wait_until_ready()
@@ -204,7 +207,29 @@ def slow_publications(trial):
     trial.equal("time slow", quick.said("publication_slow"), [])
 
 
-# Files.
+# Addresses and files.
+
+def places_of(process):
+    """At which addresses of this host the sockets of a process are, as the kernel writes them."""
+    folder = f"/proc/{process.running.pid}/fd"
+    inodes = {os.readlink(os.path.join(folder, name)) for name in os.listdir(folder)}
+    rows = [line.split() for kind in ("tcp", "tcp6", "udp", "udp6") if os.path.exists(f"/proc/net/{kind}")
+            for line in read_text(f"/proc/net/{kind}").splitlines()[1:]]
+    return sorted({row[1].partition(":")[0] for row in rows if f"socket:[{row[9]}]" in inodes})
+
+
+@suite.case()
+def addresses(trial):
+    """All sockets of a machine whose masters are on its host are at 127.0.0.1, and so is that of a master: no other host reaches them."""
+    node, _ = with_pages(trial, trial.scripts(honest), machine=1)
+    node.run()
+    node.wait_until_ready()
+    here = socket.inet_aton("127.0.0.1")[::-1].hex().upper()
+    trial.equal("setting listen", places_of(node), [here])
+    master = trial.process("master", "--source", "0", "--listen", f"127.0.0.1:{free_port(socket.SOCK_DGRAM)}", "--uncertainty", "5")
+    trial.logs(master, "master_started")
+    trial.equal("option listen", places_of(master), [here])
+
 
 @suite.case()
 def synced_files(trial):
