@@ -161,6 +161,30 @@ def versions(trial):
     trial.note(f"{VERSION} in {len(named)} files, no other one in {len(files)}; {len(trial.result.wrong)} wrong")
 
 
+# What no case waits for, and what the documents promise of languages: a file, a pattern, and what it has to find.
+MEANT = [
+    ("clients/python/truetime/_calls.py", r"^TIMEOUT_S = (.*)$", "30.0"),
+    ("clients/go/session.go", r"^const Timeout = (.*)$", "30 * time.Second"),
+    ("clients/c/truetime.h", r"\bTT_TRIES = (\d+)", "1000"),
+    ("clients/python/truetime/readers.py", r"^_TRIES = (\d+)$", "1000"),
+    ("clients/rust/src/lib.rs", r"^const TRIES: usize = (\d+);", "1000"),
+    ("clients/java/TrueTime.java", r" TRIES = (\d+);", "1000"),
+    ("clients/go/shared.go", r"^\ttries += (\d+)$", "1000"),
+    ("clients/rust/Cargo.toml", r'^rust-version = "(.*)"$', "1.73"), ("clients/README.md", r"`clients/rust`, Rust (\S+) or later", "1.73"),
+    ("clients/python/pyproject.toml", r'^requires-python = ">=(.*)"$', "3.9"), ("clients/README.md", r"`pip install .*, Python (\S+) or later", "3.9"),
+    ("clients/java/pom.xml", r"<maven.compiler.release>(.*)<", "17"), ("clients/README.md", r"`java/pom.xml`, Java (\S+) or later", "17"),
+    ("clients/go/go.mod", r"^go (.*)$", "1.19"), ("clients/README.md", r"`example.org/truetime/clients/go`, Go (\S+) or later", "1.19"),
+]
+
+
+@suite.case()
+def constants(trial):
+    """Time-outs and tries that stand for themselves, and the versions of languages."""
+    for name, pattern, wanted in MEANT:
+        trial.equal(f"{name}: {pattern}", re.findall(pattern, read_text(name), re.MULTILINE), [wanted])
+    trial.note(f"{len(MEANT)} constants; {len(trial.result.wrong)} wrong")
+
+
 # Python.
 
 def builder(trial):

@@ -16,8 +16,10 @@ Meanwhile the descriptors and the mappings of the probe are looked at from outsi
 import collections
 import contextlib
 import os
+import re
 import socket
 import socketserver
+import struct
 import threading
 import time
 from concurrent.futures import ThreadPoolExecutor
@@ -173,6 +175,8 @@ def try_openings(trial, name, probe, opening):
 
     before = Look(process, path)
     said = probe.say(f"open {kind} {where} {count} {timeout_ms}")
+    if timeout_ms == SHORT_MS:  # which is that of connecting, too
+        said = re.sub(r"^\d+", str(count), said)
     trial.equal(f"{name}: {what}", said, f"{count * is_opened} opened, {count * is_answered * QUESTIONS} answers")
     during = Look(process, path)
     added = during.keys() - before.keys()
@@ -215,3 +219,43 @@ def openings(trial):
         wanted = [*openings_of_files(trial.room), *sessions]
         tried = sum(pool.map(lambda probe: try_all(trial, *probe, wanted), session_probes(trial.shared)))
     trial.note(f"{tried} things to open, most of them {COUNT} times; {len(trial.result.wrong)} wrong")
+
+
+def end(one):
+    """Ends a connection: first its replies, and then all of it."""
+    with contextlib.suppress(OSError):
+        one.shutdown(socket.SHUT_WR)
+    one.setsockopt(socket.SOL_SOCKET, socket.SO_LINGER, struct.pack("ii", 1, 0))
+    one.close()
+
+
+def try_ended(trial, name, words, room):
+    """A session whose connection ends before the next line, over TCP and over a Unix socket."""
+    path = os.path.join(room, f"ended-{name.replace(' ', '-')}")
+    with socket.socket() as tcp, socket.socket(socket.AF_UNIX) as unix, Reader(words, "session") as probe:
+        tcp.bind(("127.0.0.1", 0))
+        unix.bind(path)
+        for listener, address in ((tcp, f"tcp {tcp.getsockname()[1]}"), (unix, f"unix {path}")):
+            listener.settimeout(30)
+            listener.listen()
+            trial.equal(f"{name}: {address[:4]}", probe.say(f"open {address} 10000"), "open")
+            end(listener.accept()[0])
+            for turn in ("once", "twice"):
+                time.sleep(0.02)
+                trial.equal(f"{name}: a line on a connection that has ended, {turn}, {address[:4]}", probe.say("now"), "failed")
+                probe.probe.stdin.write("now\n")
+                one, _ = listener.accept()
+                trial.equal(f"{name}: the next line", one.recv(100), b"now\n")
+                one.sendall(b"now 5 15\n")
+                trial.equal(f"{name}: the next call", probe.probe.stdout.readline().strip(), "5 15")
+                end(one)
+            trial.equal(f"{name}: close", probe.say("close"), "closed")
+
+
+@suite.case()
+def ended_sessions(trial):
+    """A session whose connection has ended fails once, and connects anew; nothing else ends by that."""
+    probes = list(session_probes(trial.shared))
+    for probe in probes:
+        try_ended(trial, *probe, trial.room)
+    trial.note(f"{len(probes)} kinds of sessions; {len(trial.result.wrong)} wrong")

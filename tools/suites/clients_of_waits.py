@@ -6,6 +6,7 @@ early.
 """
 import os
 import socket
+import statistics
 import threading
 import time
 from concurrent.futures import ThreadPoolExecutor
@@ -40,6 +41,24 @@ def judge(trial, what, length_ms, call, question, least_ms=None):
     least_ms = length_ms if least_ms is None else least_ms
     is_right = least_ms <= shortest <= MORE * max(length_ms, beside if beside < 10**9 else 0)
     trial.check(what, is_right, f"{shortest:.1f} ms, beside a sleep of {length_ms} ms that took {beside:.1f}")
+
+
+def judge_usual(trial, what, length_ms, call):
+    """The same of a call that may be over at once where the host is busy: half of five take no longer than half of five sleeps, in one of three
+    tries."""
+    for _ in range(3):
+        calls, sleeps = [], []
+        for _ in range(5):
+            began = time.monotonic()
+            call()
+            called = time.monotonic()
+            time.sleep(length_ms / 1000)
+            calls.append(1000 * (called - began))
+            sleeps.append(1000 * (time.monotonic() - called))
+        usual, beside = statistics.median(calls), statistics.median(sleeps)
+        if usual <= MORE * beside:
+            break
+    trial.check(what, usual <= MORE * beside, f"{usual:.1f} ms, beside a sleep of {length_ms} ms that took {beside:.1f}")
 
 
 def wants(trial, what, say, line, wanted):
@@ -98,7 +117,7 @@ def try_stamper(trial, name, words):
         judge(trial, what, 5, lambda: wants(trial, what, say, f"wait {shared.now() - MS} 60000", "yes"), question, 0)
         what_later = f"{name}: a new publication"
         # A stamper looks each 50 milliseconds: it is over at the end of the first sleep.
-        judge(trial, what_later, 50, lambda: wait_for_publication(trial, what_later, say, shared, 10), question, 20)
+        judge_usual(trial, what_later, 50, lambda: wait_for_publication(trial, what_later, say, shared, 10))
         late.cancel()
 
 

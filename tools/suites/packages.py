@@ -56,6 +56,13 @@ FILES = {
         **{f"usr/share/doc/truetime/{name}.md": f"docs/{name}.md" for name in DOCUMENTS},
     },
 }
+# What each package says of itself. What the program depends on beside, its libraries, debhelper finds.
+FIELDS = {
+    "libtruetime-dev": {"Architecture": "all", "Multi-Arch": "foreign", "Depends": "", "Suggests": "truetime", "Section": "libdevel"},
+    "python3-truetime": {"Architecture": "all", "Depends": "python3 (>= 3.9), python3:any", "Suggests": "truetime", "Section": "python"},
+    "truetime": {"Recommends": "chrony | time-daemon", "Suggests": "prometheus, prometheus-node-exporter", "Section": "net",
+                 "Pre-Depends": "", "Conflicts": ""},
+}
 PROGRAMS = {"usr/bin/ttd", "usr/libexec/truetime/await", "usr/libexec/truetime/stands-still"}
 # What packaging/install leaves to the packages.
 NOT_BY_INSTALL = re.compile(r"usr/share/(pkgconfig|cmake)/|usr/lib/python3")
@@ -134,6 +141,8 @@ def files(trial):
         trial.equal(f"modes of {name}", wrong_modes(root), {})
         listed = [line.split(None, 2)[:2] for line in run(["dpkg-deb", "-c", path]).said.splitlines()]
         trial.equal(f"owners of {name}", {owner for _, owner in listed}, {"root/root"})
+        for field, wanted in FIELDS[name].items():
+            trial.equal(f"{field} of {name}", run(["dpkg-deb", "-f", path, field]).said.strip(), wanted)
     try_program(trial, f"{trial.room}/truetime/usr/bin/ttd")
     before = os.umask(0o077)
     try:

@@ -1,6 +1,7 @@
-"""The lines of the units, each against a list that was written by hand from what the documents say of them."""
+"""The lines of the units and of the examples of settings, each against a list that was written by hand from what the documents say of them."""
 import os
 import re
+import tomllib
 
 from harness.program import in_top, read_text
 from suites.packages import suite
@@ -70,6 +71,22 @@ OTHERS = {
 }
 
 
+# How long the scripts wait, and for what.
+SCRIPTS = {
+    "await": ["end=$(($(seconds) + 30))", "ttd ask \"$address\" now --retry 0 ", "    sleep 0.05\n", "kill -0 \"$MAINPID\"",
+              "echo \"<4>the machine of $1 gives no time yet\" >&2\nexit 1\n", "RES_OPTIONS='timeout:1 attempts:1' ttd serve --check"],
+    "stands-still": ["limit=$((10 * ($(of poll) + $(of wait)) / 1000000000 + 30))\n", "find \"$status\" \"$(of state)/epoch\" -newermt \"-$limit seconds\"",
+                     "|| exit 2\n", "RES_OPTIONS='timeout:1 attempts:1' ttd serve --check"],
+}
+# The examples: a drift as docs/OPERATING.md has it for chrony, and all paths in the folders of the units.
+MACHINE = {
+    "machine": 0, "masters": ["127.0.0.1:5701", "127.0.0.1:5702", "127.0.0.1:5703"], "drift": 700, "listen": "127.0.0.1:5601",
+    "state": "/var/lib/truetime/a", "shared": "/run/truetime/a/time", "socket": "/run/truetime/a/socket",
+    "status": "/run/truetime/a/status.prom", "evidence": "/run/truetime/a/evidence",
+}
+MASTER = ["SOURCE=0", "LISTEN=127.0.0.1:5701", "UNCERTAINTY=1000000", "OPTIONS=--status /run/truetime-master/time/status.prom"]
+
+
 def lines_of(name):
     """The lines of a file of packaging/ that say something."""
     return [line for line in read_text(f"packaging/{name}").splitlines() if line and not line.startswith("#")]
@@ -102,4 +119,8 @@ def settings_of_units(trial):
         trial.equal(name, lines_of(name), wanted)
     units = {name for name in os.listdir(in_top("packaging")) if name.endswith(("service", "timer", "socket", "path"))}
     trial.equal("units", units, set(WANTED))
+    for name, parts in SCRIPTS.items():
+        trial.equal(name, [part for part in parts if part not in read_text(f"packaging/{name}")], [])
+    trial.equal("node.toml", tomllib.loads(read_text("packaging/node.toml")), MACHINE)
+    trial.equal("time.master", lines_of("time.master"), MASTER)
     trial.note(f"{number} settings; {len(trial.result.wrong)} wrong")
