@@ -108,7 +108,7 @@ fn silences_with(exchange: Exchange, silences: u32) -> u32
 struct UdpLine<'a, H> {
     rt: &'a H,
     socket: &'a UdpSocket,
-    key: Option<&'a PacketKey>,
+    key: &'a Option<PacketKey>,
 }
 
 impl<'a, H: RandomSource + SystemClock> Line for UdpLine<'a, H> {
@@ -251,10 +251,13 @@ impl Upstream {
         let mut server = *self.server.lock(rt);
         let exchange = match &self.socket {
             Some(socket) => {
-                let key = self.key.as_ref();
-                let mut line = UdpLine { rt, socket, key };
+                let mut line = UdpLine {
+                    rt,
+                    socket,
+                    key: &self.key,
+                };
                 let wait = wait_of(self.is_near).saturating_mul(1_000_000);
-                ask_once(&mut line, key, wait, &mut server)
+                ask_once(&mut line, self.key.as_ref(), wait, &mut server)
             }
             None => {
                 server.ask(0, now_of(rt));
