@@ -18,23 +18,19 @@
 //! the log and the status, so that no other thread waits for standard error or a file.
 //!
 //! `tt_settings` decides what the settings mean, `tt_session` and `tt_connections` decide the replies to a session, and
-//! `tt_rounds` decides what a round does. This crate has the threads, and what is logged, written and shared after each
-//! round.
+//! `tt_rounds` decides what a round does. `tt_telemetry` says what is counted and noticed of a round, and `tt_sharing` what
+//! is shared of it. This crate has the threads, and what they hand on after each round.
 //!
 //! - `servers`: [`serve`], which starts the threads and ends them. `lives`: [`LifeEnd`], how a life of a machine ended.
 //!   `starts`: the parts of a machine. `checks`: [`check_start`], which judges what a start would find. `links`: the link to the masters. `rings`: the keys that are shared with them.
 //!   `owns`: the address of its own of the socket for polls. `names`: the thread that looks up names. `states`: what the threads share.
 //! - `rounds`: the thread of the daemon. `paces`: the pauses between rounds.
-//! - `records`: what is counted, logged, shown and shared of a round. `notices`: what is noticed of it. `statuses`: the status.
 //! - `signs`: whether the host slept. `breaks`: what is recorded of a break, and [`break_laws`]. `evidence`: the evidence of a
-//!   publication. `shares`: what is shared. `sharing`: the
-//!   shared file, and when it is tried again. `modes`: who may write the files.
+//!   publication. `modes`: who may write the files.
 //! - `workers`: the threads of the workers. `faults`: why a machine does not serve.
 //!
-//! The functions over values are proved: the numbers of faults, statuses, file modes, what is shared and until
-//! when, and how long the pauses are before a round, before a socket is made anew and before a shared file is tried again.
-//! So are all records of a round, the writing of what is shared, over any place, and what a reading of it means
-//! ([`shared_laws`]).
+//! The functions over values are proved: the numbers of faults, file modes, and how long the pauses are before a round and
+//! before a socket is made anew.
 //!
 //! Of a life that ends in order, [`serve`] proves from what its threads hand back: the daemon began new, in the epoch that
 //! the store gave; its calls came one after the other, at readings of its clock that do not fall; each worker began with a

@@ -1,5 +1,21 @@
 //! What a machine shares with the other processes of its host, and when its shared file is tried again.
 //!
+//! The crate says what is shared of a publication, and until when it may be read. It keeps the shared file open as long as
+//! it can be written. After a try that failed the file is closed, and tried again after a pause: a round's at first, then
+//! twice the one before, and at most thirty seconds. No thread is here, and nothing is logged: who calls is told the event.
+//!
+//! ```text
+//! let mut share = Share::new(rt, alloc, Some(path));
+//! let event = share.begin(poll, now);                                  // at the start
+//! let tried = share.put(shared_of(&fused, number, needed, &terms), poll, now);   // after each publication
+//! let ended = share.put(ended_at(&last, now), poll, now);              // when the machine ends in order
+//! let nothing = share.put(withdrawn(epoch, number, drift), poll, now); // once an assumption is broken
+//! ```
+//!
+//! Proved are the values, and the writing of them over any place ([`Sharing`]): where it answers that a publication was
+//! written, the place went on by its two writes and by nothing else, and a place that is open is closed for a cause alone.
+//! What another process reads is what the machine published ([`shared_laws`]).
+//!
 //! - `shares`: what is shared of a publication, and until when. `sharing`: the file, as long as it can be written.
 #![tactic(auto)]
 
