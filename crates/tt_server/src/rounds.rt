@@ -295,7 +295,7 @@ fn break_off<R: Wait + SystemClock + Files<File = File>>(
             poller.totals.published,
             server.life.config.drift(),
         );
-        share(context, poller, nothing, now);
+        share(context, &mut poller.share, nothing, now);
     }
     poller.notices.breaks = poller.notices.breaks.saturating_add(1);
     say(context, event);
@@ -304,16 +304,12 @@ fn break_off<R: Wait + SystemClock + Files<File = File>>(
 /// Shares a publication when the clock shows `now`, and logs what is to be logged of it.
 fn share<R: Wait + SystemClock + Files<File = File>>(
     context: ThreadContext<'_, R>,
-    poller: &mut Poller<'_, R>,
+    file: &mut Share<'_, R>,
     span: SharedSpan,
     now: u64,
-)
-    ensures same { poller.new.daemon ≡ poller.old.daemon }
-    ensures totals { poller.new.totals ≡ poller.old.totals }
-    ensures renewal { poller.new.renewal ≡ poller.old.renewal }
-{
-    let poll = context.server.life.pauses.poll;
-    if let Some(event) = poller.share.put(span, poll, now).event {
+) {
+    let tried = file.put(span, context.server.life.pauses.poll, now);
+    if let Some(event) = tried.event {
         say(context, event);
     }
 }
@@ -429,7 +425,7 @@ fn hand_on<R: Wait + SystemClock + Files<File = File>>(
     }
     if let Some(span) = span {
         if !poller.broken {
-            share(context, poller, span, now);
+            share(context, &mut poller.share, span, now);
         }
     }
     if poller.totals.published == 0 && totals.published > 0 {
@@ -556,7 +552,7 @@ fn end<R: Wait + SystemClock + Files<File = File>>(
         return;
     };
     let now = now_of(clock);
-    share(context, poller, ended_at(&last, now), now);
+    share(context, &mut poller.share, ended_at(&last, now), now);
 }
 
 /// Makes the rounds of the daemon until the machine ends, each before a pause, or until it knows that an assumption is
