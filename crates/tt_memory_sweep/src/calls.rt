@@ -1,6 +1,6 @@
 //! The calls that take memory.
 
-use crate::outcomes::Outcome;
+use crate::outcomes::{MEMORY, Outcome};
 use crate::{commits, nodes, pictures, publications, services, texts, worlds};
 use std::alloc::Global;
 use std::net::Net;
@@ -117,35 +117,47 @@ impl Call {
         alloc: Global,
     ) -> Outcome {
         match self {
-            Call::WriteText => texts::certificate(alloc),
-            Call::ReadScript => texts::script(alloc),
-            Call::Audit => texts::audited(alloc),
-            Call::ReportText => texts::report(alloc),
-            Call::NewWorld => worlds::world(alloc),
             Call::Step => worlds::steps(alloc),
-            Call::Run => worlds::whole_run(alloc),
-            Call::Twin => worlds::low_twin(alloc),
-            Call::Open => publications::opened(rt, alloc),
             Call::Publish => publications::published(rt, alloc),
             Call::DaemonRounds => publications::rounds(rt, alloc),
-            Call::OpenSequencer => commits::sequencer(rt, alloc),
             Call::Queue => commits::book(alloc),
             Call::QueueShared => commits::shared_book(rt, alloc),
             Call::BeginAtDesk => commits::desk(rt, alloc),
             Call::NowOfWorker => commits::worker_now(rt, alloc),
             Call::BeginOfWorker => commits::worker_begin(rt, alloc),
             Call::RunNode => nodes::node(rt, alloc),
-            Call::ReadSettings => services::settings(alloc),
             Call::NextEpoch => services::epoch(),
+            Call::TurnAtPost => services::session(rt, alloc),
+            Call::BeginSession => services::worker(rt, alloc),
+            _ => match self.answer(rt, alloc) {
+                Err(number) if number == MEMORY => Outcome::by(self.answer(rt, alloc), true),
+                answer => Outcome::by(answer, false),
+            },
+        }
+    }
+
+    /// Prepares and makes a call that changes nothing outside of it. Answers whether it gave what was worked out by hand,
+    /// or the number of its refusal.
+    fn answer<R: Wait + Net>(self, rt: &R, alloc: Global) -> Result<bool, u16> {
+        match self {
+            Call::WriteText => texts::certificate(alloc),
+            Call::ReadScript => texts::script(alloc),
+            Call::Audit => texts::audited(alloc),
+            Call::ReportText => texts::report(alloc),
+            Call::NewWorld => worlds::world(alloc),
+            Call::Run => worlds::whole_run(alloc),
+            Call::Twin => worlds::low_twin(alloc),
+            Call::Open => publications::opened(rt, alloc),
+            Call::OpenSequencer => commits::sequencer(rt, alloc),
+            Call::ReadSettings => services::settings(alloc),
             Call::PushEvent => services::event(alloc),
             Call::PushAnswer => services::answer(alloc),
             Call::ReadView => pictures::view(alloc),
             Call::PushView => pictures::picture(alloc),
             Call::PushSvg => pictures::document(alloc),
             Call::NewInbox => services::inbox(rt, alloc),
-            Call::TurnAtPost => services::session(rt, alloc),
-            Call::BeginSession => services::worker(rt, alloc),
             Call::Outline => services::settings_outline(alloc),
+            _ => Ok(false),
         }
     }
 }

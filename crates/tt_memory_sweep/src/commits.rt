@@ -36,14 +36,7 @@ pub(crate) fn watch_of<R: Wait>(rt: &R, alloc: Global) -> Option<Watch> {
 }
 
 /// Opens a sequencer with two seats, and stamps with one of them by the reading [100, 200].
-pub(crate) fn sequencer<R: Wait>(rt: &R, alloc: Global) -> Outcome {
-    match Outcome::at_once(open_sequencer(rt, alloc)) {
-        Some(outcome) => outcome,
-        None => Outcome::again(open_sequencer(rt, alloc)),
-    }
-}
-
-fn open_sequencer<R: Wait>(rt: &R, alloc: Global) -> Result<bool, u16> {
+pub(crate) fn sequencer<R: Wait>(rt: &R, alloc: Global) -> Result<bool, u16> {
     let (sequencer, mut seats) = match Sequencer::open(alloc, 2) {
         Ok(opened) => opened,
         Err(fault) => return Err(fault.number()),

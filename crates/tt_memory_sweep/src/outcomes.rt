@@ -3,6 +3,9 @@
 /// The number of `Memory` in every fault type.
 pub(crate) const MEMORY: u16 = 1;
 
+/// What a call gives in place of a number if an allocation failed while its preparation was made. No fault has it.
+pub(crate) const UNPREPARED: u16 = 0;
+
 /// The outcome of a call.
 #[derive(Clone, Copy, Debug, PartialEq, Eq)]
 pub(crate) enum Outcome {
@@ -31,17 +34,12 @@ impl Outcome {
         }
     }
 
-    /// The outcome by the first answer of a call that changes nothing. None if the answer is number 1.
-    pub(crate) fn at_once(answer: Result<bool, u16>) -> Option<Outcome> {
+    /// The outcome of a call by its answer, or by its second answer after it was refused with number 1.
+    pub(crate) fn by(answer: Result<bool, u16>, was_refused: bool) -> Outcome {
         match answer {
-            Ok(is_as_worked) => Some(Outcome::of(is_as_worked, false)),
-            Err(number) if number == MEMORY => None,
-            Err(_) => Some(Outcome::Wrong),
+            Ok(is_as_worked) => Outcome::of(is_as_worked, was_refused),
+            Err(number) if number == UNPREPARED && !was_refused => Outcome::Unprepared,
+            Err(_) => Outcome::Wrong,
         }
-    }
-
-    /// The outcome of such a call by its answer when it is made again.
-    pub(crate) fn again(answer: Result<bool, u16>) -> Outcome {
-        Outcome::of(answer == Ok(true), true)
     }
 }

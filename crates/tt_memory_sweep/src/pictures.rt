@@ -1,6 +1,6 @@
 //! What `ttd top` draws of a machine, as it was worked out by hand.
 
-use crate::outcomes::{MEMORY, Outcome};
+use crate::outcomes::{MEMORY, UNPREPARED};
 use std::alloc::{AllocError, Global};
 use tt_span::Span;
 use tt_top::{Form, View, push_svg, push_view, read_view};
@@ -88,14 +88,7 @@ const FORM: Form = Form {
 };
 
 /// Reads the texts of a machine.
-pub(crate) fn view(alloc: Global) -> Outcome {
-    match Outcome::at_once(read_texts(alloc)) {
-        Some(outcome) => outcome,
-        None => Outcome::again(read_texts(alloc)),
-    }
-}
-
-fn read_texts(alloc: Global) -> Result<bool, u16> {
+pub(crate) fn view(alloc: Global) -> Result<bool, u16> {
     let view = view_of(alloc)?;
     let sources = view.sources.as_slice();
     let is_second = sources.len() == 4 && sources[1].span == Span::new(102_500, 108_991).ok();
@@ -110,38 +103,24 @@ fn view_of(alloc: Global) -> Result<View, u16> {
 }
 
 /// Draws what they show.
-pub(crate) fn picture(alloc: Global) -> Outcome {
+pub(crate) fn picture(alloc: Global) -> Result<bool, u16> {
     let Ok(view) = view_of(alloc) else {
-        return Outcome::Unprepared;
+        return Err(UNPREPARED);
     };
-    match Outcome::at_once(draw(alloc, &view)) {
-        Some(outcome) => outcome,
-        None => Outcome::again(draw(alloc, &view)),
-    }
-}
-
-fn draw(alloc: Global, view: &View) -> Result<bool, u16> {
     let mut text = String::new(alloc);
-    match push_view(&mut text, view, &FORM, &WIDTHS) {
+    match push_view(&mut text, &view, &FORM, &WIDTHS) {
         Ok(()) => Ok(text.as_str() == PICTURE),
         Err(AllocError) => Err(MEMORY),
     }
 }
 
 /// Draws it as a document.
-pub(crate) fn document(alloc: Global) -> Outcome {
+pub(crate) fn document(alloc: Global) -> Result<bool, u16> {
     let Ok(view) = view_of(alloc) else {
-        return Outcome::Unprepared;
+        return Err(UNPREPARED);
     };
-    match Outcome::at_once(draw_document(alloc, &view)) {
-        Some(outcome) => outcome,
-        None => Outcome::again(draw_document(alloc, &view)),
-    }
-}
-
-fn draw_document(alloc: Global, view: &View) -> Result<bool, u16> {
     let mut text = String::new(alloc);
-    match push_svg(alloc, &mut text, view, &FORM, &WIDTHS) {
+    match push_svg(alloc, &mut text, &view, &FORM, &WIDTHS) {
         Ok(()) => Ok(text.as_str() == DOCUMENT),
         Err(AllocError) => Err(MEMORY),
     }

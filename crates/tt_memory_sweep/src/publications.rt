@@ -26,14 +26,7 @@ fn seen(watch: &mut Watch) -> Result<(u64, u64), u16> {
 }
 
 /// Opens publications with two watches.
-pub(crate) fn opened<R: Wait>(rt: &R, alloc: Global) -> Outcome {
-    match Outcome::at_once(open_two(rt, alloc)) {
-        Some(outcome) => outcome,
-        None => Outcome::again(open_two(rt, alloc)),
-    }
-}
-
-fn open_two<R: Wait>(rt: &R, alloc: Global) -> Result<bool, u16> {
+pub(crate) fn opened<R: Wait>(rt: &R, alloc: Global) -> Result<bool, u16> {
     let Some(drift) = Drift::new(0) else {
         return Ok(false);
     };

@@ -2,7 +2,7 @@
 
 use crate::commits::watch_of;
 use crate::devices::SheetWriter;
-use crate::outcomes::{MEMORY, Outcome};
+use crate::outcomes::{MEMORY, Outcome, UNPREPARED};
 use arrayvec::ArrayVec;
 use std::alloc::{AllocError, Global};
 use std::net::Net;
@@ -14,7 +14,7 @@ use tt_outline::outline;
 use tt_pages::{Asked, Limits, Page, Report, Wanted, push_answer};
 use tt_publish::MemoryClock;
 use tt_session::Replies;
-use tt_settings::{Settings, read};
+use tt_settings::read;
 use tt_span::Span;
 use tt_stamp::Sequencer;
 use tt_status::{LogEvent, LogFormat, RefusedFusion, push_event};
@@ -97,14 +97,7 @@ const AGAIN: &[u8] = b"now 100 200\nwaiting 1 201\nnow 100 200\n";
 const CLOCK: [u64; 64] = [0; 64];
 
 /// Reads the settings.
-pub(crate) fn settings(alloc: Global) -> Outcome {
-    match Outcome::at_once(read_settings(alloc)) {
-        Some(outcome) => outcome,
-        None => Outcome::again(read_settings(alloc)),
-    }
-}
-
-fn read_settings(alloc: Global) -> Result<bool, u16> {
+pub(crate) fn settings(alloc: Global) -> Result<bool, u16> {
     let settings = match read(alloc, SETTINGS) {
         Ok(settings) => settings,
         Err(fault) => return Err(fault.number()),
@@ -133,18 +126,11 @@ fn read_settings(alloc: Global) -> Result<bool, u16> {
 }
 
 /// Writes what a machine with the settings would do.
-pub(crate) fn settings_outline(alloc: Global) -> Outcome {
+pub(crate) fn settings_outline(alloc: Global) -> Result<bool, u16> {
     let Ok(settings) = read(alloc, SETTINGS) else {
-        return Outcome::Unprepared;
+        return Err(UNPREPARED);
     };
-    match Outcome::at_once(write_outline(alloc, &settings)) {
-        Some(outcome) => outcome,
-        None => Outcome::again(write_outline(alloc, &settings)),
-    }
-}
-
-fn write_outline(alloc: Global, settings: &Settings) -> Result<bool, u16> {
-    match outline(alloc, settings) {
+    match outline(alloc, &settings) {
         Ok(text) => Ok(text.as_str() == OUTLINE),
         Err(AllocError) => Err(MEMORY),
     }
@@ -157,14 +143,7 @@ pub(crate) fn epoch() -> Outcome {
 }
 
 /// Writes the line of an event.
-pub(crate) fn event(alloc: Global) -> Outcome {
-    match Outcome::at_once(write_event(alloc)) {
-        Some(outcome) => outcome,
-        None => Outcome::again(write_event(alloc)),
-    }
-}
-
-fn write_event(alloc: Global) -> Result<bool, u16> {
+pub(crate) fn event(alloc: Global) -> Result<bool, u16> {
     let mut text = String::new(alloc);
     match push_event(
         &mut text,
@@ -181,14 +160,7 @@ fn write_event(alloc: Global) -> Result<bool, u16> {
 }
 
 /// Writes the answer to a request over HTTP.
-pub(crate) fn answer(alloc: Global) -> Outcome {
-    match Outcome::at_once(write_answer(alloc)) {
-        Some(outcome) => outcome,
-        None => Outcome::again(write_answer(alloc)),
-    }
-}
-
-fn write_answer(alloc: Global) -> Result<bool, u16> {
+pub(crate) fn answer(alloc: Global) -> Result<bool, u16> {
     let mut text = String::new(alloc);
     let report = Report {
         status: &None,
@@ -204,14 +176,7 @@ fn write_answer(alloc: Global) -> Result<bool, u16> {
 }
 
 /// Makes the inbox of a worker.
-pub(crate) fn inbox<R: Net>(rt: &R, alloc: Global) -> Outcome {
-    match Outcome::at_once(make_inbox(rt, alloc)) {
-        Some(outcome) => outcome,
-        None => Outcome::again(make_inbox(rt, alloc)),
-    }
-}
-
-fn make_inbox<R: Net>(rt: &R, alloc: Global) -> Result<bool, u16> {
+pub(crate) fn inbox<R: Net>(rt: &R, alloc: Global) -> Result<bool, u16> {
     match Inbox::new(rt, alloc) {
         Ok(inbox) => Ok(inbox.waiting() == 0 && inbox.load() == 0),
         Err(_) => Err(MEMORY),

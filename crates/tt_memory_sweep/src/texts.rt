@@ -1,6 +1,6 @@
 //! Texts that are written and read.
 
-use crate::outcomes::Outcome;
+use crate::outcomes::{MEMORY, UNPREPARED};
 use std::alloc::Global;
 use tt_audit::{Report, audit, report_text};
 use tt_cert::{certify, write_text};
@@ -41,14 +41,7 @@ acts = [\"honest\", \"ahead 7\"]
 ";
 
 /// Writes the certificate.
-pub(crate) fn certificate(alloc: Global) -> Outcome {
-    match Outcome::at_once(write_certificate(alloc)) {
-        Some(outcome) => outcome,
-        None => Outcome::again(write_certificate(alloc)),
-    }
-}
-
-fn write_certificate(alloc: Global) -> Result<bool, u16> {
+pub(crate) fn certificate(alloc: Global) -> Result<bool, u16> {
     let spans = [span(0, 10), span(5, 15), span(12, 20)];
     let spans: &[Span] = &spans;
     let claim = match fuse(spans, 1) {
@@ -63,14 +56,7 @@ fn write_certificate(alloc: Global) -> Result<bool, u16> {
 }
 
 /// Reads the script.
-pub(crate) fn script(alloc: Global) -> Outcome {
-    match Outcome::at_once(read_script(alloc)) {
-        Some(outcome) => outcome,
-        None => Outcome::again(read_script(alloc)),
-    }
-}
-
-fn read_script(alloc: Global) -> Result<bool, u16> {
+pub(crate) fn script(alloc: Global) -> Result<bool, u16> {
     let script = match read(alloc, SCRIPT) {
         Ok(script) => script,
         Err(fault) => return Err(fault.number()),
@@ -91,23 +77,19 @@ fn read_script(alloc: Global) -> Result<bool, u16> {
 }
 
 /// Reports on a run with one faulty source of three.
-pub(crate) fn audited(alloc: Global) -> Outcome {
+pub(crate) fn audited(alloc: Global) -> Result<bool, u16> {
     let Some(config) = machine(3, 1, 0, 1) else {
-        return Outcome::Wrong;
+        return Ok(false);
     };
     let (configs, events) = ([config], one_liar());
     let (configs, events): (&[Config], &[Event]) = (&configs, &events);
     let Ok(trace) = run(alloc, configs, events) else {
-        return Outcome::Unprepared;
+        return Err(UNPREPARED);
     };
-    let mut was_refused = false;
-    for _ in 0..2 {
-        match audit(alloc, configs, events, &trace) {
-            Ok(report) => return Outcome::of(is_as_worked(&report), was_refused),
-            Err(_) => was_refused = true,
-        }
+    match audit(alloc, configs, events, &trace) {
+        Ok(report) => Ok(is_as_worked(&report)),
+        Err(_) => Err(MEMORY),
     }
-    Outcome::Wrong
 }
 
 fn is_as_worked(report: &Report) -> bool {
@@ -125,24 +107,20 @@ fn is_as_worked(report: &Report) -> bool {
 }
 
 /// Writes the report on a run with one faulty source of three.
-pub(crate) fn report(alloc: Global) -> Outcome {
+pub(crate) fn report(alloc: Global) -> Result<bool, u16> {
     let Some(config) = machine(3, 1, 0, 1) else {
-        return Outcome::Wrong;
+        return Ok(false);
     };
     let (configs, events) = ([config], one_liar());
     let (configs, events): (&[Config], &[Event]) = (&configs, &events);
     let Ok(trace) = run(alloc, configs, events) else {
-        return Outcome::Unprepared;
+        return Err(UNPREPARED);
     };
     let Ok(report) = audit(alloc, configs, events, &trace) else {
-        return Outcome::Unprepared;
+        return Err(UNPREPARED);
     };
-    let mut was_refused = false;
-    for _ in 0..2 {
-        match report_text(alloc, &report) {
-            Ok(text) => return Outcome::of(text.as_str() == ONE_LIAR.report, was_refused),
-            Err(_) => was_refused = true,
-        }
+    match report_text(alloc, &report) {
+        Ok(text) => Ok(text.as_str() == ONE_LIAR.report),
+        Err(_) => Err(MEMORY),
     }
-    Outcome::Wrong
 }

@@ -14,16 +14,9 @@ fn machines() -> Option<[Config; 2]> {
     Some([config; 2])
 }
 
-/// Makes a world of two machines.
-pub(crate) fn world(alloc: Global) -> Outcome {
-    match Outcome::at_once(make_world(alloc)) {
-        Some(outcome) => outcome,
-        None => Outcome::again(make_world(alloc)),
-    }
-}
-
-/// Makes a world. Answers whether source 0 has made no statement to machine 0, or the number of the refusal.
-fn make_world(alloc: Global) -> Result<bool, u16> {
+/// Makes a world of two machines. Answers whether source 0 has made no statement to machine 0, or the number of the
+/// refusal.
+pub(crate) fn world(alloc: Global) -> Result<bool, u16> {
     let Some(configs) = machines() else {
         return Ok(false);
     };
@@ -60,14 +53,7 @@ pub(crate) fn steps(alloc: Global) -> Outcome {
 }
 
 /// Does the run of two commits in one call.
-pub(crate) fn whole_run(alloc: Global) -> Outcome {
-    match Outcome::at_once(run_commits(alloc)) {
-        Some(outcome) => outcome,
-        None => Outcome::again(run_commits(alloc)),
-    }
-}
-
-fn run_commits(alloc: Global) -> Result<bool, u16> {
+pub(crate) fn whole_run(alloc: Global) -> Result<bool, u16> {
     let Some(configs) = machines() else {
         return Ok(false);
     };
@@ -87,14 +73,7 @@ fn are_as_worked(replies: &[Reply]) -> bool {
 }
 
 /// Makes the twin of the reading [45, 55], at its low end, in the run with one faulty source of three.
-pub(crate) fn low_twin(alloc: Global) -> Outcome {
-    match Outcome::at_once(make_twin(alloc)) {
-        Some(outcome) => outcome,
-        None => Outcome::again(make_twin(alloc)),
-    }
-}
-
-fn make_twin(alloc: Global) -> Result<bool, u16> {
+pub(crate) fn low_twin(alloc: Global) -> Result<bool, u16> {
     let Some(config) = machine(3, 1, 0, 1) else {
         return Ok(false);
     };
