@@ -10,7 +10,7 @@ use tt_master::{NoAnswer, Silence};
 pub const REASONS: usize = 11;
 
 /// What some turns of a master counted. A count stays at 2^64 - 1 once it is there.
-#[derive(Clone, Copy, Debug, PartialEq, Eq)]
+#[derive(Clone, Copy)]
 pub struct Tally {
     /// How many requests were answered.
     pub answers: u64,

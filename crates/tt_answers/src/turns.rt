@@ -11,7 +11,7 @@ use tt_rounds::{Link, LinkFault, PACKET_LEN};
 use tt_span::Span;
 
 /// What came of a turn.
-#[derive(Clone, Copy, Debug, PartialEq, Eq)]
+#[derive(Clone, Copy, PartialEq, Eq)]
 pub enum Turn {
     /// Nothing came.
     Nothing,

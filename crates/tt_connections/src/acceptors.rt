@@ -32,7 +32,7 @@ const LISTENER: Token = Token(1);
 const EVENTS: usize = 4;
 
 /// What the acceptor found at one listener.
-#[derive(Clone, Copy, Debug, PartialEq, Eq)]
+#[derive(Clone, Copy)]
 pub(crate) enum Turn {
     /// No more connections wait to be accepted.
     Empty,

@@ -33,7 +33,7 @@ pub enum ListenerFault {
 }
 
 /// What is at the path of a Unix socket.
-#[derive(Clone, Copy, Debug, PartialEq, Eq)]
+#[derive(Clone, Copy)]
 pub(crate) enum Found {
     /// Nothing.
     Nothing,

@@ -24,7 +24,7 @@ const EVENTS: usize = 2;
 const UNREAD: u64 = u64::MAX;
 
 /// What is seen of a connection.
-#[derive(Clone, Copy, Debug, PartialEq, Eq)]
+#[derive(Clone, Copy)]
 pub(crate) enum Seen {
     /// The client may send more.
     Open,

@@ -9,7 +9,7 @@ use tt_span::MAX_SOURCES;
 
 /// An answer of a source: what the clock of the daemon showed, in nanoseconds, when it polled the source, and when it
 /// received the answer.
-#[derive(Clone, Copy, Debug, PartialEq, Eq)]
+#[derive(Clone, Copy)]
 pub struct Answer {
     pub polled: u64,
     pub received: u64,

@@ -18,7 +18,7 @@ const LONGEST_PAUSE: u64 = 30_000_000_000;
 
 /// What is kept when a life ends by a break: how many breaks came in a row, this one among them, and what the monotonic
 /// clock of the host showed, in nanoseconds.
-#[derive(Clone, Copy, Debug, PartialEq, Eq)]
+#[derive(Clone, Copy)]
 pub struct BreakRecord {
     pub breaks: u64,
     pub clock: u64,

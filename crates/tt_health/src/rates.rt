@@ -17,7 +17,7 @@ const SHORTEST: u64 = 1_000_000_000;
 const BILLION: u128 = 1_000_000_000;
 
 /// In which span the time of a source lay when the clock of the machine showed `clock`, in nanoseconds.
-#[derive(Clone, Copy, Debug, PartialEq, Eq)]
+#[derive(Clone, Copy)]
 pub struct Sample {
     pub clock: u64,
     pub span: Span,
@@ -25,7 +25,7 @@ pub struct Sample {
 
 /// The samples of a source by which its rate is told: the first of the baseline, the one that takes its place
 /// when the baseline is long enough, and the last.
-#[derive(Clone, Copy, Debug, PartialEq, Eq)]
+#[derive(Clone, Copy)]
 pub struct Track {
     pub first: Option<Sample>,
     pub second: Option<Sample>,
@@ -34,7 +34,7 @@ pub struct Track {
 
 /// How fast the time of a source goes against the clock of the machine: faster by `size` parts per billion, or slower
 /// where `below` is set, with an error of at most `error` parts per billion both ways.
-#[derive(Clone, Copy, Debug, PartialEq, Eq)]
+#[derive(Clone, Copy)]
 pub struct Rate {
     pub below: bool,
     pub size: u64,

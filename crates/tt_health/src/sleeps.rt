@@ -13,7 +13,7 @@ const UPTIME_STEP: u64 = 10_000_000;
 const WIDE_LEAD: u64 = 15_000_000;
 
 /// One look at `/proc/uptime`, between two readings of `CLOCK_MONOTONIC`. All are in nanoseconds.
-#[derive(Clone, Copy, Debug, PartialEq, Eq)]
+#[derive(Clone, Copy)]
 pub struct Look {
     /// What the monotonic clock showed before the look.
     pub before: u64,
@@ -24,7 +24,7 @@ pub struct Look {
 }
 
 /// Bounds of how far `CLOCK_BOOTTIME` leads `CLOCK_MONOTONIC`, in nanoseconds. It leads by what the host has slept.
-#[derive(Clone, Copy, Debug, PartialEq, Eq)]
+#[derive(Clone, Copy)]
 pub struct Lead {
     pub least: u64,
     pub most: u64,

@@ -7,7 +7,7 @@ pub(crate) const MEMORY: u16 = 1;
 pub(crate) const UNPREPARED: u16 = 0;
 
 /// The outcome of a call.
-#[derive(Clone, Copy, Debug, PartialEq, Eq)]
+#[derive(Clone, Copy, PartialEq, Eq)]
 pub(crate) enum Outcome {
     /// It gave the answer that was worked out by hand, and no allocation of it failed.
     Done,

@@ -3,7 +3,7 @@
 use tt_world::Reply;
 
 /// What a reply says, as far as the runs here need it.
-#[derive(Clone, Copy, Debug, PartialEq, Eq)]
+#[derive(Clone, Copy, PartialEq, Eq)]
 pub(crate) enum Said {
     /// The machine sent the packet with this number.
     Sent(u64),

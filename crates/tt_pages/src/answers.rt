@@ -23,7 +23,7 @@ pub struct Report<'a> {
 }
 
 /// How a request is answered.
-#[derive(Clone, Copy, Debug, PartialEq, Eq)]
+#[derive(Clone, Copy)]
 enum Code {
     Found,
     FoundMetrics,

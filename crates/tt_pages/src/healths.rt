@@ -10,7 +10,7 @@ use tt_status::Status;
 const SECOND: u64 = 1_000_000_000;
 
 /// By what a machine is judged.
-#[derive(Clone, Copy, Debug, PartialEq, Eq)]
+#[derive(Clone, Copy)]
 pub struct Limits {
     /// The widest reading that clients are given, in nanoseconds, if there is a limit.
     pub max_width: Option<u64>,
@@ -37,7 +37,7 @@ impl Limits {
 }
 
 /// Why a machine is not well.
-#[derive(Clone, Copy, Debug, PartialEq, Eq)]
+#[derive(Clone, Copy)]
 pub struct Health {
     /// It has published nothing: its clients are refused with 801.
     pub unpublished: bool,

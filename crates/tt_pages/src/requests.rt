@@ -13,7 +13,7 @@ pub const MAX_HEAD: usize = 4096;
 pub const MAX_FIELDS: usize = 64;
 
 /// A page.
-#[derive(Clone, Copy, Debug, PartialEq, Eq)]
+#[derive(Clone, Copy)]
 pub enum Page {
     /// `/metrics`: the status.
     Metrics,
@@ -24,7 +24,7 @@ pub enum Page {
 }
 
 /// What a request is for.
-#[derive(Clone, Copy, Debug, PartialEq, Eq)]
+#[derive(Clone, Copy)]
 pub enum Wanted {
     /// This page. None is a page that there is not.
     Whole(Option<Page>),
@@ -35,7 +35,7 @@ pub enum Wanted {
 }
 
 /// What the bytes of a client ask for.
-#[derive(Clone, Copy, Debug, PartialEq, Eq)]
+#[derive(Clone, Copy)]
 pub enum Asked {
     /// What the request is for that they begin with.
     Wants(Wanted),

@@ -89,7 +89,7 @@ fn kind_of(event: LogEvent) -> usize
 
 /// What is kept of one kind of line: its limit, and how many lines found no place, with those that they would have told
 /// of, since a line of the kind found one.
-#[derive(Clone, Copy, Debug, PartialEq, Eq)]
+#[derive(Clone, Copy)]
 struct Kind {
     limit: Limit,
     missed: u64,

@@ -14,7 +14,7 @@ use tt_status::{LogEvent, Status};
 pub const CAPACITY: usize = 256;
 
 /// A line of the log, with its time in nanoseconds since 1970, and how many of its kind were left out before it.
-#[derive(Clone, Copy, Debug, PartialEq, Eq)]
+#[derive(Clone, Copy)]
 pub(crate) struct Line {
     pub(crate) time: u64,
     pub(crate) event: LogEvent,

@@ -4,7 +4,7 @@ ghost use Rattle.std.specs.Prelude.{◌≡◌, List, [], ◌∷◌};
 ghost use Rattle.tt_report.specs.Watch.{StandsFor, Look, look_of, answer_of};
 
 /// What is kept of publications: which one was told last as slow, as the clock reading at its beginning; 0 for none.
-#[derive(Clone, Copy, Debug, PartialEq, Eq)]
+#[derive(Clone, Copy)]
 pub(crate) struct Watch {
     told: u64,
 }

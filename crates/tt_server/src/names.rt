@@ -27,7 +27,7 @@ const STEP: u64 = 1_000_000_000;
 pub const MAX_FOUND: usize = 32;
 
 /// What was found of the name of a source.
-#[derive(Clone, Copy, Debug, PartialEq, Eq)]
+#[derive(Clone, Copy)]
 pub(crate) struct Lookups {
     /// The address that the last lookup found that found one.
     pub(crate) address: Option<SocketAddr>,

@@ -12,7 +12,7 @@ use std::net::{IpAddr, Ipv4Addr, Ipv6Addr, SocketAddr};
 use tt_settings::MasterSettings;
 
 /// An address of its own for the socket for polls.
-#[derive(Clone, Copy, Debug, PartialEq, Eq)]
+#[derive(Clone, Copy)]
 pub(crate) enum OwnAddress {
     /// 127.0.0.1
     LocalFour,
@@ -25,7 +25,7 @@ pub(crate) enum OwnAddress {
 }
 
 /// Where the socket for polls is bound, and what it reaches.
-#[derive(Clone, Copy, Debug, PartialEq, Eq)]
+#[derive(Clone, Copy)]
 pub(crate) struct Reach {
     pub(crate) own: OwnAddress,
     /// Whether a socket of IPv6 reaches no address of IPv4.

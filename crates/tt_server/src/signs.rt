@@ -83,7 +83,7 @@ pub(crate) struct SleepWatch {
 }
 
 /// What a look of [`SleepWatch::look`] found.
-#[derive(Clone, Copy, Debug, PartialEq, Eq)]
+#[derive(Clone, Copy)]
 pub(crate) enum Sleep {
     /// The host did not sleep, as far as it is seen.
     Awake,

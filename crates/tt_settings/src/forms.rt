@@ -12,7 +12,7 @@ use toml::{Table, Value};
 use tt_status::LogFormat;
 
 /// What a machine does when it knows that one of its assumptions is broken.
-#[derive(Clone, Copy, Debug, PartialEq, Eq)]
+#[derive(Clone, Copy)]
 pub enum OnBreak {
     /// `end`: it says so, and ends itself.
     End,
@@ -21,7 +21,7 @@ pub enum OnBreak {
 }
 
 /// How a machine writes its log, and what it does when it is not sure enough of the time.
-#[derive(Clone, Copy, Debug)]
+#[derive(Clone, Copy)]
 pub(crate) struct Conduct {
     /// The form of its log.
     pub(crate) log: LogFormat,

@@ -28,7 +28,7 @@ use tt_span::MAX_SOURCES;
 const MAX_KEYS: usize = 4;
 
 /// Where a master answers: at a socket address, or at a port of a host with a name. In contracts it is its text.
-#[derive(Debug, Drop)]
+#[derive(Drop)]
 pub struct MasterAddress {
     text: String,
 }
@@ -72,7 +72,7 @@ impl MasterAddress {
 }
 
 /// A master: where it answers, and the keys that are shared with it. In contracts it is a [`Master`].
-#[derive(Debug, Drop)]
+#[derive(Drop)]
 pub struct MasterSettings {
     address: MasterAddress,
     keys: Vec<u32>,

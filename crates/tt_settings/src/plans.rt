@@ -28,7 +28,7 @@ const DEFAULT_FLOOR_AHEAD: u64 = SECOND;
 const DEFAULT_IDLE: u64 = 60 * SECOND;
 
 /// How long the parts of a machine wait, in nanoseconds.
-#[derive(Clone, Copy, Debug, PartialEq, Eq)]
+#[derive(Clone, Copy)]
 pub struct Pauses {
     /// The pause between two rounds of polls: from a millisecond to an hour.
     pub poll: u64,

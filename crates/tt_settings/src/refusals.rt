@@ -19,7 +19,7 @@ use toml::Table;
 ///
 /// It is printed as one line without its line feed: the key, if there is one, and behind it the value and what would be
 /// right, as `machine: 8 is above 7` and `poll: "0.5s": a whole number and ns, us, ms or s`. The wording is not fixed.
-#[derive(Debug, Drop)]
+#[derive(Drop)]
 pub struct Refusal {
     fault: SettingsFault,
     key: Option<Key>,

@@ -25,7 +25,7 @@ use tt_span::Span;
 use tt_status::LogFormat;
 
 /// The settings of a machine. In contracts they are their values.
-#[derive(Debug, Drop)]
+#[derive(Drop)]
 pub struct Settings {
     machine: u8,
     config: Config,

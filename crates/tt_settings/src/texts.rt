@@ -13,7 +13,7 @@ use std::marker::Model;
 use toml::{Table, Value};
 
 /// A path as the file has it. In contracts it is its bytes.
-#[derive(Debug, Drop)]
+#[derive(Drop)]
 pub struct FilePath {
     text: String,
 }
@@ -36,7 +36,7 @@ impl FilePath {
 }
 
 /// The paths of a machine.
-#[derive(Debug, Drop)]
+#[derive(Drop)]
 pub(crate) struct Paths {
     /// The folder of its epoch.
     pub(crate) state: FilePath,

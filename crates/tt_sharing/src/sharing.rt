@@ -13,7 +13,7 @@ use tt_status::LogEvent;
 const MAX_RETRY: u64 = 30_000_000_000;
 
 /// A break of the sharing: the file could not be opened or written.
-#[derive(Clone, Copy, Debug, PartialEq, Eq)]
+#[derive(Clone, Copy)]
 pub struct Break {
     /// The pause before it is tried again, in nanoseconds.
     pub pause: u64,
@@ -70,7 +70,7 @@ fn told_of(was_broken: bool, failed: Option<u16>) -> Option<LogEvent>
 }
 
 /// What came of a try to share a publication.
-#[derive(Clone, Copy, Debug, PartialEq, Eq)]
+#[derive(Clone, Copy)]
 pub struct Tried {
     /// Whether the publication was written.
     pub written: bool,

@@ -14,7 +14,7 @@ use tt_span::Span;
 use tt_stamp::Row;
 
 /// What a stamper answers.
-#[derive(Clone, Copy, Debug, PartialEq, Eq)]
+#[derive(Clone, Copy)]
 pub enum Answer {
     /// This stamp, in nanoseconds.
     Stamp(u64),

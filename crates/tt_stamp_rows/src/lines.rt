@@ -9,7 +9,7 @@ use tt_span::{MAX_TIME, Span};
 use tt_text::numbers_behind;
 
 /// What a stamper is asked. All numbers are nanoseconds.
-#[derive(Debug, Drop)]
+#[derive(Drop)]
 pub struct Asked {
     /// The greatest stamp that was given before, 0 if there is none.
     pub last: u64,

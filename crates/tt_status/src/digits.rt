@@ -6,7 +6,7 @@ ghost use Rattle.tt_status.specs.Digits.{two_digits, three_digits, four_digits, 
 use std::alloc::AllocError;
 
 /// A number that may be below 0. A size of 0 is 0, whatever `below` says.
-#[derive(Clone, Copy, Debug, PartialEq, Eq)]
+#[derive(Clone, Copy)]
 pub struct Difference {
     /// Whether it is below 0.
     pub below: bool,

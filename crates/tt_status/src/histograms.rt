@@ -11,7 +11,7 @@ use std::alloc::AllocError;
 pub const BOUNDS: usize = 12;
 
 /// How many times of each length there were, in nanoseconds.
-#[derive(Clone, Copy, Debug, PartialEq, Eq)]
+#[derive(Clone, Copy)]
 pub struct Histogram {
     /// The bounds, ascending.
     pub bounds: [u64; BOUNDS],

@@ -7,7 +7,7 @@ ghost use Rattle.tt_status.specs.Limit.{StandsFor, answer_of};
 pub const QUIET: u64 = 10_000_000_000;
 
 /// What is kept of one kind of line: when one was written last, and how many were left out since.
-#[derive(Clone, Copy, Debug, PartialEq, Eq)]
+#[derive(Clone, Copy)]
 pub struct Limit {
     last: Option<u64>,
     left_out: u64,

@@ -12,7 +12,7 @@ use std::net::SocketAddr;
 use tt_daemon::DaemonFault;
 
 /// Why a fusion is refused.
-#[derive(Clone, Copy, Debug, PartialEq, Eq)]
+#[derive(Clone, Copy)]
 pub enum RefusedFusion {
     /// No point lies in the spans of enough sources: more than f sources are faulty.
     NoPoint,
@@ -34,7 +34,7 @@ impl RefusedFusion {
 }
 
 /// The form of the lines of a log.
-#[derive(Clone, Copy, Debug, PartialEq, Eq)]
+#[derive(Clone, Copy)]
 pub enum LogFormat {
     /// Names and values, as `level=warn event=clock_back`.
     Text,
@@ -43,7 +43,7 @@ pub enum LogFormat {
 }
 
 /// An event that an operator wants to see, or may have to act on.
-#[derive(Clone, Copy, Debug, PartialEq, Eq)]
+#[derive(Clone, Copy)]
 pub enum LogEvent {
     /// The machine has started in this epoch, and serves clients at this port.
     Started {

@@ -23,7 +23,7 @@ const NUMBERS: [u64; UNANSWERED] = [
 ];
 
 /// How many answers a master has sealed under one key.
-#[derive(Clone, Copy, Debug, PartialEq, Eq)]
+#[derive(Clone, Copy)]
 pub struct KeyAnswers {
     /// The number of the key.
     pub key: u32,

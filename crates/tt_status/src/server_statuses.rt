@@ -9,7 +9,7 @@ use crate::metrics::{Kind, Subject, Value, push_head, push_labelled};
 use std::alloc::AllocError;
 
 /// What a master knows of one of its NTP servers, at one moment.
-#[derive(Clone, Copy, Debug, PartialEq, Eq)]
+#[derive(Clone, Copy)]
 pub struct ServerStatus {
     /// The number of the reason for which it gives no time: 2401 to 2408; 0 where it gives one.
     pub silence: u64,

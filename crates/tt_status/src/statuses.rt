@@ -47,7 +47,7 @@ const UNOPENED_PACKETS: [Aspect; 3] = [
 ];
 
 /// What became of one source, at one moment.
-#[derive(Clone, Copy, Debug, PartialEq, Eq)]
+#[derive(Clone, Copy)]
 pub struct SourceStatus {
     /// Whether it is a suspect of the last fusion.
     pub suspect: bool,
@@ -110,7 +110,7 @@ pub fn unopened_place(reason: SealFault) -> usize
 }
 
 /// What a machine has done and knows, at one moment.
-#[derive(Clone, Copy, Debug, PartialEq, Eq)]
+#[derive(Clone, Copy)]
 pub struct Status {
     /// The number of the machine.
     pub machine: u64,

@@ -22,7 +22,7 @@ use tt_span::{Drift, Span};
 use tt_status::Histogram;
 
 /// A new publication that does not meet the last one.
-#[derive(Clone, Copy, Debug, PartialEq, Eq)]
+#[derive(Clone, Copy)]
 pub struct Unmet {
     /// The clock reading of the new one, in nanoseconds.
     pub clock: u64,

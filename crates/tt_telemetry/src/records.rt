@@ -19,7 +19,7 @@ use tt_status::{Difference, LogEvent, REASONS, RefusedFusion, refusal_place};
 const MAX_EVENTS: usize = 50;
 
 /// What a round came to.
-#[derive(Clone, Copy, Debug, PartialEq, Eq)]
+#[derive(Clone, Copy)]
 pub enum Outcome {
     /// A fusion was published, of this width in nanoseconds.
     Published { width: u64 },
@@ -32,7 +32,7 @@ pub enum Outcome {
 }
 
 /// In how many rounds a source was heard or not. Each count stays at 2^64 - 1 once it is reached.
-#[derive(Clone, Copy, Debug, PartialEq, Eq)]
+#[derive(Clone, Copy)]
 pub struct SourceTally {
     /// An answer was accepted.
     pub accepted: u64,
@@ -45,7 +45,7 @@ pub struct SourceTally {
 }
 
 /// Counts of what the rounds of a life have done so far. Each count stays at 2^64 - 1 once it is reached.
-#[derive(Clone, Copy, Debug, PartialEq, Eq)]
+#[derive(Clone, Copy)]
 pub struct Totals {
     pub rounds: u64,
     pub published: u64,
@@ -57,7 +57,7 @@ pub struct Totals {
 }
 
 /// How far the ends of a source's span lie from those of the fused span, in nanoseconds.
-#[derive(Clone, Copy, Debug, PartialEq, Eq)]
+#[derive(Clone, Copy)]
 pub struct Ends {
     pub lower: Difference,
     pub upper: Difference,
@@ -75,14 +75,14 @@ pub struct Shown {
 }
 
 /// For each source, how many packets to it could not be sent before a round and after it.
-#[derive(Clone, Copy, Debug, PartialEq, Eq)]
+#[derive(Clone, Copy)]
 pub struct UnsentPackets {
     pub before: [u64; MAX_SOURCES],
     pub after: [u64; MAX_SOURCES],
 }
 
 /// What is logged about a source.
-#[derive(Clone, Copy, Debug, PartialEq, Eq)]
+#[derive(Clone, Copy)]
 pub enum About {
     /// It is a suspect of the fusion.
     Suspect,

@@ -13,7 +13,7 @@ use tt_span::Drift;
 use tt_status::{Difference, Histogram, REASONS, SourceStatus, Status, UNOPENED};
 
 /// Counts of what the sessions and the log have done so far, and of what waits.
-#[derive(Clone, Copy, Debug, PartialEq, Eq)]
+#[derive(Clone, Copy)]
 pub struct Work {
     pub sessions: u64,
     pub lines: u64,

@@ -10,7 +10,7 @@ use tt_span::Span;
 
 /// What the columns of a bar show: column c the times from `start + c * step` on, and before those of column c + 1. All in
 /// nanoseconds.
-#[derive(Clone, Copy, Debug, PartialEq, Eq)]
+#[derive(Clone, Copy)]
 pub(crate) struct Scale {
     pub(crate) start: u64,
     pub(crate) step: u64,
@@ -18,7 +18,7 @@ pub(crate) struct Scale {
 }
 
 /// What a bar is drawn with.
-#[derive(Clone, Copy, Debug, PartialEq, Eq)]
+#[derive(Clone, Copy)]
 pub(crate) enum Mark {
     /// A source's span.
     Source,
@@ -48,7 +48,7 @@ impl Mark {
 }
 
 /// A span on a scale. Without a span every column has the mark.
-#[derive(Clone, Copy, Debug, PartialEq, Eq)]
+#[derive(Clone, Copy)]
 pub(crate) struct Bar {
     pub(crate) scale: Scale,
     pub(crate) mark: Mark,

@@ -10,7 +10,7 @@ pub const MIN_COLUMNS: u64 = 64;
 pub const MAX_COLUMNS: u64 = 300;
 
 /// How a view is drawn.
-#[derive(Clone, Copy, Debug, PartialEq, Eq)]
+#[derive(Clone, Copy)]
 pub struct Form {
     /// How many columns the picture has. Fewer than [`MIN_COLUMNS`] are that many, and more than [`MAX_COLUMNS`] are that
     /// many. Only the lines of signs may be longer.

@@ -8,7 +8,7 @@ use crate::bars::Bar;
 use std::alloc::AllocError;
 
 /// By how much one time is before or behind another, in nanoseconds.
-#[derive(Clone, Copy, Debug, PartialEq, Eq)]
+#[derive(Clone, Copy)]
 pub(crate) struct Offset {
     /// Whether it is before the other.
     pub(crate) below: bool,

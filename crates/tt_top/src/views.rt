@@ -4,7 +4,7 @@ use arrayvec::ArrayVec;
 use tt_span::Span;
 
 /// What is shown of one source.
-#[derive(Clone, Copy, Debug, Default, PartialEq, Eq)]
+#[derive(Clone, Copy, Default)]
 pub struct SourceView {
     /// Its number, from 0 on.
     pub number: u64,
@@ -27,7 +27,7 @@ pub struct SourceView {
 }
 
 /// How often there was what an operator may have to act on, since this life of the machine began.
-#[derive(Clone, Copy, Debug, Default, PartialEq, Eq)]
+#[derive(Clone, Copy, Default)]
 pub struct SignCounts {
     /// Signs of a broken assumption.
     pub breaks: u64,
@@ -42,7 +42,7 @@ pub struct SignCounts {
 }
 
 /// Which life of which machine is shown, and how far it is.
-#[derive(Clone, Copy, Debug, Default, PartialEq, Eq)]
+#[derive(Clone, Copy, Default)]
 pub struct Life {
     /// The number of the machine.
     pub machine: u64,
@@ -55,7 +55,7 @@ pub struct Life {
 }
 
 /// The commits of a machine.
-#[derive(Clone, Copy, Debug, Default, PartialEq, Eq)]
+#[derive(Clone, Copy, Default)]
 pub struct CommitCounts {
     /// How many wait.
     pub waiting: u64,
@@ -66,7 +66,7 @@ pub struct CommitCounts {
 }
 
 /// What a machine shows of itself at one moment.
-#[derive(Debug, Drop)]
+#[derive(Drop)]
 pub struct View {
     /// Which life of which machine it is, and how far that is.
     pub life: Life,

@@ -20,7 +20,7 @@ const DAY: u64 = 86_400_000_000_000;
 pub(crate) const SOON: u64 = 1_000_000;
 
 /// What one read of a connection gave.
-#[derive(Clone, Copy, Debug, PartialEq, Eq)]
+#[derive(Clone, Copy)]
 pub(crate) enum Came {
     /// So many bytes.
     Bytes(usize),
@@ -223,7 +223,7 @@ impl<'a> ByteWriter for ReplyWriter<'a> {
 }
 
 /// The first of some bytes that are heard by one turn.
-#[derive(Clone, Copy, Debug, PartialEq, Eq)]
+#[derive(Clone, Copy)]
 pub(crate) struct Part {
     /// How many these are.
     pub(crate) count: usize,

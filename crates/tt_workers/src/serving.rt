@@ -31,7 +31,7 @@ const LOOK: u64 = 1_000_000_000;
 const TELL: u64 = MILLISECOND;
 
 /// How a session stands after the worker read from its connection.
-#[derive(Clone, Copy, PartialEq, Eq)]
+#[derive(Clone, Copy)]
 enum After {
     /// It goes on, and all that had come was read.
     Read,

@@ -24,7 +24,7 @@ use ttd_masters::{MasterPlan, serve_polls};
 use ttd_words::{Service, Status, explain, explain_unwritten, refuse};
 
 /// Why a service stops before its answer is complete.
-#[derive(Clone, Copy, Debug, PartialEq, Eq)]
+#[derive(Clone, Copy)]
 pub(crate) enum Stop {
     /// The service refused.
     Refused(ServiceFault),

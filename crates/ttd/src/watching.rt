@@ -50,7 +50,7 @@ impl Screen for HostRuntime {
 }
 
 /// How a machine is shown.
-#[derive(Clone, Copy, Debug, PartialEq, Eq)]
+#[derive(Clone, Copy)]
 pub(crate) struct Manner {
     /// Whether it is shown once.
     pub(crate) once: bool,

@@ -15,7 +15,7 @@ use tt_source::{SourceFault, Statement};
 use tt_span::{Drift, Span};
 
 /// The options of `age`.
-#[derive(Clone, Copy, Debug, PartialEq, Eq)]
+#[derive(Clone, Copy)]
 pub(crate) struct Ageing {
     /// The drift of the clock.
     pub(crate) drift: Drift,

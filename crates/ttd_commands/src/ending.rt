@@ -8,7 +8,7 @@ use crate::faults::Fault;
 use ttd_words::Status;
 
 /// What a command answers: a text to write, and how the program ends after it.
-#[derive(Debug, Drop)]
+#[derive(Drop)]
 pub enum CommandOutput {
     /// The answer. The program then ends as [`Status::Fine`].
     Fine(String),
@@ -17,7 +17,7 @@ pub enum CommandOutput {
 }
 
 /// How a run of the program ended.
-#[derive(Clone, Copy, Debug, PartialEq, Eq)]
+#[derive(Clone, Copy)]
 pub struct Ended {
     /// The status with which the program ends.
     pub status: Status,

@@ -12,7 +12,7 @@ use tt_cert::{line_at, text_laws};
 use tt_span::Span;
 
 /// The content of a spans text.
-#[derive(Debug, Drop)]
+#[derive(Drop)]
 pub(crate) struct SpansText {
     /// How many of the sources may be wrong.
     pub(crate) faulty: usize,

@@ -16,7 +16,7 @@ use tt_seal::Key;
 const OF_PROCESS: &str = "/proc/self";
 
 /// What tells one state of a file from another.
-#[derive(Clone, Copy, Debug, PartialEq, Eq)]
+#[derive(Clone, Copy, PartialEq, Eq)]
 struct Version {
     device: u64,
     inode: u64,

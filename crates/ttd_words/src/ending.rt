@@ -7,7 +7,7 @@ ghost use Rattle.ttd_words.specs.Answer.{code_of};
 use std::process::ExitCode;
 
 /// How the program ends.
-#[derive(Clone, Copy, Debug, PartialEq, Eq)]
+#[derive(Clone, Copy)]
 pub enum Status {
     /// The answer or the help was written: 0.
     Fine,

@@ -6,7 +6,7 @@ use tt_span::Drift;
 use tt_status::LogFormat;
 
 /// A command that reads its input and ends, with its options.
-#[derive(Clone, Copy, Debug, PartialEq, Eq)]
+#[derive(Clone, Copy)]
 pub enum Command {
     /// `age`: ages the answer that is read.
     Age {
@@ -43,7 +43,7 @@ pub enum Command {
 }
 
 /// An end of a reading.
-#[derive(Clone, Copy, Debug, PartialEq, Eq)]
+#[derive(Clone, Copy)]
 pub enum Side {
     /// `low`: the earliest time that it allows.
     Low,
@@ -52,7 +52,7 @@ pub enum Side {
 }
 
 /// How far a master's clock is off on purpose, in nanoseconds.
-#[derive(Clone, Copy, Debug, PartialEq, Eq)]
+#[derive(Clone, Copy)]
 pub enum Offset {
     /// It shows this much more than this computer's clock.
     Later(u64),
@@ -61,7 +61,7 @@ pub enum Offset {
 }
 
 /// Where a machine is asked.
-#[derive(Clone, Copy, Debug, PartialEq, Eq)]
+#[derive(Clone, Copy)]
 pub enum Peer<'a> {
     /// At this port of 127.0.0.1.
     Port(u16),
@@ -70,7 +70,7 @@ pub enum Peer<'a> {
 }
 
 /// Where the status comes from that is shown.
-#[derive(Clone, Copy, Debug, PartialEq, Eq)]
+#[derive(Clone, Copy)]
 pub enum TopPlace<'a> {
     /// From this port of 127.0.0.1, at which a machine serves it over HTTP.
     Port(u16),
@@ -79,7 +79,7 @@ pub enum TopPlace<'a> {
 }
 
 /// What a master's answers stand on.
-#[derive(Debug, Drop)]
+#[derive(Drop)]
 pub enum MasterTime<'a> {
     /// This computer's real-time clock, and how wrong its operator says that it may be.
     Stated {
@@ -95,7 +95,7 @@ pub enum MasterTime<'a> {
 }
 
 /// How a master stands on NTP servers.
-#[derive(Debug, Drop)]
+#[derive(Drop)]
 pub struct NtpTime<'a> {
     /// The addresses of the servers: from 1 to 16, with ports above 0, and none is there twice.
     pub servers: Vec<SocketAddr>,
@@ -118,7 +118,7 @@ pub struct NtpTime<'a> {
 }
 
 /// A command that speaks to other processes, with its options.
-#[derive(Debug, Drop)]
+#[derive(Drop)]
 pub enum Service<'a> {
     /// `master`: answers polls until it is ended.
     Master {
@@ -183,7 +183,7 @@ pub enum Service<'a> {
 }
 
 /// What the arguments ask for.
-#[derive(Debug, Drop)]
+#[derive(Drop)]
 pub enum Asked<'a> {
     /// To run a command.
     Run(Command),
