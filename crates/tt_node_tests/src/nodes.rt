@@ -165,17 +165,3 @@ fn the_workers_share_a_sequencer_and_a_book(rt: HostRuntime) -> Result<(), Fail>
     assert!(rt; says(&rt, &pages[1], "waiting 1 1010\n"), "other replies");
     Ok(())
 }
-
-#[test]
-fn a_node_wants_a_stream(rt: HostRuntime) -> Result<(), Fail> {
-    let setting = Setting {
-        plan: Plan::InTurn,
-        rounds: 1,
-        turns: 1,
-        sessions: &[],
-    };
-    let refused = run(&rt, rt.alloc(), &setting, &[]).ok_or("a node")?;
-    assert!(rt; refused.err() == Some(NodeFault::BadLimits));
-    assert!(rt; NodeFault::BadLimits.number() == 1503);
-    Ok(())
-}
