@@ -57,33 +57,43 @@ fn a_time_has_passed_below_the_reading_and_is_to_come_above_it(
     Ok(())
 }
 
+// Publishes three fusions. The second one is newer than the first one, and the third one too old. Gives whether it was so
+// answered.
+fn publish_three<R: Wait>(rt: &R, teller: &mut Teller) -> Result<bool, Fail> {
+    let chain = [Span::new(0, 10)?, Span::new(5, 15)?, Span::new(12, 20)?];
+    let older = teller.publish(rt, Fused::make(1000, &chain, 1)?);
+    let newer = teller.publish(rt, fused(2000, 1003, 1020).ok_or("a fusion")?);
+    let too_old = teller.publish(rt, fused(1999, 1003, 1020).ok_or("a fusion")?);
+    Ok((older, newer, too_old) == (Ok(()), Ok(()), Err(PublishFault::ClockBack)))
+}
+
+// Whether the watch gives these readings, one after the other.
+fn reads(watch: &mut Watch, clock: &mut MemoryClock, readings: &[Result<(u64, u64), u16>]) -> bool {
+    for reading in readings {
+        if ends(watch.now(clock)) != *reading {
+            return false;
+        }
+    }
+    true
+}
+
+// Whether a watch reads nothing at first, and both watches the last of three fusions then, as it ages.
+fn is_last_read<R: Wait>(rt: &R, alloc: Global) -> Result<bool, Fail> {
+    let mut clock = MemoryClock::new(&[2000, 7000, 1999, 2000], None);
+    let wanted = [Ok((1003, 1020)), Ok((6002, 6021)), Err(802)];
+    let (mut teller, mut first, mut second) = opened(rt, alloc, 200).ok_or("watches")?;
+    let nothing = reads(&mut second, &mut clock, &[Err(801)]);
+    let published = publish_three(rt, &mut teller);
+    let one = reads(&mut first, &mut clock, &wanted);
+    let two = reads(&mut second, &mut clock, &[Ok((1003, 1020))]);
+    teller.close(rt);
+    let published = published?;
+    Ok(nothing && published && one && two)
+}
+
 #[test]
 fn the_last_fusion_is_read(rt: HostRuntime) -> Result<(), Fail> {
-    let chain = [Span::new(0, 10)?, Span::new(5, 15)?, Span::new(12, 20)?];
-    let older = Fused::make(1000, &chain, 1)?;
-    let newer = fused(2000, 1003, 1020).ok_or("a fusion")?;
-    let too_old = fused(1999, 1003, 1020).ok_or("a fusion")?;
-    let mut clock = MemoryClock::new(&[2000, 7000, 1999, 2000], None);
-    let (mut teller, mut first, mut second) = opened(&rt, rt.alloc(), 200).ok_or("watches")?;
-    assert!(rt; ends(second.now(&mut clock)) == Err(801));
-    assert!(rt; teller.publish(&rt, older) == Ok(()));
-    assert!(rt; teller.publish(&rt, newer) == Ok(()));
-    assert!(rt; teller.publish(&rt, too_old) == Err(PublishFault::ClockBack));
-    first.learn(&teller.tell());
-    for read in [Ok((1003, 1020)), Ok((6002, 6021)), Err(802)] {
-        assert!(rt; ends(first.now(&mut clock)) == read);
-    }
-    // The second one has learned nothing.
-    assert!(rt; ends(second.now(&mut clock)) == Ok((1003, 1020)));
-    teller.close(&rt);
-    let drift = Drift::new(200).ok_or("a drift")?;
-    match open(&rt, rt.alloc(), drift, 33) {
-        Ok((teller, _watches)) => {
-            teller.close(&rt);
-            assert!(rt; false);
-        }
-        Err(fault) => assert!(rt; fault.number() == 804),
-    }
+    assert!(rt; is_last_read(&rt, rt.alloc())?);
     Ok(())
 }
 
@@ -179,22 +189,33 @@ fn read_and_publish<R: Threads + Wait + Sync>(
     )
 }
 
+// A teller whose first watch is told of the fusions before `next`, while two other threads read on from then. Gives
+// whether all is published, the readings rise, and both watches then read the last fusion, also once the teller is closed.
+fn raced<R: Threads + Wait + Sync>(
+    rt: &R,
+    alloc: Global,
+    told: u64,
+    next: u64,
+) -> Result<bool, Fail> {
+    let mut clock = MemoryClock::new(&[0; 4], None);
+    let last = [Ok((100, 100))];
+    let (mut teller, mut first, second) = opened(rt, alloc, 0).ok_or("watches")?;
+    publish_all(rt, &mut teller, 1, next);
+    first.learn(&teller.tell());
+    let (published, read) = read_and_publish(rt, &mut teller, next, (first, told), second);
+    let ((mut first, first_rises), (mut second, second_rises)) = read;
+    let rises = published == 100 && first_rises && second_rises;
+    let is_read = reads(&mut first, &mut clock, &last) && reads(&mut second, &mut clock, &last);
+    teller.close(rt);
+    let stays = reads(&mut first, &mut clock, &last) && reads(&mut second, &mut clock, &last);
+    Ok(rises && is_read && stays)
+}
+
 #[test]
 fn readings_in_threads_rise(rt: HostRuntime) -> Result<(), Fail> {
-    let mut clock = MemoryClock::new(&[0; 8], None);
     // The first watch is told of nothing, and then of the first fifty.
     for (told, next) in [(0, 1), (50, 51)] {
-        let (mut teller, mut first, second) = opened(&rt, rt.alloc(), 0).ok_or("watches")?;
-        publish_all(&rt, &mut teller, 1, next);
-        first.learn(&teller.tell());
-        let (published, read) = read_and_publish(&rt, &mut teller, next, (first, told), second);
-        let ((mut first, first_rises), (mut second, second_rises)) = read;
-        assert!(rt; (published, first_rises, second_rises) == (100, true, true));
-        assert!(rt; ends(first.now(&mut clock)) == Ok((100, 100)));
-        assert!(rt; ends(second.now(&mut clock)) == Ok((100, 100)));
-        teller.close(&rt);
-        assert!(rt; ends(first.now(&mut clock)) == Ok((100, 100)));
-        assert!(rt; ends(second.now(&mut clock)) == Ok((100, 100)));
+        assert!(rt; raced(&rt, rt.alloc(), told, next)?);
     }
     Ok(())
 }

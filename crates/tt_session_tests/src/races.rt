@@ -4,14 +4,14 @@ ghost use Rattle.std.specs.Prelude.{◌≡◌, All, IfOk};
 ghost use Rattle.std.specs.Thread.{IsSync};
 
 use crate::stamps::ROWS;
+use crate::turns::seen;
 use std::alloc::Global;
 use std::sync::Wait;
 use std::test::Fail;
 use std::thread;
 use std::thread::Threads;
-use tt_daemon::Fused;
-use tt_publish::{MemoryClock, Reading, open};
-use tt_span::{Drift, Span};
+use tt_publish::{MemoryClock, Reading};
+use tt_span::Span;
 use tt_stamp::{Seat, Sequencer, StampFault, begin_step};
 
 fn reading(latest: u64) -> Result<Reading, Fail> {
@@ -146,23 +146,14 @@ fn a_seat_gives_what_a_row_does(rt: HostRuntime) -> Result<(), Fail> {
 
 #[test]
 fn a_commit_begins_with_a_reading_of_its_own(rt: HostRuntime) -> Result<(), Fail> {
-    let fused = Fused::make(0, &[Span::new(100, 200)?], 0)?;
-    let drift = Drift::new(0).ok_or("a drift")?;
     let (sequencer, mut seats) = Sequencer::open(rt.alloc(), 1)?;
     let mut seat = seats.pop().ok_or("a seat")?;
+    let mut watch = seen(&rt, rt.alloc()).ok_or("a watch")?;
     let mut clock = MemoryClock::new(&[50], None);
-    let (mut teller, mut watches) = open(&rt, rt.alloc(), drift, 1)?;
-    assert!(rt; teller.publish(&rt, fused) == Ok(()));
+    let whole = Span::whole();
     let begun = begin_step(
-        &rt,
-        &sequencer,
-        &mut seat,
-        &mut watches[0],
-        &mut clock,
-        0,
-        &Span::whole(),
+        &rt, &sequencer, &mut seat, &mut watch, &mut clock, 0, &whole,
     );
     assert!(rt; begun == Ok(250));
-    teller.close(&rt);
     Ok(())
 }
