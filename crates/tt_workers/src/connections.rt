@@ -35,6 +35,8 @@ pub(crate) enum Came {
 pub(crate) struct Connection {
     pub(crate) stream: TcpStream,
     pub(crate) attendance: Attendance,
+    /// Whether its reads and writes wait, each for its time at most.
+    waits: bool,
     /// The clock reading at which the session began, in nanoseconds.
     began: u64,
     /// The clock reading at which the time of the current line began, in nanoseconds.
@@ -58,6 +60,7 @@ impl Connection {
         Connection {
             stream,
             attendance: Attendance::new(),
+            waits: true,
             began: now,
             since: now,
             held: Vec::new(alloc),
@@ -85,7 +88,15 @@ impl Connection {
         is_over(self.since, idle, now) || is_over(self.began, DAY, now)
     }
 
-    /// Reads what has come, and waits a fifth of a second for it if nothing has.
+    /// Has its reads and writes wait from now on, or not. A session that is alone may wait for its bytes. Of several none may: what
+    /// makes a socket ready need not be bytes. It stays as it was where the system refuses.
+    pub(crate) fn set_waits(&mut self, waits: bool) {
+        if self.waits != waits && self.stream.set_nonblocking(!waits).is_ok() {
+            self.waits = waits;
+        }
+    }
+
+    /// Reads what has come. If nothing has, and its reads wait, it waits a fifth of a second for it.
     pub(crate) fn read(&self, buffer: &mut [u8]) -> Came {
         let mut device = &self.stream;
         match device.read(buffer) {

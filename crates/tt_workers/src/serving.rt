@@ -145,6 +145,13 @@ impl<'a, R: Wait + SystemClock> ConnectionTable<'a, R> {
         true
     }
 
+    /// Has the reads and writes at this place wait, or not.
+    fn set_waits(&mut self, place: usize, waits: bool) {
+        if let Some(Some(connection)) = self.connections.get_mut(place) {
+            connection.set_waits(waits);
+        }
+    }
+
     /// Has the watcher report again what is ready at this place.
     fn watch_again(&self, place: usize) {
         if let Some(Some(connection)) = self.connections.get(place) {
@@ -510,6 +517,7 @@ fn serve_ready<'a, R: Wait + SystemClock>(
     ensures first { worker.new.first ≡ worker.old.first }
 {
     let place = ready.place;
+    table.set_waits(place, false);
     if table.has_unsent(place) {
         if table.send(place) {
             table.watch_again(place);
@@ -560,6 +568,7 @@ fn serve_held<'a, R: Wait + SystemClock>(
 {
     for place in 0..table.connections.len() {
         if let Some(bytes) = table.take_held(place) {
+            table.set_waits(place, false);
             let goes_on = feed(worker, table, place, bytes.as_slice());
             if !goes_on {
                 close(worker, table, place);
@@ -653,6 +662,7 @@ fn serve_only<'a, R: Wait + SystemClock>(
 )
     ensures first { worker.new.first ≡ worker.old.first }
 {
+    table.set_waits(place, true);
     let after = serve(worker, table, place, buffer);
     if after == After::Over {
         close(worker, table, place);
