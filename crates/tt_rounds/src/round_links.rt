@@ -306,9 +306,9 @@ impl<'a, R: SystemClock> RoundLink<'a, R> {
         Ok((link, waker))
     }
 
-    /// Goes on over this socket, to the same peers and over the same wire, with a new round. The call makes the socket
-    /// non-blocking. Refuses with the error of the system if this fails, if the socket has no address of its own, or if
-    /// it cannot be waited for; then nothing has changed.
+    /// Keeps the wire and the count of failures. It goes on over this socket, to the same peers, with a new round. The
+    /// call makes the socket non-blocking. Refuses with the error of the system if this fails, if the socket has no address
+    /// of its own, or if it cannot be waited for; then nothing has changed.
     pub fn renew(&mut self, socket: UdpSocket) -> io::Result<()>
         ensures same { self.new.failures ≡ self.old.failures }
         ensures wire { self.new.hearing.wire ≡ self.old.hearing.wire }
