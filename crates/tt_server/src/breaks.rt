@@ -95,8 +95,8 @@ pub(crate) fn record_break<R: SystemClock + Files<File = File>>(
 /// round.
 pub fn break_laws()
     // If two publications of a life do not meet, with the earlier one aged to the clock reading of the later one, then the
-    // clock broke its drift bound in this life, or more than f sources were faulty at one of its fusions. So what a machine
-    // says of an assumption that is broken is never wrong.
+    // clock broke its drift bound in this life, or more than f sources were faulty at one of its fusions. So such
+    // publications never come while the assumptions hold.
     ensures unmet_breaks { (settings : Meaning) (end : TheEnd) (life : ServerLife) (i k : ℕ) (earlier later : TheFused) (at clock lives : ℕ) (timeline : List Timed) →
         TellsOf settings end life → i < k → slice_get (map fused_span_of end.published.items) i ≡ Some earlier → slice_get (map fused_span_of end.published.items) k ≡ Some later →
         IsUnmet life.config.drift earlier later →
