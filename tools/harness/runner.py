@@ -35,6 +35,7 @@ def parser(about: str) -> argparse.ArgumentParser:
     words = argparse.ArgumentParser(prog="tools/check", description=about, formatter_class=argparse.RawDescriptionHelpFormatter)
     words.add_argument("program", nargs="?", metavar="PROGRAM", help="the built ttd")
     words.add_argument("names", nargs="*", metavar="NAME", help="a suite, or SUITE/CASE, with * and ? as in a shell; all suites where none is given")
+    words.add_argument("--quick", action="store_true", help="run the suites that do not take long alone, where none is named")
     words.add_argument("--list", action="store_true", help="print the cases in place of running them; PROGRAM may be left out")
     words.add_argument("--junit", metavar="FILE", help="write the results to a file of JUnit, too")
     words.add_argument("--times", type=int, default=1, metavar="N", help="how often each case is run")
@@ -69,7 +70,7 @@ def main(about: str) -> int:
         words.error("PROGRAM is missing")
     if unknown := [name for name in given.names if name.partition("/")[0] not in NAMES]:
         words.error(f"there is no suite {' or '.join(unknown)}, only {' '.join(NAMES)}")
-    chosen = choose(given.names)
+    chosen = choose(given.names, given.quick)
     if empty := [suite.name for suite, cases in chosen if not cases]:
         words.error(f"no case of {' and '.join(empty)} has such a name; --list prints them")
     if given.list:

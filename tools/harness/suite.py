@@ -89,11 +89,12 @@ def time_limit(seconds: int):
 
 class Suite:
     """Cases, how many of them run at once and how long, and how often one that was wrong is tried again when nothing runs beside it,
-    unless one of these words stands in what is wrong: no busy host does that."""
+    unless one of these words stands in what is wrong: no busy host does that. A suite that is not quick is left out by --quick."""
 
-    def __init__(self, module: str, trial: type[Trial] = Trial, at_once: int = 1, longest_s: int = 0, again: int = 0, never: tuple[str, ...] = ()):
+    def __init__(self, module: str, trial: type[Trial] = Trial, at_once: int = 1, longest_s: int = 0, again: int = 0, never: tuple[str, ...] = (),
+                 quick: bool = True):
         self.name, self.trial, self.at_once, self.longest_s, self.again = module.rpartition(".")[2], trial, at_once, longest_s, again
-        self.never = never
+        self.never, self.quick = never, quick
         self.found: list[Case] = []
         self.families: list[typing.Callable] = []
         self.common = self.of_all = None
@@ -218,11 +219,14 @@ def load(names: typing.Iterable[str] = NAMES) -> list[Suite]:
     return [SUITES[name] for name in names]
 
 
-def choose(patterns: list[str]) -> list[tuple[Suite, list[Case]]]:
-    """The suites, each with its cases, that these names choose: `SUITE`, or `SUITE/CASE`, which may have the signs of the shell."""
+def choose(patterns: list[str], quick: bool = False) -> list[tuple[Suite, list[Case]]]:
+    """The suites, each with its cases, that these names choose: `SUITE`, or `SUITE/CASE`, which may have the signs of the shell. Without a
+    name these are all, or the quick ones."""
     chosen = []
     for suite in load([name for name in NAMES if not patterns or any(name == pattern.partition("/")[0] for pattern in patterns)]):
         in_suite = [pattern for pattern in patterns if "/" in pattern and pattern.startswith(f"{suite.name}/")]
+        if quick and not patterns and not suite.quick:
+            continue
         cases = [case for case in suite.cases if case.path in in_suite or any(fnmatch.fnmatchcase(case.path, pattern) for pattern in in_suite)]
         chosen.append((suite, cases if in_suite and suite.name not in patterns else suite.cases))
     return chosen

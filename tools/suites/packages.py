@@ -26,7 +26,7 @@ from harness.suite import Suite, wrong_in
 from suites.clients_as_installed import UNTYPED, VERSION, files_below
 from suites.wiring_checks import SETTINGS, eventually
 
-suite = Suite(__name__, longest_s=120, again=1)
+suite = Suite(__name__, longest_s=120, again=1, quick=False)
 NAMES = ["libtruetime-dev", "python3-truetime", "truetime"]
 BUILDS = ("dpkg-buildpackage", "dh", "cmake", "git")
 TRIES = (*BUILDS, "unshare", "nsenter", "ip", "setpriv", "systemd-sysusers", "systemd-tmpfiles")
