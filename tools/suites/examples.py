@@ -1,13 +1,16 @@
 """Runs the commands that the documents show, with the built program, and compares what it answers with what they say.
 
 Read are the commands of README.md, docs/PROVED.md and examples/README.md with the lines below them, the tables of the last, and the picture
-docs/commit-wait.svg. Then standard error has to say where an input is refused, and why.
+docs/commit-wait.svg. Then standard error has to say where an input is refused, and why. The service of README.md is run in a network of its
+own, and asked as stands there; nothing of it is left.
 """
 import os
 import re
+import signal
 import subprocess
+import time
 
-from harness.program import TOP, read_text, run
+from harness.program import TOP, in_top, read_text, run
 from harness.suite import Suite
 
 suite = Suite(__name__, at_once=os.cpu_count() or 1)
@@ -86,6 +89,28 @@ def try_error(trial, words, given, target, wanted):
     for text in wanted:
         trial.holds(text in ran.error, f"standard error lacks {text!r}: {ran.error!r}")
     trial.count(texts=1)
+
+
+@suite.case(root=True, programs=("unshare", "nsenter", "ip"))
+def service(trial):
+    lines = [line.split("#") for line in read_text("README.md").splitlines() if line.startswith("    ./ttd --unproved ask ")]
+    env = {**os.environ, "TTD": trial.program, "TMPDIR": trial.room}
+    ran = subprocess.Popen(["unshare", "-n", "sh", "-c", 'ip link set lo up && exec "$0"', in_top("examples/service/run")], env=env, text=True,
+                           stdout=subprocess.PIPE, stderr=subprocess.PIPE)
+    for command, said in lines:
+        words = ["nsenter", "-n", "-t", str(ran.pid), trial.program, *command.split()[2:]]
+        for _ in range(100):
+            asked = run(words)
+            if asked.status == 0:
+                break
+            time.sleep(0.1)
+        form = re.sub("[A-Z]+", "[0-9]+", said.rpartition(": " if ": " in said else " now ")[2].strip())
+        trial.holds(re.fullmatch(f"(now )?{form}\n", asked.said), f"{command.strip()} answers {asked.said!r}, {asked.error}")
+    ran.send_signal(signal.SIGINT)
+    told, error = ran.communicate(timeout=30)
+    trial.holds(len(lines) == 2 and ran.returncode == 130 and "Ctrl-C" in told, f"status {ran.returncode}: {told}{error}")
+    trial.equal("left", os.listdir(trial.room), [])
+    trial.count(commands=1)
 
 
 @suite.family
