@@ -8,6 +8,7 @@ from harness.prover import files_of
 NAME = re.compile(r"[A-Za-z0-9_-][A-Za-z0-9_.-]*\.edit")
 FUNCTION = re.compile(r"( *)(?:pub(?:\([a-z ]+\))? )?(?:const )?(?:unsafe )?fn (\w+)")
 BLOCK = re.compile(r"(?:unsafe )?(?:impl|(?:pub )?trait)\b")
+TYPE = re.compile(r"^(?:pub(?:\([a-z ]+\))? )?(?:struct|enum|union|trait) (\w+)", re.MULTILINE)
 OWNER = re.compile(r"(?:unsafe )?impl +(?:(?P<trait>[\w:]+) +for +)?&?(?:mut +)?(?P<type>[\w:]+)")
 
 # What a try comes to. The first two are kept.
@@ -19,13 +20,14 @@ class BadEdit(Exception):
 
 
 class Place(typing.NamedTuple):
-    """A function: its file, the type that it is of, or "", with the trait before it, and its name."""
+    """A function: its file, the type that it is of, or "", with the trait that it is of behind it, its name, and the file of that type."""
     file: str
     owner: str
     name: str
+    home: str
 
     def under(self, *above: str) -> str:
-        module = self.file.removeprefix("src/").removesuffix(".rt").removesuffix("/mod").split("/")
+        module = self.home.removeprefix("src/").removesuffix(".rt").removesuffix("/mod").split("/")
         return "::".join([*(module if module not in (["lib"], ["main"]) else []), *above, *([self.owner] if self.owner else []), self.name])
 
     @property
@@ -72,9 +74,18 @@ def owner_in(line: str) -> str:
     return found["type"].split("::")[-1] + (found["trait"] or "").split("::")[-1]
 
 
-def functions_in(file: str, text: str) -> list[tuple[int, int, Place]]:
-    """The functions of a source file: their first and last lines, from 1, with contract and body."""
-    lines, found, owner = text.split("\n"), [], ""
+def homes_in(texts: dict[str, str]) -> dict[str, list[str]]:
+    """The files in which each type of a crate is defined: a check names a type's own functions by that file, not by theirs."""
+    homes: dict[str, list[str]] = {}
+    for file, text in texts.items():
+        for name in TYPE.findall(text):
+            homes.setdefault(name, []).append(file)
+    return homes
+
+
+def functions_in(file: str, texts: dict[str, str]) -> list[tuple[int, int, Place]]:
+    """The functions of a source file of a crate: their first and last lines, from 1, with contract and body."""
+    lines, found, owner, homes = texts[file].split("\n"), [], "", homes_in(texts)
     for number, line in enumerate(lines):
         if BLOCK.match(line):
             owner = owner_in(line)
@@ -84,7 +95,8 @@ def functions_in(file: str, text: str) -> list[tuple[int, int, Place]]:
         if head and len(head[1]) == (4 if owner else 0):
             ends = (f"{head[1]}}}", f"{head[1]}{{}}")
             last = next((at for at in range(number, len(lines)) if lines[at] in ends or at == number and line.endswith("{}")), len(lines) - 1)
-            found.append((number + 1, last + 1, Place(file, owner, head[2])))
+            home = homes.get(owner, [file])
+            found.append((number + 1, last + 1, Place(file, owner, head[2], file if file in home else home[0])))
     return found
 
 
@@ -132,7 +144,7 @@ def places_of(pairs: list[tuple[str, str, str]], texts: dict[str, str]) -> froze
     found, now = set(), dict(texts)
     for file, old, new in pairs:
         line = now[file][:now[file].index(old)].count("\n") + 1
-        inside = [place for first, last, place in functions_in(file, now[file]) if first <= line <= last]
+        inside = [place for first, last, place in functions_in(file, now) if first <= line <= last]
         constant = re.match(r" *(?:pub(?:\([a-z ]+\))? )?(?:const|static) (\w+)", now[file].split("\n")[line - 1])
         if inside:
             found.add(inside[-1])
@@ -150,7 +162,7 @@ def users_of(name: str, texts: dict[str, str]) -> typing.Iterator[Place]:
     """The functions that name this constant."""
     for file, text in texts.items():
         lines = text.split("\n")
-        for first, last, place in functions_in(file, text):
+        for first, last, place in functions_in(file, texts):
             if any(re.search(rf"\b{name}\b", line) for line in lines[first - 1:last]):
                 yield place
 
@@ -188,6 +200,7 @@ class Said:
 
     def __init__(self, crate: str, text: str, texts: dict[str, str]):
         self.lines, self.texts = text.rstrip("\n").split("\n"), texts
+        self.functions: dict[str, list[tuple[int, int, Place]]] = {}
         self.located = [found for line in self.lines if (found := LOCATED.match(line))]
         self.states = {found[1].removeprefix(f"{crate}::"): (found[2], found[3]) for line in self.lines if (found := STATE.match(line))}
 
@@ -207,8 +220,11 @@ class Said:
         """Whether a line speaks of this function: of its text, or of its own proof files."""
         if found["file"].startswith("proofs/"):
             return any(found["file"].startswith(f"proofs/{name.replace('::', '/')}/") for name in (place.path, place.closures[:-2]))
-        spans = functions_in(place.file, self.texts[place.file])
-        return found["file"] == place.file and any(first <= int(found["line"]) <= last for first, last, other in spans if other == place)
+        if found["file"] != place.file:
+            return False
+        if place.file not in self.functions:
+            self.functions[place.file] = functions_in(place.file, self.texts)
+        return any(first <= int(found["line"]) <= last for first, last, other in self.functions[place.file] if other == place)
 
     def unread(self, found: re.Match) -> bool:
         """Whether antt could not read a text there, where an edit that only makes a statement false reads well."""

@@ -23,6 +23,8 @@ FOLDER = "wrong"
 PASS = (REFUSED, AT_LIMIT)
 # The part of what a check from nothing takes that a round was seen to take at most, and how many results are kept.
 OF_NEED, MOST_KEPT = 0.6, 5_000
+# What a line of the text below takes in bytes, where that is read.
+LINE_BELOW = 150_000
 
 
 @dataclasses.dataclass
@@ -259,10 +261,14 @@ def told(ran: Ran) -> str:
     return f"its check ended with status {ran.status}: {' | '.join((wrong or lines[-4:])[:4])[:600]}"
 
 
+def are_built(crate: str) -> bool:
+    return all(os.path.isdir(prover.rlib(name)) for name in prover.below(crate))
+
+
 def is_of_this_run(crate: str, since: float | None) -> bool:
     """Whether the libraries below are those of the `rt ci` that began then, and proved the crate over them. It gives a clone that had
     libraries before these back."""
-    return since is not None and all(os.path.getmtime(prover.rlib(name)) >= since for name in prover.below(crate))
+    return since is not None and are_built(crate) and all(os.path.getmtime(prover.rlib(name)) >= since for name in prover.below(crate))
 
 
 def try_crate(crate: str, since: float | None = None, anew: bool = False) -> Tried:
@@ -293,9 +299,8 @@ def try_found(it: Crate, found: list[Edit], store: Store, since: float | None) -
     just proved the crate over these libraries, the functions come first as they are."""
     if not found:
         return
-    are_built = all(os.path.isdir(prover.rlib(name)) for name in prover.below(it.crate))
-    why = "" if are_built and is_of_this_run(it.crate, since) else "the libraries are not built"
-    if why and are_built:
+    why = "" if is_of_this_run(it.crate, since) else "the libraries are not built"
+    if why and are_built(it.crate):
         why = it.is_proved(found)
     if why and prover.below(it.crate):
         it.tried.over_sources, it.kept_work = True, f"{it.room}/over-sources"
@@ -314,7 +319,10 @@ def try_crates(crates: list[str], since: float | None = None, anew: bool = False
             return Task(lambda: try_crate(crate), 0, 0)
         number = len(edits.names_in(f"{prover.folder_of(crate)}/{FOLDER}")[0])
         weight = prover.lines_of(crate, ".rt") * (1 + number / 10)
-        return Task(lambda: try_crate(crate, since, anew), OF_NEED * prover.need(crate), weight)
+        needs = OF_NEED * prover.need(crate)
+        if not are_built(crate):
+            needs += LINE_BELOW * sum(prover.lines_of(name, ".rt") for name in prover.below(crate))
+        return Task(lambda: try_crate(crate, since, anew), needs, weight)
 
     yield from prover.side_by_side([task(crate) for crate in crates])
 
