@@ -24,7 +24,7 @@ PASS = (REFUSED, AT_LIMIT)
 # The part of what a check from nothing takes that a round was seen to take at most, and how many results are kept.
 OF_NEED, MOST_KEPT = 0.6, 5_000
 # What a line of the text below takes in bytes, where that is read.
-LINE_BELOW = 150_000
+LINE_BELOW = 60_000
 
 
 @dataclasses.dataclass
