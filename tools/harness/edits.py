@@ -94,7 +94,8 @@ def functions_in(file: str, texts: dict[str, str]) -> list[tuple[int, int, Place
         head = FUNCTION.match(line)
         if head and len(head[1]) == (4 if owner else 0):
             ends = (f"{head[1]}}}", f"{head[1]}{{}}")
-            last = next((at for at in range(number, len(lines)) if lines[at] in ends or at == number and line.endswith("{}")), len(lines) - 1)
+            behind = number if line.endswith("{}") else len(lines) - 1
+            last = next((at for at in range(number, behind) if lines[at] in ends), behind)
             home = homes.get(owner, [file])
             found.append((number + 1, last + 1, Place(file, owner, head[2], file if file in home else home[0])))
     return found
@@ -169,7 +170,8 @@ def users_of(name: str, texts: dict[str, str]) -> typing.Iterator[Place]:
 
 def texts_of(folder: str) -> dict[str, str]:
     """The sources of the crate in this folder."""
-    return {os.path.relpath(path, folder): read_text(path) for path in files_of(folder) if path.startswith(f"{folder}/src/") and path.endswith(".rt")}
+    paths = [path for path in files_of(folder) if path.startswith(f"{folder}/src/") and path.endswith(".rt")]
+    return {os.path.relpath(path, folder): read_text(path) for path in paths}
 
 
 def read_edit(path: str, texts: dict[str, str]) -> Edit:
@@ -248,7 +250,8 @@ class Said:
 
     def lost_names(self, place: Place) -> list[str]:
         """What its own proof files name that is not there."""
-        return [line[0] for line in self.located if line["file"].startswith("proofs/") and self.is_in(line, place) and NAMES.search(line["text"])]
+        own = [line for line in self.located if line["file"].startswith("proofs/") and self.is_in(line, place)]
+        return [line[0] for line in own if NAMES.search(line["text"])]
 
 
 def judge(edit: Edit, said: Said) -> tuple[str, str]:

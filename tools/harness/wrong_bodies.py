@@ -149,7 +149,7 @@ class Crate:
         self.texts, self.tried, self.kept_work = edits.texts_of(self.folder), Tried(crate), f"{room}/incremental"
 
     def check(self, texts: dict[str, str], paths: list[str]) -> Ran:
-        """Checks these functions of a copy with these sources, over what earlier rounds proved; the whole crate where the kit takes no --only."""
+        """Checks these functions of a copy with these sources, over what earlier rounds proved; all where the kit takes no --only."""
         copy = f"{self.room}/copy"
         shutil.rmtree(copy, ignore_errors=True)
         for part in prover.PARTS:
@@ -276,7 +276,8 @@ def try_crate(crate: str, since: float | None = None, anew: bool = False) -> Tri
     with tempfile.TemporaryDirectory(prefix="wrong-bodies-") as room:
         it = Crate(crate, room)
         good, bad = edits.names_in(f"{it.folder}/{FOLDER}")
-        it.tried.came = {os.path.relpath(path, f"{it.folder}/{FOLDER}"): (BAD, "it stands right in wrong/, and ends in .edit") for path in bad}
+        for path in bad:
+            it.tried.came[os.path.relpath(path, f"{it.folder}/{FOLDER}")] = BAD, "a wrong body stands right in wrong/, and ends in .edit"
         if crate not in prover.graph():
             it.tried.came |= {os.path.basename(path): (UNKNOWN, "crates.txt has no such crate") for path in good}
             return it.tried
