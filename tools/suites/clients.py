@@ -636,6 +636,16 @@ def try_files(trial, name, words, reader, path):
         os.remove(path)
         tried += 1
         trial.check(name, said == [answer, answer], f"{what}: {said} in place of {answer!r}")
+    if os.geteuid() == 0:
+        with open(path, "wb") as file:
+            file.write(next(files())[1])
+        os.chmod(path, 0o644)
+        for what, owner, wanted in ("another owner", 65_534, "refused 1702"), ("the owner again", 0, "published 10 "):
+            os.chown(path, owner, 65_534)
+            said = said_of_file(words, reader, path)
+            tried += 1
+            trial.check(name, all(one.startswith(wanted) for one in said), f"{what}: {said} in place of {wanted!r}")
+        os.remove(path)
     for what, make, remove in [("no file", lambda _: None, lambda _: None), ("a link", lambda at: os.symlink("/proc/self/stat", at), os.remove),
                                ("a folder", os.mkdir, os.rmdir), ("a FIFO", os.mkfifo, os.remove)]:
         make(path)

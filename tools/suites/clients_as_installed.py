@@ -185,6 +185,45 @@ def constants(trial):
     trial.note(f"{len(MEANT)} constants; {len(trial.result.wrong)} wrong")
 
 
+# What the clients say of a refusal, each in its own words: these have to be among them, and among those of no other one.
+WORDS = {
+    101: "ends of the lease are out of order", 102: "end of the lease is above the greatest time", 801: "published nothing so far",
+    802: "below that of the publication", 803: "the clock gave no reading", 901: "is left up to the greatest time",
+    902: "the floor is ", 903: "the lease", 1104: "the last commit is not known as released",
+    1701: "cannot be opened, mapped or read", 1702: "of another owner, writable by others", 1703: "no daemon wrote what stands there",
+    1704: "during each of the tries", 1708: "past the last reading", 1821: "further ahead than the machine allows",
+    1823: "an assumption of the service is broken", 1824: "wider than the machine allows",
+}
+# In the words of 903 a lease is over, lost, or not long enough.
+NOT_903 = re.compile("ends? of the lease (is above the greatest|are out of)|lower end of the lease, is further")
+
+
+def words_of_refusals():
+    """What each language says of each refusal that it names."""
+    def pairs(name, pattern, flags=re.MULTILINE):
+        return re.findall(pattern, read_text(f"clients/{name}"), flags)
+
+    yield "C", [(int(number), text) for name in ("truetime.h", "truetime_stamper.h")
+                for number, text in pairs(f"c/{name}", r"^    TT_\w+ = (\d+),? +/\* (.*?) \*/")]
+    yield "Python", [(int(number), text) for number, text in pairs("python/truetime/refusals.py", r'^    (\d+): "(.*)",$')]
+    numbers = dict(pairs("rust/src/lib.rs", r"Refused::(\w+) => (\d+),"))
+    yield "Rust", [(int(numbers[name]), text) for name, text in pairs("rust/src/lib.rs", r'Refused::(\w+) => "(.*)",')]
+    yield "Java", [(int(number), text) for number, text in pairs("java/TrueTime.java", r'Map\.entry\((\d+), "(.*?)"\)')]
+    numbers = dict(pairs("go/errors.go", r"^\t(\w+) +(?:Refusal )?= (\d+) +//"))
+    yield "Go", [(int(numbers[name]), text) for name, text in pairs("go/errors.go", r'^\t(\w+): +"(.*)",$')]
+
+
+@suite.case()
+def refusals(trial):
+    """The words by which a refusal is told are its own."""
+    for language, told in words_of_refusals():
+        trial.check(language, len(told) > 10 and len(dict(told)) == len(told), f"{sorted(told)}")
+        for number, text in told:
+            found = {other for other, words in WORDS.items() if words in text and not (other == 903 and NOT_903.search(text))}
+            trial.equal(f"{language}: {number}, {text!r}", found, {number})
+        trial.note(f"{language}: {len(told)} refusals; {len(trial.result.wrong)} wrong")
+
+
 # Python.
 
 def builder(trial):

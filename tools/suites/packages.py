@@ -292,6 +292,9 @@ def running(words):
 EPOCH, ENABLED = "var/lib/truetime/a/epoch", "etc/systemd/system/multi-user.target.wants/truetime@a.service"
 CONFIGURED = "etc/truetime/a.toml"
 KEPT = {EPOCH, ENABLED, CONFIGURED}
+# What is there while a master is enabled and a machine runs: a purge takes it away, too.
+OF_MASTER = {"etc/systemd/system/multi-user.target.wants/truetime-master@time.service", "run/truetime-master/time/status.prom",
+             "run/truetime/a/time"}
 
 
 @suite.case(root=True, programs=TRIES)
@@ -312,6 +315,9 @@ def life(trial):
     write(f"{host.root}/{EPOCH}", b"tt-epoch 1 7\n")
     write(f"{host.root}/{CONFIGURED}", read("packaging/node.toml"))
     os.symlink(f"/{UNITS}/truetime@.service", f"{host.root}/{ENABLED}")
+    for name in OF_MASTER:
+        os.makedirs(os.path.dirname(f"{host.root}/{name}"), exist_ok=True)
+        write(f"{host.root}/{name}", b"")
     try_upgrade(trial, host)
     told = host.dpkg(trial, "remove", "-r", *NAMES)
     trial.equal("systemctl, at the removal", told, ["stop truetime@*.service truetime-master@*.service"])

@@ -233,13 +233,20 @@ static void open_stamper(tt_client *client, tt_stamper *stamper, const char *pat
         puts("open");
 }
 
+/* Whether a stamp that was refused tells a caller nothing: where there was no reading, it is that of all times. */
+static bool is_nothing(int refused, const tt_stamp *stamp) {
+    bool has_reading = refused == TT_USED_UP || refused == TT_FLOOR_TOO_FAR || refused == TT_LEASE_OVER;
+    bool is_all = stamp->earliest_ns == 0 && stamp->latest_ns == TT_MAX_TIME_NS && stamp->epoch == 0 && !stamp->fresh;
+    return stamp->stamp_ns == 0 && (has_reading || is_all);
+}
+
 static void call_stamper(tt_stamper *stamper, const char *line) {
     tt_stamp stamp;
     uint64_t number, more, floor_ns, clock_ns = 0;
     bool is_past = true;
     if (sscanf(line, "stamp %" SCNu64, &number) == 1) {
         int refused = tt_stamper_stamp(stamper, number, &stamp);
-        if (refused != 0 && stamp.stamp_ns != 0)
+        if (refused != 0 && !is_nothing(refused, &stamp))
             puts("wrong");
         else
             print_stamp(refused, &stamp);
