@@ -142,7 +142,10 @@ class Look(dict):
         self.mapped, self.marked = collections.Counter(), set()
         for name in os.listdir(f"/proc/{process}/fd"):
             with contextlib.suppress(FileNotFoundError):  # it is closed meanwhile
-                self[name] = os.readlink(f"/proc/{process}/fd/{name}").partition(":")[0]
+                target = os.readlink(f"/proc/{process}/fd/{name}")
+                if target.startswith("/sys/"):  # what a runtime looks at now and then
+                    continue
+                self[name] = target.partition(":")[0]
                 with open(f"/proc/{process}/fdinfo/{name}", encoding="ascii") as file:
                     flags = next(int(line.split()[1], 8) for line in file if line.startswith("flags:"))
                 if flags & CLOSED_IN_CHILDREN:
@@ -156,7 +159,7 @@ class Look(dict):
         return collections.Counter(self.values())
 
 
-def try_openings(trial, name, probe, opening):
+def try_openings(trial, name, probe, opening, impatient):
     """Opens what is named, looks, closes it and looks again."""
     what, kind, where, count, timeout_ms, is_opened, is_answered = opening
     process, path = probe.probe.pid, os.path.realpath(str(where))
@@ -164,12 +167,14 @@ def try_openings(trial, name, probe, opening):
     def look_once_closed(wanted):
         """What is there behind a close. A collector, which some need more than once, may unmap what was mapped, and no more."""
         by_collector = kind in ("mapped", "stamper")
-        for turn in range(2 if trial.result.wrong else 50):
+        for _ in range(150 if probe not in impatient else 2):
             said = probe.say("rest") if by_collector else "rested"
             look = Look(process, path)
             if said != "rested" or not (look.open - wanted or look.mapped):
                 break
-            time.sleep(min(0.001 * turn, 0.02))
+            time.sleep(0.02)
+        else:
+            impatient.add(probe)  # which leaves more
         trial.equal(f"{name}: {what}", said if by_collector else probe.say("rest"), "rested")
         return look
 
@@ -198,17 +203,31 @@ def try_openings(trial, name, probe, opening):
         trial.equal(f"{name}: {what}: left mapped", dict(after.mapped), {})
 
 
+@contextlib.contextmanager
+def time_limit(probe):
+    """Kills a probe that takes too long."""
+    late = threading.Timer(100, probe.probe.kill)
+    late.start()
+    try:
+        yield
+    finally:
+        late.cancel()
+
+
 def try_all(trial, name, words, openings):
     """Opens and closes each of these by a probe; their number."""
     openings = [opening for opening in openings if opening[1] in ("tcp", "unix") or "asyncio" not in words]
-    with Reader(words, "openings") as probe:
+    with Reader(words, "openings") as probe, time_limit(probe):
         for opening in openings:  # the first time some runtimes open what they keep
             if opening[5] and opening[4] != SHORT_MS:
                 probe.say("open {1} {2} {3} {4}".format(*opening))
                 probe.say("close")
-        probe.say("rest")
+        impatient = set()
         for opening in openings:
-            try_openings(trial, name, probe, opening)
+            if probe.say("rest") == "":
+                trial.check(name, False, f"{opening[0]}: the probe has ended, or the one before took too long")
+                break
+            try_openings(trial, name, probe, opening, impatient)
     return len(openings)
 
 
