@@ -158,7 +158,7 @@ class World:
         value = (self.node.status_or_none() or {}).get(f"truetime_{name}")
         return value if value is None else float(value)
 
-    def rises(self, name, above, seconds=3):
+    def rises(self, name, above, seconds=10):
         """This number of the status comes to be above that."""
         if not eventually(lambda: (self.number(name) or 0) > above, seconds):
             yield f"{name} is {self.number(name)}, and above {above} is wanted"

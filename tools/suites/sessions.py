@@ -210,8 +210,8 @@ def measure(doors, rounds):
 @suite.case(quiet=True, missing=lambda: "" if resource.getrlimit(resource.RLIMIT_NOFILE)[1] >= DESCRIPTORS else
             f"it wants {DESCRIPTORS} descriptors (ulimit -Hn)")
 def ten_thousand(trial):
-    """Little memory and little time for each; and nothing of them is left."""
-    node = trial.running_node(trial.masters(3), workers=WORKERS)
+    """Little memory and little time for each; and nothing of them is left. On a busy host it takes over a minute to open them."""
+    node = trial.running_node(trial.masters(3), workers=WORKERS, idle="600s")
     with contextlib.ExitStack() as stack:
         few = [Door(stack, node.address) for _ in range(WORKERS)]
         first, wrong = measure(few * 16, 3)
@@ -387,21 +387,23 @@ def a_client_that_reads_nothing(trial):
     """It does not keep its worker, and has all its replies once it reads."""
     node = trial.running_node(trial.masters(3), workers=1)
     with contextlib.ExitStack() as stack:
-        other = Door(stack, node.address)
+        other, beside = Door(stack, node.address), Door(stack, trial.running_node(trial.masters(3), "B", workers=1).address)
         door = stack.enter_context(socket.socket())
         door.setsockopt(socket.SOL_SOCKET, socket.SO_RCVBUF, 4096)
         door.connect(node.address)
         door.setblocking(False)
-        lines, sent, took, began = b"now\n" * 4096, 0, [], time.time_ns()
+        lines, sent, took, began, alone = b"now\n" * 4096, 0, [], time.time_ns(), []
         end = time.monotonic() + 1.5
         while time.monotonic() < end:
             with contextlib.suppress(BlockingIOError):
                 sent += door.send(lines[sent % 4:])
             what, nanoseconds = other.now()
             took.append(nanoseconds)
+            alone.append(beside.now()[1])
             if what:
                 yield what
         took.sort()
+        alone.sort()
         time.sleep(0.3)  # nothing more is taken of it now
         wrong, later = wrong_in([other] * 100)
         yield from wrong
@@ -415,7 +417,10 @@ def a_client_that_reads_nothing(trial):
         if sent < 4000 or len(readings) != sent // 4 or not replies.endswith(b"\n"):
             yield f"{sent // 4} lines have {len(readings)} replies"
         yield from other_replies(readings, began, time.time_ns())
-        if statistics.median(took) > 5 * MILLISECOND or took[-1] > 100 * MILLISECOND or statistics.median(later) > 2 * MILLISECOND:
+        # On a busy host a line takes its time on a machine that does nothing else, too.
+        usual = statistics.median(alone)
+        if (statistics.median(took) > max(5 * MILLISECOND, 4 * usual) or took[-1] > min(SECOND, max(100 * MILLISECOND, 4 * alone[-1]))
+                or statistics.median(later) > max(2 * MILLISECOND, 4 * usual)):
             yield (f"a line of another session took {in_us(median_and_tail(took))} us, and at most {took[-1] // MILLISECOND} ms; and "
                    f"{in_us(median_and_tail(later))} us where nothing more was taken of the client that reads nothing")
 

@@ -307,12 +307,16 @@ def sessions_and_lines(trial):
     published(node)
     with contextlib.ExitStack() as doors:
         sessions = [doors.enter_context(truetime.Session(where, 5)) for where in (node.address, node.path("socket")) * 2]
-        replies = [sessions[0].ask(line) for line, _ in LINES]
+        replies, more = [], 0
+        for line, begin in LINES:
+            replies.append(sessions[0].ask(line))
+            while begin.startswith("committed") and replies[-1].startswith("waiting") and more < 100:  # on a busy host it waits for longer
+                replies[-1], more = sessions[0].ask(line), more + 1
         wrong = [reply for reply, (_, begin) in zip(replies, LINES) if not reply.startswith(begin)]
         trial.equal("status lines", wrong, [])
         for session in sessions[1:]:
             session.ask("now")
-        lines, refused = len(LINES) + 3, sum(begin.startswith("refused") for _, begin in LINES)
+        lines, refused = len(LINES) + more + 3, sum(begin.startswith("refused") for _, begin in LINES)
         trial.numbers(node, lines=lines, lines_refused=refused, sessions=0)
     trial.numbers(node, lines=lines, lines_refused=refused, sessions=4)
 

@@ -87,12 +87,11 @@ def waits_of_machines(trial):
         waits_for(trial, notes, "poll", "look", others=[(1, 30 * MILLISECOND), (TIMES["look"] + MILLISECOND, TIMES["first"])])
     is_near(trial, "first", notes.waits("poll"))
     trial.check("time write", notes.calls().count(["nodelay"]) >= 2, "a reply waits for others to be sent with")
-    patience = (TIMES["page"] - TIMES["page"] // 4, TIMES["page"])
-    waits_for(trial, notes, "receive", "read", others=[patience])
-    waits_for(trial, notes, "send", "write", others=[patience])
+    waits_for(trial, notes, "receive", "read", others=[(1, TIMES["page"])])
+    waits_for(trial, notes, "send", "write", others=[(1, TIMES["page"])])
     for kind in ("receive", "send"):
         longest = max(notes.waits(kind), default=0)
-        trial.check("time page", patience[0] <= longest <= patience[1], f"an answer may {kind} for {longest} ns")
+        trial.check("time page", longest >= TIMES["page"] * 3 // 4, f"an answer may {kind} for {longest} ns")
     waits_for(trial, notes, "park", "records", others=[(70 * MILLISECOND, 70 * MILLISECOND)])
 
 
