@@ -129,7 +129,7 @@ def starts_after_breaks(trial):
         trial.equal("log start_paused", len(node.said("start_paused")), breaks)
         if breaks:
             trial.logs(node, "start_paused", breaks=breaks, pause_ns=pause_ns)
-            trial.between("log start_paused", pause_ns / SECOND, time.monotonic() - node.began, pause_ns / SECOND + 1)
+            trial.between("log start_paused", pause_ns / SECOND, time.monotonic() - node.began, pause_ns / SECOND + 2)
         time.sleep(0.3)  # the counter is read for the first time behind the first round
         disrupt(path, breaks + 2)
         trial.equal("setting on_break", eventually(node.running.poll), 3)

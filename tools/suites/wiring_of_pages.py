@@ -266,11 +266,12 @@ def first_look_after_rounds(trial):
         trial.equal("setting http", (path, seen.words), (path, "200 OK"))
         if path == "/metrics":
             trial.between("setting http", before - 1, numbers_in(seen.text)[ROUNDS], after + 1)
-    seen = []
+    seen, known = [], set()
     for _ in range(3):
         # The page has it before the file.
-        eventually(lambda: read_text(node.path("evidence")) not in seen)
+        eventually(lambda: read_text(node.path("evidence")) not in known)
         seen.append(get(port, "/evidence").text)
+        known |= {seen[-1], read_text(node.path("evidence"))}
     trial.equal("setting http", len(set(seen)), 3)
 
 
