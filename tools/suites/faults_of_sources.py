@@ -78,9 +78,11 @@ def interface_down(trial):
     yield from node.goes_on()
 
 
-def publishes(node, number, part=0.0, seconds=12):
-    """It comes to publish so often more, each round, and each source is accepted in such a part of its rounds. A busy host takes its time."""
-    before, end, more = node.status(), time.monotonic() + seconds, collections.Counter()
+def publishes(node, number, part=0.0, seconds=12, sources=range(3)):
+    """It comes to publish so often more, each round, and each of these is accepted in such a part of its rounds. A busy host takes its time."""
+    while not (before := node.status_or_none()):
+        time.sleep(0.02)
+    end, more = time.monotonic() + seconds, collections.Counter()
     while more["truetime_publications_total"] < number and time.monotonic() < end:
         time.sleep(0.1)
         if now := node.status_or_none():
@@ -88,7 +90,7 @@ def publishes(node, number, part=0.0, seconds=12):
     made, rounds = more["truetime_publications_total"], more["truetime_rounds_total"]
     if made < max(number, rounds - 1):
         yield f"{made} publications in {rounds} rounds and {seconds} seconds"
-    heard = [more[f'truetime_source_rounds_total{{source="{source}",outcome="accepted"}}'] for source in range(3)]
+    heard = [more[f'truetime_source_rounds_total{{source="{source}",outcome="accepted"}}'] for source in sources]
     if min(heard) < int(rounds * part):
         yield f"the sources are heard in {heard} of {rounds} rounds"
 
@@ -123,8 +125,7 @@ def floods(trial, *acts):
     node = trial.node(masters)
     node.run()
     yield from node.publishes_within(1)
-    yield from node.goes_on(2)
-    yield from node.hears(2, 3, 4)
+    yield from publishes(node, 10, 0.5, sources=(2, 3, 4))
     yield from node.answers()
 
 
@@ -200,10 +201,11 @@ def all_have_answered(trial):
     """Then a round ends at once, also where `wait` is long."""
     masters = trial.fakes(*[trouble.honest] * 3)
     node = trial.running_node(masters, wait="5s", poll="10ms")
-    before = len(masters[0].came)
-    time.sleep(1)
+    before, began = len(masters[0].came), time.monotonic()
+    while len(masters[0].came) < before + 30 and time.monotonic() < began + 6:
+        time.sleep(0.01)
     if (rounds := len(masters[0].came) - before) < 30:
-        yield f"{rounds} rounds in a second, with a pause of 10 ms"
+        yield f"{rounds} rounds in six seconds, with a pause of 10 ms"
 
 
 @suite.case(quiet=True)

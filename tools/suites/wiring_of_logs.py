@@ -21,11 +21,12 @@ def loose_files(trial):
     trial.has_form("setting log", node, "text")
     for event in ("state_loose", "epoch_loose", "shared_loose"):
         trial.equal(f"log {event}", node.said(event), [])
-    for event, name in (("state_loose", "state"), ("epoch_loose", "state/epoch"), ("shared_loose", "shared")):
+    for epoch, (event, name) in enumerate((("state_loose", "state"), ("epoch_loose", "state/epoch"), ("shared_loose", "shared")), 2):
         mode = os.stat(node.path(name)).st_mode
         os.chmod(node.path(name), mode | 0o022)
         node.again()
         trial.logs(node, event)
+        trial.logs(node, "started", epoch=epoch)
         os.chmod(node.path(name), mode)
     trial.equal("log started", [line["epoch"] for line in node.said("started")], ["1", "2", "3", "4"])
     for event in ("state_loose", "epoch_loose", "shared_loose"):
