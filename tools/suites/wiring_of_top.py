@@ -10,9 +10,10 @@ import xml.etree.ElementTree
 
 from harness.processes import free_port
 from harness.program import read_text, run, write
-from harness.trouble import honest, silent
+from harness.trouble import Answerer, honest, silent
 from suites.wiring import suite
 from suites.wiring_checks import eventually, spans
+from suites.wiring_of_pages import get
 
 CLEAR = b"\x1b[H\x1b[2J"
 PLAIN = {"LANG": "C", "PATH": os.environ["PATH"]}
@@ -92,6 +93,34 @@ def top_of_one_that_falls_silent(trial):
         " silent\n") == 1 and seen, 20)
     trial.check("top", ran and ran.said.splitlines()[4].startswith("    2 ") and ran.said.splitlines()[4].endswith(" silent"),
                 f"no source is silent, or another one: {ran and ran.said}")
+
+
+def pages_that_say(trial, texts):
+    """The address of pages with these texts, by their paths."""
+    asked = []
+
+    def act(door, line):
+        asked.append(line.split()[1].decode() if line.startswith(b"GET ") else asked[-1])
+        if line == b"\r\n":
+            text = texts[asked[-1]].encode()
+            door.sendall(b"HTTP/1.1 200 OK\r\nContent-Length: %d\r\nConnection: close\r\n\r\n" % len(text) + text)
+            door.shutdown(socket.SHUT_RDWR)
+
+    return trial.keep(Answerer(act)).address
+
+
+@suite.case()
+def top_without_settings(trial):
+    """At an address no `poll` and `wait` are known: a source is silent once its last answer is older than ten seconds."""
+    node, port = machine(trial)
+    status, evidence = eventually(lambda: (get(port, "/metrics").text, get(port, "/evidence").text))
+    for age, wanted in (("9.900000000", 0), ("10.100000000", 1)):
+        said = re.sub(r'^(truetime_source_answer_age_seconds\{[^}]*source="3"\}) .*$', rf"\1 {age}", status, flags=re.M)
+        address = pages_that_say(trial, {"/metrics": said, "/evidence": evidence})
+        ran = run([trial.program, "top", address, "--once"], env=PLAIN)
+        lines = [line for line in ran.said.splitlines() if line.startswith("    3 ")]
+        trial.equal("top", (age, ran.status, [line.endswith(" silent") for line in lines]), (age, 0, [bool(wanted)]))
+    trial.check("top", node.running.poll() is None, "it has ended")
 
 
 @suite.case()
