@@ -6,6 +6,7 @@
   calls an alarm is in a rule.
 - By the statuses of a machine that runs nothing fires; once three of its five masters are cut, and once it is stopped, what docs/OPERATING.md
   says of that does.
+- Each rule and each panel is one that was meant (alerts_of_rules.py, alerts_of_panels.py).
 - promtool takes each expression of the dashboard. No Grafana is here: its JSON is compared with what a dashboard of schema 38 has to have,
   as Grafana's documents of its JSON model say, and was not opened in one.
 """

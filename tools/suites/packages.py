@@ -7,7 +7,9 @@
   upgrade stops nothing.
 - There a user runs the units' commands with the example of settings, and asks by the clients as installed, in Python and C.
 - A machine counts as started once it gives the time, is restarted where it stands still, and reloads good settings alone: by the commands of
-  the units, and by a systemd of its own where one can be started (packages_of_units.py).
+  the units, and by a systemd of its own where one can be started (packages_of_units.py). There each file, folder and socket has its owner
+  and its mode, and what is killed is started again.
+- Each line of the units, and each value of the examples, is one that was meant (packages_of_settings.py).
 """
 import contextlib
 import glob
