@@ -16,7 +16,7 @@ returns-then-not-is_awaited g c =
     let clocked = subst (λ (shown : _). g.L.Line.does c.receive.new.self (Clocked shown) c.now.new.self) c.in-Some.is c.now.ensures in
     let cut = subst (λ (length : _). g.L.Line.does c.loop.line (Received (Some (take length c.receive.new.buffer))) c.receive.new.self) (sym c.min.ensures) came in
     Hears-ended g.L.Line.does c.args.line.now [] (option_copied c.args.key) c.args.server.now c.loop.line c.loop.server _ _ c.receive.new.self c.now.new.self c.hear-heard.new.self c.exchanged.result c.loop.invariant.hears cut clocked
-      c.hear-heard.ensures.heard (sym c.is_awaited.ensures ∙ c.if-not-is_awaited.true) (c.exchanged.ensures ∙ ap exchanged_of c.hear-heard.ensures.answer)
+    c.hear-heard.ensures.heard (sym c.is_awaited.ensures ∙ c.if-not-is_awaited.true) (c.exchanged.ensures ∙ ap exchanged_of c.hear-heard.ensures.answer)
 
 pub returns-then-now-end : goal.returns-then-now-end
 returns-then-now-end g c =
@@ -24,7 +24,7 @@ returns-then-now-end g c =
     let clocked = subst (λ (shown : _). g.L.Line.does c.receive.new.self (Clocked shown) c.now.new.self) c.in-Some.is c.now.ensures in
     let cut = subst (λ (length : _). g.L.Line.does c.loop.line (Received (Some (take length c.receive.new.buffer))) c.receive.new.self) (sym c.min.ensures) came in
     Hears-awaited g.L.Line.does c.args.line.now [] (option_copied c.args.key) c.args.server.now c.loop.line c.loop.server _ _ c.receive.new.self c.now.new.self c.hear-heard.new.self c.loop.invariant.hears cut clocked
-      c.hear-heard.ensures.heard (sym c.is_awaited.ensures ∙ c.if-not-is_awaited.false)
+    c.hear-heard.ensures.heard (sym c.is_awaited.ensures ∙ c.if-not-is_awaited.false)
 
 pub returns-in-Ended : goal.returns-in-Ended
 returns-in-Ended g c =
@@ -41,7 +41,7 @@ loop-preserved g c =
           rw w.line-is (rw w.server-is (record {
             whole = c.receive.array_long;
             hears = Hears-awaited g.L.Line.does c.args.line.now [] (option_copied c.args.key) c.args.server.now c.loop.line c.loop.server _ _ c.receive.new.self w.now.new.self w.hear-heard.new.self c.loop.invariant.hears cut clocked
-              w.hear-heard.ensures.heard (sym w.is_awaited.ensures ∙ w.if-not-is_awaited.false);
+                w.hear-heard.ensures.heard (sym w.is_awaited.ensures ∙ w.if-not-is_awaited.false);
           }))
       | in-Passing w ↦
           let came = subst (λ (receipt : _). g.L.Line.does c.loop.line (received_as receipt c.receive.new.buffer) c.receive.new.self) w.in-Passing.is c.receive.ensures in
