@@ -574,6 +574,7 @@ pub(crate) fn run_daemon<R: Wait + SystemClock + Files<File = File> + Net>(
 {
     let (rt, server) = (context.rt, context.server);
     let began = now_of(clock);
+    look_at_host(context, poller, began);
     for _ in rt.forever() {
         go_round(context, poller, clock, teller);
         if !poller.broken {

@@ -2,7 +2,7 @@
 
 use std::fs::{File, Files, OpenOptions};
 use std::io::{self, Error, ErrorKind};
-use std::os::unix::fs::MetadataExt;
+use std::os::unix::fs::{FileExt, MetadataExt};
 use std::time::Clock as SystemClock;
 use tt_connections::reading_of;
 use tt_health::{Lead, Look, disruptions_in, is_wide, narrowed, slept_between, uptime_in};
@@ -48,11 +48,11 @@ fn is_of_kernel<R: Files>(rt: &R, path: &str) -> bool {
     }
 }
 
-/// One look at how long the host has been up.
-fn look<R: SystemClock + Files<File = File>>(rt: &R) -> Option<Lead> {
+/// One look, in the open file, at how long the host has been up.
+fn look<R: SystemClock>(rt: &R, file: &File) -> Option<Lead> {
     let mut bytes = [0; MOST];
     let before = reading_of(rt)?;
-    let count = read_at(rt, UPTIME, &mut bytes).ok()?;
+    let count = file.read_at(&mut bytes, 0).ok()?;
     let after = reading_of(rt)?;
     let uptime = uptime_in(bytes.get(..count)?)?;
     let look = Look {
@@ -64,22 +64,25 @@ fn look<R: SystemClock + Files<File = File>>(rt: &R) -> Option<Lead> {
 }
 
 /// The best of a few looks: the first that no delay makes wide, or else the last.
-fn look_well<R: SystemClock + Files<File = File>>(rt: &R) -> Option<Lead> {
-    let mut lead = look(rt)?;
+fn look_well<R: SystemClock>(rt: &R, file: &File) -> Option<Lead> {
+    let mut lead = look(rt, file)?;
     for _ in 1..LOOKS {
         if !is_wide(&lead) {
             return Some(lead);
         }
-        lead = look(rt)?;
+        lead = look(rt, file)?;
     }
     Some(lead)
 }
 
 /// Watches how far the time since the start of the host, sleep included, leads the clock.
-#[derive(Clone, Copy)]
+#[derive(Drop)]
 pub(crate) struct SleepWatch {
+    /// The kernel's file. It stays open, so no client can take its descriptor.
+    file: Option<File>,
     lead: Option<Lead>,
-    is_off: bool,
+    /// Whether the last look failed.
+    is_blind: bool,
 }
 
 /// What a look of [`SleepWatch::look`] found.
@@ -89,7 +92,7 @@ pub(crate) enum Sleep {
     Awake,
     /// The host slept for so many nanoseconds at least.
     Slept(u64),
-    /// It can't be seen, from now on.
+    /// It can't be seen now, and could be seen before. The next look tries again.
     Unseen,
 }
 
@@ -97,28 +100,42 @@ impl SleepWatch {
     /// No look was made.
     pub(crate) fn new() -> SleepWatch {
         SleepWatch {
+            file: None,
             lead: None,
-            is_off: false,
+            is_blind: false,
         }
     }
 
-    /// It can't be seen, from now on.
-    fn give_up(&mut self) -> Sleep {
-        self.is_off = true;
-        Sleep::Unseen
+    /// Opens the file where it is not open, if it is the kernel's own.
+    fn open<R: Files<File = File>>(&mut self, rt: &R) {
+        if self.file.is_none() && is_of_kernel(rt, UPTIME) {
+            let mut how = OpenOptions::new();
+            how.read(true);
+            self.file = how.open(rt, UPTIME).ok();
+        }
     }
 
-    /// Looks whether the host has slept since the last look. The first look sees whether the file is the kernel's own.
+    /// How far the time since the start leads the clock now. None where that can't be seen.
+    fn lead<R: SystemClock + Files<File = File>>(&mut self, rt: &R) -> Option<Lead> {
+        self.open(rt);
+        match &self.file {
+            Some(file) => look_well(rt, file),
+            None => None,
+        }
+    }
+
+    /// Looks whether the host has slept since the last look that saw it. A look that fails changes nothing of what is known.
     pub(crate) fn look<R: SystemClock + Files<File = File>>(&mut self, rt: &R) -> Sleep {
-        if self.is_off {
-            return Sleep::Awake;
-        }
-        if self.lead.is_none() && !is_of_kernel(rt, UPTIME) {
-            return self.give_up();
-        }
-        let Some(later) = look_well(rt) else {
-            return self.give_up();
+        let Some(later) = self.lead(rt) else {
+            let was_blind = self.is_blind;
+            self.is_blind = true;
+            return if was_blind {
+                Sleep::Awake
+            } else {
+                Sleep::Unseen
+            };
         };
+        self.is_blind = false;
         let Some(earlier) = self.lead else {
             self.lead = Some(later);
             return Sleep::Awake;
