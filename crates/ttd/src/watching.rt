@@ -10,16 +10,18 @@ use std::net::{Ipv4Addr, Net, SocketAddr, TcpStream};
 use std::rt::Env;
 use std::time::{Clock as SystemClock, Duration};
 use std::{env, thread};
+use tt_publish::Clock;
+use tt_session::{Deadline, DeadlineReader, Timed};
 use tt_settings::{Key, SettingsFault};
-use tt_stream::{ByteWriter, Counted, ReadFault, read_to_end};
+use tt_stream::{ByteWriter, ReadFault, read_to_end};
 use tt_top::{Form, MAX_COLUMNS, View, ViewFault, push_svg, push_view, read_view};
-use ttd_masters::{StartFault, bytes_of};
+use ttd_masters::{Monotonic, StartFault, bytes_of};
 use ttd_words::{TopPlace, write};
 
 /// The pause between two looks, in milliseconds.
 const PAUSE: u64 = 500;
 
-/// How long it waits for a connection, and for each part of an answer, in seconds.
+/// How long it waits for a connection, and then for the whole of an answer, in seconds.
 const LINK_WAIT: u64 = 5;
 
 /// The most bytes of an answer: 1 MiB.
@@ -236,7 +238,7 @@ fn show_on<
 }
 
 /// One look, as text or as SVG.
-fn draw_once<H: AllocGlobal + Files<File = File> + Net<Stream = TcpStream>>(
+fn draw_once<H: AllocGlobal + Files<File = File> + Net<Stream = TcpStream> + SystemClock>(
     rt: &H,
     origin: &Origin,
     form: &Form,
@@ -253,7 +255,7 @@ fn draw_once<H: AllocGlobal + Files<File = File> + Net<Stream = TcpStream>>(
 }
 
 /// One look of many, on a clear screen. Its width is added to those of the looks before.
-fn draw_next<H: AllocGlobal + Files<File = File> + Net<Stream = TcpStream>>(
+fn draw_next<H: AllocGlobal + Files<File = File> + Net<Stream = TcpStream> + SystemClock>(
     rt: &H,
     origin: &Origin,
     form: &Form,
@@ -272,7 +274,7 @@ fn draw_next<H: AllocGlobal + Files<File = File> + Net<Stream = TcpStream>>(
 }
 
 /// What the texts of a machine show now.
-fn view_of<H: AllocGlobal + Files<File = File> + Net<Stream = TcpStream>>(
+fn view_of<H: AllocGlobal + Files<File = File> + Net<Stream = TcpStream> + SystemClock>(
     rt: &H,
     origin: &Origin,
 ) -> Result<View, LookFault> {
@@ -331,7 +333,7 @@ fn sight_in<H: AllocGlobal + Files<File = File> + Eprint>(
 }
 
 /// The texts of a machine now.
-fn texts_of<H: AllocGlobal + Files<File = File> + Net<Stream = TcpStream>>(
+fn texts_of<H: AllocGlobal + Files<File = File> + Net<Stream = TcpStream> + SystemClock>(
     rt: &H,
     origin: &Origin,
 ) -> Result<Texts, LookFault> {
@@ -363,7 +365,7 @@ fn texts_of<H: AllocGlobal + Files<File = File> + Net<Stream = TcpStream>>(
 }
 
 /// The body of what this host answers to a request at this port, if its status is 200.
-fn fetch<H: AllocGlobal + Net<Stream = TcpStream>>(
+fn fetch<H: AllocGlobal + Net<Stream = TcpStream> + SystemClock>(
     rt: &H,
     port: u16,
     request: &[u8],
@@ -374,7 +376,15 @@ fn fetch<H: AllocGlobal + Net<Stream = TcpStream>>(
     stream.set_read_timeout(Some(wait))?;
     stream.set_write_timeout(Some(wait))?;
     stream.write_all(request)?;
-    let mut reader = Counted::new(stream);
+    let mut clock = Monotonic::new(rt);
+    let Ok(now) = clock.read() else {
+        return Err(LookFault::Answer(ReadFault::Failed));
+    };
+    let deadline = Deadline {
+        at: now.saturating_add(LINK_WAIT * 1_000_000_000),
+        tries: u32::MAX,
+    };
+    let mut reader = DeadlineReader::new(Timed::new(&stream), clock, deadline);
     match read_to_end(rt.alloc(), &mut reader, MOST_ANSWER, MOST_ANSWER as u32 + 2) {
         Ok(answer) => body_of(rt.alloc(), answer.as_slice()),
         Err(ReadFault::Memory) => Err(LookFault::Memory),
