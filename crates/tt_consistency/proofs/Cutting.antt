@@ -137,7 +137,7 @@ moments-append (timed ∷ later) timeline last =
     ∙ ap (λ (more : List Moment). own ++ more) (moments-append later timeline last)
     ∙ sym (append_assoc own (moments_told later) (moments_told timeline ++ last))
 
-of_time-first : (later timeline : List Timed) → AreOfTime (later ++ timeline) → AreOfTime timeline
+pub of_time-first : (later timeline : List Timed) → AreOfTime (later ++ timeline) → AreOfTime timeline
 of_time-first [] timeline are = are
 of_time-first (timed ∷ later) timeline are = of_time-first later timeline are.1
 
@@ -153,11 +153,11 @@ begin-first : (shown : ℕ) (later steps : List Step) → BeginFrom shown (later
 begin-first shown [] steps begin = begin
 begin-first shown (step ∷ later) steps begin = begin-first shown later steps (begin-before shown step (later ++ steps) begin)
 
-drift-first : (ppm : ℕ) (later moments : List Moment) → KeepsDrift ppm (later ++ moments) → KeepsDrift ppm moments
+pub drift-first : (ppm : ℕ) (later moments : List Moment) → KeepsDrift ppm (later ++ moments) → KeepsDrift ppm moments
 drift-first ppm [] moments keeps = keeps
 drift-first ppm (moment ∷ later) moments keeps = drift-first ppm later moments keeps.1
 
-few-first : (config : Configuration) (life : WorldLife) (later timeline : List Timed) → FewFaulty config life (later ++ timeline) → FewFaulty config life timeline
+pub few-first : (config : Configuration) (life : WorldLife) (later timeline : List Timed) → FewFaulty config life (later ++ timeline) → FewFaulty config life timeline
 few-first config life later timeline few more before at clock are =
     let fusion : Timed = record { at = at; happening = Does (Fuses clock) } in
     few (later ++ more) before at clock (ap (λ (list : List Timed). later ++ list) are ∙ sym (append_assoc later more (fusion ∷ before)))

@@ -5,7 +5,7 @@ use Rattle.std.proofs.lemmas.Bool.Decides.{leb_tells}
 use Rattle.std.proofs.lemmas.List.{length-map}
 use Rattle.std.proofs.lemmas.List.Elements.{All-contains}
 use mathlib.Core.List.{IsPrefix}
-use Rattle.tt_span.specs.Drift.{Moment}
+use Rattle.tt_span.specs.Drift.{Moment, KeepsDrift}
 use Rattle.tt_publish.specs.declared.readings.FusedSpan.{FusedSpan}
 use Rattle.tt_publish.specs.Reading.{fused_span_of}
 use Rattle.tt_session.specs.Conversation.{Conversation}
@@ -20,12 +20,13 @@ use Rattle.tt_world.proofs.Histories.Meeting.{keeps_or_not, one_broken}
 use Rattle.tt_consistency.specs.Assumed.{AllReadAt, IsAssumed, IsLived, IsServedIn, TimedLife, moments_in}
 use Rattle.tt_consistency.specs.Calls.{RoundsCall, AreInTurn, calls_steps, kept_after}
 use Rattle.tt_consistency.specs.Cuts.{AreLeast, Cut, HasBroken, IsBegunIn, IsLeastCut, IsReadIn, IsToldOf, life_by, published_in}
+use Rattle.tt_consistency.specs.Faulty.{FewFaulty}
 use Rattle.tt_consistency.specs.Lives.{IsLife, Life, WorkerLife, WorksIn, begun_in}
-use Rattle.tt_consistency.specs.Running.{Start}
+use Rattle.tt_consistency.specs.Running.{IsRunning, Machine, Start, begun_with, life_of_machine}
 use Rattle.tt_consistency.specs.Steps.{Step}
 use Rattle.tt_consistency.specs.Timed.{CallTimes, TimedSession, given_of}
-use Rattle.tt_consistency.specs.Timeline.{Does, Answers, Happening, Timed, moments_told, step_of, steps_told}
-use Rattle.tt_consistency.proofs.Cutting.{assumed-first, calls-grow, cut-meets, in_turn-first, moments-append, prefix-length, read-cut, read-first, session-cut, steps-first}
+use Rattle.tt_consistency.specs.Timeline.{AreOfTime, Does, Answers, Happening, IsTimeline, Timed, moments_told, step_of, steps_told}
+use Rattle.tt_consistency.proofs.Cutting.{assumed-first, calls-grow, cut-meets, drift-first, few-first, in_turn-first, moments-append, of_time-first, prefix-length, read-cut, read-first, session-cut, steps-first}
 
 -- ---- ends of lists
 -- of two ends of one list the shorter one ends the longer one
@@ -60,6 +61,35 @@ steps-split (timed ∷ all) early (step ∷ later) is = step-split timed all tim
 
 pub told-split : (later calls : List RoundsCall) (all : List Timed) → steps_told all ≡ calls_steps (later ++ calls) → (after timeline : List Timed) × (all ≡ after ++ timeline) × (steps_told timeline ≡ calls_steps calls)
 told-split later calls all is = steps-split all (calls_steps calls) (calls_steps later) (is ∙ steps-first later calls)
+
+-- ---- a machine that runs has run up to each of its calls
+timeline-first : (begun shown : ℕ) (later timeline : List Timed) → IsTimeline begun shown (later ++ timeline) → IsTimeline begun shown timeline
+timeline-first begun shown [] timeline is = is
+timeline-first begun shown (timed ∷ later) timeline is = timeline-first begun shown later timeline is.3
+
+pub machine-first : (machine : Machine) (later calls : List RoundsCall) → IsRunning machine → machine.calls ≡ later ++ calls
+    → (after timeline : List Timed) × (machine.timeline ≡ after ++ timeline) × IsRunning (record machine { calls = calls; timeline = timeline })
+machine-first machine later calls running are =
+    let parts = told-split later calls machine.timeline (running.told ∙ ap calls_steps are) in
+    let begin : List Moment = record { clock = machine.start.clock; time = machine.start.at } ∷ [] in (
+      parts.0,
+      parts.1,
+      parts.2,
+      record {
+        configured = running.configured;
+        lives = running.lives;
+        at = running.at;
+        clock = running.clock;
+        in_turn = in_turn-first (begun_with machine) later calls (subst (AreInTurn (begun_with machine)) are running.in_turn);
+        told = parts.3;
+        of_time = of_time-first parts.0 parts.1 (subst AreOfTime parts.2 running.of_time);
+        forward = timeline-first machine.start.at machine.start.clock parts.0 parts.1 (subst (IsTimeline machine.start.at machine.start.clock) parts.2 running.forward);
+        nonces = omega (arith, running.nonces, ap (length {A = Timed}) parts.2, length-append parts.0 parts.1);
+        drift = drift-first machine.config.drift (moments_told parts.0) (moments_told parts.1 ++ begin)
+            (subst (KeepsDrift machine.config.drift) (moments-append parts.0 parts.1 begin) (subst (λ (timeline : List Timed). KeepsDrift machine.config.drift (moments_told timeline ++ begin)) parts.2 running.drift));
+        few_faulty = few-first machine.config (life_of_machine machine) parts.0 parts.1 (subst (FewFaulty machine.config (life_of_machine machine)) parts.2 running.few_faulty);
+      },
+    )
 
 module _ {C V : Type 0} (gives : C → Option ℕ → C → Type 0) (failed : C → ℕ) (says : V → Question → Bool → Type 0) (waits : ℕ) where
   -- ---- as few calls as published what was seen

@@ -12,7 +12,8 @@ ghost use Rattle.tt_consistency.specs.Timed.{TimedSession, IsTimed, times_at};
 ghost use Rattle.tt_consistency.specs.Order.{BeginsAt, IsCommitted, IsSeen, IsWithin};
 ghost use Rattle.tt_consistency.specs.Told.{IsTold};
 ghost use Rattle.tt_world.specs.Meeting.{AllMeet};
-ghost use Rattle.tt_consistency.specs.Timeline.{HeldTrueTime};
+ghost use Rattle.tt_consistency.specs.Calls.{RoundsCall};
+ghost use Rattle.tt_consistency.specs.Timeline.{HeldTrueTime, Timed};
 ghost use Rattle.tt_consistency.specs.Running.{Machine, IsRunning, clock_moments, published_by};
 ghost use Rattle.tt_consistency.specs.Served.{IsServedOn, IsSeenOnOneOf};
 ghost use Rattle.tt_consistency.specs.Worked.{Look, look_at, TimedWorker, Node, IsWorking, IsSeenAtWorkerOf};
@@ -32,6 +33,11 @@ pub fn machine_laws()
 
     // Each of their publications meets every publication of this life before it, aged to its clock reading.
     ensures publications_meet { (machine : Machine) → IsRunning machine → AllMeet machine.config.drift (published_by machine) }
+
+    // It ran up to each of its calls, under the assumptions up to then alone. So the laws of the sessions and the nodes on a
+    // machine ask nothing of what came later.
+    ensures first_calls { (machine : Machine) (later calls : List RoundsCall) → IsRunning machine → machine.calls ≡ later ++ calls →
+        (after timeline : List Timed) × (machine.timeline ≡ after ++ timeline) × IsRunning (record machine { calls = calls; timeline = timeline }) }
 {}
 
 /// Laws of one session that is served on a running machine.
