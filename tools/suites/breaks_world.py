@@ -232,8 +232,9 @@ class World:
         claims = []
         for number in (1, 2):
             path = self.node.path(f"evidence.break-{number}")
-            claims.append(claim_of(path) if os.path.exists(path) else None)
-            if not claims[-1] or not is_valid(self.node.program, path):
+            is_there = eventually(lambda path=path: os.path.exists(path) and is_valid(self.node.program, path))
+            claims.append(claim_of(path) if is_there else None)
+            if not claims[-1]:
                 yield f"{path} is not valid evidence"
                 return
         (lo, hi), (later_lo, later_hi) = claims
