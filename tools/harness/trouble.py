@@ -128,6 +128,10 @@ class Node(Machine):
         """The processor time of all its threads."""
         return sum(int(text.split()[0]) for text in self.of_threads("schedstat"))
 
+    def held_up_ns(self):
+        """For how long its threads and this process could run so far, and had no processor."""
+        return sum(int(text.split()[1]) for text in [*self.of_threads("schedstat"), read_text("/proc/self/schedstat")])
+
     def wakes(self):
         """How often its threads have waited for something, and gone on."""
         return sum(int(line.split()[1]) for text in self.of_threads("status") for line in text.splitlines()
