@@ -238,6 +238,8 @@ class World:
                 yield f"{path} is not valid evidence"
                 return
         (lo, hi), (later_lo, later_hi) = claims
+        if lo >= later_lo:
+            yield f"the first of the spans {claims} is the later one"
         drift = most * 200 // 1_000_000 + 1
         if lo + least - drift <= later_hi and later_lo <= hi + most + drift:
             yield f"the spans {claims} meet"
