@@ -25,7 +25,7 @@
 //!   `starts`: the parts of a machine. `checks`: [`check_start`], which judges what a start would find. `links`: the link to the masters. `rings`: the keys that are shared with them.
 //!   `owns`: the address of its own of the socket for polls. `names`: the thread that looks up names. `states`: what the threads share.
 //! - `rounds`: the thread of the daemon. `paces`: the pauses between rounds.
-//! - `signs`: whether the host slept. `breaks`: what is recorded of a break, and [`break_laws`]. `evidence`: the evidence of a
+//! - `breaks`: what is recorded of a break, and [`break_laws`]. `evidence`: the evidence of a
 //!   publication. `modes`: who may write the files.
 //! - `workers`: the threads of the workers. `faults`: why a machine does not serve.
 //!
@@ -53,7 +53,6 @@ mod paces;
 mod rings;
 mod rounds;
 mod servers;
-mod signs;
 mod starts;
 mod states;
 mod workers;

@@ -47,6 +47,10 @@ left_at server now = if server.stopped then None else Some (server.due - now)
 abbrev pub asked_at : ServerState → ℕ → ℕ → ServerState
 asked_at server nonce now = record server { waiting = Some (record { nonce = nonce; sent = now }); due = sum_of now server.pause; tally = asked_tally server.tally }
 
+-- the server once what was known is dropped: nothing is known or awaited, and a request is due at once
+abbrev pub forgotten : ServerState → ServerState
+forgotten server = record server { waiting = None; known = None; due = 0 }
+
 -- the query of the request that is awaited
 abbrev pub query_of : Plan → Asking → Query
 query_of plan asking = record { nonce = asking.nonce; takes_local = plan.takes_local }

@@ -2,7 +2,7 @@
 
 ghost use Rattle.std.specs.Prelude.{◌≡◌, ◌↔◌, option_copied, max, min};
 ghost use Rattle.tt_upstream.specs.Refusal.{meaning_of as meaning_of_fault};
-ghost use Rattle.tt_upstream.specs.Server.{new_server, is_due_at, asked_at, query_of, reading_of, news_read, news_at, learned, told, doubled as doubled_of, slowed, refused_as, refused_at, heard_as, heard_at, answer_of};
+ghost use Rattle.tt_upstream.specs.Server.{new_server, is_due_at, asked_at, forgotten, query_of, reading_of, news_read, news_at, learned, told, doubled as doubled_of, slowed, refused_as, refused_at, heard_as, heard_at, answer_of};
 
 use crate::leaps::{Announced, announced_by, is_put_off};
 use crate::news::{Asking, Known, News};
@@ -115,6 +115,16 @@ impl Server {
         self.waiting = Some(Asking { nonce, sent: now });
         self.due = now.saturating_add(self.pause);
         self.tally = self.tally.with_request();
+    }
+
+    /// Drops what is known, and the request that is awaited, since the machine's clock no longer tells how old they are. A request
+    /// is due at once, unless the server told this client to stop.
+    pub fn forget(&mut self)
+        ensures after { self.new ≡ forgotten self.old }
+    {
+        self.waiting = None;
+        self.known = None;
+        self.due = 0;
     }
 
     /// What the bytes tell that came at the clock reading `now`.

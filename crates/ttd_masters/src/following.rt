@@ -93,11 +93,17 @@ fn upstream_of<H: Net + Files<File = File> + Eprint + RandomSource + AllocGlobal
 }
 
 /// Starts the thread that asks a server on another host.
-fn start_following<H: Threads + Wait + SystemClock + Net + RandomSource + Copy + Send + 'static>(
-    rt: &H,
-    reporter: &Reporter,
-    upstream: Upstream,
-) -> Result<(), StartFault> {
+fn start_following<
+    H: Threads
+        + Wait
+        + SystemClock
+        + Net
+        + RandomSource
+        + Files<File = File>
+        + Copy
+        + Send
+        + 'static,
+>(rt: &H, reporter: &Reporter, upstream: Upstream) -> Result<(), StartFault> {
     let theirs = reporter.try_clone()?;
     let rt = *rt;
     match thread::spawn(&rt, move || follow(&rt, upstream, &theirs)) {

@@ -154,7 +154,7 @@ fn player_of<
 }
 
 /// A master that answers what it knows.
-fn honest<'a, H: Wait + SystemClock + Net + RandomSource>(
+fn honest<'a, H: Wait + SystemClock + Net + RandomSource + Files<File = File>>(
     source: u8,
     known: KnownTime<'a, H>,
     warn_width: Option<u64>,
@@ -192,7 +192,7 @@ fn reporter_of<
 }
 
 /// The socket of a master, whose start is logged.
-fn begin<H: Wait + SystemClock + Net + RandomSource>(
+fn begin<H: Wait + SystemClock + Net + RandomSource + Files<File = File>>(
     rt: &H,
     reporter: &Reporter,
     plan: &MasterPlan<'_>,
@@ -214,7 +214,7 @@ fn port_of(socket: &UdpSocket) -> io::Result<u16> {
 }
 
 /// A socket at this address. An address that is not up yet is tried again, with growing pauses, and logged.
-fn socket_at<H: Wait + SystemClock + Net + RandomSource>(
+fn socket_at<H: Wait + SystemClock + Net + RandomSource + Files<File = File>>(
     rt: &H,
     reporter: &Reporter,
     listen: SocketAddr,
@@ -236,7 +236,7 @@ fn socket_at<H: Wait + SystemClock + Net + RandomSource>(
 }
 
 /// Answers open polls of this host, and never ends. If there is a status file, it shows its status about once a second.
-fn answer_open<H: Wait + SystemClock + Net + RandomSource + AllocGlobal>(
+fn answer_open<H: Wait + SystemClock + Net + RandomSource + Files<File = File> + AllocGlobal>(
     rt: &H,
     reporter: &Reporter,
     plan: &MasterPlan<'_>,

@@ -5,15 +5,18 @@ ghost use Rattle.tt_span.specs.Time.{max_time};
 
 use crate::clocks::{Monotonic, RealTime};
 use crate::upstreams::{SharedServer, Upstream};
+use std::fs::{File, Files};
 use std::net::Net;
 use std::random::RandomSource;
 use std::sync::Wait;
 use std::time::Clock as SystemClock;
 use tt_fuse::check_counts;
+use tt_host::{Sleep, SleepWatch};
 use tt_master::{Reference, Silence, SpanReference, StepWatch, stated_span};
 use tt_publish::Clock;
 use tt_report::Reporter;
 use tt_span::{MAX_TIME, Span};
+use tt_status::LogEvent;
 use tt_upstream::fused;
 use ttd_words::Offset;
 
@@ -73,9 +76,10 @@ pub(crate) struct NtpServers<'a, H> {
     near: Vec<Upstream>,
     servers: Vec<SharedServer>,
     faulty: usize,
+    sleep: SleepWatch,
 }
 
-impl<'a, H: Wait + SystemClock + Net + RandomSource> NtpServers<'a, H> {
+impl<'a, H: Wait + SystemClock + Net + RandomSource + Files<File = File>> NtpServers<'a, H> {
     /// These servers, of which those of `near` are on this host.
     pub(crate) fn new(
         rt: &'a H,
@@ -90,12 +94,23 @@ impl<'a, H: Wait + SystemClock + Net + RandomSource> NtpServers<'a, H> {
             near,
             servers,
             faulty,
+            sleep: SleepWatch::new(),
         }
     }
 
     /// What is known of each server, in their order.
     pub(crate) fn servers(&self) -> &[SharedServer] {
         &self.servers
+    }
+
+    /// Where the host slept since the last look, drops what is known of each server, and logs it.
+    fn notice_sleep(&mut self) {
+        if let Sleep::Slept(slept) = self.sleep.look(self.rt) {
+            for server in self.servers.iter() {
+                server.lock(self.rt).forget();
+            }
+            self.reporter.log(self.rt, LogEvent::HostSlept { slept });
+        }
     }
 
     /// Asks the servers on this host to which a request is due.
@@ -117,11 +132,13 @@ impl<'a, H: Wait + SystemClock + Net + RandomSource> NtpServers<'a, H> {
     }
 }
 
-impl<'a, H: Wait + SystemClock + Net + RandomSource> SpanReference for NtpServers<'a, H> {
+impl<'a, H: Wait + SystemClock + Net + RandomSource + Files<File = File>> SpanReference
+    for NtpServers<'a, H> {
     ghost gives = { λ _ _ _. Unit {0} };
 
-    /// What the servers say, fused.
+    /// What the servers say, fused. What they said before the host slept is dropped.
     fn read(&mut self) -> Result<Span, Silence> {
+        self.notice_sleep();
         self.ask_near();
         let Ok(now) = Monotonic::new(self.rt).read() else {
             return Err(Silence::Clock);
@@ -144,7 +161,8 @@ pub(crate) enum KnownTime<'a, H> {
     Ntp(NtpServers<'a, H>),
 }
 
-impl<'a, H: Wait + SystemClock + Net + RandomSource> SpanReference for KnownTime<'a, H> {
+impl<'a, H: Wait + SystemClock + Net + RandomSource + Files<File = File>> SpanReference
+    for KnownTime<'a, H> {
     ghost gives = { λ _ _ _. Unit {0} };
 
     fn read(&mut self) -> Result<Span, Silence> {

@@ -64,7 +64,7 @@ impl<'a> Sealed<'a> {
     }
 
     /// Logs how many packets did not open so far, where there are more than at the look before.
-    fn tell_unopened<H: Wait + SystemClock + Net + RandomSource>(
+    fn tell_unopened<H: Wait + SystemClock + Net + RandomSource + Files<File = File>>(
         &mut self,
         rt: &H,
         reporter: &Reporter,

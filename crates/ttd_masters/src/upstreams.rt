@@ -5,12 +5,14 @@ ghost use Rattle.ttd_masters.specs.Upstreams.{every_of as pause_between, is_pass
 
 use crate::clocks::Monotonic;
 use std::alloc::{AllocError, Global};
+use std::fs::{File, Files};
 use std::io::{self, ErrorKind};
 use std::net::{Ipv4Addr, Ipv6Addr, Net, SocketAddr, UdpSocket};
 use std::random::RandomSource;
 use std::sync::{Arc, Mutex, Wait};
 use std::thread;
 use std::time::{Clock as SystemClock, Duration};
+use tt_host::{Sleep, SleepWatch};
 use tt_ntp::{PacketKey, encode_keyed, encode_request};
 use tt_publish::Clock;
 use tt_report::Reporter;
@@ -171,6 +173,8 @@ pub(crate) struct Upstream {
     silences: u32,
     /// The clock reading before which it is not asked, in nanoseconds.
     not_before: u64,
+    /// Sees that the host slept within an exchange.
+    sleep: SleepWatch,
 }
 
 impl Upstream {
@@ -197,6 +201,7 @@ impl Upstream {
             server,
             silences: 0,
             not_before: 0,
+            sleep: SleepWatch::new(),
         })
     }
 
@@ -207,12 +212,12 @@ impl Upstream {
 
     /// Asks the server once, and waits for its reply. Logs a reply that was refused, that none came, and that there were no
     /// random numbers.
-    pub(crate) fn ask<H: Wait + SystemClock + Net + RandomSource>(
+    pub(crate) fn ask<H: Wait + SystemClock + Net + RandomSource + Files<File = File>>(
         &mut self,
         rt: &H,
         reporter: &Reporter,
     ) {
-        let exchange = self.exchange(rt);
+        let exchange = self.exchange(rt, reporter);
         self.silences = silences_with(exchange, self.silences);
         self.not_before = put_off(exchange, self.is_near, now_of(rt));
         let server = self.place;
@@ -231,7 +236,7 @@ impl Upstream {
     }
 
     /// Asks the server if a request is due. A server on this host is asked so, before a poll is answered.
-    pub(crate) fn ask_if_due<H: Wait + SystemClock + Net + RandomSource>(
+    pub(crate) fn ask_if_due<H: Wait + SystemClock + Net + RandomSource + Files<File = File>>(
         &mut self,
         rt: &H,
         reporter: &Reporter,
@@ -245,8 +250,24 @@ impl Upstream {
         }
     }
 
-    /// Sends a request, and looks for the reply to it.
-    fn exchange<H: Wait + SystemClock + Net + RandomSource>(&mut self, rt: &H) -> Exchange {
+    /// Where the host slept since the last look, drops what is known, and logs it.
+    fn notice_sleep<H: Wait + SystemClock + Files<File = File>>(
+        &mut self,
+        rt: &H,
+        reporter: &Reporter,
+    ) {
+        if let Sleep::Slept(slept) = self.sleep.look(rt) {
+            self.server.lock(rt).forget();
+            reporter.log(rt, LogEvent::HostSlept { slept });
+        }
+    }
+
+    /// Sends a request, and looks for the reply to it. What it left is dropped where the host slept meanwhile.
+    fn exchange<H: Wait + SystemClock + Net + RandomSource + Files<File = File>>(
+        &mut self,
+        rt: &H,
+        reporter: &Reporter,
+    ) -> Exchange {
         self.renew(rt);
         let mut server = *self.server.lock(rt);
         let exchange = match &self.socket {
@@ -264,6 +285,10 @@ impl Upstream {
                 Exchange::Silent
             }
         };
+        if let Sleep::Slept(slept) = self.sleep.look(rt) {
+            server.forget();
+            reporter.log(rt, LogEvent::HostSlept { slept });
+        }
         *self.server.lock(rt) = server;
         exchange
     }
@@ -327,13 +352,14 @@ fn connected(socket: UdpSocket, address: SocketAddr) -> Option<UdpSocket> {
 }
 
 /// Asks a server on another host whenever a request is due, and never ends.
-pub(crate) fn follow<H: Wait + SystemClock + Net + RandomSource>(
+pub(crate) fn follow<H: Wait + SystemClock + Net + RandomSource + Files<File = File>>(
     rt: &H,
     upstream: Upstream,
     reporter: &Reporter,
 ) {
     let mut upstream = upstream;
     for _ in rt.forever() {
+        upstream.notice_sleep(rt, reporter);
         let left = upstream.left(rt);
         if left == 0 {
             upstream.ask(rt, reporter);

@@ -4,7 +4,6 @@ use std::fs::{File, Files, OpenOptions};
 use std::io::{self, Error, ErrorKind};
 use std::os::unix::fs::{FileExt, MetadataExt};
 use std::time::Clock as SystemClock;
-use tt_connections::reading_of;
 use tt_health::{Lead, Look, disruptions_in, is_wide, narrowed, slept_between, uptime_in};
 use tt_shared::read_start;
 
@@ -18,7 +17,7 @@ const OF_KERNEL: &str = "/proc/self";
 const LOOKS: u32 = 3;
 
 /// The most bytes that are read of a file.
-pub(crate) const MOST: usize = 64;
+pub const MOST: usize = 64;
 
 /// The bits of a mode that say what a file is, and what they are for a FIFO.
 const KIND: u32 = 0o170000;
@@ -26,7 +25,7 @@ const KIND: u32 = 0o170000;
 const FIFO: u32 = 0o010000;
 
 /// Reads the first bytes of a file that is no FIFO, which could have it wait. Answers how many.
-pub(crate) fn read_at<R: Files<File = File>>(
+pub fn read_at<R: Files<File = File>>(
     rt: &R,
     path: &str,
     bytes: &mut [u8; MOST],
@@ -48,12 +47,17 @@ fn is_of_kernel<R: Files>(rt: &R, path: &str) -> bool {
     }
 }
 
+/// What the monotonic clock shows, in nanoseconds. None if it can't be read.
+fn clock_of<R: SystemClock>(rt: &R) -> Option<u64> {
+    u64::try_from(rt.monotonic().ok()?.as_nanos()).ok()
+}
+
 /// One look, in the open file, at how long the host has been up.
 fn look<R: SystemClock>(rt: &R, file: &File) -> Option<Lead> {
     let mut bytes = [0; MOST];
-    let before = reading_of(rt)?;
+    let before = clock_of(rt)?;
     let count = file.read_at(&mut bytes, 0).ok()?;
-    let after = reading_of(rt)?;
+    let after = clock_of(rt)?;
     let uptime = uptime_in(bytes.get(..count)?)?;
     let look = Look {
         before,
@@ -77,7 +81,7 @@ fn look_well<R: SystemClock>(rt: &R, file: &File) -> Option<Lead> {
 
 /// Watches how far the time since the start of the host, sleep included, leads the clock.
 #[derive(Drop)]
-pub(crate) struct SleepWatch {
+pub struct SleepWatch {
     /// The kernel's file. It stays open, so no client can take its descriptor.
     file: Option<File>,
     lead: Option<Lead>,
@@ -87,7 +91,7 @@ pub(crate) struct SleepWatch {
 
 /// What a look of [`SleepWatch::look`] found.
 #[derive(Clone, Copy)]
-pub(crate) enum Sleep {
+pub enum Sleep {
     /// The host did not sleep, as far as it is seen.
     Awake,
     /// The host slept for so many nanoseconds at least.
@@ -98,7 +102,7 @@ pub(crate) enum Sleep {
 
 impl SleepWatch {
     /// No look was made.
-    pub(crate) fn new() -> SleepWatch {
+    pub fn new() -> SleepWatch {
         SleepWatch {
             file: None,
             lead: None,
@@ -125,7 +129,7 @@ impl SleepWatch {
     }
 
     /// Looks whether the host has slept since the last look that saw it. A look that fails changes nothing of what is known.
-    pub(crate) fn look<R: SystemClock + Files<File = File>>(&mut self, rt: &R) -> Sleep {
+    pub fn look<R: SystemClock + Files<File = File>>(&mut self, rt: &R) -> Sleep {
         let Some(later) = self.lead(rt) else {
             let was_blind = self.is_blind;
             self.is_blind = true;
@@ -152,18 +156,18 @@ impl SleepWatch {
 
 /// Watches the counter of disruptions that a hypervisor gives its guest.
 #[derive(Clone, Copy)]
-pub(crate) struct GuestWatch {
+pub struct GuestWatch {
     last: Option<u64>,
 }
 
 impl GuestWatch {
     /// No look was made.
-    pub(crate) fn new() -> GuestWatch {
+    pub fn new() -> GuestWatch {
         GuestWatch { last: None }
     }
 
     /// Looks whether the counter at this path has changed since the last look that read it.
-    pub(crate) fn look<R: Files<File = File>>(&mut self, rt: &R, path: &str) -> bool {
+    pub fn look<R: Files<File = File>>(&mut self, rt: &R, path: &str) -> bool {
         let mut bytes = [0; MOST];
         let Ok(count) = read_at(rt, path, &mut bytes) else {
             return false;

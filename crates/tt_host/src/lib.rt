@@ -1,0 +1,16 @@
+//! What a machine and a master look at of their host: small files of the kernel, and signs that the clock does not show.
+//!
+//! ```text
+//! let mut watch = SleepWatch::new();
+//! match watch.look(rt) {          // before the first poll, and then in each round
+//!     Sleep::Slept(nanoseconds) => ..,
+//!     Sleep::Unseen | Sleep::Awake => ..,
+//! }
+//! ```
+//!
+//! What a look means is decided in `tt_health`. Nothing is claimed of what the kernel's files show.
+#![tactic(auto)]
+
+mod signs;
+
+pub use signs::{GuestWatch, MOST, Sleep, SleepWatch, read_at};
