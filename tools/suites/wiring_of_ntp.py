@@ -212,6 +212,25 @@ def silent_servers_of_masters(trial):
 
 
 @suite.case()
+def sleep_of_masters(trial):
+    """A master whose host slept drops what its server said, asks it at once, and says so; while the server is silent, so is the master."""
+    spoils = Spoils(trial.room)
+    server, = servers_of(trial, Says())
+    over = Over(trial, [server], every=["60s"])
+    over.process.kill()
+    process = trial.keep(Spoiled(trial, spoils, over.process.words))
+    trial.check("option ntp", over.holds(), "no answer")
+    asked = len(server.requests)
+    spoils.tell("uptime", str(800_000_000))
+    trial.check("option ntp", over.holds(), "no answer after a sleep")
+    trial.equal("option ntp", len(server.requests), asked + 1)
+    trial.between("log host_slept", SECOND * 77 // 100, int(trial.logs(process, "host_slept").get("slept_ns", 0)), SECOND * 80 // 100)
+    server.says = Says(silent=True)
+    spoils.tell("uptime", str(1_600_000_000))
+    trial.check("option ntp", over.is_silent(), "it answers by what its server said before a sleep")
+
+
+@suite.case()
 def margins_of_masters(trial):
     """An answer is wider by twice the margin, and by no more."""
     server, = servers_of(trial, Says())

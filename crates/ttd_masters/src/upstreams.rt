@@ -269,6 +269,7 @@ impl Upstream {
         reporter: &Reporter,
     ) -> Exchange {
         self.renew(rt);
+        self.notice_sleep(rt, reporter);
         let mut server = *self.server.lock(rt);
         let exchange = match &self.socket {
             Some(socket) => {
