@@ -6,6 +6,7 @@ ghost use Rattle.ttd_masters.specs.Upstreams.{plan_of as plan_for};
 use crate::faults::StartFault;
 use crate::files::bytes_of;
 use crate::references::{KnownTime, NtpServers};
+use crate::sleeps::SeesSleep;
 use crate::upstreams::{Upstream, every_of, follow};
 use std::fs::{File, Files};
 use std::io::{Eprint, ErrorKind};
@@ -94,15 +95,7 @@ fn upstream_of<H: Net + Files<File = File> + Eprint + RandomSource + AllocGlobal
 
 /// Starts the thread that asks a server on another host.
 fn start_following<
-    H: Threads
-        + Wait
-        + SystemClock
-        + Net
-        + RandomSource
-        + Files<File = File>
-        + Copy
-        + Send
-        + 'static,
+    H: Threads + Wait + SystemClock + Net + RandomSource + SeesSleep + Copy + Send + 'static,
 >(rt: &H, reporter: &Reporter, upstream: Upstream) -> Result<(), StartFault> {
     let theirs = reporter.try_clone()?;
     let rt = *rt;

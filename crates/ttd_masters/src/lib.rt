@@ -4,7 +4,7 @@
 //!   keys. `pauses`: when it looks at it. `links`: the link to the senders of polls.
 //! - `players`: how it answers. `references`: from what it knows the time. `following`: its NTP servers, and the threads that
 //!   ask them. `upstreams`: one of them.
-//! - `standing`, `telling`: what it shows of itself. `clocks`: this computer's clocks. `files`: the bytes of files.
+//! - `standing`, `telling`: what it shows of itself. `clocks`: this computer's clocks. `sleeps`: whether it slept. `files`: the bytes of files.
 //! - `faults`: why it does not serve.
 #![tactic(auto)]
 
@@ -19,6 +19,7 @@ mod pauses;
 mod players;
 mod references;
 mod sealed_masters;
+mod sleeps;
 mod standing;
 mod telling;
 mod upstreams;

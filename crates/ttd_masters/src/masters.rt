@@ -12,6 +12,7 @@ use crate::pauses::{FIRST_PAUSE, Looks, next_pause};
 use crate::players::{Acting, Honest, Player, take_turn};
 use crate::references::{KnownTime, StatedTime};
 use crate::sealed_masters::{Sealed, answer_sealed};
+use crate::sleeps::SeesSleep;
 use crate::standing::open_status;
 use crate::telling::told_by;
 use std::fs::{File, Files};
@@ -154,7 +155,7 @@ fn player_of<
 }
 
 /// A master that answers what it knows.
-fn honest<'a, H: Wait + SystemClock + Net + RandomSource + Files<File = File>>(
+fn honest<'a, H: Wait + SystemClock + Net + RandomSource + SeesSleep>(
     source: u8,
     known: KnownTime<'a, H>,
     warn_width: Option<u64>,
@@ -192,7 +193,7 @@ fn reporter_of<
 }
 
 /// The socket of a master, whose start is logged.
-fn begin<H: Wait + SystemClock + Net + RandomSource + Files<File = File>>(
+fn begin<H: Wait + SystemClock + Net + RandomSource + SeesSleep>(
     rt: &H,
     reporter: &Reporter,
     plan: &MasterPlan<'_>,
@@ -214,7 +215,7 @@ fn port_of(socket: &UdpSocket) -> io::Result<u16> {
 }
 
 /// A socket at this address. An address that is not up yet is tried again, with growing pauses, and logged.
-fn socket_at<H: Wait + SystemClock + Net + RandomSource + Files<File = File>>(
+fn socket_at<H: Wait + SystemClock + Net + RandomSource + SeesSleep>(
     rt: &H,
     reporter: &Reporter,
     listen: SocketAddr,
@@ -236,7 +237,7 @@ fn socket_at<H: Wait + SystemClock + Net + RandomSource + Files<File = File>>(
 }
 
 /// Answers open polls of this host, and never ends. If there is a status file, it shows its status about once a second.
-fn answer_open<H: Wait + SystemClock + Net + RandomSource + Files<File = File> + AllocGlobal>(
+fn answer_open<H: Wait + SystemClock + Net + RandomSource + SeesSleep + AllocGlobal>(
     rt: &H,
     reporter: &Reporter,
     plan: &MasterPlan<'_>,

@@ -4,8 +4,8 @@ ghost use Rattle.std.specs.Prelude.{◌≡◌, ◌≤◌};
 ghost use Rattle.tt_span.specs.Time.{max_time};
 
 use crate::clocks::{Monotonic, RealTime};
+use crate::sleeps::SeesSleep;
 use crate::upstreams::{SharedServer, Upstream};
-use std::fs::{File, Files};
 use std::net::Net;
 use std::random::RandomSource;
 use std::sync::Wait;
@@ -79,7 +79,7 @@ pub(crate) struct NtpServers<'a, H> {
     sleep: SleepWatch,
 }
 
-impl<'a, H: Wait + SystemClock + Net + RandomSource + Files<File = File>> NtpServers<'a, H> {
+impl<'a, H: Wait + SystemClock + Net + RandomSource + SeesSleep> NtpServers<'a, H> {
     /// These servers, of which those of `near` are on this host.
     pub(crate) fn new(
         rt: &'a H,
@@ -105,7 +105,7 @@ impl<'a, H: Wait + SystemClock + Net + RandomSource + Files<File = File>> NtpSer
 
     /// Where the host slept since the last look, drops what is known of each server, and logs it.
     fn notice_sleep(&mut self) {
-        if let Sleep::Slept(slept) = self.sleep.look(self.rt) {
+        if let Sleep::Slept(slept) = self.rt.look(&mut self.sleep) {
             for server in self.servers.iter() {
                 server.lock(self.rt).forget();
             }
@@ -132,7 +132,7 @@ impl<'a, H: Wait + SystemClock + Net + RandomSource + Files<File = File>> NtpSer
     }
 }
 
-impl<'a, H: Wait + SystemClock + Net + RandomSource + Files<File = File>> SpanReference
+impl<'a, H: Wait + SystemClock + Net + RandomSource + SeesSleep> SpanReference
     for NtpServers<'a, H> {
     ghost gives = { λ _ _ _. Unit {0} };
 
@@ -161,7 +161,7 @@ pub(crate) enum KnownTime<'a, H> {
     Ntp(NtpServers<'a, H>),
 }
 
-impl<'a, H: Wait + SystemClock + Net + RandomSource + Files<File = File>> SpanReference
+impl<'a, H: Wait + SystemClock + Net + RandomSource + SeesSleep> SpanReference
     for KnownTime<'a, H> {
     ghost gives = { λ _ _ _. Unit {0} };
 

@@ -64,11 +64,7 @@ impl<'a> Sealed<'a> {
     }
 
     /// Logs how many packets did not open so far, where there are more than at the look before.
-    fn tell_unopened<H: Wait + SystemClock + Net + RandomSource + Files<File = File>>(
-        &mut self,
-        rt: &H,
-        reporter: &Reporter,
-    ) {
+    fn tell_unopened<H: Wait + SystemClock>(&mut self, rt: &H, reporter: &Reporter) {
         let [length, unknown, wrong] = self.link.dropped();
         let count = length.saturating_add(unknown).saturating_add(wrong);
         if self.unopened < count {

@@ -6,9 +6,9 @@ ghost use Rattle.ttd_masters.specs.Telling.{status_of as status_told};
 use crate::clocks::Monotonic;
 use crate::players::Player;
 use crate::references::KnownTime;
+use crate::sleeps::SeesSleep;
 use crate::standing::Told;
 use std::alloc::AllocError;
-use std::fs::{File, Files};
 use std::net::Net;
 use std::random::RandomSource;
 use std::sync::Wait;
@@ -40,7 +40,7 @@ fn status_of(server: &Server, now: u64) -> ServerStatus
 }
 
 /// What is told of the servers from which the time is known.
-fn statuses_of<H: Wait + SystemClock + Net + RandomSource + Files<File = File> + AllocGlobal>(
+fn statuses_of<H: Wait + SystemClock + Net + RandomSource + SeesSleep + AllocGlobal>(
     rt: &H,
     known: &KnownTime<'_, H>,
 ) -> Result<Vec<ServerStatus>, AllocError> {
@@ -59,9 +59,10 @@ fn statuses_of<H: Wait + SystemClock + Net + RandomSource + Files<File = File> +
 }
 
 /// What a master tells of itself now. The greatest width is counted anew from here on.
-pub(crate) fn told_by<
-    H: Wait + SystemClock + Net + RandomSource + Files<File = File> + AllocGlobal,
->(rt: &H, player: &mut Player<'_, H>) -> Result<Told, AllocError> {
+pub(crate) fn told_by<H: Wait + SystemClock + Net + RandomSource + SeesSleep + AllocGlobal>(
+    rt: &H,
+    player: &mut Player<'_, H>,
+) -> Result<Told, AllocError> {
     let Player::Honest(honest) = player else {
         return Ok(Told::nothing(rt.alloc()));
     };

@@ -4,8 +4,8 @@ ghost use Rattle.std.specs.Prelude.{◌≡◌};
 ghost use Rattle.ttd_masters.specs.Upstreams.{every_of as pause_between, is_passing_receipt, put_off_by, silences_after};
 
 use crate::clocks::Monotonic;
+use crate::sleeps::SeesSleep;
 use std::alloc::{AllocError, Global};
-use std::fs::{File, Files};
 use std::io::{self, ErrorKind};
 use std::net::{Ipv4Addr, Ipv6Addr, Net, SocketAddr, UdpSocket};
 use std::random::RandomSource;
@@ -212,7 +212,7 @@ impl Upstream {
 
     /// Asks the server once, and waits for its reply. Logs a reply that was refused, that none came, and that there were no
     /// random numbers.
-    pub(crate) fn ask<H: Wait + SystemClock + Net + RandomSource + Files<File = File>>(
+    pub(crate) fn ask<H: Wait + SystemClock + Net + RandomSource + SeesSleep>(
         &mut self,
         rt: &H,
         reporter: &Reporter,
@@ -236,7 +236,7 @@ impl Upstream {
     }
 
     /// Asks the server if a request is due. A server on this host is asked so, before a poll is answered.
-    pub(crate) fn ask_if_due<H: Wait + SystemClock + Net + RandomSource + Files<File = File>>(
+    pub(crate) fn ask_if_due<H: Wait + SystemClock + Net + RandomSource + SeesSleep>(
         &mut self,
         rt: &H,
         reporter: &Reporter,
@@ -251,19 +251,15 @@ impl Upstream {
     }
 
     /// Where the host slept since the last look, drops what is known, and logs it.
-    fn notice_sleep<H: Wait + SystemClock + Files<File = File>>(
-        &mut self,
-        rt: &H,
-        reporter: &Reporter,
-    ) {
-        if let Sleep::Slept(slept) = self.sleep.look(rt) {
+    fn notice_sleep<H: Wait + SystemClock + SeesSleep>(&mut self, rt: &H, reporter: &Reporter) {
+        if let Sleep::Slept(slept) = rt.look(&mut self.sleep) {
             self.server.lock(rt).forget();
             reporter.log(rt, LogEvent::HostSlept { slept });
         }
     }
 
     /// Sends a request, and looks for the reply to it. What it left is dropped where the host slept meanwhile.
-    fn exchange<H: Wait + SystemClock + Net + RandomSource + Files<File = File>>(
+    fn exchange<H: Wait + SystemClock + Net + RandomSource + SeesSleep>(
         &mut self,
         rt: &H,
         reporter: &Reporter,
@@ -286,7 +282,7 @@ impl Upstream {
                 Exchange::Silent
             }
         };
-        if let Sleep::Slept(slept) = self.sleep.look(rt) {
+        if let Sleep::Slept(slept) = rt.look(&mut self.sleep) {
             server.forget();
             reporter.log(rt, LogEvent::HostSlept { slept });
         }
@@ -353,7 +349,7 @@ fn connected(socket: UdpSocket, address: SocketAddr) -> Option<UdpSocket> {
 }
 
 /// Asks a server on another host whenever a request is due, and never ends.
-pub(crate) fn follow<H: Wait + SystemClock + Net + RandomSource + Files<File = File>>(
+pub(crate) fn follow<H: Wait + SystemClock + Net + RandomSource + SeesSleep>(
     rt: &H,
     upstream: Upstream,
     reporter: &Reporter,
