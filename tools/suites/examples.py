@@ -91,12 +91,17 @@ def try_error(trial, words, given, target, wanted):
     trial.count(texts=1)
 
 
+def hear_interrupts():
+    """A program that is started in the background may have been told to ignore them."""
+    signal.signal(signal.SIGINT, signal.SIG_DFL)
+
+
 @suite.case(root=True, programs=("unshare", "nsenter", "ip"))
 def service(trial):
     lines = [line.split("#") for line in read_text("README.md").splitlines() if line.startswith("    ./ttd --unproved ask ")]
     env = {**os.environ, "TTD": trial.program, "TMPDIR": trial.room}
     ran = subprocess.Popen(["unshare", "-n", "sh", "-c", 'ip link set lo up && exec "$0"', in_top("examples/service/run")], env=env, text=True,
-                           stdout=subprocess.PIPE, stderr=subprocess.PIPE)
+                           stdout=subprocess.PIPE, stderr=subprocess.PIPE, preexec_fn=hear_interrupts)
     for command, said in lines:
         words = ["nsenter", "-n", "-t", str(ran.pid), trial.program, *command.split()[2:]]
         for _ in range(100):
