@@ -5,8 +5,8 @@ ghost use Rattle.ttd_masters.specs.Upstreams.{plan_of as plan_for};
 
 use crate::faults::StartFault;
 use crate::files::bytes_of;
+use crate::hosts::AsksServers;
 use crate::references::{KnownTime, NtpServers};
-use crate::sleeps::SeesSleep;
 use crate::upstreams::{Upstream, every_of, follow};
 use std::fs::{File, Files};
 use std::io::{Eprint, ErrorKind};
@@ -67,24 +67,17 @@ fn say_refusal<H: Eprint>(rt: &H, path: &str, number: u32, fault: NtpKeyFault) {
     let _ = eprint!(rt; "{path}: key {number}: {fault}\n");
 }
 
-/// Refuses where there are no random numbers, of which each request takes 64 bits.
-fn check_random<H: RandomSource>(rt: &H) -> Result<(), StartFault> {
-    let mut bytes = [0; 8];
-    match rt.fill_bytes(&mut bytes) {
-        Ok(()) => Ok(()),
-        Err(_) => Err(StartFault::NoRandom),
-    }
-}
-
 /// The server at this address, which has this place among the servers.
-fn upstream_of<H: Net + Files<File = File> + Eprint + RandomSource + AllocGlobal>(
+fn upstream_of<H: Net + Files<File = File> + Eprint + RandomSource + SystemClock + AllocGlobal>(
     rt: &H,
     time: &NtpTime<'_>,
     place: u64,
     address: SocketAddr,
 ) -> Result<Upstream, StartFault> {
     let key = key_of(rt, time)?;
-    check_random(rt)?;
+    if rt.random_bits().is_none() {
+        return Err(StartFault::NoRandom);
+    }
     let plan = plan_of(time, address.ip().is_loopback());
     match Upstream::new(rt, place, address, key, plan) {
         Ok(upstream) => Ok(upstream),
@@ -94,9 +87,11 @@ fn upstream_of<H: Net + Files<File = File> + Eprint + RandomSource + AllocGlobal
 }
 
 /// Starts the thread that asks a server on another host.
-fn start_following<
-    H: Threads + Wait + SystemClock + Net + RandomSource + SeesSleep + Copy + Send + 'static,
->(rt: &H, reporter: &Reporter, upstream: Upstream) -> Result<(), StartFault> {
+fn start_following<H: Threads + Wait + SystemClock + AsksServers + Copy + Send + 'static>(
+    rt: &H,
+    reporter: &Reporter,
+    upstream: Upstream,
+) -> Result<(), StartFault> {
     let theirs = reporter.try_clone()?;
     let rt = *rt;
     match thread::spawn(&rt, move || follow(&rt, upstream, &theirs)) {

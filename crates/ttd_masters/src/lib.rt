@@ -4,7 +4,7 @@
 //!   keys. `pauses`: when it looks at it. `links`: the link to the senders of polls.
 //! - `players`: how it answers. `references`: from what it knows the time. `following`: its NTP servers, and the threads that
 //!   ask them. `upstreams`: one of them.
-//! - `standing`, `telling`: what it shows of itself. `clocks`: this computer's clocks. `sleeps`: whether it slept. `files`: the bytes of files.
+//! - `standing`, `telling`: what it shows of itself. `clocks`: this computer's clocks. `hosts`: what asking servers wants of it. `files`: the bytes of files.
 //! - `faults`: why it does not serve.
 #![tactic(auto)]
 
@@ -12,6 +12,7 @@ mod clocks;
 mod faults;
 mod files;
 mod following;
+mod hosts;
 mod key_files;
 mod links;
 mod masters;
@@ -19,7 +20,6 @@ mod pauses;
 mod players;
 mod references;
 mod sealed_masters;
-mod sleeps;
 mod standing;
 mod telling;
 mod upstreams;

@@ -6,13 +6,13 @@ ghost use Rattle.tt_poll.specs.Message.{max_source};
 use crate::clocks::RealTime;
 use crate::faults::StartFault;
 use crate::following::servers_of;
+use crate::hosts::AsksServers;
 use crate::key_files::{KeyFile, say_refusal};
 use crate::links::AnsweringLink;
 use crate::pauses::{FIRST_PAUSE, Looks, next_pause};
 use crate::players::{Acting, Honest, Player, take_turn};
 use crate::references::{KnownTime, StatedTime};
 use crate::sealed_masters::{Sealed, answer_sealed};
-use crate::sleeps::SeesSleep;
 use crate::standing::open_status;
 use crate::telling::told_by;
 use std::fs::{File, Files};
@@ -155,7 +155,7 @@ fn player_of<
 }
 
 /// A master that answers what it knows.
-fn honest<'a, H: Wait + SystemClock + Net + RandomSource + SeesSleep>(
+fn honest<'a, H: Wait + SystemClock + AsksServers>(
     source: u8,
     known: KnownTime<'a, H>,
     warn_width: Option<u64>,
@@ -193,7 +193,7 @@ fn reporter_of<
 }
 
 /// The socket of a master, whose start is logged.
-fn begin<H: Wait + SystemClock + Net + RandomSource + SeesSleep>(
+fn begin<H: Wait + SystemClock + Net>(
     rt: &H,
     reporter: &Reporter,
     plan: &MasterPlan<'_>,
@@ -215,7 +215,7 @@ fn port_of(socket: &UdpSocket) -> io::Result<u16> {
 }
 
 /// A socket at this address. An address that is not up yet is tried again, with growing pauses, and logged.
-fn socket_at<H: Wait + SystemClock + Net + RandomSource + SeesSleep>(
+fn socket_at<H: Wait + SystemClock + Net>(
     rt: &H,
     reporter: &Reporter,
     listen: SocketAddr,
@@ -237,7 +237,7 @@ fn socket_at<H: Wait + SystemClock + Net + RandomSource + SeesSleep>(
 }
 
 /// Answers open polls of this host, and never ends. If there is a status file, it shows its status about once a second.
-fn answer_open<H: Wait + SystemClock + Net + RandomSource + SeesSleep + AllocGlobal>(
+fn answer_open<H: Wait + SystemClock + AsksServers + AllocGlobal>(
     rt: &H,
     reporter: &Reporter,
     plan: &MasterPlan<'_>,

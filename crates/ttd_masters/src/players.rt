@@ -4,10 +4,8 @@ ghost use Rattle.std.specs.Prelude.{◌≡◌, None};
 ghost use Rattle.ttd_masters.specs.Playing.{event_of, is_silent_after, silence_in, widest_after, width_in};
 
 use crate::clocks::RealTime;
+use crate::hosts::AsksServers;
 use crate::references::KnownTime;
-use crate::sleeps::SeesSleep;
-use std::net::Net;
-use std::random::RandomSource;
 use std::sync::Wait;
 use std::thread;
 use std::time::{Clock as SystemClock, Duration};
@@ -86,7 +84,7 @@ pub(crate) struct Honest<'a, H> {
     warn_width: Option<u64>,
 }
 
-impl<'a, H: Wait + SystemClock + Net + RandomSource + SeesSleep> Honest<'a, H> {
+impl<'a, H: Wait + SystemClock + AsksServers> Honest<'a, H> {
     /// The master over this, which logs an answer that is wider than the limit in nanoseconds.
     pub(crate) fn new(master: SpanMaster<KnownTime<'a, H>>, warn_width: Option<u64>) -> Self {
         Honest {
@@ -163,7 +161,7 @@ pub(crate) struct Acting<'a, H> {
     played: usize,
 }
 
-impl<'a, H: Wait + SystemClock + Net + RandomSource + SeesSleep> Acting<'a, H> {
+impl<'a, H: Wait + SystemClock + AsksServers> Acting<'a, H> {
     /// The master that plays these acts, and the last of them for all further polls.
     pub(crate) fn new(master: Master<RealTime<'a, H>>, acts: &'a [Act]) -> Self {
         Acting {
@@ -184,7 +182,7 @@ pub(crate) enum Player<'a, H> {
 }
 
 /// Takes one turn: answers a poll that comes.
-pub(crate) fn take_turn<H: Wait + SystemClock + Net + RandomSource + SeesSleep, L: Link>(
+pub(crate) fn take_turn<H: Wait + SystemClock + AsksServers, L: Link>(
     rt: &H,
     reporter: &Reporter,
     link: &mut L,
@@ -197,7 +195,7 @@ pub(crate) fn take_turn<H: Wait + SystemClock + Net + RandomSource + SeesSleep, 
 }
 
 /// Answers a poll that comes with what the master knows.
-fn answer<H: Wait + SystemClock + Net + RandomSource + SeesSleep, L: Link>(
+fn answer<H: Wait + SystemClock + AsksServers, L: Link>(
     rt: &H,
     reporter: &Reporter,
     link: &mut L,
@@ -215,7 +213,7 @@ fn answer<H: Wait + SystemClock + Net + RandomSource + SeesSleep, L: Link>(
 }
 
 /// For a poll that comes it does the act that is next.
-fn act<H: Wait + SystemClock + Net + RandomSource + SeesSleep, L: Link>(
+fn act<H: Wait + SystemClock + AsksServers, L: Link>(
     rt: &H,
     reporter: &Reporter,
     link: &mut L,
@@ -233,11 +231,7 @@ fn act<H: Wait + SystemClock + Net + RandomSource + SeesSleep, L: Link>(
 }
 
 /// Logs a failure, and waits before it goes on.
-fn fail<H: Wait + SystemClock + Net + RandomSource + SeesSleep>(
-    rt: &H,
-    reporter: &Reporter,
-    number: u64,
-) {
+fn fail<H: Wait + SystemClock + AsksServers>(rt: &H, reporter: &Reporter, number: u64) {
     reporter.log(rt, LogEvent::MasterFailed { number });
     thread::sleep(rt, Duration::from_millis(PAUSE))
 }

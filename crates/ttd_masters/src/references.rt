@@ -4,10 +4,8 @@ ghost use Rattle.std.specs.Prelude.{◌≡◌, ◌≤◌};
 ghost use Rattle.tt_span.specs.Time.{max_time};
 
 use crate::clocks::{Monotonic, RealTime};
-use crate::sleeps::SeesSleep;
+use crate::hosts::AsksServers;
 use crate::upstreams::{SharedServer, Upstream};
-use std::net::Net;
-use std::random::RandomSource;
 use std::sync::Wait;
 use std::time::Clock as SystemClock;
 use tt_fuse::check_counts;
@@ -79,7 +77,7 @@ pub(crate) struct NtpServers<'a, H> {
     sleep: SleepWatch,
 }
 
-impl<'a, H: Wait + SystemClock + Net + RandomSource + SeesSleep> NtpServers<'a, H> {
+impl<'a, H: Wait + SystemClock + AsksServers> NtpServers<'a, H> {
     /// These servers, of which those of `near` are on this host.
     pub(crate) fn new(
         rt: &'a H,
@@ -132,8 +130,7 @@ impl<'a, H: Wait + SystemClock + Net + RandomSource + SeesSleep> NtpServers<'a, 
     }
 }
 
-impl<'a, H: Wait + SystemClock + Net + RandomSource + SeesSleep> SpanReference
-    for NtpServers<'a, H> {
+impl<'a, H: Wait + SystemClock + AsksServers> SpanReference for NtpServers<'a, H> {
     ghost gives = { λ _ _ _. Unit {0} };
 
     /// What the servers say, fused. What they said before the host slept is dropped.
@@ -161,8 +158,7 @@ pub(crate) enum KnownTime<'a, H> {
     Ntp(NtpServers<'a, H>),
 }
 
-impl<'a, H: Wait + SystemClock + Net + RandomSource + SeesSleep> SpanReference
-    for KnownTime<'a, H> {
+impl<'a, H: Wait + SystemClock + AsksServers> SpanReference for KnownTime<'a, H> {
     ghost gives = { λ _ _ _. Unit {0} };
 
     fn read(&mut self) -> Result<Span, Silence> {

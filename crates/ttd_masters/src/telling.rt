@@ -4,13 +4,11 @@ ghost use Rattle.std.specs.Prelude.{◌≡◌, OnOk};
 ghost use Rattle.ttd_masters.specs.Telling.{status_of as status_told};
 
 use crate::clocks::Monotonic;
+use crate::hosts::AsksServers;
 use crate::players::Player;
 use crate::references::KnownTime;
-use crate::sleeps::SeesSleep;
 use crate::standing::Told;
 use std::alloc::AllocError;
-use std::net::Net;
-use std::random::RandomSource;
 use std::sync::Wait;
 use std::time::Clock as SystemClock;
 use tt_publish::Clock;
@@ -40,7 +38,7 @@ fn status_of(server: &Server, now: u64) -> ServerStatus
 }
 
 /// What is told of the servers from which the time is known.
-fn statuses_of<H: Wait + SystemClock + Net + RandomSource + SeesSleep + AllocGlobal>(
+fn statuses_of<H: Wait + SystemClock + AsksServers + AllocGlobal>(
     rt: &H,
     known: &KnownTime<'_, H>,
 ) -> Result<Vec<ServerStatus>, AllocError> {
@@ -59,7 +57,7 @@ fn statuses_of<H: Wait + SystemClock + Net + RandomSource + SeesSleep + AllocGlo
 }
 
 /// What a master tells of itself now. The greatest width is counted anew from here on.
-pub(crate) fn told_by<H: Wait + SystemClock + Net + RandomSource + SeesSleep + AllocGlobal>(
+pub(crate) fn told_by<H: Wait + SystemClock + AsksServers + AllocGlobal>(
     rt: &H,
     player: &mut Player<'_, H>,
 ) -> Result<Told, AllocError> {

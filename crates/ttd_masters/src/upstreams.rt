@@ -4,11 +4,10 @@ ghost use Rattle.std.specs.Prelude.{◌≡◌};
 ghost use Rattle.ttd_masters.specs.Upstreams.{every_of as pause_between, is_passing_receipt, put_off_by, silences_after};
 
 use crate::clocks::Monotonic;
-use crate::sleeps::SeesSleep;
+use crate::hosts::AsksServers;
 use std::alloc::{AllocError, Global};
 use std::io::{self, ErrorKind};
-use std::net::{Ipv4Addr, Ipv6Addr, Net, SocketAddr, UdpSocket};
-use std::random::RandomSource;
+use std::net::{Ipv4Addr, Ipv6Addr, SocketAddr, UdpSocket};
 use std::sync::{Arc, Mutex, Wait};
 use std::thread;
 use std::time::{Clock as SystemClock, Duration};
@@ -113,13 +112,11 @@ struct UdpLine<'a, H> {
     key: &'a Option<PacketKey>,
 }
 
-impl<'a, H: RandomSource + SystemClock> Line for UdpLine<'a, H> {
+impl<'a, H: SystemClock + AsksServers> Line for UdpLine<'a, H> {
     ghost does = { λ _ _ _. Unit {0} };
 
     fn draw(&mut self) -> Option<u64> {
-        let mut bytes = [0; 8];
-        self.rt.fill_bytes(&mut bytes).ok()?;
-        Some(u64::from_be_bytes(bytes))
+        self.rt.random_bits()
     }
 
     fn empty(&mut self) {
@@ -180,7 +177,7 @@ pub(crate) struct Upstream {
 impl Upstream {
     /// The server at this address, which is asked from a socket of its own, under the key if there is one. Refuses with the
     /// error of the system if there is no such socket, and with `OutOfMemory` if an allocation fails.
-    pub(crate) fn new<H: Net + AllocGlobal>(
+    pub(crate) fn new<H: AsksServers + AllocGlobal>(
         rt: &H,
         place: u64,
         address: SocketAddr,
@@ -212,11 +209,7 @@ impl Upstream {
 
     /// Asks the server once, and waits for its reply. Logs a reply that was refused, that none came, and that there were no
     /// random numbers.
-    pub(crate) fn ask<H: Wait + SystemClock + Net + RandomSource + SeesSleep>(
-        &mut self,
-        rt: &H,
-        reporter: &Reporter,
-    ) {
+    pub(crate) fn ask<H: Wait + SystemClock + AsksServers>(&mut self, rt: &H, reporter: &Reporter) {
         let exchange = self.exchange(rt, reporter);
         self.silences = silences_with(exchange, self.silences);
         self.not_before = put_off(exchange, self.is_near, now_of(rt));
@@ -236,7 +229,7 @@ impl Upstream {
     }
 
     /// Asks the server if a request is due. A server on this host is asked so, before a poll is answered.
-    pub(crate) fn ask_if_due<H: Wait + SystemClock + Net + RandomSource + SeesSleep>(
+    pub(crate) fn ask_if_due<H: Wait + SystemClock + AsksServers>(
         &mut self,
         rt: &H,
         reporter: &Reporter,
@@ -251,7 +244,7 @@ impl Upstream {
     }
 
     /// Where the host slept since the last look, drops what is known, and logs it.
-    fn notice_sleep<H: Wait + SystemClock + SeesSleep>(&mut self, rt: &H, reporter: &Reporter) {
+    fn notice_sleep<H: Wait + SystemClock + AsksServers>(&mut self, rt: &H, reporter: &Reporter) {
         if let Sleep::Slept(slept) = rt.look(&mut self.sleep) {
             self.server.lock(rt).forget();
             reporter.log(rt, LogEvent::HostSlept { slept });
@@ -259,7 +252,7 @@ impl Upstream {
     }
 
     /// Sends a request, and looks for the reply to it. What it left is dropped where the host slept meanwhile.
-    fn exchange<H: Wait + SystemClock + Net + RandomSource + SeesSleep>(
+    fn exchange<H: Wait + SystemClock + AsksServers>(
         &mut self,
         rt: &H,
         reporter: &Reporter,
@@ -292,7 +285,7 @@ impl Upstream {
 
     /// Makes the socket anew where there is none, and after four silences: then also the port is another one. What there is
     /// stays if that fails.
-    fn renew<H: Net>(&mut self, rt: &H) {
+    fn renew<H: AsksServers>(&mut self, rt: &H) {
         if self.socket.is_some() && self.silences < MAX_SILENCES {
             return;
         }
@@ -330,11 +323,11 @@ fn now_of<H: SystemClock>(rt: &H) -> u64 {
 }
 
 /// A socket to ask a server at this address by. A receipt waits so many milliseconds.
-fn socket_for<H: Net>(rt: &H, address: SocketAddr, wait: u64) -> io::Result<UdpSocket> {
+fn socket_for<H: AsksServers>(rt: &H, address: SocketAddr, wait: u64) -> io::Result<UdpSocket> {
     let socket = if address.is_ipv4() {
-        UdpSocket::bind(rt, SocketAddr::from((Ipv4Addr::UNSPECIFIED, 0)))?
+        rt.bind(SocketAddr::from((Ipv4Addr::UNSPECIFIED, 0)))?
     } else {
-        UdpSocket::bind(rt, SocketAddr::from((Ipv6Addr::UNSPECIFIED, 0)))?
+        rt.bind(SocketAddr::from((Ipv6Addr::UNSPECIFIED, 0)))?
     };
     socket.set_read_timeout(Some(Duration::from_millis(wait)))?;
     Ok(socket)
@@ -349,7 +342,7 @@ fn connected(socket: UdpSocket, address: SocketAddr) -> Option<UdpSocket> {
 }
 
 /// Asks a server on another host whenever a request is due, and never ends.
-pub(crate) fn follow<H: Wait + SystemClock + Net + RandomSource + SeesSleep>(
+pub(crate) fn follow<H: Wait + SystemClock + AsksServers>(
     rt: &H,
     upstream: Upstream,
     reporter: &Reporter,
