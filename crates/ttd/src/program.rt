@@ -24,6 +24,7 @@ use std::time::Clock;
 use tt_report::Disk;
 use tt_stream::{ByteReader, ByteWriter};
 use ttd_commands::asked_by;
+use ttd_masters::AsksServers;
 use ttd_words::{Asked, Status, WordsFault, explain, mistake_text, refuse, usage_text};
 
 /// Runs the program with these arguments: does what they ask for, and answers how the program ends. Standard error says
@@ -40,6 +41,7 @@ pub(crate) fn run<
         + Files<File = File>
         + Net<Listener = TcpListener, Stream = TcpStream>
         + Disk
+        + AsksServers
         + RandomSource
         + Env
         + Screen
@@ -78,6 +80,7 @@ fn answer<
         + Files<File = File>
         + Net<Listener = TcpListener, Stream = TcpStream>
         + Disk
+        + AsksServers
         + RandomSource
         + Env
         + Screen

@@ -20,7 +20,7 @@ use std::thread::Threads;
 use std::time::Clock;
 use tt_report::Disk;
 use tt_stream::{ByteReader, ByteWriter};
-use ttd_masters::{MasterPlan, serve_polls};
+use ttd_masters::{AsksServers, MasterPlan, serve_polls};
 use ttd_words::{Service, Status, explain, explain_unwritten, refuse};
 
 /// Why a service stops before its answer is complete.
@@ -55,6 +55,7 @@ pub(crate) fn serve<
         + Files<File = File>
         + Net<Listener = TcpListener, Stream = TcpStream>
         + Disk
+        + AsksServers
         + RandomSource
         + Env
         + Screen
@@ -91,6 +92,7 @@ fn run_service<
         + Files<File = File>
         + Net<Listener = TcpListener, Stream = TcpStream>
         + Disk
+        + AsksServers
         + RandomSource
         + Env
         + Screen

@@ -115,6 +115,7 @@ pub(crate) fn servers_of<
         + Net
         + AllocGlobal
         + RandomSource
+        + AsksServers
         + Copy
         + Send
         + 'static,

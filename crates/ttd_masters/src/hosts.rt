@@ -9,7 +9,7 @@ use tt_host::{Sleep, SleepWatch};
 
 /// What asking servers wants of this computer. It stands in place of `Files`, `Net` and `RandomSource`, since a thread that is
 /// started cannot take with it a bound that names a type.
-pub(crate) trait AsksServers {
+pub trait AsksServers {
     /// A socket at this address of its own.
     fn bind(&self, own: SocketAddr) -> io::Result<UdpSocket>;
 

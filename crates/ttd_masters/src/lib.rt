@@ -27,5 +27,6 @@ mod upstreams;
 pub use clocks::{Monotonic, RealTime};
 pub use faults::StartFault;
 pub use files::bytes_of;
+pub use hosts::AsksServers;
 pub use key_files::say_refusal;
 pub use masters::{MasterPlan, serve_polls};

@@ -79,6 +79,7 @@ pub fn serve_polls<
         + AllocGlobal
         + Disk
         + RandomSource
+        + AsksServers
         + Copy
         + Send
         + 'static,
@@ -125,6 +126,7 @@ fn player_of<
         + Net
         + AllocGlobal
         + RandomSource
+        + AsksServers
         + Copy
         + Send
         + 'static,
