@@ -135,8 +135,8 @@ impl<'a, H: Wait + SystemClock + AsksServers> SpanReference for NtpServers<'a, H
 
     /// What the servers say, fused. What they said before the host slept is dropped.
     fn read(&mut self) -> Result<Span, Silence> {
-        self.notice_sleep();
         self.ask_near();
+        self.notice_sleep();
         let Ok(now) = Monotonic::new(self.rt).read() else {
             return Err(Silence::Clock);
         };

@@ -251,14 +251,14 @@ impl Upstream {
         }
     }
 
-    /// Sends a request, and looks for the reply to it. What it left is dropped where the host slept meanwhile.
+    /// Sends a request, and looks for the reply to it. What it left is dropped where the host slept meanwhile: of a server on
+    /// this host whoever answers the poll sees to that, which asked it just then.
     fn exchange<H: Wait + SystemClock + AsksServers>(
         &mut self,
         rt: &H,
         reporter: &Reporter,
     ) -> Exchange {
         self.renew(rt);
-        self.notice_sleep(rt, reporter);
         let mut server = *self.server.lock(rt);
         let exchange = match &self.socket {
             Some(socket) => {
@@ -275,6 +275,10 @@ impl Upstream {
                 Exchange::Silent
             }
         };
+        if self.is_near {
+            *self.server.lock(rt) = server;
+            return exchange;
+        }
         if let Sleep::Slept(slept) = rt.look(&mut self.sleep) {
             server.forget();
             reporter.log(rt, LogEvent::HostSlept { slept });
