@@ -213,6 +213,24 @@ def keys_of_masters(trial):
 
 
 @suite.case()
+def keys_written_in_place(trial):
+    """A file of keys that is as long as before, and was written in its place in the same second, is read again."""
+    keys, second = os.path.join(trial.room, "keys"), time.time_ns() // SECOND * SECOND
+    put_keys(keys, f"7 {OLD.hex()}")
+    os.utime(keys, ns=(second, second + 1))
+    asked = Asked(trial, 3, uncertainty=[5], keys=[keys])
+    trial.logs(asked.process, "master_started")
+    trial.check("option keys", is_answered(asked, 7, OLD, 5), "no answer under its key")
+    time.sleep(1.1)
+    with open(keys, "r+b", buffering=0) as file:
+        file.write(f"7 {NEW.hex()}".encode())
+        os.utime(keys, ns=(second, second + 2))
+    trial.logs(asked.process, "keys_read", keys=1)
+    trial.check("option keys", is_answered(asked, 7, NEW, 5), "no answer under the key that was written")
+    trial.check("option keys", not is_answered(asked, 7, OLD), "an answer under the key before")
+
+
+@suite.case()
 def status_of_open_masters(trial):
     """A master without keys counts its answers as not sealed."""
     status = os.path.join(trial.room, "status")

@@ -157,6 +157,14 @@ def nonces_of_masters(trial):
     nonces = [nonce_of(request) for request in server.requests]
     near = [(one, other) for place, one in enumerate(nonces) for other in nonces[:place] if abs(one - other) < 2**32]
     trial.check("option ntp", len(nonces) > 4 and not near and 0 not in nonces, f"the nonces {nonces} are near to one another")
+    # By chance one of 64 bits is the same in 40 requests once in 8,000 million times.
+    other, = servers_of(trial, Says())
+    quick = Over(trial, [other])
+    eventually(lambda: quick.poll(0.1) and len(other.requests) >= 40, SOON_S)
+    nonces, zeros, ones = [nonce_of(request) for request in other.requests], 2**64 - 1, 0
+    for nonce in nonces:
+        zeros, ones = zeros & nonce, ones | nonce
+    trial.equal("option ntp", (len(nonces) >= 40, zeros, ones), (True, 0, 2**64 - 1))
     for lie in (Says(ahead_ns=3600 * SECOND), kiss("DENY")):
         asked = len(server.requests)
         eventually(lambda asked=asked: len(server.requests) > asked, SOON_S)
@@ -228,6 +236,53 @@ def sleep_of_masters(trial):
     server.says = Says(silent=True)
     spoils.tell("uptime", str(1_600_000_000))
     trial.check("option ntp", over.is_silent(), "it answers by what its server said before a sleep")
+
+
+@suite.case()
+def sleep_within_a_request(trial):
+    """A reply that comes after the host slept, to a request from before that, gives no time. A master tries again."""
+    spoils = Spoils(trial.room)
+    server, = servers_of(trial, Says())
+    over = Over(trial, [server], every=["60s"])
+    over.process.kill()
+    trial.keep(Spoiled(trial, spoils, over.process.words))
+    trial.check("option ntp", over.holds(), "no answer")
+    slept_ms = [0]
+
+    def sleep(_=None):
+        slept_ms[0] += 800
+        spoils.tell("uptime", str(slept_ms[0] * 1_000_000))
+
+    def sleep_and_reply(request):
+        sleep()
+        return FakeServer.reply_to(request, Says())
+
+    # A reply that comes too late is not taken either, so it is tried a few times.
+    for _ in range(8):
+        sleep()
+        asked, server.says = len(server.requests), Says(packet=sleep_and_reply)
+        span = over.span(0.5)
+        server.says = Says()
+        asked = len(server.requests) - asked
+        trial.check("option ntp", asked > 0 and span is None, f"{span} by {asked} replies that the host slept through")
+    trial.check("option ntp", over.holds(), "no answer after a sleep")
+
+
+@suite.case()
+def sockets_of_masters(trial):
+    """A server is asked from one port as long as it replies, and from another one after four requests without a reply."""
+    server, = servers_of(trial, Says())
+    over = Over(trial, [server], every=["200ms"]).polled(trial)
+    trial.check("option ntp", over.holds(), "no answer")
+    eventually(lambda: over.numbers()["server_replies_total"][0] > 4, SOON_S)
+    server.says = Says(silent=True)
+    eventually(lambda asked=len(server.requests): len(server.requests) > asked, SOON_S)
+    for _ in range(2):
+        first, asked = server.client, len(server.requests)
+        trial.check("option ntp", eventually(lambda first=first: server.client != first, SOON_S),
+                    f"{len(server.requests) - asked} requests without a reply come from port {first[1] if first else None}")
+    server.says = Says()
+    trial.check("option ntp", over.holds(), "no answer once the server replies again")
 
 
 @suite.case()
