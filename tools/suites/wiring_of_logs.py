@@ -1,4 +1,5 @@
 """Scenarios of the suite `wiring`: each kind of line of the log, and the numbers of the status that rise when something fails."""
+import contextlib
 import errno
 import os
 import shutil
@@ -57,6 +58,25 @@ def shared_file_that_fails(trial):
     os.remove(node.path("shared"))
     trial.logs(node, "sharing_ended", number=1705)
     trial.logs(node, "sharing_resumed", 10)
+    os.remove(node.path("shared"))
+    trial.logs(node, "sharing_ended", number=1705)
+    trial.logs(node, "sharing_resumed", 10)
+    node = trial.running_node(trial.scripts(honest), "D")
+    published(node)
+
+    def put_folder():
+        with contextlib.suppress(FileNotFoundError):
+            os.remove(node.path("shared"))
+        os.mkdir(node.path("shared"))
+        return True
+
+    # The file may just be made again.
+    eventually(put_folder)
+    trial.logs(node, "sharing_ended", number=1705)
+    trial.numbers(node, sharing=0)
+    os.rmdir(node.path("shared"))
+    trial.logs(node, "sharing_resumed", 10)
+    trial.numbers(node, sharing=1)
 
 
 @suite.case()
@@ -114,6 +134,15 @@ def sleep_that_is_not_seen(trial):
     trial.logs(node, "sleep_unseen")
     time.sleep(0.5)
     trial.equal("log sleep_unseen", len(node.said("sleep_unseen")), 1)
+    trial.numbers(node, slept=0, breaks=0)
+    trial.equal("log sleep_unseen", len(node.said("sleep_unseen")), 1)
+    trial.numbers(node, slept=0, breaks=0)
+    # It can be read again, and then it cannot. Of one kind a line comes each ten seconds.
+    os.remove(spoils.path("no-uptime"))
+    time.sleep(10.2)
+    trial.equal("log sleep_unseen", len(node.said("sleep_unseen")), 1)
+    spoils.tell("no-uptime")
+    trial.check("log sleep_unseen", eventually(lambda: len(node.said("sleep_unseen")) == 2), "it is not said a second time")
     trial.numbers(node, slept=0, breaks=0)
 
 

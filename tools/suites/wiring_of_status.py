@@ -173,6 +173,16 @@ def ages(trial):
     trial.logs(node, "sources_stale", answered=1, needed=2)
 
 
+@suite.case()
+def stale_before_a_publication(trial):
+    """Rounds in which too few sources answer are counted from the start, and are told of once something is published alone."""
+    node = trial.node(trial.scripts(honest, silent, silent), poll="50ms", wait="20ms")
+    node.run()
+    trial.check("status rounds_stale", eventually(lambda: status_of(node)["rounds_stale"] >= 5), "they are not counted")
+    trial.numbers(node, publications=0)
+    trial.equal("log sources_stale", node.said("sources_stale"), [])
+
+
 # How late sources answer, and by how much more a round trip may be seen, in seconds.
 DELAYS, MORE = [0.012, 0.06, 0.12], 0.04
 

@@ -124,6 +124,38 @@ def top_without_settings(trial):
 
 
 @suite.case()
+def top_of_one_that_drips(trial):
+    """The whole of an answer may take five seconds. One that comes byte by byte is given up then."""
+    def drip(door, line):
+        if line == b"\r\n":
+            door.sendall(b"HTTP/1.1 200 OK\r\n\r\n")
+            for _ in range(300):
+                door.sendall(b"#")
+                time.sleep(0.1)
+
+    address, began = trial.keep(Answerer(drip)).address, time.monotonic()
+    ran = run([trial.program, "top", address, "--once"], env=PLAIN)
+    trial.equal("top", ran.answer, ("refused 1501\n", 4))
+    trial.check("top", ran.error.startswith(f"ttd: {address}: the answer does not end, or none comes in 5 seconds\n"), ran.error)
+    trial.between("top", 4.9, time.monotonic() - began, 15)
+
+
+@suite.case()
+def top_with_settings(trial):
+    """By a configuration a source is silent once its last answer is older than three times `poll` and `wait` together."""
+    _, port = machine(trial)
+    status, evidence = eventually(lambda: (get(port, "/metrics").text, get(port, "/evidence").text))
+    other = trial.node(trial.scripts(*[silent] * 5), "B", evidence="evidence", status="status", poll="4s", wait="3s", machine=5)
+    write(other.path("evidence"), evidence.encode())
+    for age, wanted in (("20.900000000", 0), ("21.100000000", 1)):
+        said = re.sub(r'^(truetime_source_answer_age_seconds\{[^}]*source="3"\}) .*$', rf"\1 {age}", status, flags=re.M)
+        write(other.path("status"), said.encode())
+        ran = run([trial.program, "top", other.path("node.toml"), "--once"], env=PLAIN, cwd=other.folder)
+        lines = [line for line in ran.said.splitlines() if line.startswith("    3 ")]
+        trial.equal("top", (age, ran.status, [line.endswith(" silent") for line in lines]), (age, 0, [bool(wanted)]))
+
+
+@suite.case()
 def top_again(trial):
     """Twice a second, as wide as COLUMNS says, with the widths of the looks before, until it is ended."""
     node, port = machine(trial)
