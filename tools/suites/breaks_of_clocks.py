@@ -231,6 +231,20 @@ def uptime_of_another_file_system(trial):
 
 # Guests.
 
+# Guests.
+
+@suite.case()
+def fifo_as_counter(trial):
+    """A FIFO is not waited for: the machine goes on without a counter."""
+    path = os.path.join(trial.room, "vmclock0")
+    os.mkfifo(path)
+    node = trial.node(trial.masters(3), vmclock=path)
+    node.run()
+    yield from node.publishes_within(2)
+    yield from node.goes_on()
+    yield from node.answers()
+
+
 @suite.case()
 def guest_disrupted(trial):
     """Its counter changes."""
