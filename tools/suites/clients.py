@@ -606,12 +606,15 @@ class Reader:
 
     def __init__(self, words, what="files"):
         self.probe = subprocess.Popen([*words, what], stdin=subprocess.PIPE, stdout=subprocess.PIPE, text=True, bufsize=1)
+        self.late = threading.Timer(150, self.probe.kill)  # where it hangs
+        self.late.start()
 
     def __enter__(self):
         return self
 
     def __exit__(self, *_):
         self.probe.communicate(timeout=60)
+        self.late.cancel()
 
     def say(self, line):
         """What it says of this line; a probe that has ended says nothing."""

@@ -6,6 +6,7 @@ import asyncio
 import contextlib
 import pathlib
 import sys
+import time
 import unittest
 
 sys.path.insert(0, str(pathlib.Path(__file__).resolve().parent.parent))
@@ -179,6 +180,18 @@ class Cancellation(unittest.IsolatedAsyncioTestCase):
                 await session.now()
             session._timeout_s = LIMIT_S
             self.assertEqual(await session.now(), Interval(5, 15))
+            stand_in.say("now 1 2\n")
+
+    async def test_time_of_a_late_reply(self):
+        """The time-out of a reply begins with its line: the call after a cancelled one waits for what is left of it alone."""
+        async with StandIn([("now", None)]) as (stand_in, session):
+            session._timeout_s, began = 2.5, time.monotonic()
+            task = asyncio.ensure_future(session.now())
+            await asyncio.wait({task}, timeout=2)
+            task.cancel()
+            with self.assertRaises(TimeoutError):
+                await session.now()
+            self.assertLess(time.monotonic() - began, 4)
             stand_in.say("now 1 2\n")
 
 
