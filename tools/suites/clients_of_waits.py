@@ -194,6 +194,27 @@ def try_session(trial, name, words, silent, full):
         late.cancel()
 
 
+class Slow(Answering):
+    """A session that answers each line a tenth of a second later."""
+
+    def handle(self):
+        for _ in self.rfile:
+            time.sleep(0.1)
+            self.wfile.write(self.reply)
+
+
+@suite.case()
+def signals(trial):
+    """A signal that has a handler, and comes while a session of C or C++ waits for its reply, ends no call."""
+    with Listening(Slow) as slow:
+        for name, words in session_probes(trial.shared):
+            if name.startswith("C"):
+                with Reader(words, "session") as probe:
+                    lines = [(f"open tcp {slow.server_address[1]} 30000", "open"), *[("signal", "signal"), ("now", "5 15")] * 4, ("close", "closed")]
+                    for line, wanted in lines:
+                        wants(trial, name, probe.say, line, wanted)
+
+
 class Silent(Answering):
     """A session without replies."""
     reply = b""

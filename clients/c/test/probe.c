@@ -7,7 +7,8 @@
  *     probe files < LINES      for each line `open PATH` the same of a file that is not mapped, and for `again` of that file now
  *     probe session < CALLS    for each call of a session, what it gives, `refused N`, `timed out`, `invalid` or `failed`.
  *                              The calls are `open tcp PORT MILLISECONDS`, `open unix PATH MILLISECONDS`, `now`, `after T`,
- *                              `before T`, `lease LO HI`, `begin FLOOR`, `wait`, `commit FLOOR`, `ask LINE`, `close`
+ *                              `before T`, `lease LO HI`, `begin FLOOR`, `wait`, `commit FLOOR`, `ask LINE`, `close`; and
+ *                              `signal`, so that a signal comes 20 ms later
  *     probe stamper < LINES    for each line what a stamper says; tools/suites/clients_of_stampers.py has the lines
  *     probe openings < LINES   for each line what was opened or closed; tools/suites/clients_of_openings.py has the lines
  */
@@ -16,6 +17,7 @@
 #include "../truetime_stamper.h"
 
 #include <pthread.h>
+#include <signal.h>
 #include <stdlib.h>
 
 static void print_reading_at(const tt_publication *published, uint64_t now_ns, uint64_t t_ns) {
@@ -118,6 +120,21 @@ static int call_session(tt_session *session, const char *name, const char *rest,
     return failed == 0 || stamp_ns == 0 ? failed : 0;
 }
 
+static void take_signal(int number) { (void)number; }
+
+/* A signal comes 20 ms later. What waits without a time-out goes on by itself. */
+static void send_signal(void) {
+    struct sigaction action;
+    struct itimerval soon;
+    memset(&action, 0, sizeof action);
+    memset(&soon, 0, sizeof soon);
+    action.sa_handler = take_signal;
+    action.sa_flags = SA_RESTART;
+    soon.it_value.tv_usec = 20000;
+    sigaction(SIGALRM, &action, NULL);
+    setitimer(ITIMER_REAL, &soon, NULL);
+}
+
 static int try_sessions(void) {
     tt_session session;
     char call[256], said[TT_LINE_BYTES + 1];
@@ -129,9 +146,11 @@ static int try_sessions(void) {
         const char *rest = call[length] == ' ' ? call + length + 1 : "";
         call[length] = '\0';
         int failed = 0;
-        strcpy(said, strcmp(call, "open") == 0 ? "open" : "closed");
+        strcpy(said, strcmp(call, "open") == 0 ? "open" : strcmp(call, "signal") == 0 ? "signal" : "closed");
         if (strcmp(call, "open") == 0)
             failed = open_session(&session, rest);
+        else if (strcmp(call, "signal") == 0)
+            send_signal();
         else if (strcmp(call, "close") == 0)
             tt_session_close(&session);
         else
