@@ -262,6 +262,7 @@ def sleep_within_a_request(trial):
     # A reply that comes too late is not taken either, so it is tried a few times.
     for _ in range(8):
         sleep()
+        trial.equal("option ntp", over.span(0.3), None)  # it drops what it knew, and asks at the next poll
         asked, server.says = len(server.requests), Says(packet=sleep_and_reply)
         span = over.span(0.5)
         server.says = Says()
