@@ -214,7 +214,8 @@ def keys_of_masters(trial):
 
 @suite.case()
 def keys_written_in_place(trial):
-    """A file of keys that is as long as before, and was written in its place in the same second, is read again."""
+    """A file of keys that is as long as before, and was written in its place in the same second, is read again, and so is one whose mode alone
+    is another one."""
     keys, second = os.path.join(trial.room, "keys"), time.time_ns() // SECOND * SECOND
     put_keys(keys, f"7 {OLD.hex()}")
     os.utime(keys, ns=(second, second + 1))
@@ -228,6 +229,9 @@ def keys_written_in_place(trial):
     trial.logs(asked.process, "keys_read", keys=1)
     trial.check("option keys", is_answered(asked, 7, NEW, 5), "no answer under the key that was written")
     trial.check("option keys", not is_answered(asked, 7, OLD), "an answer under the key before")
+    os.chmod(keys, 0o644)
+    trial.logs(asked.process, "keys_refused", number=2212, line=0)
+    trial.check("option keys", is_answered(asked, 7, NEW, 5), "no answer under a key that stays")
 
 
 @suite.case()
