@@ -17,6 +17,7 @@ from harness.trouble import Answerer, disrupt, full_pipe, honest, page, silent
 from suites.wiring import suite
 from suites.wiring_checks import TIMES as TIMES_OF_ALL, TIMES_OF_OTHERS, eventually, lies
 from suites.wiring_of_pages import get, with_pages
+from suites.wiring_of_seals import FIRST, keys_at, scripted, table
 
 FLAGS = "-Wall", "-Wextra", "-Wshadow", "-Wconversion", "-Werror", "-shared", "-fPIC"
 MILLISECOND = SECOND // 1000
@@ -110,6 +111,33 @@ def waits_at_the_end(trial):
     trial.between("time end look", 2, looks, SECOND // 5 // TIMES["end look"])
     for door in (reading, writing):
         os.close(door)
+
+
+@suite.case()
+def ends_once_all_is_written(trial):
+    """A machine whose lines and status are written waits for nothing more at its end, in one of five lives at least: the host may be busy."""
+    node, took = trial.node(trial.scripts(honest)), []
+    for _ in range(5):
+        node.run()
+        node.wait_until_ready()
+        eventually(lambda: os.path.exists(node.path("status")))
+        node.running.stdin.close()
+        node.running.wait(20)
+        took.append(time.time_ns() - int(node.said("ended")[-1]["time"]))
+    trial.check("time end look", min(took) < 150 * MILLISECOND, f"it ends {took} ns after it says so")
+
+
+@suite.case()
+def waits_of_names(trial):
+    """A machine looks each second whether a name is to be looked up."""
+    host = socket.getaddrinfo("localhost", 0, type=socket.SOCK_DGRAM)[0][4][0]
+    local = scripted(trial, {7: FIRST}, honest, host=host)
+    node, notes = trial.node([table(local, 7, "localhost")], keys=keys_at(trial), poll="70ms", wait="30ms"), Notes(trial, "machine")
+    node.environment = notes.environment
+    node.run()
+    trial.logs(node, "source_resolved", source=0, address=local.address)
+    time.sleep(0.5)
+    waits_for(trial, notes, "park", "records", others=[(70 * MILLISECOND, 70 * MILLISECOND), (TIMES["quick round"], TIMES["quick round"])])
 
 
 @suite.case()
