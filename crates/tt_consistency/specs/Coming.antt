@@ -1,4 +1,4 @@
--- What a daemon takes had come, sealed where its source has keys.
+-- What a daemon takes the link gave; where its source has keys, it is the message of a sealing under one of them.
 use Rattle.std.specs.Prelude.{◌≡◌, ℕ, List, [], ◌∷◌, Contains}
 use Rattle.tt_seal.specs.Sealing.{SealKey}
 use Rattle.tt_wire.specs.Wire.{Wiring, keys_of}
@@ -18,7 +18,7 @@ abbrev pub AreHeard : Wiring → List RoundsCall → Type 0
 AreHeard wire [] = Unit {0}
 AreHeard wire (call ∷ calls) = ((packet : Packet) → Contains call.given.gifts (Came packet) → HandsUp wire (Came packet)) × AreHeard wire calls
 
--- where a step takes a message as from a source with keys, it came from there, sealed under one of them
+-- where a step takes a message as from a source with keys, it is that of a sealing under one of them; whether this came is not said
 abbrev pub CameUnder : Wiring → Step → Type 0
 CameUnder wire (Takes source message clock) = (first : SealKey) (others : List SealKey) → keys_of wire source ≡ first ∷ others → (bytes : List ℕ) × CameFrom (first ∷ others) wire.ahead source bytes (record { peer = source; bytes = message })
 CameUnder wire _ = Unit {0}

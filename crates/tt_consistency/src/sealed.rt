@@ -17,15 +17,15 @@ ghost use Rattle.tt_consistency.specs.Sealed.{Done, HasFewBad, IsSafe, timeline_
 ///
 /// `NobodyElse` is what keys are for: nobody but the two who hold a key can make its tags. `IsRightMaster` is what a master
 /// owes: each span that it sealed held the true time then, and was the answer to a request that had been sent.
-/// `AllCameSealed` is what a link keeps. Whatever else is on the network is asked nothing: packets may be lost, late,
-/// repeated, reordered, or made up.
+/// `AllCameSealed` is what a link has to keep. Whatever else is on the network is asked nothing: packets may be lost,
+/// late, repeated, reordered, or made up.
 pub fn seal_laws()
     // The rounds of a daemon take nothing but packets that the link gave.
     ensures takes_came { (rounds turns : ℕ) (stand : Stand) (given : Given) →
         AllByRecursion (CameAmong given.gifts) (rounds_steps rounds turns stand given) }
 
-    // So, where the link handed up over this wire what it gave, each message that calls take from a source with keys came
-    // sealed under one of them.
+    // So, where the link handed up over this wire what it gave, each message that calls take from a source with keys is
+    // that of a sealing under one of them; that this sealing came, no clause says.
     ensures takes_sealed { (wire : Wiring) (calls : List RoundsCall) →
         IsWiring wire → AreHeard wire calls → AllByRecursion (CameUnder wire) (calls_steps calls) }
 

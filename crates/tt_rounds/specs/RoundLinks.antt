@@ -41,11 +41,11 @@ nanos_left (Some end) (Ok now) = as_nanos end - as_nanos now
 nanos_left (Some end) (Err _) = 0
 nanos_left None now = 0
 
--- a packet that is handed up over this wire is the message of bytes that came from its peer
+-- a packet that is handed up over this wire is what is heard of some bytes, as from its peer; whether these came is not said
 abbrev pub HandsUp : Wiring → Gift → Type 0
 HandsUp wire (Came packet) = (bytes : List ℕ) × IsBytes bytes × (table : PeerTable) × ((heard_from wire table (Some packet.peer) bytes).handed ≡ Some packet)
 HandsUp wire _ = Unit {0}
 
--- what a round's link does: what it hands up came over its wire, which stays
+-- what a round's link does: what it hands up is heard over its wire, which stays
 abbrev pub DoesOver : Wiring → Call → Gift → Wiring → Type 0
 DoesOver before call gift after = HandsUp before gift × (after ≡ before)

@@ -26,7 +26,8 @@ pub fn hearing_laws()
     // What is handed up from a peer with keys came from this peer, sealed under one of its keys, with its nonce moved.
     ensures came_sealed { (wire : Wiring) (table : PeerTable) (peer : ℕ) (first : SealKey) (others : List SealKey) (bytes : List ℕ) (packet : Packet) → IsWiring wire → IsBytes bytes →
         keys_of wire peer ≡ first ∷ others → (heard_from wire table (Some peer) bytes).handed ≡ Some packet → CameFrom (first ∷ others) wire.ahead peer bytes packet }
-    // So what a round's link hands up from a peer with keys is such a packet.
+    // So what a round's link hands up from a peer with keys is the message of such bytes; that these came, no clause
+    // says.
     ensures handed_up { (wire : Wiring) (first : SealKey) (others : List SealKey) (packet : Packet) → IsWiring wire → keys_of wire packet.peer ≡ first ∷ others → HandsUp wire (Came packet) →
         (bytes : List ℕ) × CameFrom (first ∷ others) wire.ahead packet.peer bytes packet }
 {}
