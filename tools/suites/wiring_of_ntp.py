@@ -462,11 +462,17 @@ def counts_of_masters(trial):
     over = Over(trial, servers, every=["1s"], faulty=["1"]).polled(trial)
     over.comes_to(trial, server_stratum=[3, 5, 1], server_leap=[1, 2, 0], server_silence=[0, 0, 0], server_kisses_total=[0, 0, 0])
 
+    looks = []
+
     def look():
+        """Each request is counted, and since some look the reply to each of two: on a busy host one before that may have come too late."""
         sent = [len(server.requests) for server in servers]
         seen = over.numbers()
+        if seen["server_requests_total"] != sent:
+            return False
         taken = [reply + refused for reply, refused in zip(seen["server_replies_total"], seen["server_refused_total"])]
-        return sent if [seen["server_requests_total"], taken] == [sent, sent] else None
+        looks.append((sent, taken))
+        return any(all(now - then == came - came_then >= 2 for now, came, then, came_then in zip(sent, taken, *before)) for before in looks)
     trial.check("master server_requests_total", eventually(look, SOON_S, 0.02), f"{over.numbers()}, {[len(server.requests) for server in servers]}")
     for name, least in (("server_replies_total", 4), ("server_width_seconds", 1_000_000)):
         is_seen = eventually(lambda name=name, least=least: all(number >= least for number in over.numbers()[name]), SOON_S)
