@@ -57,7 +57,8 @@ class Widths(Masters):
             return
 
 
-def tell(program: str, seconds: float, say: typing.Callable[[str], None], every: str = EVERY, most=statistics.median) -> list[str]:
+def tell(program: str, seconds: float, say: typing.Callable[[str], None], every: str = EVERY, most=statistics.median,
+         goal_ns: int = GOAL_NS) -> list[str]:
     """Measures so long; what was wrong. The goal is for the median of the widths just after a round, or for what `most` makes of them."""
     with Widths(program) as lab, ahead_of_others():
         lab.start_all(every)
@@ -74,6 +75,6 @@ def tell(program: str, seconds: float, say: typing.Callable[[str], None], every:
         wrong.append(f"{len(seen['wrong'])} readings are wrong")
     if not seen["new"]:
         wrong.append("no publication was seen")
-    elif (width := most(seen["new"])) > GOAL_NS:
-        wrong.append(f"a reading just after a round is {microseconds(width)} us wide, more than {microseconds(GOAL_NS)}")
+    elif (width := most(seen["new"])) > goal_ns:
+        wrong.append(f"a reading just after a round is {microseconds(width)} us wide, more than {microseconds(goal_ns)}")
     return wrong
