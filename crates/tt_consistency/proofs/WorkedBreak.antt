@@ -183,4 +183,4 @@ reader-in = record {
 
 -- ---- so it broke behind this cut
 pub broken-behind : BreaksBehind cut reader (read_at 130) committer first
-broken-behind = record { unmet = broken-unmet; refuted = broken-assumed; is_cut = cut-is; reader_in = reader-in; given = other_calls; committer_in = committer-in; seen = committer-seen }
+broken-behind = record { last = late_call; behind = refl; unmet = broken-unmet; refuted = broken-assumed; is_cut = cut-is; reader_in = reader-in; given = other_calls; committer_in = committer-in; seen = committer-seen }

@@ -129,8 +129,10 @@ abbrev pub HasBroken : {C V : Type 0} {gives : C → Option ℕ → C → Type 0
 HasBroken cut =
     (¬ KeepsDrift cut.life.config.drift (moments_in cut.start cut.timeline)) ⊎ (¬ FewFaulty cut.life.config (record { machine = cut.life.number; number = cut.life.epoch }) cut.timeline)
 
--- a life broke behind a cut: two of its publications do not meet, so no true times meet what is assumed of a whole life; yet all holds that is proved and assumed of the cut, of a session that was given a reading in it, and of one in which a commit was seen
+-- a life broke in its last call, the one behind a cut: two of its publications do not meet, so no true times meet what is assumed of a whole life; yet all holds that is proved and assumed of the cut, of a session that was given a reading in it, and of one in which a commit was seen
 pub record BreaksBehind {C V : Type 0} {gives : C → Option ℕ → C → Type 0} {failed : C → ℕ} {says : V → Question → Bool → Type 0} {waits : ℕ} (cut : Cut gives failed says waits) (reader : TimedSession gives failed says) (reading : Interval) (committer : TimedSession gives failed says) (commit : Commit) : Type 0 where
+  pub last : RoundsCall
+  pub behind : cut.life.calls ≡ last ∷ cut.calls
   pub unmet : HasUnmet cut.life.config.drift (map fused_span_of cut.life.published)
   pub refuted : (start : Start) (timeline : List Timed) → IsAssumed cut.life start timeline → ⊥
   pub is_cut : IsCut cut
