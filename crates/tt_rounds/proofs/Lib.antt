@@ -7,6 +7,7 @@ pub mod Scheduling
 pub mod Turns
 pub mod Items
 pub mod Hearing
+pub mod Sending
 pub mod Delaying
 pub mod Answering
 pub mod Addressing

@@ -2,6 +2,7 @@ pub mod Fault
 pub mod Link
 pub mod Addresses
 pub mod Datagrams
+pub mod Sockets
 pub mod Awaiting
 pub mod Hearing
 pub mod RoundLinks

@@ -1,21 +1,23 @@
 //! A socket for packets, and the addresses of its peers, which may become known later.
 
-ghost use Rattle.std.specs.Prelude.{◌≡◌, ◌≤◌, None, length, slice_set};
+ghost use Rattle.std.specs.Prelude.{◌≡◌, ◌≤◌, Some, None, length, slice_set, slice_index_or};
 ghost use Rattle.tt_rounds.specs.Addresses.{end_of, IsPeerAt, IsStrangerAfter};
 ghost use Rattle.tt_rounds.specs.Datagrams.{FitsPacket};
+ghost use Rattle.tt_rounds.specs.Sockets.{LooksOnce, SendsOut};
 
 use crate::addresses::{address_over, peer_at, plain_of};
 use crate::awaiting::Fate;
 use crate::datagrams::{Arrival, look_of};
 use crate::links::PACKET_LEN;
+use crate::sockets::PacketSocket;
 use std::io;
 use std::net::{SocketAddr, UdpSocket};
 
 /// A socket, and the addresses of its peers. Peer `i` has the address at place `i`, if it has one. Only the first 256 have
 /// a number.
 #[derive(Drop)]
-pub(crate) struct Hosts {
-    socket: UdpSocket,
+pub(crate) struct Hosts<S> {
+    socket: S,
     /// Whether the socket is of IPv6.
     is_six: bool,
     addresses: Vec<Option<SocketAddr>>,
@@ -29,13 +31,13 @@ pub(crate) fn is_six(socket: &UdpSocket) -> io::Result<bool> {
     Ok(address.is_ipv6())
 }
 
-impl Hosts {
+impl Hosts<UdpSocket> {
     /// The peers with these addresses, over a socket that is of IPv6 or of IPv4.
     pub(crate) fn new(
         socket: UdpSocket,
         is_six: bool,
         addresses: Vec<Option<SocketAddr>>,
-    ) -> Hosts {
+    ) -> Hosts<UdpSocket> {
         Hosts {
             socket,
             is_six,
@@ -51,9 +53,13 @@ impl Hosts {
         self.socket = socket;
         self.is_six = is_six;
     }
+}
 
+impl<S: PacketSocket> Hosts<S> {
     /// The address of the peer, if it has one.
-    pub(crate) fn address(&self, peer: u8) -> Option<SocketAddr> {
+    pub(crate) fn address(&self, peer: u8) -> Option<SocketAddr>
+        ensures { result ≡ slice_index_or self.now.addresses.items peer None }
+    {
         let address = self.addresses.get(usize::from(peer))?;
         *address
     }
@@ -81,6 +87,8 @@ impl Hosts {
         ensures peer { IsPeerAt self.old.addresses.items (end_of address) result }
         ensures stranger { IsStrangerAfter result address self.old.stranger self.new.stranger }
         ensures addresses { self.new.addresses ≡ self.old.addresses }
+        ensures six { self.new.is_six ≡ self.old.is_six }
+        ensures socket { self.new.socket ≡ self.old.socket }
     {
         let peer = peer_at(&self.addresses, address);
         if peer.is_none() {
@@ -89,28 +97,32 @@ impl Hosts {
         peer
     }
 
-    /// Sends the bytes to the address.
-    pub(crate) fn send(&self, address: SocketAddr, bytes: &[u8]) -> Fate {
+    /// Sends the bytes to the address, in the form by which the socket reaches it.
+    pub(crate) fn send(&mut self, address: SocketAddr, bytes: &[u8]) -> Fate
+        ensures sends { SendsOut S.does self.old.is_six (Some bytes.now) (Some address) self.old.socket self.new.socket }
+        ensures addresses { self.new.addresses ≡ self.old.addresses }
+        ensures six { self.new.is_six ≡ self.old.is_six }
+    {
         match self
             .socket
-            .send_to(bytes, address_over(self.is_six, address))
+            .send_packet(address_over(self.is_six, address), bytes)
         {
-            Ok(_) => Fate::Went,
-            Err(error) => Fate::of(error.raw_os_error()),
+            Ok(()) => Fate::Went,
+            Err(code) => Fate::of(code),
         }
     }
 
-    /// Reads the next packet.
+    /// Reads the next packet, and finds the peer with the address of its sender.
     pub(crate) fn look(&mut self, buffer: &mut [u8; PACKET_LEN]) -> Arrival
         ensures whole { length buffer.new ≡ 64 }
         ensures fits { FitsPacket result }
+        ensures looks { LooksOnce S.does self.old.addresses.items self.old.socket result buffer.new self.new.socket }
+        ensures addresses { self.new.addresses ≡ self.old.addresses }
+        ensures six { self.new.is_six ≡ self.old.is_six }
     {
-        let mut bytes = [0; PACKET_LEN];
-        let answer = self.socket.recv_from(&mut bytes);
-        *buffer = bytes;
-        match answer {
-            Ok((length, address)) => Arrival::Came(self.sender(address), length.min(PACKET_LEN)),
-            Err(error) => look_of(error.raw_os_error()),
+        match self.socket.next_packet(buffer) {
+            Ok((length, address)) => Arrival::Came(self.sender(address), length),
+            Err(code) => look_of(code),
         }
     }
 }

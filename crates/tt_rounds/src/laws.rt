@@ -1,6 +1,7 @@
 //! What sealed links keep.
 
-ghost use Rattle.std.specs.Prelude.{◌≡◌, ◌≤◌, ℕ, List, ◌∷◌, Contains, Some, None, Ok, Err, IsOk};
+ghost use Rattle.std.specs.Prelude.{◌≡◌, ◌⊎◌, ◌≤◌, ℕ, Bool, List, ◌∷◌, Contains, Option, Some, None, Ok, Err, IsOk};
+ghost use Rattle.std.specs.declared.net.socket_addr.SocketAddr.{SocketAddr};
 ghost use Rattle.tt_span.specs.Drift.{max_drift};
 ghost use Rattle.tt_source.specs.Statement.{Statement};
 ghost use Rattle.tt_source.specs.Table.{TableState, take_of};
@@ -11,10 +12,13 @@ ghost use Rattle.tt_wire.specs.Moving.{moved, moved_back};
 ghost use Rattle.tt_wire.specs.Wire.{Wiring, IsWiring, Asking, keys_of, incoming_as, incoming_of, answer_of};
 ghost use Rattle.tt_rounds.specs.Link.{Packet, Gift, Came};
 ghost use Rattle.tt_rounds.specs.Hearing.{Arrived, Heard, heard_from, opening_at, opening_without, CameFrom, Drops};
-ghost use Rattle.tt_rounds.specs.RoundLinks.{HandsUp};
+ghost use Rattle.tt_rounds.specs.RoundLinks.{GaveLast, HandsUp, HandsUpLast};
+ghost use Rattle.tt_rounds.specs.Sockets.{Datagram, Looks, SendsOver, Sent};
 ghost use Rattle.tt_rounds.specs.Answering.{Desk, HandsOn, AskedSealed};
 ghost use Rattle.tt_rounds.specs.Delaying.{IsSealedAnswer, IsDelayed, CostsDelay};
 ghost use Rattle.tt_rounds.specs.declared.awaiting.PeerTable.{PeerTable};
+
+use crate::sockets::PacketSocket;
 
 /// Laws of the link of a daemon whose peers have keys.
 pub fn hearing_laws()
@@ -26,10 +30,25 @@ pub fn hearing_laws()
     // What is handed up from a peer with keys came from this peer, sealed under one of its keys, with its nonce moved.
     ensures came_sealed { (wire : Wiring) (table : PeerTable) (peer : ℕ) (first : SealKey) (others : List SealKey) (bytes : List ℕ) (packet : Packet) → IsWiring wire → IsBytes bytes →
         keys_of wire peer ≡ first ∷ others → (heard_from wire table (Some peer) bytes).handed ≡ Some packet → CameFrom (first ∷ others) wire.ahead peer bytes packet }
-    // So what a round's link hands up from a peer with keys is the message of such bytes; that these came, no clause
-    // says.
+    // So what a round's link hands up from a peer with keys is the message of such bytes, which its socket gave
+    // (`socket_laws`).
     ensures handed_up { (wire : Wiring) (first : SealKey) (others : List SealKey) (packet : Packet) → IsWiring wire → keys_of wire packet.peer ≡ first ∷ others → HandsUp wire (Came packet) →
         (bytes : List ℕ) × CameFrom (first ∷ others) wire.ahead packet.peer bytes packet }
+{}
+
+/// Laws of the link of a daemon over a socket that says what it does.
+pub fn socket_laws<S: PacketSocket>()
+    // What it hands up from a peer with keys is the message of the very bytes that its socket gave last: they came from an
+    // address of this peer, sealed under one of its keys.
+    ensures came { (wire : Wiring) (addresses : List (Option SocketAddr)) (before after : S) (packet : Packet) (first : SealKey) (others : List SealKey) → IsWiring wire →
+        keys_of wire packet.peer ≡ first ∷ others → HandsUpLast S.does wire addresses before packet after →
+        (bytes : List ℕ) × GaveLast S.does addresses before packet.peer bytes after × CameFrom (first ∷ others) wire.ahead packet.peer bytes packet }
+    // For a message to a peer with keys it sends the sealing under the first of them, with the nonce moved, or nothing at
+    // all. Before that it only looks for packets.
+    ensures sealed { (wire : Wiring) (is_six : Bool) (addresses : List (Option SocketAddr)) (before after : S) (packet : Packet) (first : SealKey) (others : List SealKey) →
+        keys_of wire packet.peer ≡ first ∷ others → SendsOver S.does wire is_six addresses packet before after →
+        (gave : List (Option Datagram)) × (mid : S) × Looks S.does before gave mid
+        × ((after ≡ mid) ⊎ ((to : SocketAddr) × S.does mid (Sent (record { address = to; bytes = sealing_of (moved wire.ahead packet.bytes) first })) after)) }
 {}
 
 /// Laws of the link of a master that answers sealed requests.

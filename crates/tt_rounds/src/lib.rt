@@ -20,7 +20,7 @@
 //!   `sealed_answers`: a master's link over another one, which answers sealed requests.
 //! - `round_links`: a link over UDP for a daemon, which waits no longer than a round. `awaiting`: the polls that it waits
 //!   for, and what becomes of each packet. `openings`: what did not open. `hosts`: its socket, and the addresses of its
-//!   peers. `addresses`: those of IPv4 and of IPv6. `laws`: what sealed links keep.
+//!   peers. `sockets`: the trait `PacketSocket`. `addresses`: those of IPv4 and of IPv6. `laws`: what sealed links keep.
 //! - `schedules`: the trait `Schedule`, which says how long a daemon goes on, and a schedule that counts the rounds.
 //! - `rounds`: `daemon_while`, `daemon_rounds` and `report_rounds`, and what one such call did. `tallies`: what it
 //!   counted. `reports`: what its last round did.
@@ -42,13 +42,14 @@ mod round_links;
 mod rounds;
 mod schedules;
 mod sealed_answers;
+mod sockets;
 mod tallies;
 
 pub use addresses::plain_of;
 pub use awaiting::{TURNS_PER_PEER, turn_laws};
 pub use datagrams::{MAX_STRANGERS, UdpLink};
 pub use faults::{LinkFault, NodeFault};
-pub use laws::{delay_laws, hearing_laws, sealed_laws};
+pub use laws::{delay_laws, hearing_laws, sealed_laws, socket_laws};
 pub use links::{Link, PACKET_LEN};
 pub use masters::master_rounds;
 pub use reports::{RoundReport, SourceOutcome, SourceReport};
@@ -58,4 +59,5 @@ pub use rounds::{
 };
 pub use schedules::{CountedSchedule, Schedule};
 pub use sealed_answers::SealedAnswers;
+pub use sockets::PacketSocket;
 pub use tallies::{RefusedFusions, RefusedPackets, Tally};

@@ -1,18 +1,20 @@
 //! A link for the rounds of a daemon.
 
-ghost use Rattle.std.specs.Prelude.{◌≡◌, ◌↔◌, ◌≤◌, true, false, None, is_some, count_by, replicate, length, slice_set, IsErr, IfSome, IfOk, OnOk, OnErr};
+ghost use Rattle.std.specs.Prelude.{◌≡◌, ◌↔◌, ◌≤◌, List, Option, true, false, None, is_some, count_by, replicate, length, slice_set, IsErr, IfSome, IfOk, OnOk, OnErr};
 ghost use Rattle.std.specs.Duration.{as_nanos};
 ghost use Rattle.tt_stream.specs.Counts.{HasFailed};
 ghost use Rattle.tt_wire.specs.Wire.{open_wire};
 ghost use Rattle.tt_rounds.specs.Awaiting.{full_slot, slot_at, slot_sent, unsent_at, unsent_after};
 ghost use Rattle.tt_rounds.specs.Hearing.{opening_at};
 ghost use Rattle.tt_rounds.specs.RoundLinks.{DoesOver, FitsDrained, Reads, goes_on as goes_on_after, nanos_left};
+ghost use Rattle.tt_rounds.specs.Sockets.{Datagram, Looks, SendsOver};
 
 use crate::awaiting::{Fate, PeerTable};
 use crate::datagrams::Arrival;
 use crate::faults::LinkFault;
 use crate::hosts::{Hosts, is_six};
 use crate::links::{Link, PACKET_LEN, put};
+use crate::sockets::PacketSocket;
 use mio::unix::SourceFd;
 use mio::{Events, Interest, Poll, Token, Waker};
 use std::alloc::Global;
@@ -60,16 +62,18 @@ fn goes_on(drained: Drained) -> bool
 }
 
 /// Reads packets until one is handed up, or none is there. Reads at most [`MAX_READ`]. What is handed up is the message of
-/// a packet that opened.
-fn drain(
-    hosts: &mut Hosts,
+/// a packet that opened, and that the socket gave last.
+fn drain<S: PacketSocket>(
+    hosts: &mut Hosts<S>,
     wire: &Wire,
     table: &mut PeerTable,
     buffer: &mut [u8; PACKET_LEN],
 ) -> Drained
     ensures whole { length buffer.new ≡ 64 }
     ensures fits { FitsDrained result }
-    ensures reads { Reads wire.now table.old result buffer.new table.new }
+    ensures reads { Reads S.does hosts.old.addresses.items wire.now table.old hosts.old.socket result buffer.new table.new hosts.new.socket }
+    ensures addresses { hosts.new.addresses ≡ hosts.old.addresses }
+    ensures six { hosts.new.is_six ≡ hosts.old.is_six }
 {
     let mut bytes = [0; PACKET_LEN];
     *buffer = [0; PACKET_LEN];
@@ -100,9 +104,9 @@ fn time_left(end: Option<Duration>, now: io::Result<Duration>) -> Option<Duratio
 
 /// The socket with what its rounds keep.
 #[derive(Drop)]
-struct Hearing<'a, R> {
+struct Hearing<'a, R, S> {
     rt: &'a R,
-    hosts: Hosts,
+    hosts: Hosts<S>,
     wire: Wire,
     table: PeerTable,
     poll: Poll,
@@ -117,12 +121,15 @@ struct Hearing<'a, R> {
     woken: bool,
 }
 
-impl<'a, R: SystemClock> Hearing<'a, R> {
+impl<'a, R: SystemClock, S: PacketSocket> Hearing<'a, R, S> {
     /// Begins a round: drops the packets that are there, and sets the time.
     fn begin(&mut self)
         ensures table { self.new.table ≡ record self.old.table { slots = replicate 256 full_slot } }
         ensures wire { self.new.wire ≡ self.old.wire }
         ensures begun { self.new.sending ≡ true }
+        ensures addresses { self.new.hosts.addresses ≡ self.old.hosts.addresses }
+        ensures six { self.new.hosts.is_six ≡ self.old.hosts.is_six }
+        ensures looks { (gave : List (Option Datagram)) × Looks S.does self.old.hosts.socket gave self.new.hosts.socket }
     {
         let mut bytes = [0; PACKET_LEN];
         for _ in 0..MAX_DROPPED {
@@ -139,6 +146,21 @@ impl<'a, R: SystemClock> Hearing<'a, R> {
         self.sending = true;
     }
 
+    /// Begins a round, unless one has begun.
+    fn begin_once(&mut self)
+        ensures begins { self.old.sending ≡ false → self.new.table ≡ record self.old.table { slots = replicate 256 full_slot } }
+        ensures goes_on { self.old.sending ≡ true → self.new.table ≡ self.old.table }
+        ensures wire { self.new.wire ≡ self.old.wire }
+        ensures begun { self.new.sending ≡ true }
+        ensures addresses { self.new.hosts.addresses ≡ self.old.hosts.addresses }
+        ensures six { self.new.hosts.is_six ≡ self.old.hosts.is_six }
+        ensures looks { (gave : List (Option Datagram)) × Looks S.does self.old.hosts.socket gave self.new.hosts.socket }
+    {
+        if !self.sending {
+            self.begin();
+        }
+    }
+
     /// Sends a message to the peer, in a round that began: its nonce moved, and sealed where the peer has keys. A message
     /// that does not fit is lost, and so is one to a peer without an address.
     fn send(&mut self, peer: u8, bytes: &[u8]) -> Fate
@@ -146,10 +168,11 @@ impl<'a, R: SystemClock> Hearing<'a, R> {
         ensures goes_on { self.old.sending ≡ true → self.new.table ≡ self.old.table }
         ensures wire { self.new.wire ≡ self.old.wire }
         ensures begun { self.new.sending ≡ true }
+        ensures addresses { self.new.hosts.addresses ≡ self.old.hosts.addresses }
+        ensures six { self.new.hosts.is_six ≡ self.old.hosts.is_six }
+        ensures sends { SendsOver S.does self.old.wire self.old.hosts.is_six self.old.hosts.addresses.items (record { peer = peer; bytes = bytes.now }) self.old.hosts.socket self.new.hosts.socket }
     {
-        if !self.sending {
-            self.begin();
-        }
+        self.begin_once();
         let Some(packet) = self.wire.outgoing(peer, bytes) else {
             return Fate::Lost;
         };
@@ -163,6 +186,7 @@ impl<'a, R: SystemClock> Hearing<'a, R> {
     fn pause(&mut self, left: Duration) -> bool
         ensures table { self.new.table ≡ self.old.table }
         ensures wire { self.new.wire ≡ self.old.wire }
+        ensures hosts { self.new.hosts ≡ self.old.hosts }
         ensures woken { self.old.woken ≡ true → self.new.woken ≡ true }
     {
         if self.poll.poll(&mut self.events, Some(left)).is_err() {
@@ -178,8 +202,10 @@ impl<'a, R: SystemClock> Hearing<'a, R> {
     fn next(&mut self, buffer: &mut [u8; PACKET_LEN]) -> Drained
         ensures whole { length buffer.new ≡ 64 }
         ensures fits { FitsDrained result }
-        ensures reads { Reads self.old.wire self.old.table result buffer.new self.new.table }
+        ensures reads { Reads S.does self.old.hosts.addresses.items self.old.wire self.old.table self.old.hosts.socket result buffer.new self.new.table self.new.hosts.socket }
         ensures wire { self.new.wire ≡ self.old.wire }
+        ensures addresses { self.new.hosts.addresses ≡ self.old.hosts.addresses }
+        ensures six { self.new.hosts.is_six ≡ self.old.hosts.is_six }
         ensures none_awaited { count_by (λ slot. is_some slot.poll) self.old.table.slots ≡ 0 → result ≡ Drained.Empty }
         ensures woken { self.old.woken ≡ true → result ≡ Drained.Empty }
     {
@@ -229,17 +255,18 @@ impl<'a, R: SystemClock> Hearing<'a, R> {
 /// not awaited, and [`RoundLink::unsent`] counts the packet. So is a packet to a peer that has no address. A fault says
 /// that the socket itself is useless. [`RoundLink::renew`] goes on over another one.
 ///
-/// Nothing is claimed about what the socket delivers, or about time. If a call answers a fault, it has counted a
+/// What the socket did is said by the ghost member of its trait, of which a real socket claims nothing. So nothing is
+/// claimed about what the network delivers, or about time. If a call answers a fault, it has counted a
 /// failure.
 ///
 /// [`TURNS_PER_PEER`]: crate::TURNS_PER_PEER
 #[derive(Drop)]
-pub struct RoundLink<'a, R> {
-    hearing: Hearing<'a, R>,
+pub struct RoundLink<'a, R, S> {
+    hearing: Hearing<'a, R, S>,
     failures: u64,
 }
 
-impl<'a, R: SystemClock> RoundLink<'a, R> {
+impl<'a, R: SystemClock> RoundLink<'a, R, UdpSocket> {
     /// The link over this socket to these peers, of which none has keys, as [`RoundLink::over`] with an open wire.
     pub fn new(
         rt: &'a R,
@@ -247,7 +274,7 @@ impl<'a, R: SystemClock> RoundLink<'a, R> {
         socket: UdpSocket,
         peers: Vec<SocketAddr>,
         wait: Duration,
-    ) -> io::Result<(RoundLink<'a, R>, Waker)>
+    ) -> io::Result<(RoundLink<'a, R, UdpSocket>, Waker)>
     where
         R: Net,
         ensures wire { IfOk result (λ made. made.0.hearing.wire ≡ open_wire) }
@@ -275,7 +302,7 @@ impl<'a, R: SystemClock> RoundLink<'a, R> {
         peers: Vec<Option<SocketAddr>>,
         wait: Duration,
         wire: Wire,
-    ) -> io::Result<(RoundLink<'a, R>, Waker)>
+    ) -> io::Result<(RoundLink<'a, R, UdpSocket>, Waker)>
     where
         R: Net,
         ensures wire { IfOk result (λ made. made.0.hearing.wire ≡ wire) }
@@ -312,6 +339,10 @@ impl<'a, R: SystemClock> RoundLink<'a, R> {
     pub fn renew(&mut self, socket: UdpSocket) -> io::Result<()>
         ensures same { self.new.failures ≡ self.old.failures }
         ensures wire { self.new.hearing.wire ≡ self.old.hearing.wire }
+        ensures addresses { self.new.hearing.hosts.addresses ≡ self.old.hearing.hosts.addresses }
+        ensures table { OnOk result (self.new.hearing.table ≡ record self.old.hearing.table { slots = replicate 256 full_slot }) }
+        ensures round { OnOk result (self.new.hearing.sending ≡ false) }
+        ensures refused { OnErr result (self.new ≡ self.old) }
     {
         let is_six = is_six(&socket)?;
         listen(&self.hearing.poll, &socket)?;
@@ -321,7 +352,9 @@ impl<'a, R: SystemClock> RoundLink<'a, R> {
         self.hearing.sending = false;
         Ok(())
     }
+}
 
+impl<'a, R: SystemClock, S: PacketSocket> RoundLink<'a, R, S> {
     /// The peer has this address from now on, or none. Nothing changes for a number that no peer of [`RoundLink::over`]
     /// has.
     pub fn set_address(&mut self, peer: u8, address: Option<SocketAddr>)
@@ -375,6 +408,7 @@ impl<'a, R: SystemClock> RoundLink<'a, R> {
         ensures over { self.new.hearing.sending ≡ false }
         ensures table { self.new.hearing.table ≡ self.old.hearing.table }
         ensures wire { self.new.hearing.wire ≡ self.old.hearing.wire }
+        ensures hosts { self.new.hearing.hosts ≡ self.old.hearing.hosts }
     {
         self.hearing.sending = false;
         self.failures = self.failures.saturating_add(1);
@@ -385,6 +419,7 @@ impl<'a, R: SystemClock> RoundLink<'a, R> {
     fn settle(&mut self, peer: u8, bytes: &[u8], fate: Fate) -> Result<(), LinkFault>
         ensures lost { IsErr result ↔ (fate ≡ Fate.Broke) }
         ensures wire { self.new.hearing.wire ≡ self.old.hearing.wire }
+        ensures hosts { self.new.hearing.hosts ≡ self.old.hearing.hosts }
         ensures slots { self.new.hearing.table.slots ≡ slice_set self.old.hearing.table.slots peer (slot_sent fate bytes.now (slot_at self.old.hearing.table.slots peer)) }
         ensures unsent { self.new.hearing.table.unsent ≡ slice_set self.old.hearing.table.unsent peer (unsent_after fate (unsent_at self.old.hearing.table.unsent peer)) }
         ensures sound { OnOk result (self.new.failures ≡ self.old.failures) }
@@ -406,8 +441,8 @@ fn listen(poll: &Poll, socket: &UdpSocket) -> io::Result<()> {
         .register(&mut SourceFd(&number), SOCKET, Interest::READABLE)
 }
 
-impl<'a, R: SystemClock> Link for RoundLink<'a, R> {
-    ghost does = { λ before call gift after. DoesOver before.hearing.wire call gift after.hearing.wire };
+impl<'a, R: SystemClock, S: PacketSocket> Link for RoundLink<'a, R, S> {
+    ghost does = { λ before call gift after. DoesOver S.does (record { wire = before.hearing.wire; addresses = before.hearing.hosts.addresses.items; is_six = before.hearing.hosts.is_six; socket = before.hearing.hosts.socket }) call gift (record { wire = after.hearing.wire; addresses = after.hearing.hosts.addresses.items; is_six = after.hearing.hosts.is_six; socket = after.hearing.hosts.socket }) };
 
     ghost failed = { λ link. link.failures };
 
@@ -420,7 +455,8 @@ impl<'a, R: SystemClock> Link for RoundLink<'a, R> {
         self.hearing.sending = false;
         match self.hearing.next(buffer) {
             Drained::Handed(peer, length) => Ok(Some((peer, length))),
-            Drained::Empty | Drained::More => Ok(None),
+            Drained::Empty => Ok(None),
+            Drained::More => Ok(None),
             Drained::Failed => Err(self.fault()),
         }
     }
