@@ -8,3 +8,4 @@ pub mod Path
 pub mod Waiting
 pub mod Session
 pub mod Clock
+pub mod Request

@@ -1,12 +1,12 @@
 -- How many connections wait, and for how long.
-use Rattle.std.specs.Prelude.{ℕ, ◌-◌, nat_lt, nat_eq, if◌then◌else◌, not, Bool, true, false, Option, Some, None}
+use Rattle.std.specs.Prelude.{ℕ, ◌-◌, min, nat_lt, nat_eq, if◌then◌else◌, not, Bool, true, false, Option, Some, None}
 use Rattle.tt_files.specs.declared.reasons.Reason.{Reason}
 use Rattle.tt_connections.specs.declared.acceptors.Turn.{Turn}
 use Rattle.tt_connections.specs.declared.acceptors.Turn.TheVariants.{More, Failed}
 
--- fewer than 256 wait
-abbrev pub has_room : ℕ → Bool
-has_room waiting = nat_lt waiting 256
+-- fewer wait than may, and fewer than 256
+abbrev pub has_room : ℕ → ℕ → Bool
+has_room waiting most = nat_lt waiting (min most 256)
 
 -- workers share their time from when more sessions than workers are open until fewer are
 abbrev pub is_crowded_after : Bool → ℕ → ℕ → Bool

@@ -11,7 +11,7 @@ use mio::{Events, Interest, Poll, Token, Waker};
 use std::alloc::Global;
 use std::net::{Net, TcpStream};
 use std::sync::Wait;
-use std::sync::atomic::{AtomicBool, AtomicUsize, Ordering};
+use std::sync::atomic::{AtomicBool, AtomicU64, AtomicUsize, Ordering};
 use std::time::{Clock as SystemClock, Duration};
 use std::{io, thread};
 use tt_files::Reason;
@@ -102,6 +102,8 @@ pub struct Backlog {
     crowded: AtomicBool,
     /// The worker from which on the next one is sought. Only the acceptor uses it.
     next: AtomicUsize,
+    /// How many connections were closed before their session began, modulo 2^64.
+    unserved: AtomicU64,
 }
 
 impl Backlog {
@@ -113,6 +115,7 @@ impl Backlog {
             open: AtomicUsize::new(0),
             crowded: AtomicBool::new(false),
             next: AtomicUsize::new(0),
+            unserved: AtomicU64::new(0),
         }
     }
 
@@ -145,7 +148,13 @@ impl Backlog {
         }
     }
 
-    /// A session of the worker with this inbox has ended, or was not begun.
+    /// A session of the worker with this inbox was not begun, since there was no memory or no place for it.
+    pub fn turn_away(&self, inbox: &Inbox) {
+        self.unserved.fetch_add(1, Ordering::SeqCst);
+        self.leave(inbox);
+    }
+
+    /// A session of the worker with this inbox has ended.
     pub fn leave(&self, inbox: &Inbox) {
         inbox.leave();
         let open = self.open.fetch_sub(1, Ordering::SeqCst);
@@ -186,6 +195,8 @@ impl Backlog {
                     if inbox.put(rt, connection) {
                         let open = self.open.fetch_add(1, Ordering::SeqCst);
                         self.note(open.saturating_add(1));
+                    } else {
+                        self.unserved.fetch_add(1, Ordering::SeqCst);
                     }
                 }
                 Came::Nobody => {}
@@ -241,6 +252,15 @@ impl Listeners {
             None => 0,
         };
         side.saturating_add(self.front.waiting())
+    }
+
+    /// How many connections were closed before their session began, modulo 2^64: there was no memory or no place for it.
+    pub fn unserved(&self) -> u64 {
+        let front = self.front.unserved.load(Ordering::SeqCst);
+        match &self.side {
+            Some(side) => front.wrapping_add(side.unserved.load(Ordering::SeqCst)),
+            None => front,
+        }
     }
 
     /// Says that something is published, so that connections are handed over from now on. It does not wait.

@@ -23,11 +23,19 @@ pub const MAX_EVENTS: usize = 64;
 /// The token of a worker's waker. That of a connection is one above its place.
 const WAKER: Token = Token(0);
 
-/// Whether one more connection may wait beside `waiting` others.
-fn has_room(waiting: usize) -> bool
-    ensures value { result ≡ has_room waiting }
+/// How many connections may wait for a worker, at most [`MAX_WAITING`], and how many sessions it may have.
+#[derive(Clone, Copy)]
+pub struct Room {
+    pub waiting: usize,
+    pub sessions: usize,
+}
+
+/// Whether one more connection may wait beside `waiting` others, where at most `most` may, and never more than
+/// [`MAX_WAITING`].
+fn has_room(waiting: usize, most: usize) -> bool
+    ensures value { result ≡ has_room waiting most }
 {
-    waiting < MAX_WAITING
+    waiting < most.min(MAX_WAITING)
 }
 
 /// Whether workers share their time among sessions: from when more sessions than `workers` are open until fewer are.
@@ -119,6 +127,7 @@ fn interest_in(takes: bool) -> Interest {
 /// taken in the order in which they came.
 #[derive(Drop)]
 pub struct Inbox {
+    room: Room,
     connections: Mutex<VecDeque<TcpStream, Global>>,
     /// How many wait. It is counted beside the queue, so that nobody has to lock it to see.
     waiting: AtomicUsize,
@@ -131,13 +140,15 @@ pub struct Inbox {
 }
 
 impl Inbox {
-    /// The inbox of a worker that has no session. Refuses with the error of the system, also if it is out of memory.
-    pub fn new<R: Net>(rt: &R, alloc: Global) -> io::Result<Inbox> {
+    /// The inbox of a worker that has no session, and this room. Refuses with the error of the system, also if it is out of
+    /// memory.
+    pub fn new<R: Net>(rt: &R, alloc: Global, room: Room) -> io::Result<Inbox> {
         let poll = Poll::new(rt)?;
         let waker = Waker::new(poll.registry(), WAKER)?;
         let events = Events::with_capacity(alloc, MAX_EVENTS)?;
         let connections = VecDeque::with_capacity(alloc, MAX_WAITING)?;
         Ok(Inbox {
+            room,
             connections: Mutex::new(connections),
             waiting: AtomicUsize::new(0),
             load: AtomicUsize::new(0),
@@ -149,6 +160,11 @@ impl Inbox {
     /// Takes what the worker waits with. None if it was taken before.
     pub fn take_watcher<R: Wait>(&self, rt: &R) -> Option<Watcher> {
         self.watcher.lock(rt).take()
+    }
+
+    /// How many sessions the worker may have.
+    pub fn most_sessions(&self) -> usize {
+        self.room.sessions
     }
 
     /// How many connections wait.
@@ -164,7 +180,7 @@ impl Inbox {
     /// Whether one more connection may wait. Only the acceptor adds connections, so what it sees here still holds when it
     /// adds one.
     pub(crate) fn has_room(&self) -> bool {
-        has_room(self.waiting())
+        has_room(self.waiting(), self.room.waiting)
     }
 
     /// Adds a connection, and wakes the worker. If it is out of memory, the connection is closed. Answers whether it was
@@ -187,7 +203,7 @@ impl Inbox {
             return None;
         }
         let mut connections = self.connections.lock(rt);
-        let was_full = !has_room(connections.len());
+        let was_full = !has_room(connections.len(), self.room.waiting);
         let connection = connections.pop_front()?;
         self.waiting.store(connections.len(), Ordering::SeqCst);
         Some((connection, was_full))

@@ -28,10 +28,11 @@
 //!   `sights`: both for the client of a socket. `clocks`: [`MachineClock`].
 //! - `posts`: [`Post`]. `stations`: [`Station`], the service of one session, and `pages`: its book. `together`: replies that
 //!   are handed over together. `visits`: [`Visit`], and [`Post::turn`]. `faults`: why a station refuses a call.
+//! - `requests`: [`FirstLine`], whether the first line of a session is that of an HTTP request.
 //!
 //! The functions over values are proved: what is done at the path of a Unix socket, when connections are handed over, how
-//! long the acceptor waits, when workers share their time, and when a client has left. So is all of a turn, and that no
-//! reading of a [`MachineClock`] is below one before it. Nothing is claimed of sockets, threads and their order.
+//! long the acceptor waits, when workers share their time, when a client has left, and which lines are those of HTTP. So is
+//! all of a turn, and that no reading of a [`MachineClock`] is below one before it. Nothing is claimed of sockets, threads and their order.
 #![tactic(auto)]
 
 mod acceptors;
@@ -43,6 +44,7 @@ mod listeners;
 mod pages;
 mod posts;
 mod presence;
+mod requests;
 mod sights;
 mod stations;
 mod together;
@@ -51,11 +53,12 @@ mod visits;
 pub use acceptors::{Acceptor, Backlog, Listeners};
 pub use clocks::{MachineClock, reading_of};
 pub use faults::StationFault;
-pub use inboxes::{Inbox, MAX_EVENTS, MAX_WAITING, Ready, Watcher};
+pub use inboxes::{Inbox, MAX_EVENTS, MAX_WAITING, Ready, Room, Watcher};
 pub use lines::{Counts, WAIT_BOUNDS, is_over, place_of};
 pub use listeners::{Listener, ListenerFault, SLICE};
 pub use posts::{Post, Terms};
 pub use presence::{AlwaysThere, Presence, Question};
+pub use requests::{FirstLine, is_request_line};
 pub use sights::{Attendance, Client, Sight};
 pub use stations::Station;
 pub use visits::{Visit, visit_laws};

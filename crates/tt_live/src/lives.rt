@@ -18,7 +18,7 @@ use crate::plans::machine_of;
 use crate::reports::report_of;
 use crate::sockets::{Links, Sessions, WorkerStream, connect_clients, connect_masters};
 use std::alloc::Global;
-use std::net::{Net, TcpListener, TcpStream};
+use std::net::{Net, TcpListener, TcpStream, UdpSocket};
 use std::sync::Wait;
 use std::sync::atomic::{AtomicBool, Ordering};
 use std::thread;
@@ -258,7 +258,7 @@ fn run_streams<'s, R: Threads + Wait + SystemClock + Sync>(
     shared: LiveContext<'s, R>,
     config: Config,
     live: &'s Live,
-    link: RoundLink<'s, R>,
+    link: RoundLink<'s, R, UdpSocket>,
     clocks: Clocks<LiveClock<'s, R>>,
     streams: Vec<WorkerStream<'s>>,
     started: bool,

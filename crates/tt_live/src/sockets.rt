@@ -62,7 +62,7 @@ fn master_socket<R: Net>(net: &R) -> io::Result<(UdpSocket, SocketAddr)> {
 /// The links of a run. The peers of the daemon's link are the masters. The peer of each master's link is the daemon.
 #[derive(Drop)]
 pub(crate) struct Links<'a, R> {
-    pub(crate) daemon: RoundLink<'a, R>,
+    pub(crate) daemon: RoundLink<'a, R, UdpSocket>,
     pub(crate) masters: Vec<UdpLink>,
 }
 

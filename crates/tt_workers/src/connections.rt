@@ -7,9 +7,9 @@ use memchr::memchr;
 use std::alloc::Global;
 use std::io::{ErrorKind, Read, Write};
 use std::mem;
-use std::net::TcpStream;
+use std::net::{Shutdown, TcpStream};
 use std::sync::atomic::{AtomicBool, Ordering};
-use tt_connections::{Attendance, is_over};
+use tt_connections::{Attendance, FirstLine, is_over};
 use tt_stream::{ByteWriter, DeviceFault};
 
 /// The longest time of a session, in nanoseconds: a day.
@@ -18,6 +18,9 @@ const DAY: u64 = 86_400_000_000_000;
 /// What is left of the wait of a commit when a turn may hear its line, in nanoseconds: a millisecond, for which the turn
 /// waits then.
 pub(crate) const SOON: u64 = 1_000_000;
+
+/// How many reads are made at most of what a client sent behind a first line that ends its session.
+const LAST_READS: u32 = 16;
 
 /// What one read of a connection gave.
 #[derive(Clone, Copy)]
@@ -47,6 +50,8 @@ pub(crate) struct Connection {
     pub(crate) due: u64,
     /// Replies that the connection has not taken.
     pub(crate) unsent: Vec<u8>,
+    /// What is known of the first line of the session, until it has ended.
+    first: Option<FirstLine>,
     /// Whether the last byte that was heard is within a line.
     pub(crate) is_within: bool,
     /// How many lines and refusals of the session are counted.
@@ -66,6 +71,7 @@ impl Connection {
             held: Vec::new(alloc),
             due: 0,
             unsent: Vec::new(alloc),
+            first: Some(FirstLine::new()),
             is_within: false,
             lines: 0,
             refused: 0,
@@ -108,6 +114,43 @@ impl Connection {
                 }
                 _ => Came::End,
             },
+        }
+    }
+
+    /// How many of these bytes, which have just come, are heard before the session ends, since its first line is that of an
+    /// HTTP request: up to the end of that line. None if the session goes on.
+    pub(crate) fn request_in(&mut self, bytes: &[u8]) -> Option<usize> {
+        let mut first = self.first?;
+        let end = memchr(b'\n', bytes);
+        let (line, _) = bytes.split_at(end.unwrap_or(bytes.len()).min(bytes.len()));
+        first.hear(line);
+        match end {
+            Some(place) => {
+                self.first = None;
+                if first.is_request() {
+                    Some(place.saturating_add(1))
+                } else {
+                    None
+                }
+            }
+            None => {
+                self.first = Some(first);
+                None
+            }
+        }
+    }
+
+    /// Says that nothing more is sent, and takes what has come so that the last reply is not lost with the connection.
+    pub(crate) fn shut(&mut self, buffer: &mut [u8]) {
+        self.set_waits(false);
+        if self.stream.shutdown(Shutdown::Write).is_err() {
+            return;
+        }
+        for _ in 0..LAST_READS {
+            match self.read(buffer) {
+                Came::Bytes(_) => {}
+                Came::Nothing | Came::End => return,
+            }
         }
     }
 

@@ -247,7 +247,8 @@ fn leave<'a, R>(tools: &Tools<'a, R>, left: usize) {
     tools.backlog.leave(tools.inbox);
 }
 
-/// Begins the session of this connection. It is closed if the clock can't be read, or if there is no memory for it.
+/// Begins the session of this connection. Where the worker has as many as it may, the one that has been silent for longest
+/// ends. The connection is closed, and counted, if none can end, if the clock can't be read, or if there is no memory for it.
 fn begin<'a, R: Wait + SystemClock>(
     worker: &mut Worker<'a, R>,
     table: &mut ConnectionTable<'a, R>,
@@ -255,22 +256,24 @@ fn begin<'a, R: Wait + SystemClock>(
 )
     ensures first { worker.new.first ≡ worker.old.first }
 {
-    if worker.open_sessions() >= MAX_SESSIONS {
-        if let Some(place) = table.most_silent(worker) {
-            close(worker, table, place);
-        }
+    if worker.open_sessions() >= table.tools.inbox.most_sessions() {
+        let Some(place) = table.most_silent(worker) else {
+            table.tools.backlog.turn_away(table.tools.inbox);
+            return;
+        };
+        close(worker, table, place);
     }
     let Some(now) = reading_of(table.tools.rt) else {
-        table.tools.backlog.leave(table.tools.inbox);
+        table.tools.backlog.turn_away(table.tools.inbox);
         return;
     };
     let Some(place) = worker.begin(table.tools.alloc) else {
-        table.tools.backlog.leave(table.tools.inbox);
+        table.tools.backlog.turn_away(table.tools.inbox);
         return;
     };
     if !table.put(place, stream, now) {
         worker.forget(place);
-        table.tools.backlog.leave(table.tools.inbox);
+        table.tools.backlog.turn_away(table.tools.inbox);
         return;
     }
     table.tools.counts.open.fetch_add(1, Ordering::SeqCst);
@@ -461,6 +464,11 @@ fn serve<'a, R: Wait + SystemClock>(
         Came::Nothing => return After::Read,
         Came::End => return After::Over,
     };
+    if let Some(heard) = table.request_in(place, &buffer[..count]) {
+        let _ = feed(worker, table, place, &buffer[..heard.min(count)]);
+        table.shut(place, buffer);
+        return After::Over;
+    }
     let bytes = &buffer[..count];
     let goes_on = feed(worker, table, place, bytes);
     table.note_line(place, bytes);
@@ -472,6 +480,22 @@ fn serve<'a, R: Wait + SystemClock>(
 }
 
 impl<'a, R: Wait + SystemClock> ConnectionTable<'a, R> {
+    /// How many of these bytes, which have just come at this place, end the first line of its session with that of an HTTP
+    /// request: see [`Connection::request_in`].
+    fn request_in(&mut self, place: usize, bytes: &[u8]) -> Option<usize> {
+        match self.connections.get_mut(place) {
+            Some(Some(connection)) => connection.request_in(bytes),
+            _ => None,
+        }
+    }
+
+    /// Says at this place that nothing more is sent.
+    fn shut(&mut self, place: usize, buffer: &mut [u8; PIECE]) {
+        if let Some(Some(connection)) = self.connections.get_mut(place) {
+            connection.shut(buffer);
+        }
+    }
+
     /// The time of a line begins anew, if a line ended in these bytes, which have just come.
     fn note_line(&mut self, place: usize, bytes: &[u8]) {
         if bytes.last() != Some(&b'\n') && memchr(b'\n', bytes).is_none() {
