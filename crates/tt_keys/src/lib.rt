@@ -12,7 +12,7 @@
 //! - `lines`: the line of a key.
 //! - `texts`: the keys of a text.
 //! - `access`: who may use a file of keys.
-//! - `files`: the keys of a file, or of what a device gives.
+//! - `files`: the text or the keys of a file, or of what a device gives.
 //! - `faults`: why a file gives no keys.
 #![tactic(auto)]
 
@@ -24,6 +24,6 @@ mod texts;
 
 pub use access::access_of;
 pub use faults::KeysFault;
-pub use files::{keys_at, keys_from};
+pub use files::{keys_at, keys_from, text_at, text_from};
 pub use lines::{MAX_LINE, is_name, key_of_line, line_of};
 pub use texts::{keys_laws, keys_of_text};

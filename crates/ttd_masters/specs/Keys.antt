@@ -1,5 +1,6 @@
 -- What a master does with its file of keys.
-use Rattle.std.specs.Prelude.{ℕ, Bool, true, false}
+use Rattle.std.specs.Prelude.{◌≡◌, ℕ, Bool, true, false, Option, Some, None, Result, Ok, Err}
+use Rattle.std.specs.Global.{Vec}
 use Rattle.tt_keys.specs.declared.faults.KeysFault.{KeysFault}
 use Rattle.tt_keys.specs.declared.faults.KeysFault.TheVariants.{CannotRead, UnknownUser, BadLine, SameNumber, Memory}
 
@@ -15,3 +16,9 @@ is_of_file (CannotRead reason) = false
 is_of_file (UnknownUser reason) = false
 is_of_file Memory = false
 is_of_file _ = true
+
+-- a look found the same as the one before: the same text, or the same fault of the file
+abbrev pub IsAsBefore : Option (Result (Vec ℕ) KeysFault) → Result (Vec ℕ) KeysFault → Type 0
+IsAsBefore (Some (Ok known)) (Ok text) = known.items ≡ text.items
+IsAsBefore (Some (Err known)) (Err fault) = (known ≡ fault) × (is_of_file fault ≡ true)
+IsAsBefore _ _ = ⊥

@@ -1,47 +1,18 @@
-//! The file of keys of a master, which is read again when it has changed.
+//! The file of keys of a master, which is looked at again and again.
 
-ghost use Rattle.std.specs.Prelude.{◌≡◌, IfOk};
+ghost use Rattle.std.specs.Prelude.{◌≡◌, ◌↔◌, IfOk, IfSome, IsTrue};
 ghost use Rattle.tt_seal.specs.Sealing.{HaveOwnNumbers};
-ghost use Rattle.ttd_masters.specs.Keys.{is_of_file as is_of_the_file, line_in as line_of_fault};
+ghost use Rattle.ttd_masters.specs.Keys.{IsAsBefore, is_of_file as is_of_the_file, line_in as line_of_fault};
 
 use std::alloc::Global;
-use std::fs::{self, File, Files};
+use std::fs::{File, Files};
 use std::io::Eprint;
-use std::os::unix::fs::MetadataExt;
 use tt_files::{Reason, facts_at};
-use tt_keys::{KeysFault, keys_at};
+use tt_keys::{KeysFault, keys_of_text, text_at};
 use tt_seal::Key;
 
 /// What the operating system has of this process. Its owner is the user of the process.
 const OF_PROCESS: &str = "/proc/self";
-
-/// What tells one state of a file from another.
-#[derive(Clone, Copy, PartialEq, Eq)]
-struct Version {
-    device: u64,
-    inode: u64,
-    owner: u32,
-    mode: u32,
-    size: u64,
-    seconds: i64,
-    nanos: i64,
-}
-
-/// The version of the file at this path. None if there is none that can be looked at.
-fn version_at<R: Files>(rt: &R, path: &str) -> Option<Version> {
-    match fs::metadata(rt, path) {
-        Ok(metadata) => Some(Version {
-            device: metadata.dev(),
-            inode: metadata.ino(),
-            owner: metadata.uid(),
-            mode: metadata.mode(),
-            size: metadata.size(),
-            seconds: metadata.mtime(),
-            nanos: metadata.mtime_nsec(),
-        }),
-        Err(_) => None,
-    }
-}
 
 /// The user of this process.
 fn user_of<R: Files>(rt: &R) -> Result<u32, KeysFault> {
@@ -80,42 +51,69 @@ fn is_of_file(fault: KeysFault) -> bool
     )
 }
 
-/// A file of keys, and which version of it was read last.
+/// What a look at a file of keys found: its text, or why it has none.
+type Found = Result<Vec<u8>, KeysFault>;
+
+/// Whether a look found the same as the one before: the same text, or the same fault of the file.
+fn is_as_before(before: &Option<Found>, found: &Found) -> bool
+    ensures { IsTrue result ↔ IsAsBefore before.now found.now }
+{
+    match (before, found) {
+        (Some(Ok(known)), Ok(text)) => known.as_slice() == text.as_slice(),
+        (Some(Err(known)), Err(fault)) => *known == *fault && is_of_file(*fault),
+        _ => false,
+    }
+}
+
+/// A file of keys, and what the last look at it found. Its whole text is read at each look: no time that a file shows tells
+/// whether it was written since.
 #[derive(Drop)]
 pub(crate) struct KeyFile<'a> {
     path: &'a str,
-    read: Option<Version>,
+    seen: Option<Found>,
 }
 
 impl<'a> KeyFile<'a> {
     /// The file at this path, which is still to be read.
     pub(crate) fn new(path: &'a str) -> Self {
-        KeyFile { path, read: None }
+        KeyFile { path, seen: None }
     }
 
-    /// The keys of the file.
+    /// The text of the file, or why there is none.
+    fn text<R: Files<File = File>>(&self, rt: &R, alloc: Global) -> Found {
+        let user = user_of(rt)?;
+        text_at(rt, alloc, self.path, user)
+    }
+
+    /// The keys of the file. None if it has the text, or the fault, of the look before.
     ///
     /// Refuses with 2211 `CannotRead` where it can't be read, with 2211 `UnknownUser` where the user of this process is not
     /// known, with 2212 `Mode`, 2213 `Owner`, 2214 `TooLong`, 2215 `BadLine`, 2216 `SameNumber`, and 1 `Memory`. After 2211 and 1 it counts as
     /// changed.
-    pub(crate) fn read<R: Files<File = File>>(
+    pub(crate) fn look<R: Files<File = File>>(
         &mut self,
         rt: &R,
         alloc: Global,
-    ) -> Result<Vec<Key>, KeysFault>
-        ensures numbers { IfOk result (λ keys. HaveOwnNumbers keys.items) }
+    ) -> Result<Option<Vec<Key>>, KeysFault>
+        ensures numbers { IfOk result (λ found. IfSome found (λ keys. HaveOwnNumbers keys.items)) }
     {
-        let version = version_at(rt, self.path);
-        self.read = None;
-        let user = user_of(rt)?;
-        match keys_at(rt, alloc, self.path, user) {
+        let found = self.text(rt, alloc);
+        if is_as_before(&self.seen, &found) {
+            return Ok(None);
+        }
+        self.seen = None;
+        let keys = match &found {
+            Ok(text) => keys_of_text(alloc, text.as_slice()),
+            Err(fault) => Err(*fault),
+        };
+        match keys {
             Ok(keys) => {
-                self.read = version;
-                Ok(keys)
+                self.seen = Some(found);
+                Ok(Some(keys))
             }
             Err(fault) => {
                 if is_of_file(fault) {
-                    self.read = version;
+                    self.seen = Some(found);
                 }
                 Err(fault)
             }
@@ -124,14 +122,6 @@ impl<'a> KeyFile<'a> {
 
     /// It counts as changed from now on.
     pub(crate) fn forget(&mut self) {
-        self.read = None
-    }
-
-    /// Whether the file is another one than that which was read last, or was written since.
-    pub(crate) fn has_changed<R: Files>(&self, rt: &R) -> bool {
-        match (version_at(rt, self.path), self.read) {
-            (Some(found), Some(read)) => found != read,
-            _ => true,
-        }
+        self.seen = None
     }
 }

@@ -173,8 +173,9 @@ fn first_keys<H: Files<File = File> + Eprint + AllocGlobal>(
     file: &mut KeyFile<'_>,
     path: &str,
 ) -> Result<Vec<Key>, StartFault> {
-    match file.read(rt, rt.alloc()) {
-        Ok(keys) => Ok(keys),
+    match file.look(rt, rt.alloc()) {
+        Ok(Some(keys)) => Ok(keys),
+        Ok(None) => Ok(Vec::new(rt.alloc())),
         Err(KeysFault::Memory) => Err(StartFault::Memory),
         Err(fault) => {
             say_refusal(rt, path, fault);

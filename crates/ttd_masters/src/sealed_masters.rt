@@ -47,17 +47,16 @@ impl<'a> Sealed<'a> {
         })
     }
 
-    /// Looks at the file, and takes its keys if it has changed. If they are refused, the keys stay. Either is logged.
+    /// Looks at the file, and takes its keys if it has another text than before. If they are refused, the keys stay. Either is
+    /// logged.
     fn look<H: Wait + SystemClock + Net + RandomSource + Files<File = File> + AllocGlobal>(
         &mut self,
         rt: &H,
         reporter: &Reporter,
     ) {
-        if !self.file.has_changed(rt) {
-            return;
-        }
-        let event = match self.file.read(rt, rt.alloc()) {
-            Ok(keys) => self.take(rt, keys),
+        let event = match self.file.look(rt, rt.alloc()) {
+            Ok(None) => return,
+            Ok(Some(keys)) => self.take(rt, keys),
             Err(fault) => refused(fault),
         };
         reporter.log(rt, event)
