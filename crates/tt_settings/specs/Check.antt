@@ -87,6 +87,17 @@ abbrev pub evidence_fits : List ℕ → Option (List ℕ) → Option (List ℕ) 
 evidence_fits state socket shared status keys None = Ok tt
 evidence_fits state socket shared status keys (Some path) = evidence_is_free state socket shared status keys path
 
+-- the path of a Unix socket fits an address of the system, with the byte that ends it
+abbrev pub socket_fits : Option (List ℕ) → Result (Unit {0}) SettingsFault
+socket_fits None = Ok tt
+socket_fits (Some path) = refuse_if (nat_lt 107 (length path)) (WrongValue Socket)
+
+-- the path of a Unix socket is short enough, and free
+unfoldable pub socket_path_fits : List ℕ → Option (List ℕ) → Result (Unit {0}) SettingsFault
+socket_path_fits state path = do
+  short ← socket_fits path
+  path_fits Socket state None None None path
+
 -- the path of a device has a name, where it is there
 abbrev pub vmclock_fits : Option (List ℕ) → Result (Unit {0}) SettingsFault
 vmclock_fits None = Ok tt
@@ -96,7 +107,7 @@ vmclock_fits (Some path) = is_given Vmclock path
 abbrev pub paths_fit : Paths → Result (Unit {0}) SettingsFault
 paths_fit p = do
   given ← is_given State p.state
-  socket_fits ← path_fits Socket p.state None None None p.socket
+  socket_path_can ← socket_path_fits p.state p.socket
   shared_fits ← path_fits Shared p.state p.socket None None p.shared
   status_fits ← path_fits Status p.state p.socket p.shared None p.status
   keys_fit ← path_fits Keys p.state p.socket p.shared p.status p.keys

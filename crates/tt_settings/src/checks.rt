@@ -4,7 +4,7 @@ ghost use Rattle.std.specs.Prelude.{◌≡◌, ◌≤◌, ◌++◌, None, Ok, Er
 ghost use Rattle.std.specs.List.{list_any};
 ghost use Rattle.tt_settings.specs.declared.keys.Key.TheVariants.{Evidence};
 ghost use Rattle.tt_settings.specs.Fault.{IsRefusal};
-ghost use Rattle.tt_settings.specs.Check.{evidence_fits, evidence_is_free, has_address, has_keys, has_same_address, has_same_key, is_free, is_given, masters_fit, meets_any, path_fits, paths_fit, shares_key, vmclock_fits, workers_fit};
+ghost use Rattle.tt_settings.specs.Check.{evidence_fits, evidence_is_free, has_address, has_keys, has_same_address, has_same_key, is_free, is_given, masters_fit, meets_any, path_fits, paths_fit, shares_key, socket_fits, socket_path_fits, vmclock_fits, workers_fit};
 
 use crate::faults::SettingsFault;
 use crate::keys::Key;
@@ -12,6 +12,9 @@ use crate::masters::MasterSettings;
 use crate::paths::{ended, meets_some, meets_state};
 use crate::texts::{FilePath, Paths};
 use std::alloc::{AllocError, Global};
+
+/// The most bytes of the path of a Unix socket: those of an address of the system, less the one that ends it.
+pub(crate) const MAX_SOCKET_PATH: usize = 107;
 
 /// Whether two of these masters have one address.
 fn has_same_address(masters: &[MasterSettings]) -> bool
@@ -264,6 +267,32 @@ fn check_evidence(
     }
 }
 
+/// Refuses the path of a Unix socket that is longer than the system takes.
+fn check_socket(socket: Option<&FilePath>) -> Result<(), SettingsFault>
+    ensures { result ≡ socket_fits (option_copied socket.entry) }
+{
+    match socket {
+        Some(path) if path.as_str().len() > MAX_SOCKET_PATH => {
+            Err(SettingsFault::WrongValue(Key::Socket))
+        }
+        _ => Ok(()),
+    }
+}
+
+/// Refuses the path of a Unix socket that is too long, has no name, or has a file in common with the state.
+#[tactic(auto, unfolding(crate::specs::Check::socket_path_fits))]
+fn check_socket_path(
+    alloc: Global,
+    state: &str,
+    socket: Option<&FilePath>,
+) -> Result<(), SettingsFault>
+    ensures { let defined = socket_path_fits state.now (option_copied socket.entry) in
+        MatchResult result (λ done. defined ≡ Ok done) (IsRefusal defined) }
+{
+    check_socket(socket)?;
+    check_path(alloc, Key::Socket, state, None, None, None, socket)
+}
+
 /// Refuses the path of a device without a name.
 fn check_vmclock(vmclock: Option<&FilePath>) -> Result<(), SettingsFault>
     ensures { result ≡ vmclock_fits (option_copied vmclock.entry) }
@@ -274,7 +303,7 @@ fn check_vmclock(vmclock: Option<&FilePath>) -> Result<(), SettingsFault>
     }
 }
 
-/// Refuses a path without a name, and one that has two purposes.
+/// Refuses a path without a name, one of a Unix socket that is too long, and one that has two purposes.
 pub(crate) fn check_paths(alloc: Global, paths: &Paths) -> Result<(), SettingsFault>
     ensures { let defined = paths_fit paths.now in
         MatchResult result (λ done. defined ≡ Ok done) (IsRefusal defined) }
@@ -285,7 +314,7 @@ pub(crate) fn check_paths(alloc: Global, paths: &Paths) -> Result<(), SettingsFa
     let status = paths.status.as_ref();
     let keys = paths.keys.as_ref();
     check_given(Key::State, state)?;
-    check_path(alloc, Key::Socket, state, None, None, None, socket)?;
+    check_socket_path(alloc, state, socket)?;
     check_path(alloc, Key::Shared, state, socket, None, None, shared)?;
     check_path(alloc, Key::Status, state, socket, shared, None, status)?;
     check_path(alloc, Key::Keys, state, socket, shared, status, keys)?;

@@ -58,6 +58,7 @@ pub use keys::Key;
 pub use masters::{MasterAddress, MasterSettings};
 pub use names::host_of;
 pub use numerals::number_of;
+pub use paths::{meets, meets_state};
 pub use plans::Pauses;
 pub use refusals::Refusal;
 pub use settings::{Settings, read};

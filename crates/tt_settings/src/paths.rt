@@ -100,9 +100,10 @@ fn is_of(alloc: Global, path: &str, file: &str) -> Result<bool, AllocError>
     Ok(at_path || at_draft || at_lock)
 }
 
-/// Whether two paths, with their drafts and locks, have a file in common.
+/// Whether two paths, with their drafts `.new` and locks `.lock`, have a file in common, by their texts as [`read`](crate::read)
+/// compares them. None of both is looked at.
 #[tactic(auto, unfolding(crate::specs::Path::meets))]
-pub(crate) fn meets(alloc: Global, path: &str, other: &str) -> Result<bool, AllocError>
+pub fn meets(alloc: Global, path: &str, other: &str) -> Result<bool, AllocError>
     ensures { IfOk result (λ met. met ≡ meets path.now other.now) }
 {
     let draft = ended(alloc, other, ".new")?;
@@ -124,9 +125,10 @@ fn meets_record(alloc: Global, path: &str, file: &str) -> Result<bool, AllocErro
     Ok(at_file || at_draft)
 }
 
-/// Whether a path, with its draft and its lock, and the folder of the epoch, with the files in it, have one in common.
+/// Whether a path, with its draft and its lock, and the folder of the epoch, with the files in it, have one in common, by their
+/// texts as [`read`](crate::read) compares them. None of both is looked at.
 #[tactic(auto, unfolding(crate::specs::Path::meets_state))]
-pub(crate) fn meets_state(alloc: Global, path: &str, state: &str) -> Result<bool, AllocError>
+pub fn meets_state(alloc: Global, path: &str, state: &str) -> Result<bool, AllocError>
     ensures { IfOk result (λ met. met ≡ meets_state path.now state.now) }
 {
     let epoch = ended(alloc, state, "/epoch")?;

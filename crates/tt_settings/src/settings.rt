@@ -220,7 +220,7 @@ impl Settings {
 ///   common; 1803 `MissingKey` of `keys`, where a master has a key and `keys` is absent.
 /// - 1810 `TooFewWorkers`: there is a Unix socket, and one worker.
 /// - Of `state`, `socket`, `shared`, `status`, `keys` and `evidence`, in this order: 1804 `WrongValue` where the path is
-///   empty, and 1817 `SamePath` where it has a file in common with one before it. The files of a path are itself, its draft
+///   empty or, before that, `socket` is longer than 107 bytes, and 1817 `SamePath` where it has a file in common with one before it. The files of a path are itself, its draft
 ///   `.new` and its lock `.lock`; those of `state` are the folder, and `epoch`, `epoch.new`, `break`, `break.new` and
 ///   `lock` in it; those of `evidence` are also the files of the paths with `.break-1` and `.break-2` behind it. Paths
 ///   are compared by their texts, without doubled slashes, slashes at the end, and names that are a dot alone; a `..` or

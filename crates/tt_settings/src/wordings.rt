@@ -1,5 +1,6 @@
 //! What is wrong with the value of a key, in words for a person.
 
+use crate::checks::MAX_SOCKET_PATH;
 use crate::durations::duration_of;
 use crate::faults::SettingsFault;
 use crate::keys::{Key, MILLISECOND, SECOND, ValueKind};
@@ -85,10 +86,23 @@ fn push_wrong(
         (ValueKind::Duration { least, most }, Value::String(text)) => {
             push_time(words, alloc, text.as_str(), least, most)
         }
+        (ValueKind::Path, Value::String(text)) if text.as_str().len() > MAX_SOCKET_PATH => {
+            push_long(words, alloc, text.as_str())
+        }
         (ValueKind::Addresses, Value::Array(items)) => push_masters(words, alloc, items),
         (ValueKind::Tables, Value::Array(items)) => push_tables(words, alloc, items),
         (kind, value) => push_value(words, alloc, &kind, value),
     }
+}
+
+/// Adds that the path of a Unix socket is too long: no other path is wrong for its length.
+fn push_long(words: &mut String, alloc: Global, path: &str) -> Result<(), AllocError> {
+    push_text(words, alloc, path)?;
+    let length = path.len();
+    write!(
+        words,
+        ": {length} bytes, and the path of a Unix socket has at most {MAX_SOCKET_PATH}"
+    )
 }
 
 /// Adds a value, and what would be right in its place.
