@@ -1,7 +1,11 @@
 //! Signs that the host slept or that a guest was disrupted, which the clock does not show.
 
+ghost use Rattle.std.specs.Prelude.{◌≡◌, true, false};
+ghost use Rattle.tt_host.specs.declared.signs.Sleep.TheVariants.{Unseen};
+
 use std::fs::{File, Files, OpenOptions};
 use std::io::{self, Error, ErrorKind};
+use std::marker::Model;
 use std::os::unix::fs::{FileExt, MetadataExt};
 use std::time::Clock as SystemClock;
 use tt_health::{Lead, Look, disruptions_in, is_wide, narrowed, slept_between, uptime_in};
@@ -79,7 +83,8 @@ fn look_well<R: SystemClock>(rt: &R, file: &File) -> Option<Lead> {
     Some(lead)
 }
 
-/// Watches how far the time since the start of the host, sleep included, leads the clock.
+/// Watches how far the time since the start of the host, sleep included, leads the clock. In contracts it is whether its last
+/// look failed.
 #[derive(Drop)]
 pub struct SleepWatch {
     /// The kernel's file. It stays open, so no client can take its descriptor.
@@ -87,6 +92,14 @@ pub struct SleepWatch {
     lead: Option<Lead>,
     /// Whether the last look failed.
     is_blind: bool,
+}
+
+impl Model for SleepWatch {
+    ghost use Rattle.std.specs.Prelude.{Bool};
+
+    ghost Value = { Bool };
+
+    ghost view = { λ w. w.is_blind };
 }
 
 /// What a look of [`SleepWatch::look`] found.
@@ -101,8 +114,10 @@ pub enum Sleep {
 }
 
 impl SleepWatch {
-    /// No look was made.
-    pub fn new() -> SleepWatch {
+    /// No look was made, so none has failed.
+    pub fn new() -> SleepWatch
+        ensures seen { result ≡ false }
+    {
         SleepWatch {
             file: None,
             lead: None,
@@ -111,7 +126,9 @@ impl SleepWatch {
     }
 
     /// Opens the file where it is not open, if it is the kernel's own.
-    fn open<R: Files<File = File>>(&mut self, rt: &R) {
+    fn open<R: Files<File = File>>(&mut self, rt: &R)
+        ensures same { self.new ≡ self.old }
+    {
         if self.file.is_none() && is_of_kernel(rt, UPTIME) {
             let mut how = OpenOptions::new();
             how.read(true);
@@ -120,7 +137,9 @@ impl SleepWatch {
     }
 
     /// How far the time since the start leads the clock now. None where that can't be seen.
-    fn lead<R: SystemClock + Files<File = File>>(&mut self, rt: &R) -> Option<Lead> {
+    fn lead<R: SystemClock + Files<File = File>>(&mut self, rt: &R) -> Option<Lead>
+        ensures same { self.new ≡ self.old }
+    {
         self.open(rt);
         match &self.file {
             Some(file) => look_well(rt, file),
@@ -128,16 +147,24 @@ impl SleepWatch {
         }
     }
 
+    /// Whether it would not be seen now that the host sleeps: the last look failed.
+    pub fn is_blind(&self) -> bool
+        ensures value { result ≡ self.now }
+    {
+        self.is_blind
+    }
+
     /// Looks whether the host has slept since the last look that saw it. A look that fails changes nothing of what is known.
-    pub fn look<R: SystemClock + Files<File = File>>(&mut self, rt: &R) -> Sleep {
+    pub fn look<R: SystemClock + Files<File = File>>(&mut self, rt: &R) -> Sleep
+        ensures said { result ≡ Unseen → (self.old ≡ false) × (self.new ≡ true) }
+        ensures turned { self.old ≡ false → self.new ≡ true → result ≡ Unseen }
+    {
         let Some(later) = self.lead(rt) else {
-            let was_blind = self.is_blind;
+            if self.is_blind {
+                return Sleep::Awake;
+            }
             self.is_blind = true;
-            return if was_blind {
-                Sleep::Awake
-            } else {
-                Sleep::Unseen
-            };
+            return Sleep::Unseen;
         };
         self.is_blind = false;
         let Some(earlier) = self.lead else {

@@ -12,12 +12,13 @@ times n time = min (time * n) (2 ^ 64 - 1)
 abbrev pub period_of : ℕ → ℕ → ℕ
 period_of poll wait = min (poll + wait) (2 ^ 64 - 1)
 
--- the limits of a machine: three rounds for answers, ten rounds and a second for a status
-abbrev pub limits_of : Option ℕ → ℕ → ℕ → Limits
-limits_of max_width poll wait = record {
+-- the limits of a machine: three rounds for answers, ten rounds and a second for a status, and whether it has a shared file
+abbrev pub limits_of : Option ℕ → ℕ → ℕ → Bool → Limits
+limits_of max_width poll wait shares = record {
   max_width = max_width;
   fresh = times 3 (period_of poll wait);
   recent = min (times 10 (period_of poll wait) + 1000000000) (2 ^ 64 - 1);
+  shares = shares;
 }
 
 -- a reading is wider than the limit
@@ -37,13 +38,14 @@ health_of (Some s) age limits = record {
   broken = nat_lt 0 s.breaks;
   wide = is_wide s.width limits.max_width;
   stale = is_stale s.needed limits.fresh;
+  unshared = limits.shares && not s.sharing;
   still = nat_lt limits.recent age;
 }
-health_of None age limits = record { unpublished = true; broken = false; wide = false; stale = true; still = nat_lt limits.recent age }
+health_of None age limits = record { unpublished = true; broken = false; wide = false; stale = true; unshared = limits.shares; still = nat_lt limits.recent age }
 
 -- there is no reason
 abbrev pub is_well : Health → Bool
-is_well h = not h.unpublished && not h.broken && not h.wide && not h.stale && not h.still
+is_well h = not h.unpublished && not h.broken && not h.wide && not h.stale && not h.unshared && not h.still
 
 -- a line, where it is so
 abbrev pub line_if : Bool → List ℕ → List ℕ
@@ -56,4 +58,5 @@ reasons_text h =
     ++ line_if h.broken (codes "1823: an assumption is broken\n")
     ++ line_if h.wide (codes "1824: readings are wider than max_width\n")
     ++ line_if h.stale (codes "sources_stale: fewer than n - f sources have answered within three rounds\n")
+    ++ line_if h.unshared (codes "sharing_ended: the shared file is not written\n")
     ++ line_if h.still (codes "status_old: the last round was made ten rounds ago\n")

@@ -18,20 +18,23 @@ pub struct Limits {
     pub fresh: u64,
     /// How old a status may be, in nanoseconds.
     pub recent: u64,
+    /// Whether the machine has a shared file.
+    pub shares: bool,
 }
 
 impl Limits {
     /// The limits of a machine with this greatest width of a reading, if there is one, that pauses for `poll` between its
     /// rounds, each of which waits for `wait`, all in nanoseconds: three rounds for answers, and ten rounds and a second
-    /// for a status.
-    pub fn of(max_width: Option<u64>, poll: u64, wait: u64) -> Limits
-        ensures value { result ≡ limits_of max_width poll wait }
+    /// for a status. `shares` says whether it has a shared file.
+    pub fn of(max_width: Option<u64>, poll: u64, wait: u64, shares: bool) -> Limits
+        ensures value { result ≡ limits_of max_width poll wait shares }
     {
         let period = poll.saturating_add(wait);
         Limits {
             max_width,
             fresh: period.saturating_mul(3),
             recent: period.saturating_mul(10).saturating_add(SECOND),
+            shares,
         }
     }
 }
@@ -47,6 +50,8 @@ pub struct Health {
     pub wide: bool,
     /// Fewer than n - f of its sources have answered within three rounds.
     pub stale: bool,
+    /// It has a shared file, and does not write it.
+    pub unshared: bool,
     /// Its status is older than ten rounds and a second: the thread of its rounds stands still.
     pub still: bool,
 }
@@ -84,6 +89,7 @@ pub fn health_of(status: &Option<Status>, age: u64, limits: &Limits) -> Health
             broken: status.breaks > 0,
             wide: is_wide(status.width, limits.max_width),
             stale: is_stale(status.needed, limits.fresh),
+            unshared: limits.shares && !status.sharing,
             still: age > limits.recent,
         },
         None => Health {
@@ -91,6 +97,7 @@ pub fn health_of(status: &Option<Status>, age: u64, limits: &Limits) -> Health
             broken: false,
             wide: false,
             stale: true,
+            unshared: limits.shares,
             still: age > limits.recent,
         },
     }
@@ -101,7 +108,12 @@ impl Health {
     pub fn is_well(&self) -> bool
         ensures value { result ≡ is_well self.now }
     {
-        !self.unpublished && !self.broken && !self.wide && !self.stale && !self.still
+        !self.unpublished
+            && !self.broken
+            && !self.wide
+            && !self.stale
+            && !self.unshared
+            && !self.still
     }
 }
 
@@ -127,6 +139,11 @@ pub(crate) fn push_reasons(text: &mut String, health: &Health) -> Result<(), All
         text,
         health.stale,
         "sources_stale: fewer than n - f sources have answered within three rounds\n",
+    )?;
+    push_if(
+        text,
+        health.unshared,
+        "sharing_ended: the shared file is not written\n",
     )?;
     push_if(
         text,

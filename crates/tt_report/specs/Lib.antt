@@ -2,3 +2,4 @@ pub mod Log
 pub mod Left
 pub mod Watch
 pub mod Fault
+pub mod Pages

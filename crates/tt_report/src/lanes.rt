@@ -13,14 +13,14 @@ const PERIOD: u64 = 1;
 
 /// A bounded queue of records, and what wakes the one thread that takes them.
 #[derive(Drop)]
-pub(crate) struct Lane<T> {
+pub struct Lane<T> {
     waiting: ArrayQueue<T>,
     came: Parker,
 }
 
 impl<T: Drop> Lane<T> {
     /// A lane for so many records that wait.
-    pub(crate) fn new(alloc: Global, places: usize) -> Result<Lane<T>, AllocError>
+    pub fn new(alloc: Global, places: usize) -> Result<Lane<T>, AllocError>
         requires some { 0 < places }
     {
         Ok(Lane {
@@ -40,7 +40,7 @@ impl<T: Drop> Lane<T> {
 
     /// Hands over a record. If no place is free, the oldest that waits gives its place to it: then it answers false, and
     /// that one is lost.
-    pub(crate) fn push_newest<R: Wait>(&self, rt: &R, record: T) -> bool {
+    pub fn push_newest<R: Wait>(&self, rt: &R, record: T) -> bool {
         let lost = self.waiting.force_push(rt, record).is_some();
         self.came.unpark();
         !lost
@@ -57,7 +57,7 @@ impl<T: Drop> Lane<T> {
     }
 
     /// Takes the oldest record that waits. If there is none, it sleeps until one comes, for at most a second.
-    pub(crate) fn take<R: Wait>(&self, rt: &R) -> Option<T> {
+    pub fn take<R: Wait>(&self, rt: &R) -> Option<T> {
         let record = self.take_waiting(rt);
         if record.is_none() {
             self.came.park_timeout(rt, Duration::from_secs(PERIOD));

@@ -24,19 +24,21 @@
 //! counted: [`Reporter::left_out`] has the count of all, and the next line of a kind says how many lines of its kind were
 //! left out before it. A line of a kind follows the one before it after ten seconds at the earliest.
 //!
-//! The pages have a thread of their own as well ([`Pages`]). It answers one connection after another, only from loopback:
-//! it waits for the head of a request for at most a second, and as long for its answer to be received, and then ends the
-//! connection. A client that takes its time costs the others no more than that.
+//! Who has a thread of its own for another file hands over to it by a [`Lane`], too.
+//!
+//! The pages have a thread of their own as well ([`Pages`]). It serves up to 8 connections by turns, only from loopback, each
+//! for two seconds in all, and waits for none. If one more comes, the one that was accepted before all others is closed. A
+//! client that takes its time costs the others nothing.
 //!
 //! Lines of one thread are written in the order in which that thread logged them. Lines of several threads come in the
 //! order in which they found their places.
 //!
 //! - `reporters`: [`Reporter`]. `records`: what its threads share with those that log. `writers`: its threads.
 //! - `limits`: which lines are logged, and how many were left out. `watches`: when a publication is slow.
-//! - `pages`: the thread of the pages, which `tt_pages` says. `lanes`: the queues. `files`: the files that are replaced, and [`Disk`]. `clocks`: readings of the system's clocks. `faults`: why there is no reporter.
+//! - `pages`: the thread of the pages, which `tt_pages` says. `visitors`: its connections. `lanes`: the queues. `files`: the files that are replaced, and [`Disk`]. `clocks`: readings of the system's clocks. `faults`: why there is no reporter.
 //!
 //! The functions over values are proved: the kinds of lines and their limits, the counts of lines that were left out,
-//! and when a publication is slow. Nothing is claimed of the threads, of what a queue holds, and of what the system
+//! when a publication is slow, and how long a connection of the pages is served. Nothing is claimed of the threads, of what a queue holds, and of what the system
 //! writes.
 #![tactic(auto)]
 
@@ -48,11 +50,13 @@ mod limits;
 mod pages;
 mod records;
 mod reporters;
+mod visitors;
 mod watches;
 mod writers;
 
 pub use faults::ReporterFault;
 pub use files::Disk;
+pub use lanes::Lane;
 pub use pages::Pages;
 pub use records::CAPACITY;
 pub use reporters::Reporter;

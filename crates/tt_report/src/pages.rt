@@ -1,25 +1,33 @@
-//! The thread that answers requests over HTTP.
+//! The thread that answers requests over HTTP. It serves several connections by turns.
 
 use crate::clocks::clock_of;
 use crate::records::{PageLanes, Records};
-use std::alloc::Global;
-use std::io::{Read, Write};
-use std::net::{Shutdown, TcpListener, TcpStream};
+use crate::visitors::{Turn, Visitor, left_of};
+use mio::unix::SourceFd;
+use mio::{Events, Interest, Poll, Token};
+use std::alloc::{AllocError, Global};
+use std::net::{Net, TcpListener};
+use std::os::fd::AsRawFd;
 use std::sync::Wait;
-use std::thread;
 use std::time::{Clock as SystemClock, Duration};
-use tt_pages::{Asked, Limits, MAX_HEAD, Report, asked_in, push_answer};
+use std::{io, thread};
+use tt_pages::{Asked, Limits, Report, push_answer};
 use tt_status::Status;
 
-/// For how long a client may take to send the head of its request, and for how long to receive the answer, in nanoseconds:
-/// a second each.
-const PATIENCE: u64 = 1_000_000_000;
+/// The most connections that are served at a time.
+const PLACES: usize = 8;
 
-/// The pause after a connection could not be accepted, in milliseconds.
-const PAUSE: u64 = 100;
+/// The most connections that are accepted between two turns of those that are served.
+const ACCEPTS: usize = 8;
 
-/// How many reads are made at most of what a client sends behind the head of its request.
-const LAST_READS: u32 = 64;
+/// The pause after a connection could not be accepted, in nanoseconds.
+const PAUSE: u64 = 100_000_000;
+
+/// How many events one wait reports. After each wait all connections are looked at.
+const EVENTS: usize = 16;
+
+/// The token of all sockets.
+const ANY: Token = Token(0);
 
 /// Where pages are given, and by what the machine is judged.
 #[derive(Drop)]
@@ -50,140 +58,192 @@ impl Newest {
             self.evidence = Some(text);
         }
     }
+
+    /// The answer to this, when the clock shows `now`. None if it is out of memory.
+    fn answer(&self, alloc: Global, asked: Asked, limits: Limits, now: u64) -> Option<String> {
+        let report = Report {
+            status: &self.status,
+            age: now.saturating_sub(self.at),
+            evidence: &self.evidence,
+            limits,
+        };
+        let mut text = String::new(alloc);
+        match push_answer(&mut text, alloc, asked, &report) {
+            Ok(()) => Some(text),
+            Err(_) => None,
+        }
+    }
 }
 
-/// Answers one connection after another: one request each.
-pub(crate) fn give_pages<R: Wait + SystemClock>(
-    rt: &R,
+/// The pages with the connections that are served, and what their thread waits with.
+#[derive(Drop)]
+pub(crate) struct PageHost {
     alloc: Global,
-    records: &Records,
-    pages: &Pages,
-) {
+    pages: Pages,
+    poll: Poll,
+    events: Events,
+    visitors: Vec<Option<Visitor>>,
+    /// How long the next wait is at most, in nanoseconds. None if it ends only when something comes.
+    pause: Option<u64>,
+}
+
+impl PageHost {
+    /// The pages of which nobody has asked for any. Refuses with the error of the system, also if it is out of memory.
+    pub(crate) fn new<R: Net>(rt: &R, alloc: Global, pages: Pages) -> io::Result<PageHost> {
+        let poll = Poll::new(rt)?;
+        pages.listener.set_nonblocking(true)?;
+        let descriptor = pages.listener.as_raw_fd();
+        poll.registry()
+            .register(&mut SourceFd(&descriptor), ANY, Interest::READABLE)?;
+        let events = Events::with_capacity(alloc, EVENTS)?;
+        let visitors = no_visitors(alloc)?;
+        Ok(PageHost {
+            alloc,
+            pages,
+            poll,
+            events,
+            visitors,
+            pause: Some(0),
+        })
+    }
+
+    /// Waits until a connection comes, gives something or takes something, or has had its time. If the system refuses to
+    /// wait, it sleeps for a tenth of a second.
+    fn wait<R: SystemClock>(&mut self, rt: &R) {
+        let now = clock_of(rt);
+        let mut most = self.pause;
+        for slot in &self.visitors {
+            if let Some(visitor) = slot {
+                let left = left_of(visitor.began, now);
+                most = Some(most.unwrap_or(left).min(left));
+            }
+        }
+        let most = match most {
+            Some(most) => Some(Duration::from_nanos(most)),
+            None => None,
+        };
+        if self.poll.poll(&mut self.events, most).is_err() {
+            thread::sleep(rt, Duration::from_nanos(PAUSE));
+        }
+    }
+
+    /// Accepts connections that have come, and says how long the next wait is at most because of that.
+    fn accept_some(&mut self, now: u64) {
+        self.pause = Some(0);
+        for _ in 0..ACCEPTS {
+            match self.pages.listener.accept() {
+                Ok((stream, peer)) => {
+                    if peer.ip().is_loopback() {
+                        self.put(Visitor::new(self.alloc, stream, now));
+                    }
+                }
+                Err(error) => {
+                    self.pause = match error.kind() {
+                        io::ErrorKind::WouldBlock => None,
+                        _ => Some(PAUSE),
+                    };
+                    return;
+                }
+            }
+        }
+    }
+
+    /// Serves this connection from now on. If all places are taken, the connection that was accepted before all others is
+    /// closed.
+    fn put(&mut self, visitor: Visitor) {
+        if visitor.stream.set_nonblocking(true).is_err() {
+            return;
+        }
+        let descriptor = visitor.stream.as_raw_fd();
+        let both = Interest::READABLE | Interest::WRITABLE;
+        let registry = self.poll.registry();
+        if registry
+            .register(&mut SourceFd(&descriptor), ANY, both)
+            .is_err()
+        {
+            return;
+        }
+        let place = self.next_place();
+        if let Some(slot) = self.visitors.get_mut(place) {
+            *slot = Some(visitor);
+        }
+    }
+
+    /// A place that is free, or else that of the connection that was accepted before all others.
+    fn next_place(&self) -> usize {
+        let mut oldest: Option<(usize, u64)> = None;
+        for place in 0..self.visitors.len() {
+            match self.visitors.get(place) {
+                Some(Some(visitor)) => {
+                    let is_older = match oldest {
+                        Some((_, began)) => visitor.began < began,
+                        None => true,
+                    };
+                    if is_older {
+                        oldest = Some((place, visitor.began));
+                    }
+                }
+                _ => return place,
+            }
+        }
+        match oldest {
+            Some((place, _)) => place,
+            None => 0,
+        }
+    }
+
+    /// A turn of each connection, and the end of those that are over or have had their time when the clock shows `now`.
+    fn serve_all(&mut self, newest: &Newest, now: u64) {
+        for slot in self.visitors.iter_mut() {
+            let goes_on = match slot {
+                Some(visitor) => {
+                    left_of(visitor.began, now) > 0
+                        && serve(self.alloc, visitor, newest, self.pages.limits, now)
+                }
+                None => true,
+            };
+            if !goes_on {
+                *slot = None;
+            }
+        }
+    }
+}
+
+/// A turn of this connection. Answers whether it goes on.
+fn serve(alloc: Global, visitor: &mut Visitor, newest: &Newest, limits: Limits, now: u64) -> bool {
+    let turn = match visitor.turn() {
+        Turn::Asks(asked) => match newest.answer(alloc, asked, limits, now) {
+            Some(answer) => visitor.give(answer),
+            None => Turn::Over,
+        },
+        turn => turn,
+    };
+    matches!(turn, Turn::Waits)
+}
+
+/// Places at which no connection is served.
+fn no_visitors(alloc: Global) -> Result<Vec<Option<Visitor>>, AllocError> {
+    let mut visitors = Vec::with_capacity(alloc, PLACES)?;
+    for _ in 0..PLACES {
+        visitors.push(None)?;
+    }
+    Ok(visitors)
+}
+
+/// Answers requests, one of each connection.
+pub(crate) fn give_pages<R: Wait + SystemClock>(rt: &R, records: &Records, host: PageHost) {
+    let mut host = host;
     let mut newest = Newest {
         status: None,
         at: clock_of(rt),
         evidence: None,
     };
     for _ in rt.forever() {
-        match pages.listener.accept() {
-            Ok((stream, peer)) => {
-                if peer.ip().is_loopback() {
-                    let asked = read_head(rt, &stream);
-                    newest.take(rt, &records.pages);
-                    if let Some(asked) = asked {
-                        answer(rt, alloc, &stream, asked, &newest, pages.limits);
-                    }
-                }
-            }
-            Err(_) => thread::sleep(rt, Duration::from_millis(PAUSE)),
-        }
+        host.wait(rt);
+        newest.take(rt, &records.pages);
+        let now = clock_of(rt);
+        host.accept_some(now);
+        host.serve_all(&newest, now);
     }
     unreachable!()
-}
-
-/// How long it is until the patience with a client ends that began at this clock reading. None once it has ended.
-fn left<R: SystemClock>(rt: &R, began: u64) -> Option<Duration> {
-    let gone = clock_of(rt).saturating_sub(began);
-    let left = PATIENCE.saturating_sub(gone);
-    if left == 0 {
-        return None;
-    }
-    Some(Duration::from_nanos(left))
-}
-
-/// Reads once, for as long as the patience lasts. None if nothing came.
-fn read_once<R: SystemClock>(
-    rt: &R,
-    stream: &TcpStream,
-    began: u64,
-    buffer: &mut [u8],
-) -> Option<usize> {
-    let left = left(rt, began)?;
-    stream.set_read_timeout(Some(left)).ok()?;
-    let mut stream = stream;
-    match stream.read(buffer) {
-        Ok(0) => None,
-        Ok(count) => Some(count),
-        Err(_) => None,
-    }
-}
-
-/// Reads the head of a request, and no more than its longest. None if it does not come in time.
-fn read_head<R: SystemClock>(rt: &R, stream: &TcpStream) -> Option<Asked> {
-    let began = clock_of(rt);
-    let mut head = [0; MAX_HEAD];
-    let mut count = 0usize;
-    for _ in 0..MAX_HEAD {
-        if count >= MAX_HEAD {
-            break;
-        }
-        let more = read_once(rt, stream, began, &mut head[count..])?;
-        count = count.saturating_add(more).min(MAX_HEAD);
-        let asked = asked_in(&head[..count]);
-        if asked.is_some() {
-            return asked;
-        }
-    }
-    None
-}
-
-/// Sends the answer and ends the connection. What its client has sent behind the head is read first, so that the answer is
-/// not lost with it.
-fn answer<R: SystemClock>(
-    rt: &R,
-    alloc: Global,
-    stream: &TcpStream,
-    asked: Asked,
-    newest: &Newest,
-    limits: Limits,
-) {
-    let began = clock_of(rt);
-    let report = Report {
-        status: &newest.status,
-        age: began.saturating_sub(newest.at),
-        evidence: &newest.evidence,
-        limits,
-    };
-    let mut text = String::new(alloc);
-    if push_answer(&mut text, alloc, asked, &report).is_err() {
-        return;
-    }
-    if send(rt, stream, began, text.as_bytes()) {
-        end(rt, stream, began);
-    }
-}
-
-/// Sends these bytes, for as long as the patience lasts. Answers whether all were sent.
-fn send<R: SystemClock>(rt: &R, stream: &TcpStream, began: u64, bytes: &[u8]) -> bool {
-    let mut stream = stream;
-    let mut sent = 0usize;
-    for _ in 0..bytes.len() {
-        if sent >= bytes.len() {
-            break;
-        }
-        let Some(left) = left(rt, began) else {
-            return false;
-        };
-        if stream.set_write_timeout(Some(left)).is_err() {
-            return false;
-        }
-        match stream.write(&bytes[sent..]) {
-            Ok(count) if count > 0 => sent = sent.saturating_add(count),
-            _ => return false,
-        }
-    }
-    sent >= bytes.len()
-}
-
-/// Says that no more is sent, and reads until the client has ended too, for as long as the patience lasts.
-fn end<R: SystemClock>(rt: &R, stream: &TcpStream, began: u64) {
-    if stream.shutdown(Shutdown::Write).is_err() {
-        return;
-    }
-    let mut rest = [0; 512];
-    for _ in 0..LAST_READS {
-        if read_once(rt, stream, began, &mut rest).is_none() {
-            return;
-        }
-    }
 }

@@ -3,11 +3,12 @@
 use crate::clocks::clock_of;
 use crate::faults::ReporterFault;
 use crate::files::{Break, Disk, EvidenceFiles, Shown, WholeFile};
-use crate::pages::{Pages, give_pages};
+use crate::pages::{PageHost, Pages, give_pages};
 use crate::records::Records;
 use crate::writers::{write_evidence, write_lines, write_statuses};
 use std::alloc::{AllocError, Global};
 use std::io::Eprint;
+use std::net::Net;
 use std::sync::atomic::Ordering;
 use std::sync::{Arc, Wait};
 use std::thread::{self, Threads};
@@ -81,7 +82,7 @@ impl Reporter {
     /// Starts one more thread, which gives pages over HTTP at this address. It runs until the process ends, and is never
     /// joined.
     ///
-    /// Refuses with 1816 `NoThread` if the thread can't be started, and with 1 `Memory`.
+    /// Refuses with 1816 `NoThread` if the thread can't be started, or has nothing to wait with, and with 1 `Memory`.
     pub fn give_pages<R>(
         &mut self,
         rt: &R,
@@ -89,11 +90,14 @@ impl Reporter {
         pages: Pages,
     ) -> Result<(), ReporterFault>
     where
-        R: Threads + Wait + SystemClock + Copy + Send + 'static,
+        R: Threads + Wait + SystemClock + Net + Copy + Send + 'static,
     {
         let rt = *rt;
         let theirs = Arc::try_clone(&self.records)?;
-        if thread::spawn(&rt, move || give_pages(&rt, alloc, &theirs, &pages)).is_err() {
+        let Ok(host) = PageHost::new(&rt, alloc, pages) else {
+            return Err(ReporterFault::NoThread);
+        };
+        if thread::spawn(&rt, move || give_pages(&rt, &theirs, host)).is_err() {
             return Err(ReporterFault::NoThread);
         }
         self.has_pages = true;

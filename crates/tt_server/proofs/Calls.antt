@@ -1,5 +1,5 @@
 -- The calls of the daemon's rounds, one after another.
-use Rattle.std.proofs.Common.{◌≡◌, ℕ, ◌≤◌, List, [], ◌∷◌, map, Option, Some, None, Result, arith, refl, sym, ap, subst, ◌∙◌}
+use Rattle.std.proofs.Common.{◌≡◌, ℕ, ◌≤◌, List, [], ◌∷◌, map, Option, Some, None, Result, Contains, ⊎_elim, arith, refl, sym, ap, subst, ◌∙◌}
 use Rattle.tt_daemon.specs.Daemon.{DaemonState}
 use Rattle.tt_daemon.specs.Publication.{Publication}
 use Rattle.tt_publish.specs.Reading.{fused_span_of}
@@ -7,7 +7,11 @@ use Rattle.tt_publish.specs.declared.readings.FusedSpan.{FusedSpan}
 use Rattle.tt_connections.specs.Clock.{ClockState, MachineGives}
 use Rattle.tt_rounds.specs.Course.{rounds_of}
 use Rattle.tt_rounds.specs.Fusing.{fusions_in}
-use Rattle.tt_rounds.specs.Link.{Call, Exchange, Gift, ClockGives, gifts_in}
+use Rattle.tt_rounds.specs.Link.{Packet, Call, Exchange, Gift, Came, ClockGives, LinkDoes, gifts_in}
+use Rattle.tt_rounds.specs.RoundLinks.{DoesOver, HandsUp, LinkEnd}
+use Rattle.tt_rounds.specs.Sockets.{SocketStep}
+use Rattle.tt_stamp.proofs.Ids.{Contains-cases, Contains-nil}
+use Rattle.tt_wire.specs.Wire.{Wiring}
 use Rattle.tt_rounds.specs.Making.{stand_of}
 use Rattle.tt_rounds.specs.Reports.{PartEvents, Report, Reports}
 use Rattle.tt_rounds.specs.declared.faults.NodeFault.{NodeFault}
@@ -15,7 +19,7 @@ use Rattle.tt_rounds.specs.declared.tallies.Tally.{Tally}
 use Rattle.tt_consistency.specs.Calls.{Rise, RiseIn, RoundsCall}
 use Rattle.tt_consistency.specs.CourseSteps.{kept_in}
 use Rattle.tt_consistency.specs.Steps.{Kept, fused_span}
-use Rattle.tt_server.specs.Round.{CallsInTurn, MakesCall, kept_with}
+use Rattle.tt_server.specs.Round.{CallsInTurn, MakesCall, MakesHeardCall, kept_with}
 
 -- ---- what is kept
 
@@ -42,6 +46,26 @@ RiseIn-later from to later [] rise le = omega (arith, rise, le)
 RiseIn-later from to later (call ∷ calls) rise le =
     let (before, after, first, last, most) = rise in (before, after, first, last, omega (arith, most, le))
 
+-- ---- what a link handed up
+
+module _ {L S : Type 0} (does : S → SocketStep → S → Type 0) (end_of : L → LinkEnd S) where
+  abbrev pub DoesBy : L → Call → Gift → L → Type 0
+  DoesBy before call gift after = DoesOver does (end_of before) call gift (end_of after)
+
+  -- each packet that the link gave was handed up over its wire
+  pub gave-up : (exchanges : List Exchange) (link link' : L) → LinkDoes DoesBy link exchanges link' → (packet : Packet) → Contains (gifts_in exchanges) (Came packet) → HandsUp (end_of link).wire (Came packet)
+  gave-up [] link link' did packet there = absurd (Contains-nil (Came packet) there)
+  gave-up (exchange ∷ exchanges) link link' (mid, one, more) packet there =
+      ⊎_elim
+      (λ here. subst (HandsUp (end_of link).wire) here one.0)
+      (λ later. subst (λ (wire : Wiring). HandsUp wire (Came packet)) (ap (λ (e : LinkEnd S). e.wire) one.2) (gave-up exchanges mid link' more packet later))
+      (Contains-cases exchange.gift (gifts_in exchanges) (Came packet) there)
+
+  -- and the wire stays
+  pub wire-stays : (exchanges : List Exchange) (link link' : L) → LinkDoes DoesBy link exchanges link' → (end_of link').wire ≡ (end_of link).wire
+  wire-stays [] link link' same = ap (λ (l : L). (end_of l).wire) same
+  wire-stays (exchange ∷ exchanges) link link' (mid, one, more) = wire-stays exchanges mid link' more ∙ ap (λ (e : LinkEnd S). e.wire) one.2
+
 -- ---- one call
 
 -- a call of rounds, by the clock of a machine
@@ -63,6 +87,17 @@ reported-call does rounds turns events clock clock' link link' daemon daemon' it
   begins = kept_in-stand daemon items tally [];
   ends = kept_in-stand daemon' items' tally' made.exchanges;
   rises = (clock.last, clock'.last, omega arith, rises clock clock' made.readings made.gave, omega arith);
+}
+
+-- the same over a link that hands up over a wire
+pub heard-call : {L S : Type 0} (does : S → SocketStep → S → Type 0) (end_of : L → LinkEnd S) (rounds turns : ℕ) (events : PartEvents) (clock clock' : ClockState) (link link' : L)
+    (daemon daemon' : DaemonState) (items items' : List Publication) (tally tally' : Tally) (answer : Result (Unit {0}) NodeFault) (old new : Report)
+    → Reports MachineGives (λ before call gift after. DoesOver does (end_of before) call gift (end_of after)) (rounds_of rounds turns) events clock clock' link link' (stand_of daemon (fusions_in items) tally) (stand_of daemon' (fusions_in items') tally') answer old new
+    → MakesHeardCall (end_of link).wire (kept_with daemon items) (kept_with daemon' items') clock.last clock'.last
+unfolding reported-call
+heard-call does end_of rounds turns events clock clock' link link' daemon daemon' items items' tally tally' answer old new made = record {
+  made = reported-call _ rounds turns events clock clock' link link' daemon daemon' items items' tally tally' answer old new made;
+  heard = gave-up does end_of made.exchanges link link' made.did;
 }
 
 -- the clock may have shown less before the call, and show more after it

@@ -7,3 +7,4 @@ pub mod Round
 pub mod Life
 pub mod Thread
 pub mod Evidence
+pub mod Descriptor

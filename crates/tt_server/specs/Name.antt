@@ -1,10 +1,11 @@
 -- The names of sources: which have one, when it is looked up, and what is new of it.
-use Rattle.std.specs.Prelude.{◌≡◌, ◌≢◌, ◌⊎◌, ℕ, ◌-◌, ◌+◌, ◌&&◌, nat_le, nat_lt, string_bytes, Bool, true, List, [], ◌∷◌, ◌++◌, Option, Some, None}
+use Rattle.std.specs.Prelude.{◌≡◌, ◌≢◌, ◌⊎◌, ℕ, ◌-◌, ◌+◌, ◌*◌, ◌^◌, ◌&&◌, min, nat_le, nat_lt, if◌then◌else◌, string_bytes, Bool, true, List, [], ◌∷◌, ◌++◌, Option, Some, None}
 use Rattle.std.specs.List.{list_any}
 use Rattle.std.specs.Option.{is_some}
 use Rattle.std.specs.declared.net.socket_addr.SocketAddr.{SocketAddr}
 use Rattle.tt_settings.specs.Master.{Master}
 use Rattle.tt_settings.specs.Socket.{host_of}
+use Rattle.tt_settings.specs.declared.plans.Pauses.{Pauses}
 use Rattle.tt_telemetry.specs.Records.{one_more}
 use Rattle.tt_server.specs.declared.names.Lookups.{Lookups}
 use Rattle.tt_server.specs.declared.names.NamedSource.{NamedSource}
@@ -49,6 +50,23 @@ is_long_ago None now = true
 -- a name is looked up: its last lookup was a minute ago, and its source has been silent for a minute
 abbrev pub is_lookup_due : Option ℕ → Option ℕ → ℕ → Bool
 is_lookup_due tried answered now = is_long_ago tried now && is_long_ago answered now
+
+-- a clock showed this so long ago or earlier, or it never did
+abbrev pub has_passed : Option ℕ → ℕ → ℕ → Bool
+has_passed (Some clock) now length = nat_le length (now - clock)
+has_passed None now length = true
+
+-- the next address of a source is asked: there are two at least, and the one that is asked has been silent for long since it was taken
+abbrev pub is_turn_due : ℕ → Option ℕ → Option ℕ → ℕ → ℕ → Bool
+is_turn_due count turned answered now patience = nat_le 2 count && (has_passed turned now patience && has_passed answered now patience)
+
+-- the place behind this one of so many, and the first behind the last
+abbrev pub next_place : ℕ → ℕ → ℕ
+next_place count place = if nat_lt (place + 1) count then place + 1 else 0
+
+-- four rounds of a pause and a wait, at most what 64 bits hold
+abbrev pub patience_of : Pauses → ℕ
+patience_of pauses = min (min (pauses.poll + pauses.wait) (2 ^ 64 - 1) * 4) (2 ^ 64 - 1)
 
 -- what is known after a lookup that found this address, or none; the one that was found before stays
 abbrev pub lookups_after : Option SocketAddr → Lookups → Lookups

@@ -1,10 +1,13 @@
 -- What a round of the daemon is, how many turns it has, and how long the pauses between rounds are.
-use Rattle.std.specs.Prelude.{◌≡◌, ◌≤◌, ℕ, ◌*◌, ◌-◌, ◌/◌, ◌^◌, min, max, nat_eq, nat_lt, ◌&&◌, if◌then◌else◌, Bool, true, false, List, [], map}
+use Rattle.std.specs.Prelude.{◌≡◌, ◌≤◌, ℕ, ◌*◌, ◌-◌, ◌/◌, ◌^◌, min, max, nat_eq, nat_lt, ◌&&◌, if◌then◌else◌, Bool, true, false, List, [], map, Contains}
 use Rattle.tt_daemon.specs.Daemon.{DaemonState}
 use Rattle.tt_daemon.specs.Publication.{Publication}
 use Rattle.tt_publish.specs.Reading.{fused_span_of}
 use Rattle.tt_rounds.specs.Course.{rounds_of}
+use Rattle.tt_rounds.specs.Link.{Packet, Came}
 use Rattle.tt_rounds.specs.Making.{Leads}
+use Rattle.tt_rounds.specs.RoundLinks.{HandsUp}
+use Rattle.tt_wire.specs.Wire.{Wiring}
 use Rattle.tt_consistency.specs.Calls.{AreInTurn, Rise, RiseIn, RoundsCall, kept_after}
 use Rattle.tt_consistency.specs.CourseSteps.{kept_in}
 use Rattle.tt_consistency.specs.Steps.{Kept}
@@ -21,6 +24,11 @@ pub record MakesCall (before after : Kept) (shown shown' : ℕ) : Type 0 where
   pub begins : kept_in (call.from []) ≡ before
   pub ends : kept_in (call.to call.exchanges) ≡ after
   pub rises : (low high : ℕ) × (shown ≤ low) × Rise low call.given.readings high × (high ≤ shown')
+
+-- such a call, in which each packet that the link gave was handed up over this wire
+pub record MakesHeardCall (wire : Wiring) (before after : Kept) (shown shown' : ℕ) : Type 0 where
+  pub made : MakesCall before after shown shown'
+  pub heard : (packet : Packet) → Contains made.call.given.gifts (Came packet) → HandsUp wire (Came packet)
 
 -- calls came one after another and left this, and no reading in them is below one before it
 abbrev pub CallsInTurn : Kept → Kept → ℕ → ℕ → Type 0

@@ -8,8 +8,9 @@ ghost use Rattle.tt_publish.specs.Reading.{fused_span_of};
 ghost use Rattle.tt_publish.specs.declared.readings.FusedSpan.{FusedSpan as TheFused};
 ghost use Rattle.tt_health.specs.Break.{IsUnmet};
 ghost use Rattle.tt_settings.specs.Settings.{Meaning};
-ghost use Rattle.tt_consistency.specs.Calls.{calls_steps};
+ghost use Rattle.tt_consistency.specs.Calls.{RoundsCall, calls_steps, kept_after};
 ghost use Rattle.tt_consistency.specs.Faulty.{FewFaulty};
+ghost use Rattle.tt_consistency.specs.Lives.{begun_in};
 ghost use Rattle.tt_consistency.specs.Timeline.{AreOfTime, IsTimeline, Timed, moments_told, steps_told};
 ghost use Rattle.tt_server.specs.Life.{ServerLife, TellsOf};
 ghost use Rattle.tt_server.specs.declared.lives.LifeEnd.{LifeEnd as TheEnd};
@@ -101,6 +102,17 @@ pub fn break_laws()
         TellsOf settings end life → i < k → slice_get (map fused_span_of end.published.items) i ≡ Some earlier → slice_get (map fused_span_of end.published.items) k ≡ Some later →
         IsUnmet life.config.drift earlier later →
         at ≤ max_time → clock ≤ max_time → life.epoch ≡ lives + 1 → lives < 2 ^ 64 - 1 → steps_told timeline ≡ calls_steps life.calls →
+        IsTimeline at clock timeline → AreOfTime timeline → length timeline < 2 ^ 64 →
+        (¬ KeepsDrift life.config.drift (moments_told timeline ++ record { clock = clock; time = at } ∷ []))
+        ⊎ (¬ FewFaulty life.config (record { machine = life.number; number = lives + 1 }) timeline) }
+
+    // It broke by then: where the first calls of the daemon had published both, it is so of what happened in these calls
+    // alone. What came later breaks nothing of it.
+    ensures breaks_by_then { (settings : Meaning) (end : TheEnd) (life : ServerLife) (more calls : List RoundsCall) (i k : ℕ) (earlier later : TheFused) (at clock lives : ℕ) (timeline : List Timed) →
+        TellsOf settings end life → life.calls ≡ more ++ calls → i < k → k < length (kept_after (begun_in life) calls).published →
+        slice_get (map fused_span_of end.published.items) i ≡ Some earlier → slice_get (map fused_span_of end.published.items) k ≡ Some later →
+        IsUnmet life.config.drift earlier later →
+        at ≤ max_time → clock ≤ max_time → life.epoch ≡ lives + 1 → lives < 2 ^ 64 - 1 → steps_told timeline ≡ calls_steps calls →
         IsTimeline at clock timeline → AreOfTime timeline → length timeline < 2 ^ 64 →
         (¬ KeepsDrift life.config.drift (moments_told timeline ++ record { clock = clock; time = at } ∷ []))
         ⊎ (¬ FewFaulty life.config (record { machine = life.number; number = lives + 1 }) timeline) }

@@ -15,7 +15,7 @@
 //! [`serve`] runs the machine in threads. One thread makes the rounds of the daemon. One accepts the connections of
 //! clients, and each worker is a thread that serves the sessions of some of them by turns (`tt_workers`). All workers take
 //! their stamps from one sequencer, and read one list of publications. `tt_report` has the threads that write
-//! the log and the status, so that no other thread waits for standard error or a file.
+//! the log and the status, and one thread here the shared file, so that no other thread waits for standard error or a file.
 //!
 //! `tt_settings` decides what the settings mean, `tt_session` and `tt_connections` decide the replies to a session, and
 //! `tt_rounds` decides what a round does. `tt_telemetry` says what is counted and noticed of a round, and `tt_sharing` what
@@ -24,7 +24,8 @@
 //! - `servers`: [`serve`], which starts the threads and ends them. `lives`: [`LifeEnd`], how a life of a machine ended.
 //!   `starts`: the parts of a machine. `checks`: [`check_start`], which judges what a start would find. `links`: the link to the masters. `rings`: the keys that are shared with them.
 //!   `owns`: the address of its own of the socket for polls. `names`: the thread that looks up names. `states`: what the threads share.
-//! - `rounds`: the thread of the daemon. `paces`: the pauses between rounds.
+//! - `descriptors`: how many descriptors a machine wants, and how many sessions it takes within its limit.
+//! - `rounds`: the thread of the daemon. `paces`: the pauses between rounds. `sharers`: the thread that writes the shared file.
 //! - `breaks`: what is recorded of a break, and [`break_laws`]. `evidence`: the evidence of a
 //!   publication. `modes`: who may write the files.
 //! - `workers`: the threads of the workers. `faults`: why a machine does not serve.
@@ -42,6 +43,7 @@
 
 mod breaks;
 mod checks;
+mod descriptors;
 mod evidence;
 mod faults;
 mod links;
@@ -53,14 +55,18 @@ mod paces;
 mod rings;
 mod rounds;
 mod servers;
+mod sharers;
 mod starts;
 mod states;
 mod workers;
 
 pub use breaks::break_laws;
 pub use checks::check_start;
+pub use descriptors::{needed_descriptors, sessions_within};
 pub use faults::ServerFault;
 pub use lives::{LifeEnd, WorkerEnd};
 pub use names::{HostNames, MAX_FOUND, has_names};
 pub use servers::{EndOfInput, serve};
+pub use sharers::SharesFile;
 pub use tt_connections::MachineClock;
+pub use tt_host::descriptor_limit;

@@ -5,7 +5,7 @@ ghost use Rattle.tt_settings.specs.Master.{Master};
 ghost use Rattle.tt_settings.specs.Socket.{address_of};
 
 use crate::faults::ServerFault;
-use crate::names::{NameTable, Names, has_names};
+use crate::names::{NameTable, Names, has_names, patience_of};
 use crate::owns::{OwnAddress, Reach, check_families, own_of};
 use crate::rings::{draw_ahead, keys_in_file, rings_of};
 use crate::starts::fault_of;
@@ -29,7 +29,7 @@ const SIX_ONLY: &str = "/proc/sys/net/ipv6/bindv6only";
 /// The link to the masters, and what belongs to it.
 #[derive(Drop)]
 pub(crate) struct Polling<'a, R> {
-    pub(crate) link: RoundLink<'a, R>,
+    pub(crate) link: RoundLink<'a, R, UdpSocket>,
     pub(crate) reach: Reach,
     /// What is found of the names of masters, if one has a name.
     pub(crate) table: Option<Arc<NameTable, Global>>,
@@ -96,11 +96,12 @@ fn names_of(
     alloc: Global,
     masters: &[MasterSettings],
     reach: Reach,
+    patience: u64,
 ) -> Result<(Option<Names>, Option<Arc<NameTable, Global>>), ServerFault> {
     if !has_names(masters) {
         return Ok((None, None));
     }
-    match Names::new(alloc, masters, reach) {
+    match Names::new(alloc, masters, reach, patience) {
         Some((names, table)) => Ok((Some(names), Some(table))),
         None => Err(ServerFault::Memory),
     }
@@ -172,7 +173,7 @@ pub(crate) fn link_to<'a, R: SystemClock + Net + Files<File = File> + RandomSour
         )),
     };
     let peers = peers_of(alloc, masters)?;
-    let (names, table) = names_of(alloc, masters, reach)?;
+    let (names, table) = names_of(alloc, masters, reach, patience_of(settings.pauses()))?;
     let wait = Duration::from_nanos(settings.pauses().wait);
     match RoundLink::over(rt, alloc, socket, peers, wait, wire) {
         Ok((link, waker)) => Ok((

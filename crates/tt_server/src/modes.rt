@@ -15,13 +15,11 @@ use tt_status::LogEvent;
 /// The bits of a mode that let the group of a file, and all others, write it.
 const OTHERS_WRITE: u32 = 0o022;
 
-/// Whether others than the owner may write the folder of the state, the file of the epoch and the shared file, each as
-/// found at the start.
+/// Whether others than the owner may write the folder of the state and the file of the epoch, each as found at the start.
 #[derive(Clone, Copy)]
 pub(crate) struct Loose {
     state: bool,
     epoch: bool,
-    shared: bool,
 }
 
 /// Whether nobody but its owner may write a file of this mode.
@@ -32,7 +30,7 @@ fn is_tight(mode: u32) -> bool
 }
 
 /// Whether others than its owner may write the file or folder at this path. False if nothing is there.
-fn is_loose_at<R: Files>(rt: &R, path: &str) -> bool {
+pub(crate) fn is_loose_at<R: Files>(rt: &R, path: &str) -> bool {
     match rt.metadata(path) {
         Ok(metadata) => !is_tight(metadata.permissions().mode()),
         Err(_) => false,
@@ -47,14 +45,9 @@ impl Loose {
             Ok(path) => is_loose_at(rt, path.as_str()),
             Err(_) => false,
         };
-        let shared = match settings.shared() {
-            Some(path) => is_loose_at(rt, path.as_str()),
-            None => false,
-        };
         Loose {
             state: is_loose_at(rt, folder),
             epoch,
-            shared,
         }
     }
 
@@ -65,9 +58,6 @@ impl Loose {
         }
         if self.epoch {
             say(context, LogEvent::EpochLoose);
-        }
-        if self.shared {
-            say(context, LogEvent::SharedLoose);
         }
     }
 }

@@ -1,9 +1,9 @@
 //! The names of sources, which a thread of its own looks up.
 
-ghost use Rattle.std.specs.Prelude.{◌≡◌, IfSome, map};
-ghost use Rattle.tt_server.specs.Name.{IsNews, has_missed, has_names, is_lookup_due, is_long_ago, lookups_after, named_as, named_from};
+ghost use Rattle.std.specs.Prelude.{◌≡◌, ◌<◌, IfSome, map};
+ghost use Rattle.tt_server.specs.Name.{IsNews, has_missed, has_names, has_passed, is_lookup_due, is_long_ago, is_turn_due, lookups_after, named_as, named_from, next_place, patience_of};
 
-use crate::owns::{Reach, first_reached};
+use crate::owns::{Reach, first_reached, reaches};
 use std::alloc::Global;
 use std::net::{Ipv4Addr, Net, SocketAddr, ToSocketAddrs};
 use std::sync::atomic::{AtomicBool, AtomicU64, Ordering};
@@ -14,7 +14,7 @@ use std::{array, thread};
 use tt_connections::reading_of;
 use tt_daemon::MAX_SOURCES;
 use tt_health::Answer;
-use tt_settings::MasterSettings;
+use tt_settings::{MasterSettings, Pauses};
 
 /// A minute, in nanoseconds: how long a source has to be silent before its name is looked up again, and how long it is
 /// from one lookup of a name to the next.
@@ -22,6 +22,9 @@ const MINUTE: u64 = 60_000_000_000;
 
 /// How often the thread looks whether a name is to be looked up, in nanoseconds.
 const STEP: u64 = 1_000_000_000;
+
+/// How many rounds an address is asked without an answer, where its name has another one.
+const SILENCES: u64 = 4;
 
 /// The most addresses of one name.
 pub const MAX_FOUND: usize = 32;
@@ -96,6 +99,49 @@ fn is_lookup_due(tried: Option<u64>, answered: Option<u64>, now: u64) -> bool
     is_long_ago(tried, now) && is_long_ago(answered, now)
 }
 
+/// Whether a clock that shows `now` showed this so long ago or earlier, or never did.
+fn has_passed(clock: Option<u64>, now: u64, length: u64) -> bool
+    ensures { result ≡ has_passed clock now length }
+{
+    match clock {
+        Some(clock) => now.saturating_sub(clock) >= length,
+        None => true,
+    }
+}
+
+/// Whether the next of the addresses of a source is to be asked when the clock shows `now`: it has two at least, the one that
+/// is asked was taken when the clock showed `turned`, and the source has not answered for as long as `patience` since.
+fn is_turn_due(
+    count: usize,
+    turned: Option<u64>,
+    answered: Option<u64>,
+    now: u64,
+    patience: u64,
+) -> bool
+    ensures value { result ≡ is_turn_due count turned answered now patience }
+{
+    2 <= count && has_passed(turned, now, patience) && has_passed(answered, now, patience)
+}
+
+/// The place of the address that is asked after the one at this place, of so many: the next one, and the first after the last.
+fn next_place(count: usize, place: usize) -> usize
+    ensures value { result ≡ next_place count place }
+    ensures in_range { 0 < count → result < count }
+{
+    match place.checked_add(1) {
+        Some(next) if next < count => next,
+        _ => 0,
+    }
+}
+
+/// For how long a source is asked at an address that does not answer: four rounds, each a pause and a wait.
+pub(crate) fn patience_of(pauses: Pauses) -> u64
+    ensures value { result ≡ patience_of pauses }
+{
+    let round = pauses.poll.saturating_add(pauses.wait);
+    round.saturating_mul(SILENCES)
+}
+
 /// Whether one of the masters has a name.
 pub fn has_names(masters: &[MasterSettings]) -> bool
     ensures value { result ≡ has_names masters.now }
@@ -116,6 +162,12 @@ pub(crate) struct NamedSource {
     port: u16,
     /// What the clock showed when it was looked up last.
     tried: Option<u64>,
+    /// The addresses that the last lookup found that found one, those that the socket reaches, each once.
+    addresses: Vec<SocketAddr>,
+    /// The place of the address that is asked.
+    place: usize,
+    /// What the clock showed when that was taken.
+    turned: Option<u64>,
 }
 
 /// The sources with a name, each with its number: its place among the masters. None if it is out of memory.
@@ -125,12 +177,16 @@ fn named_in(alloc: Global, masters: &[MasterSettings]) -> Option<Vec<NamedSource
     let mut named = Vec::new(alloc);
     for place in 0..masters.len() {
         if let Some((host, port)) = masters[place].address().host() {
+            let addresses = Vec::with_capacity(alloc, MAX_FOUND).ok()?;
             named
                 .push(NamedSource {
                     source: place,
                     host: String::from_str(alloc, host).ok()?,
                     port,
                     tried: None,
+                    addresses,
+                    place: 0,
+                    turned: None,
                 })
                 .ok()?;
         }
@@ -211,15 +267,18 @@ pub(crate) struct Names {
     named: Vec<NamedSource>,
     table: Arc<NameTable, Global>,
     reach: Reach,
+    /// For how long a source is asked at an address that does not answer.
+    patience: u64,
 }
 
 impl Names {
-    /// The names of these masters, of which none is looked up yet, for a socket with this reach. None if it is out of
-    /// memory.
+    /// The names of these masters, of which none is looked up yet, for a socket with this reach. A source is asked for as long
+    /// as `patience` at an address that does not answer. None if it is out of memory.
     pub(crate) fn new(
         alloc: Global,
         masters: &[MasterSettings],
         reach: Reach,
+        patience: u64,
     ) -> Option<(Names, Arc<NameTable, Global>)> {
         let named = named_in(alloc, masters)?;
         let table = Arc::new(alloc, NameTable::new()).ok()?;
@@ -228,6 +287,7 @@ impl Names {
             named,
             table,
             reach,
+            patience,
         };
         Some((names, shared))
     }
@@ -255,24 +315,71 @@ impl<R: Net> HostNames for R {
     }
 }
 
-/// The first of the addresses of a name that the socket reaches, if the name has one.
-fn look_up<R: HostNames>(rt: &R, host: &str, port: u16, reach: Reach) -> Option<SocketAddr> {
-    let mut found = [SocketAddr::from((Ipv4Addr::UNSPECIFIED, 0)); MAX_FOUND];
-    let count = rt.look_up(host, port, &mut found);
-    first_reached(reach, found.get(..count)?)
+/// The place of an address among these; 0 if it is not there.
+fn place_of(addresses: &[SocketAddr], known: Option<SocketAddr>) -> usize {
+    for place in 0..addresses.len() {
+        if Some(addresses[place]) == known {
+            return place;
+        }
+    }
+    0
 }
 
-/// Looks up the names that are due.
+impl NamedSource {
+    /// The address that is asked, if one was found.
+    fn address(&self) -> Option<SocketAddr> {
+        self.addresses.get(self.place).copied()
+    }
+
+    /// Takes the addresses that the socket reaches, each once. The one that was asked goes on if it is among them.
+    fn take(&mut self, reach: Reach, found: &[SocketAddr], now: u64) {
+        let known = self.address();
+        self.addresses.clear();
+        for address in found {
+            if reaches(reach, *address) && !self.addresses.contains(address) {
+                let _ = self.addresses.push(*address);
+            }
+        }
+        self.place = place_of(self.addresses.as_slice(), known);
+        if self.address() != known {
+            self.turned = Some(now);
+        }
+    }
+
+    /// Looks up the name. Answers the address that is to be asked, or None if the name has none that the socket reaches: then
+    /// what was found before stays.
+    fn look_up<R: HostNames>(&mut self, rt: &R, reach: Reach, now: u64) -> Option<SocketAddr> {
+        let mut found = [SocketAddr::from((Ipv4Addr::UNSPECIFIED, 0)); MAX_FOUND];
+        let count = rt.look_up(self.host.as_str(), self.port, &mut found);
+        let found = found.get(..count)?;
+        first_reached(reach, found)?;
+        self.take(reach, found, now);
+        self.address()
+    }
+
+    /// Takes the next address of the name, and answers it.
+    fn turn(&mut self, now: u64) -> Option<SocketAddr> {
+        self.place = next_place(self.addresses.len(), self.place);
+        self.turned = Some(now);
+        self.address()
+    }
+}
+
+/// Looks up the names that are due, and takes the next address where one was silent for long.
 fn look_up_due<R: Wait + SystemClock + HostNames>(rt: &R, names: &mut Names) {
-    let reach = names.reach;
+    let (reach, patience) = (names.reach, names.patience);
     for named in &mut names.named {
         let Some(now) = reading_of(rt) else {
             return;
         };
-        if is_lookup_due(named.tried, names.table.answered(named.source), now) {
-            let found = look_up(rt, named.host.as_str(), named.port, reach);
+        let answered = names.table.answered(named.source);
+        if is_lookup_due(named.tried, answered, now) {
+            let found = named.look_up(rt, reach, now);
             names.table.note(rt, named.source, found);
             named.tried = Some(reading_of(rt).unwrap_or(now));
+        } else if is_turn_due(named.addresses.len(), named.turned, answered, now, patience) {
+            let next = named.turn(now);
+            names.table.note(rt, named.source, next);
         }
     }
 }

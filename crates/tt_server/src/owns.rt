@@ -169,7 +169,7 @@ pub(crate) fn check_families(reach: Reach, masters: &[MasterSettings]) -> Result
 }
 
 /// Whether a socket reaches an address.
-fn reaches(reach: Reach, address: SocketAddr) -> bool
+pub(crate) fn reaches(reach: Reach, address: SocketAddr) -> bool
     ensures { result ≡ reaches reach.own reach.six_only address }
 {
     match reach.own {

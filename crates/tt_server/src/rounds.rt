@@ -5,7 +5,7 @@ ghost use Rattle.tt_publish.specs.Reading.{fused_span_of};
 ghost use Rattle.tt_consistency.specs.Calls.{AreInTurn, RiseIn, RoundsCall, kept_after};
 ghost use Rattle.tt_server.specs.Name.{IsNews};
 ghost use Rattle.tt_telemetry.specs.Notice.{event_of_unmet};
-ghost use Rattle.tt_server.specs.Round.{MakesCall, kept_with, renewal_after};
+ghost use Rattle.tt_server.specs.Round.{MakesCall, MakesHeardCall, kept_with, renewal_after};
 ghost use Rattle.tt_telemetry.specs.Status.{seals_of, unsent_of};
 
 use crate::evidence::{keep_break, published_in, show_evidence};
@@ -13,10 +13,11 @@ use crate::links::socket_again;
 use crate::names::{Lookups, NO_LOOKUPS, NameTable, has_missed, news_of};
 use crate::owns::Reach;
 use crate::paces::{pause_of, renewal_after, turns_of, waits_on};
+use crate::sharers::Shares;
 use crate::states::{ThreadContext, say};
 use std::alloc::Global;
 use std::fs::{File, Files};
-use std::net::{Net, SocketAddr};
+use std::net::{Net, SocketAddr, UdpSocket};
 use std::sync::{Arc, Wait};
 use std::time::Clock as SystemClock;
 use tt_connections::MachineClock;
@@ -25,8 +26,7 @@ use tt_host::{GuestWatch, Sleep, SleepWatch};
 use tt_publish::{Clock, Teller};
 use tt_rounds::{NodeFault, RoundLink, RoundReport, Rounds, RoundsPlan, report_rounds};
 use tt_settings::OnBreak;
-use tt_shared::SharedSpan;
-use tt_sharing::{RoundTerms, Share, ended_at, period_of, withdrawn};
+use tt_sharing::{HANGS, RoundTerms, period_of, withdrawn};
 use tt_status::LogEvent;
 use tt_telemetry::{
     Account, Machine, NO_SEALS, Notices, RoundRecords, Shown, SourceSeals, Totals, Unmet,
@@ -36,7 +36,7 @@ use tt_telemetry::{
 /// The link to the masters, as the daemon's thread has it.
 #[derive(Drop)]
 pub(crate) struct Polled<'a, R> {
-    pub(crate) link: RoundLink<'a, R>,
+    pub(crate) link: RoundLink<'a, R, UdpSocket>,
     pub(crate) reach: Reach,
     /// What is found of the names of masters, if one has a name.
     pub(crate) table: Option<Arc<NameTable, Global>>,
@@ -55,7 +55,7 @@ pub(crate) struct Poller<'a, R> {
     totals: Totals,
     /// The last publication.
     shown: Option<Shown>,
-    share: Share<'a, R>,
+    share: Shares,
     /// The pause before the socket is made anew, in nanoseconds; 0 if it is not.
     renewal: u64,
     /// For each source, how many packets to it could not be sent so far.
@@ -81,7 +81,7 @@ impl<'a, R> Poller<'a, R> {
     pub(crate) fn new(
         daemon: Daemon,
         polled: Polled<'a, R>,
-        share: Share<'a, R>,
+        share: Shares,
         vmclock: Option<&'a str>,
     ) -> Poller<'a, R>
         ensures daemon { result.daemon ≡ daemon }
@@ -121,6 +121,13 @@ impl<'a, R> Poller<'a, R> {
     }
 }
 
+impl<'a, R: Wait + SystemClock> Poller<'a, R> {
+    /// Waits until what it shared last is written, for at most 200 ms.
+    pub(crate) fn end_sharing(&self, rt: &R) {
+        self.share.end(rt);
+    }
+}
+
 /// What the clock shows, or the last time that it showed if it can't be read.
 fn now_of<R: SystemClock>(clock: &mut MachineClock<'_, R>) -> u64
     ensures rises { clock.old.last ≤ clock.new.last }
@@ -140,7 +147,9 @@ fn round<R: Wait + SystemClock>(
     teller: &mut Teller,
 ) -> Result<Rounds, NodeFault>
     ensures call { MakesCall (kept_with poller.old.daemon teller.old.items) (kept_with poller.new.daemon teller.new.items) clock.old.last clock.new.last }
+    ensures heard { MakesHeardCall poller.old.polled.link.hearing.wire (kept_with poller.old.daemon teller.old.items) (kept_with poller.new.daemon teller.new.items) clock.old.last clock.new.last }
     ensures source { teller.new.source ≡ teller.old.source }
+    ensures wire { poller.new.polled.link.hearing.wire ≡ poller.old.polled.link.hearing.wire }
 {
     let plan = RoundsPlan {
         rounds: 1,
@@ -158,7 +167,7 @@ fn round<R: Wait + SystemClock>(
 }
 
 /// For each source, how many packets to it could not be sent so far.
-fn unsent_by<R: SystemClock>(link: &RoundLink<'_, R>) -> [u64; MAX_SOURCES]
+fn unsent_by<R: SystemClock>(link: &RoundLink<'_, R, UdpSocket>) -> [u64; MAX_SOURCES]
     ensures value { result ≡ unsent_of link.now.hearing.table.unsent }
 {
     let mut unsent = [0; MAX_SOURCES];
@@ -169,7 +178,7 @@ fn unsent_by<R: SystemClock>(link: &RoundLink<'_, R>) -> [u64; MAX_SOURCES]
 }
 
 /// What is known of the seals of the packets from each source so far.
-fn seals_by<R: SystemClock>(link: &RoundLink<'_, R>) -> [SourceSeals; MAX_SOURCES]
+fn seals_by<R: SystemClock>(link: &RoundLink<'_, R, UdpSocket>) -> [SourceSeals; MAX_SOURCES]
     ensures value { result ≡ seals_of link.now.hearing.table.openings }
 {
     let mut seals = [NO_SEALS; MAX_SOURCES];
@@ -205,6 +214,7 @@ fn say_lookups<R: Wait + SystemClock>(
 /// the last answers came.
 fn hear_names<R: Wait + SystemClock>(context: ThreadContext<'_, R>, poller: &mut Poller<'_, R>)
     ensures same { poller.new.daemon ≡ poller.old.daemon }
+    ensures wire { poller.new.polled.link.hearing.wire ≡ poller.old.polled.link.hearing.wire }
 {
     let Some(table) = &poller.polled.table else {
         return;
@@ -230,6 +240,7 @@ fn hear_names<R: Wait + SystemClock>(context: ThreadContext<'_, R>, poller: &mut
 /// seals of packets.
 fn hear_packets<R: Wait + SystemClock>(context: ThreadContext<'_, R>, poller: &mut Poller<'_, R>)
     ensures same { poller.new.daemon ≡ poller.old.daemon }
+    ensures wire { poller.new.polled.link.hearing.wire ≡ poller.old.polled.link.hearing.wire }
 {
     poller.seals = seals_by(&poller.polled.link);
     if let Some(address) = poller.polled.link.stranger() {
@@ -241,6 +252,7 @@ fn hear_packets<R: Wait + SystemClock>(context: ThreadContext<'_, R>, poller: &m
 /// Takes what a round has shown of packets, and what was found of names meanwhile.
 fn hear_all<R: Wait + SystemClock>(context: ThreadContext<'_, R>, poller: &mut Poller<'_, R>)
     ensures same { poller.new.daemon ≡ poller.old.daemon }
+    ensures wire { poller.new.polled.link.hearing.wire ≡ poller.old.polled.link.hearing.wire }
 {
     hear_packets(context, poller);
     hear_names(context, poller);
@@ -283,6 +295,7 @@ fn break_off<R: Wait + SystemClock + Files<File = File>>(
     now: u64,
 )
     ensures same { poller.new.daemon ≡ poller.old.daemon }
+    ensures wire { poller.new.polled.link.hearing.wire ≡ poller.old.polled.link.hearing.wire }
     ensures totals { poller.new.totals ≡ poller.old.totals }
     ensures renewal { poller.new.renewal ≡ poller.old.renewal }
 {
@@ -295,23 +308,10 @@ fn break_off<R: Wait + SystemClock + Files<File = File>>(
             poller.totals.published,
             server.life.config.drift(),
         );
-        share(context, &mut poller.share, nothing, now);
+        poller.share.put(context.rt, &nothing, now);
     }
     poller.notices.breaks = poller.notices.breaks.saturating_add(1);
     say(context, event);
-}
-
-/// Shares a publication when the clock shows `now`, and logs what is to be logged of it.
-fn share<R: Wait + SystemClock + Files<File = File>>(
-    context: ThreadContext<'_, R>,
-    file: &mut Share<'_, R>,
-    span: SharedSpan,
-    now: u64,
-) {
-    let tried = file.put(span, context.server.life.pauses.poll, now);
-    if let Some(event) = tried.event {
-        say(context, event);
-    }
 }
 
 /// The event of a publication that does not meet the last one.
@@ -336,6 +336,7 @@ fn compare<R: Wait + SystemClock + Files<File = File>>(
     now: u64,
 )
     ensures same { poller.new.daemon ≡ poller.old.daemon }
+    ensures wire { poller.new.polled.link.hearing.wire ≡ poller.old.polled.link.hearing.wire }
     ensures totals { poller.new.totals ≡ poller.old.totals }
     ensures renewal { poller.new.renewal ≡ poller.old.renewal }
 {
@@ -353,8 +354,10 @@ fn look_at_host<R: Wait + SystemClock + Files<File = File>>(
     now: u64,
 )
     ensures same { poller.new.daemon ≡ poller.old.daemon }
+    ensures wire { poller.new.polled.link.hearing.wire ≡ poller.old.polled.link.hearing.wire }
     ensures totals { poller.new.totals ≡ poller.old.totals }
     ensures renewal { poller.new.renewal ≡ poller.old.renewal }
+    ensures unseen { poller.new.notices.sleep_unseen ≡ poller.new.sleep }
 {
     match poller.sleep.look(context.rt) {
         Sleep::Awake => {}
@@ -369,6 +372,7 @@ fn look_at_host<R: Wait + SystemClock + Files<File = File>>(
             break_off(context, poller, LogEvent::GuestDisrupted, now);
         }
     }
+    poller.notices.sleep_unseen = poller.sleep.is_blind();
 }
 
 /// Counts a round after which fewer than n - f sources have answered within three periods, and logs it once something is
@@ -379,6 +383,7 @@ fn count_stale<R: Wait + SystemClock>(
     now: u64,
 )
     ensures same { poller.new.daemon ≡ poller.old.daemon }
+    ensures wire { poller.new.polled.link.hearing.wire ≡ poller.old.polled.link.hearing.wire }
     ensures totals { poller.new.totals ≡ poller.old.totals }
     ensures renewal { poller.new.renewal ≡ poller.old.renewal }
 {
@@ -410,6 +415,7 @@ fn hand_on<R: Wait + SystemClock + Files<File = File>>(
 )
     requires in_range { records.events.count ≤ 50 }
     ensures same { poller.new.daemon ≡ poller.old.daemon }
+    ensures wire { poller.new.polled.link.hearing.wire ≡ poller.old.polled.link.hearing.wire }
     ensures totals { poller.new.totals ≡ records.totals }
     ensures renewal { poller.new.renewal ≡ renewal_after records.link_failed poller.old.renewal }
 {
@@ -425,7 +431,7 @@ fn hand_on<R: Wait + SystemClock + Files<File = File>>(
     }
     if let Some(span) = span {
         if !poller.broken {
-            share(context, &mut poller.share, span, now);
+            poller.share.put(context.rt, &span, now);
         }
     }
     if poller.totals.published == 0 && totals.published > 0 {
@@ -447,6 +453,7 @@ fn settle<R: Wait + SystemClock + Files<File = File>>(
     now: u64,
 )
     ensures same { poller.new.daemon ≡ poller.old.daemon }
+    ensures wire { poller.new.polled.link.hearing.wire ≡ poller.old.polled.link.hearing.wire }
 {
     poller.notices.hear(&poller.report.sources);
     let unsent = unsent_by(&poller.polled.link);
@@ -465,7 +472,7 @@ fn settle<R: Wait + SystemClock + Files<File = File>>(
     }
 }
 
-/// Hands the status to the reporter.
+/// Hands the status to the reporter. It is logged once if a try to write the shared file hangs.
 fn show<R: Wait + SystemClock + Files<File = File>>(
     context: ThreadContext<'_, R>,
     poller: &Poller<'_, R>,
@@ -475,12 +482,15 @@ fn show<R: Wait + SystemClock + Files<File = File>>(
 {
     let server = context.server;
     let now = now_of(clock);
+    if poller.share.tells_hang(now) {
+        say(context, LogEvent::SharingEnded { number: HANGS });
+    }
     let machine = Machine {
         number: u64::from(server.life.machine),
         epoch: server.life.epoch,
         config: server.life.config,
         known: poller.daemon.known() as u64,
-        sharing: poller.share.is_written(),
+        sharing: poller.share.is_written(now),
     };
     let account = Account {
         totals: &poller.totals,
@@ -503,6 +513,7 @@ fn go_round<R: Wait + SystemClock + Files<File = File>>(
 )
     ensures call { MakesCall (kept_with poller.old.daemon teller.old.items) (kept_with poller.new.daemon teller.new.items) clock.old.last clock.new.last }
     ensures source { teller.new.source ≡ teller.old.source }
+    ensures wire { poller.new.polled.link.hearing.wire ≡ poller.old.polled.link.hearing.wire }
 {
     let server = context.server;
     hear_names(context, poller);
@@ -518,6 +529,7 @@ fn go_round<R: Wait + SystemClock + Files<File = File>>(
 /// next round tells.
 fn renew<R: Wait + SystemClock + Net>(context: ThreadContext<'_, R>, poller: &mut Poller<'_, R>)
     ensures same { poller.new.daemon ≡ poller.old.daemon }
+    ensures wire { poller.new.polled.link.hearing.wire ≡ poller.old.polled.link.hearing.wire }
 {
     if poller.renewal == 0 {
         return;
@@ -543,16 +555,14 @@ fn end<R: Wait + SystemClock + Files<File = File>>(
     clock: &mut MachineClock<'_, R>,
 )
     ensures same { poller.new.daemon ≡ poller.old.daemon }
+    ensures wire { poller.new.polled.link.hearing.wire ≡ poller.old.polled.link.hearing.wire }
     ensures rises { clock.old.last ≤ clock.new.last }
 {
     if poller.broken {
         return;
     }
-    let Some(last) = poller.share.last() else {
-        return;
-    };
     let now = now_of(clock);
-    share(context, &mut poller.share, ended_at(&last, now), now);
+    poller.share.put_end(context.rt, now);
 }
 
 /// Makes the rounds of the daemon until the machine ends, each before a pause, or until it knows that an assumption is
@@ -571,6 +581,7 @@ pub(crate) fn run_daemon<R: Wait + SystemClock + Files<File = File> + Net>(
         × (kept_after (record { daemon = poller.old.daemon; published = [] }) calls ≡ record { daemon = poller.new.daemon; published = map fused_span_of teller.new.items })
         × RiseIn clock.old.last calls clock.new.last }
     ensures source { teller.new.source ≡ teller.old.source }
+    ensures wire { poller.new.polled.link.hearing.wire ≡ poller.old.polled.link.hearing.wire }
 {
     let (rt, server) = (context.rt, context.server);
     let began = now_of(clock);

@@ -9,12 +9,14 @@ ghost use Rattle.tt_server.specs.Round.{side_workers_of};
 ghost use Rattle.tt_server.specs.Thread.{AreReady, HasSettings, IsServing, terms_in};
 
 use crate::breaks::{pause_after_breaks, record_break};
+use crate::descriptors::{needed_descriptors, room_of, sessions_within};
 use crate::faults::ServerFault;
 use crate::links::{Polling, link_to};
 use crate::lives::{LifeEnd, WorkerEnd};
 use crate::modes::Loose;
 use crate::names::{HostNames, Names, start_names};
 use crate::rounds::{Polled, Poller, run_daemon};
+use crate::sharers::{SharesFile, start_sharing};
 use crate::starts::{
     acceptor_of, backlog_of, front_of, pages_of, poller_of, publications_of, reporter_of,
     shows_evidence, side_of, sights_of, watch_all,
@@ -33,6 +35,7 @@ use std::thread::{JoinHandle, Scope, Threads};
 use std::time::Clock as SystemClock;
 use tt_connections::{Acceptor, Listeners, MachineClock, Sight, reading_of};
 use tt_epoch::{FolderStore, Store, next_epoch};
+use tt_host::descriptor_limit;
 use tt_publish::{Teller, Told, Watch};
 use tt_report::{Disk, Pages};
 use tt_settings::Settings;
@@ -304,6 +307,7 @@ fn run_threads<
         + SystemClock
         + EndOfInput
         + HostNames
+        + SharesFile
         + Sync
         + Files<File = File>
         + Net<Listener = TcpListener, Stream = TcpStream>
@@ -344,7 +348,12 @@ fn run_threads<
         names,
     } = polling;
     let polled = Polled { link, reach, table };
-    let mut poller = poller_of(rt, context, settings, polled);
+    let path = match settings.shared() {
+        Some(path) => Some(path.as_str()),
+        None => None,
+    };
+    let share = start_sharing(context, path)?;
+    let mut poller = poller_of(context, settings, polled, share);
     if !start_all(
         scope,
         context,
@@ -365,6 +374,7 @@ fn run_threads<
     server.end();
     poller.end_names();
     let workers = join_workers(rt, handles, ends, &opened, &server.life);
+    poller.end_sharing(rt);
     let published = teller.tell();
     // The answer is always yes: a watch sees only what its teller shows, and the daemon has ended. But of a watch the
     // proofs know only that it reads publications of this teller's source.
@@ -387,6 +397,7 @@ fn run<
         + SystemClock
         + EndOfInput
         + HostNames
+        + SharesFile
         + Sync
         + Files<File = File>
         + Net<Listener = TcpListener, Stream = TcpStream>
@@ -436,6 +447,21 @@ fn say_started<R: Wait + SystemClock>(context: ThreadContext<'_, R>, listen: u16
     );
 }
 
+/// Logs how many descriptors the process may have, how many all sessions want, and how many sessions there is room for.
+fn say_descriptors<R: Wait + SystemClock>(context: ThreadContext<'_, R>, limit: Option<u64>) {
+    let workers = context.server.life.config.workers();
+    if let Some(limit) = limit {
+        say(
+            context,
+            LogEvent::Descriptors {
+                limit,
+                needed: needed_descriptors(workers as u64),
+                sessions: sessions_within(Some(limit), workers),
+            },
+        );
+    }
+}
+
 /// What a machine is started with.
 #[derive(Drop)]
 struct Start<'a> {
@@ -444,6 +470,8 @@ struct Start<'a> {
     waker: Waker,
     until_eof: bool,
     pages: Option<Pages>,
+    /// How many descriptors the process may have, where that is known.
+    limit: Option<u64>,
 }
 
 /// Starts the reporter, takes the next epoch from this store, and runs the machine of this life.
@@ -455,6 +483,7 @@ fn run_life<
         + Eprint
         + EndOfInput
         + HostNames
+        + SharesFile
         + Sync
         + Files<File = File>
         + Net<Listener = TcpListener, Stream = TcpStream>
@@ -483,6 +512,7 @@ fn run_life<
         waker,
         until_eof,
         pages,
+        limit,
     } = start;
     let reporter = reporter_of(rt, alloc, settings, pages)?;
     let loose = Loose::found(rt, alloc, settings);
@@ -504,6 +534,7 @@ fn run_life<
         server: &server,
     };
     loose.say_in(context);
+    say_descriptors(context, limit);
     let ended = run(context, settings, parts, teller, until_eof);
     if let Ok(end) = &ended {
         if end.broken {
@@ -524,6 +555,7 @@ fn run_behind<
         + Eprint
         + EndOfInput
         + HostNames
+        + SharesFile
         + Sync
         + Files<File = File>
         + Net<Listener = TcpListener, Stream = TcpStream>
@@ -577,8 +609,8 @@ fn run_behind<
 /// The start, in this order: it listens at the TCP address and at that of the pages if the settings name one, reads the file of keys if the settings name one, draws how far
 /// the nonces of this life are ahead on the wire, opens the socket for polls, locks the folder of the epoch for as long as
 /// it runs, listens at the Unix socket if the settings name one, takes the memory, opens the publications,
-/// starts the reporter's threads, pauses where a break is recorded that is less than a minute old, and takes the next epoch. Then it opens the shared file and starts the other threads:
-/// those of the workers, of the acceptor, of the end, and of the names if a master has one. Then the daemon makes its rounds. Clients are served after the
+/// starts the reporter's threads, pauses where a break is recorded that is less than a minute old, and takes the next epoch. Then it starts the other threads:
+/// those of the shared file if the settings name one, of the workers, of the acceptor, of the end, and of the names if a master has one. Then the daemon makes its rounds. Clients are served after the
 /// first publication, or two seconds after the start. If there is a Unix socket, half of the workers serve its clients,
 /// and the other workers serve the clients of the TCP address.
 ///
@@ -607,6 +639,7 @@ pub fn serve<
         + Eprint
         + EndOfInput
         + HostNames
+        + SharesFile
         + Sync
         + AllocGlobal
         + Files<File = File>
@@ -630,8 +663,10 @@ pub fn serve<
     };
     let workers = settings.config().workers();
     let side_workers = side_workers_of(workers, settings.socket().is_some());
-    let front = backlog_of(rt, alloc, front, workers - side_workers)?;
-    let side = side_of(rt, alloc, settings, side_workers)?;
+    let limit = descriptor_limit(rt);
+    let room = room_of(limit, workers);
+    let front = backlog_of(rt, alloc, front, workers - side_workers, room)?;
+    let side = side_of(rt, alloc, settings, side_workers, room)?;
     let listeners = Listeners::new(front, side, waker);
     let start = Start {
         settings,
@@ -639,6 +674,7 @@ pub fn serve<
         waker: link_waker,
         until_eof,
         pages,
+        limit,
     };
     let ended = run_behind(rt, alloc, start, acceptor, polling, &mut store);
     if let (Some(side), Some(path)) = (&listeners.side, settings.socket()) {

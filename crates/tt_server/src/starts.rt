@@ -9,25 +9,25 @@ ghost use Rattle.tt_server.specs.declared.faults.ServerFault.TheVariants.{Memory
 
 use crate::faults::ServerFault;
 use crate::rounds::{Polled, Poller};
-use crate::states::{ThreadContext, say};
+use crate::sharers::Shares;
+use crate::states::ThreadContext;
 use mio::Waker;
 use std::alloc::Global;
-use std::fs::{File, Files};
+use std::fs::Files;
 use std::io::{Eprint, ErrorKind};
 use std::net::{Ipv4Addr, Net, TcpListener, TcpStream};
 use std::sync::Wait;
 use std::thread::Threads;
 use std::time::Clock as SystemClock;
 use tt_connections::{
-    Acceptor, Backlog, Inbox, Listener, ListenerFault, Listeners, MachineClock, Sight,
+    Acceptor, Backlog, Inbox, Listener, ListenerFault, Listeners, MachineClock, Room, Sight,
 };
 use tt_daemon::Daemon;
 use tt_files::Reason;
 use tt_pages::Limits;
-use tt_publish::{Clock, Teller, Watch, open};
+use tt_publish::{Teller, Watch, open};
 use tt_report::{Disk, Pages, Reporter, ReporterFault};
 use tt_settings::Settings;
-use tt_sharing::{Share, SharePath, folder_and_name};
 
 /// The acceptor of connections, and what ends its waits.
 pub(crate) fn acceptor_of<R: Net>(rt: &R, alloc: Global) -> Result<(Acceptor, Waker), ServerFault> {
@@ -59,11 +59,16 @@ pub(crate) fn front_of<R: Net<Listener = TcpListener, Stream = TcpStream>>(
     }
 }
 
-/// The inboxes of so many workers, which have no session so far.
-fn inboxes_of<R: Net>(rt: &R, alloc: Global, workers: usize) -> Result<Vec<Inbox>, ServerFault> {
+/// The inboxes of so many workers, which have no session so far, each with this room.
+fn inboxes_of<R: Net>(
+    rt: &R,
+    alloc: Global,
+    workers: usize,
+    room: Room,
+) -> Result<Vec<Inbox>, ServerFault> {
     let mut inboxes = Vec::new(alloc);
     for _ in 0..workers {
-        let inbox = match Inbox::new(rt, alloc) {
+        let inbox = match Inbox::new(rt, alloc, room) {
             Ok(inbox) => inbox,
             Err(error) => return Err(fault_of(
                 error.kind(),
@@ -77,14 +82,15 @@ fn inboxes_of<R: Net>(rt: &R, alloc: Global, workers: usize) -> Result<Vec<Inbox
     Ok(inboxes)
 }
 
-/// A listener with so many workers, where no connection waits.
+/// A listener with so many workers, each of this room, where no connection waits.
 pub(crate) fn backlog_of<R: Net>(
     rt: &R,
     alloc: Global,
     listener: Listener,
     workers: usize,
+    room: Room,
 ) -> Result<Backlog, ServerFault> {
-    Ok(Backlog::new(listener, inboxes_of(rt, alloc, workers)?))
+    Ok(Backlog::new(listener, inboxes_of(rt, alloc, workers, room)?))
 }
 
 /// Where pages are given over HTTP, if the settings say so.
@@ -98,7 +104,12 @@ pub(crate) fn pages_of<R: Net<Listener = TcpListener, Stream = TcpStream>>(
     match TcpListener::bind(rt, (Ipv4Addr::LOCALHOST, port)) {
         Ok(listener) => {
             let pauses = settings.pauses();
-            let limits = Limits::of(settings.max_width(), pauses.poll, pauses.wait);
+            let limits = Limits::of(
+                settings.max_width(),
+                pauses.poll,
+                pauses.wait,
+                settings.shared().is_some(),
+            );
             Ok(Some(Pages { listener, limits }))
         }
         Err(error) => Err(fault_of(
@@ -108,18 +119,19 @@ pub(crate) fn pages_of<R: Net<Listener = TcpListener, Stream = TcpStream>>(
     }
 }
 
-/// The Unix socket with so many workers, if the settings name one. Their inboxes come first, so that no socket is left
+/// The Unix socket with so many workers, each of this room, if the settings name one. Their inboxes come first, so that no socket is left
 /// behind.
 pub(crate) fn side_of<R: Files + Net>(
     rt: &R,
     alloc: Global,
     settings: &Settings,
     workers: usize,
+    room: Room,
 ) -> Result<Option<Backlog>, ServerFault> {
     let Some(path) = settings.socket() else {
         return Ok(None);
     };
-    let inboxes = inboxes_of(rt, alloc, workers)?;
+    let inboxes = inboxes_of(rt, alloc, workers, room)?;
     match Listener::at_path(rt, path.as_str()) {
         Ok(listener) => Ok(Some(Backlog::new(listener, inboxes))),
         Err(ListenerFault::NotSocket) => Err(ServerFault::NotSocket),
@@ -186,7 +198,7 @@ pub(crate) fn reporter_of<R>(
     pages: Option<Pages>,
 ) -> Result<Reporter, ServerFault>
 where
-    R: Threads + Wait + SystemClock + Eprint + Disk + Copy + Send + 'static,
+    R: Threads + Wait + SystemClock + Eprint + Disk + Net + Copy + Send + 'static,
 {
     let path = match settings.status() {
         Some(path) => Some(path.as_str()),
@@ -225,31 +237,18 @@ pub(crate) fn publications_of<R: Wait>(
     }
 }
 
-/// The state of the daemon's thread at its start, with a new daemon of this life. The shared file is opened; if that
-/// fails, it is logged, and tried again later.
-pub(crate) fn poller_of<'a, R: Wait + SystemClock + Files<File = File>>(
-    rt: &'a R,
+/// The state of the daemon's thread at its start, with a new daemon of this life.
+pub(crate) fn poller_of<'a, R>(
     context: ThreadContext<'_, R>,
     settings: &'a Settings,
     polled: Polled<'a, R>,
+    share: Shares,
 ) -> Poller<'a, R>
     requires first { 0 < context.server.now.life.epoch }
     ensures daemon { result.daemon ≡ new_daemon settings.now.machine context.entry.server.now.life.config context.entry.server.now.life.epoch }
     ensures configured { IsConfiguration context.entry.server.now.life.config }
 {
     let server = context.server;
-    let path = match settings.shared() {
-        Some(path) => {
-            let (folder, name) = folder_and_name(path.as_str());
-            Some(SharePath { folder, name })
-        }
-        None => None,
-    };
-    let mut share = Share::new(rt, context.alloc, path);
-    let mut clock = MachineClock::new(rt);
-    if let Some(event) = share.begin(server.life.pauses.poll, clock.read().unwrap_or(0)) {
-        say(context, event);
-    }
     let daemon = Daemon::new(settings.machine(), &server.life.config, server.life.epoch);
     let vmclock = match settings.vmclock() {
         Some(path) => Some(path.as_str()),

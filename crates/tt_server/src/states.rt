@@ -176,6 +176,7 @@ impl<'a> ServerState<'a> {
             lines: self.counts.lines.load(Ordering::SeqCst),
             refused_lines: self.counts.refused.load(Ordering::SeqCst),
             waiting: self.listeners.waiting(),
+            unserved: self.listeners.unserved(),
             busy: self.counts.busy.load(Ordering::SeqCst),
             open_sessions: self.counts.open.load(Ordering::SeqCst),
             commits_waiting: self.counts.commits_waiting.load(Ordering::SeqCst),

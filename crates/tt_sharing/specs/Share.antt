@@ -1,5 +1,5 @@
 -- What is shared with the other processes of the machine.
-use Rattle.std.specs.Prelude.{ℕ, ◌≡◌, ◌⊎◌, ◌<◌, Result, Ok, Err, ◌+◌, ◌-◌, ◌*◌, ◌/◌, ◌^◌, min, max, nat_eq, nat_le, nat_lt, if◌then◌else◌, Bool, true, false, Option, Some, None}
+use Rattle.std.specs.Prelude.{ℕ, ◌≡◌, ◌⊎◌, ◌<◌, Result, Ok, Err, ◌+◌, ◌-◌, ◌*◌, ◌/◌, ◌^◌, min, max, nat_eq, nat_le, nat_lt, not, ◌&&◌, if◌then◌else◌, Bool, true, false, Option, Some, None}
 use Rattle.tt_span.specs.Time.{max_time}
 use Rattle.tt_span.specs.Interval.{Interval, whole}
 use Rattle.tt_daemon.specs.Publication.{Publication}
@@ -13,6 +13,7 @@ use Rattle.tt_shared.specs.Writing.{Write, TellerState, Publishes, StopsShort}
 use Rattle.tt_status.specs.declared.lines.LogEvent.{LogEvent}
 use Rattle.tt_status.specs.declared.lines.LogEvent.TheVariants.{SharingEnded, SharingResumed}
 use Rattle.tt_sharing.specs.declared.sharing.Break.{Break}
+use Rattle.tt_sharing.specs.declared.sharing.Tried.{Tried}
 
 -- how long it is from one publication to the next at most, where the round between them waits as long as it may
 abbrev pub period_of : Pauses → ℕ
@@ -82,6 +83,14 @@ told_of true (Some number) = None
 told_of false (Some number) = Some (SharingEnded number)
 told_of true None = Some SharingResumed
 told_of false None = None
+
+-- the try that began at this clock reading, 0 for none, has lasted longer than a second
+abbrev pub hangs : ℕ → ℕ → Bool
+hangs since now = not (nat_eq since 0) && nat_lt 1000000000 (now - since)
+
+-- where the log says that a try hangs, it says that the sharing is resumed once it was written
+abbrev pub event_of_over : Tried → Bool → Option LogEvent
+event_of_over tried was_told = if was_told && tried.written then Some SharingResumed else tried.event
 
 -- a writer wrote this publication into its place: by the two writes of it, and nothing else
 pub record Writes {P : Type 0} (does : P → Write → Bool → P → Type 0) (span : SharedSpan) (old new : TellerState P) : Type 0 where

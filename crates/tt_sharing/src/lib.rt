@@ -2,7 +2,8 @@
 //!
 //! The crate says what is shared of a publication, and until when it may be read. It keeps the shared file open as long as
 //! it can be written. After a try that failed the file is closed, and tried again after a pause: a round's at first, then
-//! twice the one before, and at most thirty seconds. No thread is here, and nothing is logged: who calls is told the event.
+//! twice the one before, and at most thirty seconds. It says when a try hangs. No thread is here, and nothing is logged: who
+//! calls is told the event.
 //!
 //! ```text
 //! let mut share = Share::new(rt, alloc, Some(path));
@@ -10,6 +11,8 @@
 //! let tried = share.put(shared_of(&fused, number, needed, &terms), poll, now);   // after each publication
 //! let ended = share.put(ended_at(&last, now), poll, now);              // when the machine ends in order
 //! let nothing = share.put(withdrawn(epoch, number, drift), poll, now); // once an assumption is broken
+//! let is_late = hangs(since, now);                               // by another thread, while a call lasts
+//! let event = event_of_over(&tried, was_told);                   // once it is over
 //! ```
 //!
 //! Proved are the values, and the writing of them over any place ([`Sharing`]): where it answers that a publication was
@@ -17,13 +20,16 @@
 //! What another process reads is what the machine published ([`shared_laws`]).
 //!
 //! - `shares`: what is shared of a publication, and until when. `sharing`: the file, as long as it can be written.
+//!   `tries`: when a try hangs.
 #![tactic(auto)]
 
 mod shares;
 mod sharing;
+mod tries;
 
 pub use shares::{
     RoundTerms, ended_at, folder_and_name, fresh_until, period_of, shared_laws, shared_of,
     usable_until, withdrawn,
 };
 pub use sharing::{Break, Opener, Share, SharePath, Sharing, Tried};
+pub use tries::{HANGS, event_of_over, hangs};

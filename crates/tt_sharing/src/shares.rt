@@ -140,8 +140,9 @@ pub fn folder_and_name(path: &str) -> (&str, &str) {
 /// at `index`, as [`SharedReader::now`](tt_shared::SharedReader::now) answers it, and the slot of `found` in them. Its
 /// clock showed `clock`. There are two premises that no contract here gives. Each byte was seen as a writer had written it
 /// at one moment, and these moments are in the order of the looks (`IsSeen`): a file of the operating system claims nothing.
-/// And the publication with that count is one of this life: [`Share::put`] has its writer write what it is given, so this
-/// is so from the first publication of the life on, as long as no other process writes the file.
+/// And the publication with that count is one of this life: [`Share::put`] has its writer write what it is given, and a
+/// machine gives it publications of its life alone, rising, some of which may be left out. So this is so from the first
+/// publication of the life on that is written, as long as no other process writes the file.
 pub fn shared_laws()
     // What is shared of a publication in range can be written and read: its numbers are in range.
     ensures in_range { (publication : Published) (epoch number needed : ℕ) (pauses : ThePauses) (drift most : ℕ) →

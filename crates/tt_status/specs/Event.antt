@@ -10,7 +10,7 @@ use Rattle.tt_status.specs.Moment.{moment_text}
 use Rattle.tt_status.specs.declared.lines.LogFormat.{LogFormat}
 use Rattle.tt_status.specs.declared.lines.LogFormat.TheVariants.{Text, Json}
 use Rattle.tt_status.specs.declared.lines.LogEvent.{LogEvent}
-use Rattle.tt_status.specs.declared.lines.LogEvent.TheVariants.{Started, FirstPublication, SourceSilent, SourceSuspect, FusionRefused, ClockBack, AnswersRefused, RoundFailed, SharingEnded, SharingResumed, StatusUnwritten, NotAccepted, StateLoose, EpochLoose, SharedLoose, Ended, MasterStarted, MasterFailed, SocketRenewed, PublicationSlow, SourceUnsent, AssumptionBroken, HostSlept, GuestDisrupted, SleepUnseen, SourcesStale, StartPaused, EvidenceUnwritten, Stranger, SourceUnresolved, SourceResolved, KeysRead, KeysRefused, PollsUnopened, AddressAwaited, MasterSilent, MasterAnswers, WidthAbove, ClockStepped, ServerRefused, ServerSilent}
+use Rattle.tt_status.specs.declared.lines.LogEvent.TheVariants.{Started, FirstPublication, SourceSilent, SourceSuspect, FusionRefused, ClockBack, AnswersRefused, RoundFailed, SharingEnded, SharingResumed, StatusUnwritten, NotAccepted, StateLoose, EpochLoose, SharedLoose, Ended, MasterStarted, MasterFailed, SocketRenewed, PublicationSlow, SourceUnsent, AssumptionBroken, HostSlept, GuestDisrupted, SleepUnseen, Descriptors, SourcesStale, StartPaused, EvidenceUnwritten, Stranger, SourceUnresolved, SourceResolved, KeysRead, KeysRefused, PollsUnopened, AddressAwaited, MasterSilent, MasterAnswers, WidthAbove, ClockStepped, ServerRefused, ServerSilent}
 use Rattle.tt_status.specs.declared.lines.RefusedFusion.{RefusedFusion}
 use Rattle.tt_status.specs.declared.lines.RefusedFusion.TheVariants.{NoPoint, TooFewKnown}
 
@@ -35,6 +35,7 @@ level_of (Started machine epoch port) = codes "info"
 level_of (FirstPublication width) = codes "info"
 level_of SharingResumed = codes "info"
 level_of Ended = codes "info"
+level_of (Descriptors limit needed sessions) = codes "info"
 level_of (MasterStarted source port) = codes "info"
 level_of (SourceResolved source address) = codes "info"
 level_of (KeysRead keys) = codes "info"
@@ -69,6 +70,7 @@ name_of (AssumptionBroken clock lower upper last_lower last_upper) = codes "assu
 name_of (HostSlept slept) = codes "host_slept"
 name_of GuestDisrupted = codes "guest_disrupted"
 name_of SleepUnseen = codes "sleep_unseen"
+name_of (Descriptors limit needed sessions) = codes "descriptors"
 name_of (SourcesStale answered needed) = codes "sources_stale"
 name_of (StartPaused pause breaks) = codes "start_paused"
 name_of (EvidenceUnwritten errno) = codes "evidence_unwritten"
@@ -105,6 +107,7 @@ fields_of f (AssumptionBroken clock lower upper last_lower last_upper) =
     field f (codes "clock_ns") clock ++ field f (codes "lower_ns") lower ++ field f (codes "upper_ns") upper
     ++ field f (codes "last_lower_ns") last_lower ++ field f (codes "last_upper_ns") last_upper
 fields_of f (HostSlept slept) = field f (codes "slept_ns") slept
+fields_of f (Descriptors limit needed sessions) = field f (codes "limit") limit ++ field f (codes "needed") needed ++ field f (codes "sessions") sessions
 fields_of f (SourcesStale answered needed) = field f (codes "answered") answered ++ field f (codes "needed") needed
 fields_of f (StartPaused pause breaks) = field f (codes "pause_ns") pause ++ field f (codes "breaks") breaks
 fields_of f (StatusUnwritten errno) = field f (codes "errno") errno

@@ -184,6 +184,7 @@ break_metrics s =
     single (codes "truetime_strangers_total") (codes "Packets from addresses that are no source's.") Counter (Whole s.strangers) ∷
     single (codes "truetime_assumption_breaks_total") (codes "Signs that an assumption of the service is broken.") Counter (Whole s.breaks) ∷
     single (codes "truetime_slept_seconds_total") (codes "For how long the host has slept in this life.") Counter (Nanos (Some s.slept)) ∷
+    single (codes "truetime_sleep_unseen") (codes "1 as long as it would not be seen that the host sleeps, else 0.") Gauge (Flag s.sleep_unseen) ∷
     []
 
 -- what was done for clients, and who waits
@@ -193,6 +194,7 @@ client_metrics s =
     single (codes "truetime_lines_total") (codes "Lines of clients that were answered.") Counter (Whole s.lines) ∷
     single (codes "truetime_lines_refused_total") (codes "Lines of clients that were refused.") Counter (Whole s.refused_lines) ∷
     single (codes "truetime_connections_waiting") (codes "Connections that wait for a worker.") Gauge (Whole s.waiting) ∷
+    single (codes "truetime_connections_unserved_total") (codes "Connections that were closed before their session began.") Counter (Whole s.unserved) ∷
     []
 
 -- who serves clients, and what they wait for

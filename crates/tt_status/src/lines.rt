@@ -138,6 +138,12 @@ pub enum LogEvent {
     GuestDisrupted,
     /// That the host sleeps would not be seen: `/proc/uptime` can't be read, or is not the kernel's.
     SleepUnseen,
+    /// How many descriptors the process may have, how many all sessions want, and how many sessions there is room for.
+    Descriptors {
+        limit: u64,
+        needed: u64,
+        sessions: u64,
+    },
     /// Only this many sources have answered within three periods, which is fewer than are needed.
     SourcesStale {
         answered: u64,
@@ -217,6 +223,7 @@ impl LogEvent {
             | LogEvent::FirstPublication { .. }
             | LogEvent::SharingResumed
             | LogEvent::Ended
+            | LogEvent::Descriptors { .. }
             | LogEvent::MasterStarted { .. }
             | LogEvent::SourceResolved { .. }
             | LogEvent::KeysRead { .. }
@@ -256,6 +263,7 @@ impl LogEvent {
             LogEvent::HostSlept { .. } => "host_slept",
             LogEvent::GuestDisrupted => "guest_disrupted",
             LogEvent::SleepUnseen => "sleep_unseen",
+            LogEvent::Descriptors { .. } => "descriptors",
             LogEvent::SourcesStale { .. } => "sources_stale",
             LogEvent::StartPaused { .. } => "start_paused",
             LogEvent::EvidenceUnwritten { .. } => "evidence_unwritten",
@@ -434,6 +442,15 @@ fn push_fields(text: &mut String, format: LogFormat, event: LogEvent) -> Result<
             push_field(text, format, "last_upper_ns", last_upper)
         }
         LogEvent::HostSlept { slept } => push_field(text, format, "slept_ns", slept),
+        LogEvent::Descriptors {
+            limit,
+            needed,
+            sessions,
+        } => {
+            push_field(text, format, "limit", limit)?;
+            push_field(text, format, "needed", needed)?;
+            push_field(text, format, "sessions", sessions)
+        }
         LogEvent::SourcesStale { answered, needed } => {
             push_field(text, format, "answered", answered)?;
             push_field(text, format, "needed", needed)

@@ -149,6 +149,8 @@ pub struct Status {
     pub breaks: u64,
     /// For how long the host has slept in this life, in nanoseconds.
     pub slept: u64,
+    /// Whether it would not be seen that the host sleeps: the last look failed.
+    pub sleep_unseen: bool,
     /// Whether a shared file is written. It is not if there is none, or if its writing has ended.
     pub sharing: bool,
     /// How many sessions have ended.
@@ -159,6 +161,8 @@ pub struct Status {
     pub refused_lines: u64,
     /// How many connections wait for a worker.
     pub waiting: u64,
+    /// How many connections were closed before their session began.
+    pub unserved: u64,
     /// How many workers there are. Each serves its sessions by turns.
     pub workers: u64,
     /// How many of them have a session.
@@ -635,6 +639,12 @@ fn push_breaks(text: &mut String, status: &Status) -> Result<(), AllocError>
                 kind: Kind::Counter,
                 value: Value::Nanos(Some(status.slept)),
             },
+            Row {
+                name: "truetime_sleep_unseen",
+                help: "1 as long as it would not be seen that the host sleeps, else 0.",
+                kind: Kind::Gauge,
+                value: Value::Flag(status.sleep_unseen),
+            },
         ],
     )
 }
@@ -671,6 +681,12 @@ fn push_clients(text: &mut String, status: &Status) -> Result<(), AllocError>
                 help: "Connections that wait for a worker.",
                 kind: Kind::Gauge,
                 value: Value::Whole(status.waiting),
+            },
+            Row {
+                name: "truetime_connections_unserved_total",
+                help: "Connections that were closed before their session began.",
+                kind: Kind::Counter,
+                value: Value::Whole(status.unserved),
             },
         ],
     )

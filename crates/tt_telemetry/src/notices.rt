@@ -150,6 +150,8 @@ pub struct Notices {
     pub breaks: u64,
     /// For how long the host slept, in nanoseconds.
     pub slept: u64,
+    /// Whether the last look for that failed.
+    pub sleep_unseen: bool,
 }
 
 /// Whether an answer was accepted.
@@ -168,6 +170,7 @@ impl Notices {
             stale_rounds: 0,
             breaks: 0,
             slept: 0,
+            sleep_unseen: false,
         }
     }
 

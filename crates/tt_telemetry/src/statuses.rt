@@ -20,6 +20,8 @@ pub struct Work {
     pub refused_lines: u64,
     /// The connections that wait for a worker.
     pub waiting: u64,
+    /// The connections that were closed before their session began.
+    pub unserved: u64,
     /// The workers that have a session.
     pub busy: u64,
     /// The sessions that are open.
@@ -319,11 +321,13 @@ pub fn status_of(machine: &Machine, account: &Account<'_>, work: &Work, now: u64
         strangers: account.strangers,
         breaks: notices.breaks,
         slept: notices.slept,
+        sleep_unseen: notices.sleep_unseen,
         sharing: machine.sharing,
         sessions: work.sessions,
         lines: work.lines,
         refused_lines: work.refused_lines,
         waiting: work.waiting,
+        unserved: work.unserved,
         workers: config.workers() as u64,
         busy: work.busy,
         open_sessions: work.open_sessions,

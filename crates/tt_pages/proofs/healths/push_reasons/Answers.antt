@@ -7,6 +7,6 @@ pub returns : goal.returns
 unfolding reasons_text
 returns c =
     let old = string_bytes c.args.text.now in
-    then_on_ok c.push_if-5.result old _ _ _ _
-    (then old _ _ _ _ (then old _ _ _ _ (then old _ _ _ _ c.in_ok-push_if.ensures c.in_ok-push_if-2.ensures) c.in_ok-push_if-3.ensures) c.in_ok-push_if-4.ensures)
-    c.push_if-5.ensures
+    then_on_ok c.push_if-6.result old _ _ _ _
+    (then old _ _ _ _ (then old _ _ _ _ (then old _ _ _ _ (then old _ _ _ _ c.in_ok-push_if.ensures c.in_ok-push_if-2.ensures) c.in_ok-push_if-3.ensures) c.in_ok-push_if-4.ensures) c.in_ok-push_if-5.ensures)
+    c.push_if-6.ensures

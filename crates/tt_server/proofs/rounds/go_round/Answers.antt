@@ -7,3 +7,6 @@ pub returns-clause-call : goal.returns-clause-call
 returns-clause-call g c =
     MakesCall-same _ _ _ _ _ _ _ _ c.hear_names.ensures.same (c.hear_all.ensures.same ∙ c.settle.ensures.same)
     (MakesCall-wider _ _ _ _ _ _ c.now_of.ensures.rises c.show.ensures.rises c.round-did.ensures.call)
+
+pub returns-clause-wire : goal.returns-clause-wire
+returns-clause-wire g c = c.hear_all.ensures.wire ∙ c.settle.ensures.wire ∙ c.round-did.ensures.wire ∙ c.hear_names.ensures.wire

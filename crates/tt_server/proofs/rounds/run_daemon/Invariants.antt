@@ -8,4 +8,5 @@ invariant-loop g l =
     record {
       calls : CallsInTurn (kept_with l.fn.poller.daemon []) (kept_with l.poller.daemon l.teller.items) l.fn.clock.last l.clock.last;
       source : l.teller.source ≡ l.fn.teller.source;
+      wire : l.poller.polled.link.hearing.wire ≡ l.fn.poller.polled.link.hearing.wire;
     }
