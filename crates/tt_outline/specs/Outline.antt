@@ -12,6 +12,8 @@ use Rattle.tt_settings.specs.declared.forms.OnBreak.TheVariants.{End, Warn}
 use Rattle.tt_settings.specs.Settings.{Meaning}
 use Rattle.tt_settings.specs.Master.{Master}
 use Rattle.tt_server.specs.Name.{has_names}
+use Rattle.tt_server.specs.Descriptor.{needed_of}
+use Rattle.tt_outline.specs.Rate.{gain_covered, loss_covered}
 use Rattle.tt_sharing.specs.Share.{period_of}
 
 -- a word, a space, a text and a line feed
@@ -65,9 +67,9 @@ abbrev pub one_if : Bool → ℕ
 one_if true = 1
 one_if false = 0
 
--- the threads for what only some settings have: one for the file of the status, one for that of the evidence, one for pages, and one for the names of masters
-abbrev pub helpers_of : Bool → Bool → Bool → Bool → ℕ
-helpers_of has_status has_evidence has_http has_names = one_if has_status + one_if has_evidence + one_if has_http + one_if has_names
+-- the threads for what only some settings have: one for the file of the status, one for that of the evidence, one for the shared file, one for pages, and one for the names of masters
+abbrev pub helpers_of : Bool → Bool → Bool → Bool → Bool → ℕ
+helpers_of has_status has_evidence has_shared has_http has_names = one_if has_status + one_if has_evidence + one_if has_shared + one_if has_http + one_if has_names
 
 -- the threads of so many workers and helpers, and of the daemon, the acceptor, the log, and the end of standard input
 abbrev pub threads_of : ℕ → ℕ → ℕ
@@ -91,14 +93,16 @@ config_text c =
     line_of (codes "faulty") (c.faulty ∷ [])
     ++ line_of (codes "workers") (c.workers ∷ [])
     ++ line_of (codes "drift") (c.drift ∷ [])
+    ++ line_of (codes "rates") (loss_covered c.drift ∷ gain_covered c.drift ∷ [])
 
--- how its readings grow and how wide they become, its threads, and its memory
+-- how its readings grow and how wide they become, its threads, its memory, and the descriptors that it wants
 unfoldable pub sums_text : Pauses → Configuration → ℕ → List ℕ
 sums_text p c helpers =
     line_of (codes "growth") (growth_of p c.drift ∷ [])
     ++ widths_text p c.drift
     ++ line_of (codes "threads") (threads_of c.workers helpers ∷ [])
     ++ line_of (codes "memory") (memory_of c.workers ∷ [])
+    ++ line_of (codes "descriptors") (needed_of c.workers ∷ [])
 
 -- the lease
 unfoldable pub lease_text : Interval → List ℕ
@@ -133,7 +137,7 @@ numbers_text s =
     ++ stampers_text s.stampers
     ++ word_line (codes "on_break") (break_word s.on_break)
     ++ width_text s.max_width
-    ++ sums_text s.pauses s.config (helpers_of (is_some s.status) (is_some s.evidence) (is_some s.http) (has_names s.masters))
+    ++ sums_text s.pauses s.config (helpers_of (is_some s.status) (is_some s.evidence) (is_some s.shared) (is_some s.http) (has_names s.masters))
 
 -- its files
 unfoldable pub files_text : Meaning → List ℕ

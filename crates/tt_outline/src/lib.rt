@@ -6,11 +6,13 @@
 //! ```
 //!
 //! It reads settings alone, and no file, name or clock. The text has one line for each setting, and lines for what follows
-//! from them: how wide readings become, how many threads there are, and about how much memory they take.
+//! from them: which rates of a clock the drift covers,
+//! how wide readings become, how many threads and descriptors there are, and about how much memory they take.
 //!
-//! - `outlines`: [`outline`].
+//! - `outlines`: [`outline`]. `rates`: which rates of a clock a drift covers.
 #![tactic(auto)]
 
 mod outlines;
+mod rates;
 
 pub use outlines::outline;

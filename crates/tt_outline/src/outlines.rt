@@ -5,9 +5,10 @@ ghost use Rattle.std.specs.List.{flat_map};
 ghost use Rattle.tt_span.specs.Time.{max_time};
 ghost use Rattle.tt_outline.specs.Outline.{outline_text, word_line, path_line, master_line, address_text, keys_text, numbers_text, files_text, growth_of, threads_of, memory_of, pauses_text, config_text, sums_text, lease_text, stampers_text, width_text, break_word, helpers_of, http_text, width_beyond, width_line, widths_text};
 
+use crate::rates::{gain_covered, loss_covered};
 use std::alloc::{AllocError, Global};
 use tt_daemon::Config;
-use tt_server::has_names;
+use tt_server::{has_names, needed_descriptors};
 use tt_settings::{FilePath, MasterSettings, OnBreak, Pauses, Settings};
 use tt_sharing::period_of;
 use tt_span::{Drift, Span};
@@ -126,20 +127,30 @@ fn push_widths(text: &mut String, pauses: &Pauses, drift: Drift) -> Result<(), A
 }
 
 /// How many threads there are for what only some settings have: one for the file of the status, one for that of the
-/// evidence, one for pages, and one for the names of masters.
-fn helpers_of(has_status: bool, has_evidence: bool, has_http: bool, has_names: bool) -> u64
-    ensures value { result ≡ helpers_of has_status has_evidence has_http has_names }
-    ensures few { result ≤ 4 }
+/// evidence, one for the shared file, one for pages, and one for the names of masters.
+fn helpers_of(
+    has_status: bool,
+    has_evidence: bool,
+    has_shared: bool,
+    has_http: bool,
+    has_names: bool,
+) -> u64
+    ensures value { result ≡ helpers_of has_status has_evidence has_shared has_http has_names }
+    ensures few { result ≤ 5 }
 {
-    u64::from(has_status) + u64::from(has_evidence) + u64::from(has_http) + u64::from(has_names)
+    u64::from(has_status)
+        + u64::from(has_evidence)
+        + u64::from(has_shared)
+        + u64::from(has_http)
+        + u64::from(has_names)
 }
 
 /// The most threads of a machine with `workers` workers: those of the workers, the thread of the daemon, the one that
-/// accepts connections, the one that writes the log, those that write the status and the evidence, serve pages and look up
-/// names, and one that waits for the end of standard input.
+/// accepts connections, the one that writes the log, those that write the status, the evidence and the shared file, serve pages
+/// and look up names, and one that waits for the end of standard input.
 fn threads_of(workers: u64, helpers: u64) -> u64
     requires few { workers ≤ 32 }
-    requires few_helpers { helpers ≤ 4 }
+    requires few_helpers { helpers ≤ 5 }
     ensures { result ≡ threads_of workers helpers }
 {
     workers + helpers + 4
@@ -171,11 +182,13 @@ fn push_config(text: &mut String, config: &Config) -> Result<(), AllocError>
 {
     push_line(text, "faulty", &[config.faulty() as u64])?;
     push_line(text, "workers", &[config.workers() as u64])?;
-    push_line(text, "drift", &[u64::from(config.drift().ppm())])
+    push_line(text, "drift", &[u64::from(config.drift().ppm())])?;
+    let rates = [loss_covered(config.drift()), gain_covered(config.drift())];
+    push_line(text, "rates", &rates)
 }
 
-/// Adds the lines that are computed from the settings: how readings grow and how wide they become, the threads, and the
-/// memory.
+/// Adds the lines that are computed from the settings: how readings grow and how wide they become, the threads, the memory,
+/// and the descriptors.
 #[tactic(auto, unfolding(crate::specs::Outline::sums_text))]
 fn push_sums(
     text: &mut String,
@@ -183,7 +196,7 @@ fn push_sums(
     config: &Config,
     helpers: u64,
 ) -> Result<(), AllocError>
-    requires few { helpers ≤ 4 }
+    requires few { helpers ≤ 5 }
     ensures { OnOk result (string_bytes text.new ≡ string_bytes text.old ++ sums_text pauses.now config.now helpers) }
 {
     let growth = growth_of(pauses, config.drift());
@@ -191,7 +204,8 @@ fn push_sums(
     push_line(text, "growth", &[growth])?;
     push_widths(text, pauses, config.drift())?;
     push_line(text, "threads", &[threads_of(workers, helpers)])?;
-    push_line(text, "memory", &[memory_of(workers)])
+    push_line(text, "memory", &[memory_of(workers)])?;
+    push_line(text, "descriptors", &[needed_descriptors(workers)])
 }
 
 /// Adds the line of the lease.
@@ -258,6 +272,7 @@ fn push_numbers(text: &mut String, settings: &Settings) -> Result<(), AllocError
     let helpers = helpers_of(
         settings.status().is_some(),
         settings.evidence().is_some(),
+        settings.shared().is_some(),
         settings.http().is_some(),
         has_names(settings.masters()),
     );
@@ -280,10 +295,11 @@ fn push_files(text: &mut String, settings: &Settings) -> Result<(), AllocError>
 
 /// What a machine with these settings would do, as text. There is one line for each of `machine`, `listen`, `http` (if there
 /// is an address), `master` (one for each master, in the order of the sources: its address, and behind the word `key` the
-/// numbers of its keys, if it has some), `faulty`, `workers`, `drift`, `poll`, `wait`, `floor_ahead`, `idle`, `lease`,
+/// numbers of its keys, if it has some), `faulty`, `workers`, `drift`, `rates`, `poll`, `wait`, `floor_ahead`, `idle`, `lease`,
 /// `stampers` (if there are some), `on_break`, `max_width` (if there is a limit), `growth`, `width` (four times), `threads`,
-/// `memory`, `state`, and for each of `socket`, `shared`, `status`, `evidence`, `vmclock` and `keys` that the settings have.
-/// Times are in nanoseconds.
+/// `memory`, `descriptors`, `state`, and for each of `socket`, `shared`, `status`, `evidence`, `vmclock` and `keys` that the
+/// settings have. Times are in nanoseconds. `rates` has the most that a clock may lose by the drift, and the most that it may
+/// gain, in parts of a billion of true time. `descriptors` is the limit that a process wants for all sessions.
 ///
 /// A reading is as wide as what the masters state, plus the time that the poll took. Until the next publication it
 /// grows wider by at most `growth`, if no master fails. A line `width` has a round trip, of 100 us, 1 ms, 10 ms or 100 ms,
