@@ -21,7 +21,7 @@ use Rattle.tt_top.specs.declared.faults.ViewFault.TheVariants as view
 use Rattle.tt_settings.specs.declared.faults.SettingsFault.{SettingsFault}
 use Rattle.tt_settings.specs.declared.faults.SettingsFault.TheVariants as settings
 use Rattle.ttd.specs.declared.faults.ServiceFault.{ServiceFault}
-use Rattle.ttd.specs.declared.faults.ServiceFault.TheVariants.{Words, BadFile, ReadFailed, LinkFailed, Master, NoRandom, Settings, Shared, Server, View, Memory}
+use Rattle.ttd.specs.declared.faults.ServiceFault.TheVariants.{Words, BadFile, ReadFailed, LinkFailed, Master, NoRandom, SmallStack, Settings, Shared, Server, View, Memory}
 use Rattle.ttd_commands.specs.Fault.{number_of as command_number}
 use Rattle.ttd_commands.specs.declared.faults.Fault.TheVariants as command
 use Rattle.ttd_masters.specs.Fault.{number_of as master_number}
@@ -41,6 +41,7 @@ number_of ReadFailed = command_number command.ReadFailed
 number_of LinkFailed = link_number_of links.Failed
 number_of (Master fault) = master_number fault
 number_of NoRandom = 1829
+number_of SmallStack = 1831
 number_of (Settings fault) = settings_number fault
 number_of (Shared fault) = shared_number_of fault
 number_of (Server fault) = server_number fault

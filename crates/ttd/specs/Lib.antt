@@ -4,3 +4,6 @@ pub mod Standard
 pub mod Asking
 pub mod Keys
 pub mod Checking
+pub mod Places
+pub mod Shown
+pub mod Stack

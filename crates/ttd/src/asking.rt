@@ -6,6 +6,7 @@ ghost use Rattle.ttd.specs.Asking.{ending_of, is_unheard, may_be_late, worse};
 use crate::faults::ServiceFault;
 use crate::lines::{Line, end, keep, read_line};
 use crate::services::Stop;
+use crate::showing::shown;
 use std::fmt::Display;
 use std::io::{self, Eprint, ErrorKind};
 use std::net::{Ipv4Addr, Net, SocketAddr, TcpStream};
@@ -87,12 +88,17 @@ fn say_unconnected<H: Eprint>(rt: &H, peer: Peer<'_>, error: &io::Error) {
 }
 
 /// Sends lines to the machine at this address or Unix socket: the lines of `text`, or the lines of the input if there
-/// is no text. It writes each reply as soon as it comes. Standard error says what a reply `refused N` means.
+/// is no text. It writes each reply as soon as it comes; a byte of it that is neither printable ASCII nor a line feed is
+/// written as `\x` and two hexadecimal digits. Standard error says what a reply `refused N` means.
 ///
 /// Refuses with 1501 `LinkFailed` where there is no connection, the connection failed, or no reply of at most 128 bytes
 /// came in 30 seconds; and with 1604 `ReadFailed` where the input failed. Where a reply is `refused N`, the program ends
 /// with status 2; else, where a reply is still `waiting`, with status 5.
-pub(crate) fn ask<H: SystemClock + Eprint + Net<Stream = TcpStream>, I: ByteReader, O: ByteWriter>(
+pub(crate) fn ask<
+    H: AllocGlobal + SystemClock + Eprint + Net<Stream = TcpStream>,
+    I: ByteReader,
+    O: ByteWriter,
+>(
     rt: &H,
     peer: Peer<'_>,
     text: Option<&str>,
@@ -141,7 +147,7 @@ fn connect<H: Net<Stream = TcpStream>>(rt: &H, peer: Peer<'_>) -> io::Result<Tcp
 }
 
 /// Sends the lines of a text. Answers how the program ends.
-fn ask_text<H: SystemClock + Eprint, O: ByteWriter>(
+fn ask_text<H: AllocGlobal + SystemClock + Eprint, O: ByteWriter>(
     rt: &H,
     link: &Link<'_>,
     text: &str,
@@ -160,7 +166,7 @@ fn ask_text<H: SystemClock + Eprint, O: ByteWriter>(
 }
 
 /// Sends the lines of the input. Answers how the program ends.
-fn ask_input<H: SystemClock + Eprint, I: ByteReader, O: ByteWriter>(
+fn ask_input<H: AllocGlobal + SystemClock + Eprint, I: ByteReader, O: ByteWriter>(
     rt: &H,
     link: &Link<'_>,
     input: &mut I,
@@ -203,8 +209,8 @@ fn ending_of(meaning: Meaning, refusal: Option<u64>) -> Status
     }
 }
 
-/// Sends one line, and writes its last reply. Answers how the program ends after it.
-fn ask_line<H: SystemClock + Eprint, O: ByteWriter>(
+/// Sends one line, and writes its last reply, as [`shown`] has it. Answers how the program ends after it.
+fn ask_line<H: AllocGlobal + SystemClock + Eprint, O: ByteWriter>(
     rt: &H,
     link: &Link<'_>,
     line: &[u8],
@@ -221,7 +227,11 @@ fn ask_line<H: SystemClock + Eprint, O: ByteWriter>(
     if let Some(number) = refusal {
         explain(rt, number, &sentence_of(number));
     }
-    if write(output, &reply).is_err() {
+    let text = match shown(rt.alloc(), &reply) {
+        Ok(text) => text,
+        Err(_) => return Err(Stop::Refused(ServiceFault::Memory)),
+    };
+    if write(output, text.as_slice()).is_err() {
         return Err(Stop::Unwritten);
     }
     Ok(ending_of(meaning_of(line, &reply), refusal))

@@ -13,7 +13,9 @@ use std::net::{Ipv4Addr, SocketAddr};
 use thiserror::Error;
 use tt_files::{Facts, facts_at};
 use tt_outline::outline;
-use tt_server::{HostNames, MAX_FOUND, ServerFault, check_start};
+use tt_server::{
+    HostNames, MAX_FOUND, ServerFault, check_start, descriptor_limit, sessions_within,
+};
 use tt_settings::{FilePath, MasterSettings, Settings};
 use tt_sharing::folder_and_name;
 use tt_stream::ByteWriter;
@@ -111,6 +113,19 @@ fn push_name<H: HostNames>(
     text.push_str("\n")
 }
 
+/// Adds how many descriptors this process may have, where that is known, and how many sessions they are enough for.
+fn push_limit<H: Files<File = File>>(
+    rt: &H,
+    text: &mut String,
+    settings: &Settings,
+) -> Result<(), AllocError> {
+    let Some(limit) = descriptor_limit(rt) else {
+        return Ok(());
+    };
+    let sessions = sessions_within(Some(limit), settings.config().workers());
+    write!(text, "limit {limit} {sessions}\n")
+}
+
 /// Adds the numbers of the keys that are used, the addresses of names, and what would not be written.
 fn push_found<H: Files<File = File> + HostNames>(
     rt: &H,
@@ -142,11 +157,13 @@ fn report<H: Files<File = File> + HostNames>(
     settings: &Settings,
 ) -> Result<String, AllocError> {
     let mut text = outline(alloc, settings)?;
+    push_limit(rt, &mut text, settings)?;
     push_found(rt, &mut text, settings)?;
     Ok(text)
 }
 
-/// Writes what the machine of these settings would do, and what a start would find now: a line `key` for each key that it
+/// Writes what the machine of these settings would do, and what a start would find now: a line `limit` with the limit of
+/// descriptors of this process and the sessions that it is enough for, where it is known; a line `key` for each key that it
 /// uses, by its number; for each master with a name a line `resolved` with the name and its addresses, or `unresolved`; and
 /// a line `warning` for each folder in which it could not write its Unix socket, its shared file, its status or its evidence.
 ///

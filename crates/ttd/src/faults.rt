@@ -39,6 +39,9 @@ pub enum ServiceFault {
     /// The system gives no random bytes.
     #[error("no random bytes")]
     NoRandom,
+    /// The stack of the process is limited to less than 2 MiB.
+    #[error("the stack is smaller than 2097152 bytes")]
+    SmallStack,
     /// The configuration is refused.
     #[error("not a configuration")]
     Settings(SettingsFault),
@@ -58,7 +61,7 @@ pub enum ServiceFault {
 
 impl ServiceFault {
     /// The number of the refusal: 1603 `BadFile`, 1604 `ReadFailed`, 1501 `LinkFailed`, 1829
-    /// `NoRandom`, the number of the inner fault for `Words`, `Master`, `Settings`, `Shared`, `Server` and `View`, and 1
+    /// `NoRandom`, 1831 `SmallStack`, the number of the inner fault for `Words`, `Master`, `Settings`, `Shared`, `Server` and `View`, and 1
     /// `Memory`.
     pub fn number(&self) -> u16
         ensures { result ≡ number_of self.now }
@@ -70,6 +73,7 @@ impl ServiceFault {
             ServiceFault::LinkFailed => LinkFault::Failed.number(),
             ServiceFault::Master(fault) => fault.number(),
             ServiceFault::NoRandom => 1829,
+            ServiceFault::SmallStack => 1831,
             ServiceFault::Settings(fault) => fault.number(),
             ServiceFault::Shared(fault) => fault.number(),
             ServiceFault::Server(fault) => fault.number(),

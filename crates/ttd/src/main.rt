@@ -8,8 +8,9 @@
 //! - `arguments`: the arguments with which the program was started. `program`: what they ask for is done.
 //! - `commands`: what is said of a command that has ended. `services`: the services, and how each ended.
 //! - `making`: the service `key`.
-//! - `lines`: lines from a device. `asking`: the service `ask`.
-//! - `reading`: the service `read`. `serving`: the service `serve`. `checking`: `serve --check`. `standard`: the descriptors 0 to 2.
+//! - `lines`: lines from a device. `asking`: the service `ask`. `showing`: how bytes of another process are shown.
+//! - `reading`: the service `read`. `serving`: the service `serve`. `checking`: `serve --check`. `places`: files that are one. `standard`: the descriptors 0 to 2.
+//! - `stacks`: the stack of the main thread.
 //! - `watching`: the service `top`. `faults`: why a service refuses.
 #![tactic(auto)]
 
@@ -20,25 +21,35 @@ mod commands;
 mod faults;
 mod lines;
 mod making;
+mod places;
 mod program;
 mod reading;
 mod services;
 mod serving;
+mod showing;
+mod stacks;
 mod standard;
 mod watching;
 
 use arguments::words_given;
 use program::{reject, run};
+use stacks::check_stack;
 use std::alloc::AllocError;
 use std::process::ExitCode;
 use tt_stream::Counted;
-use ttd_words::WordsFault;
+use ttd_words::{WordsFault, explain, refuse};
 
 fn main(rt: HostRuntime) -> ExitCode {
     let mut input = Counted::new(rt.stdin());
     let mut output = Counted::new(rt.stdout());
     let status = match words_given(&rt) {
-        Ok(words) => run(&rt, words.as_slice(), &mut input, &mut output),
+        Ok(words) => match check_stack(&rt, rt.alloc(), words.as_slice()) {
+            Ok(()) => run(&rt, words.as_slice(), &mut input, &mut output),
+            Err(fault) => {
+                explain(&rt, u64::from(fault.number()), &fault);
+                refuse(&mut output, fault.number(), fault.status())
+            }
+        },
         Err(AllocError) => reject(&rt, &[], WordsFault::Memory, &mut output),
     };
     ExitCode::from(status)

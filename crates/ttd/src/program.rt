@@ -22,13 +22,15 @@ use std::sync::Wait;
 use std::thread::Threads;
 use std::time::Clock;
 use tt_report::Disk;
+use tt_server::SharesFile;
 use tt_stream::{ByteReader, ByteWriter};
 use ttd_commands::asked_by;
 use ttd_masters::AsksServers;
 use ttd_words::{Asked, Status, WordsFault, explain, mistake_text, refuse, usage_text};
 
 /// Runs the program with these arguments: does what they ask for, and answers how the program ends. Standard error says
-/// what a refusal means.
+/// what a refusal means. What it keeps on the stack is taken when it is called.
+#[inline(never)]
 pub(crate) fn run<
     S: Read + Send + Drop,
     H: AllocGlobal
@@ -41,6 +43,7 @@ pub(crate) fn run<
         + Files<File = File>
         + Net<Listener = TcpListener, Stream = TcpStream>
         + Disk
+        + SharesFile
         + AsksServers
         + RandomSource
         + Env
@@ -80,6 +83,7 @@ fn answer<
         + Files<File = File>
         + Net<Listener = TcpListener, Stream = TcpStream>
         + Disk
+        + SharesFile
         + AsksServers
         + RandomSource
         + Env

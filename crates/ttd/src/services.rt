@@ -19,6 +19,7 @@ use std::sync::Wait;
 use std::thread::Threads;
 use std::time::Clock;
 use tt_report::Disk;
+use tt_server::SharesFile;
 use tt_stream::{ByteReader, ByteWriter};
 use ttd_masters::{AsksServers, MasterPlan, serve_polls};
 use ttd_words::{Service, Status, explain, explain_unwritten, refuse};
@@ -55,6 +56,7 @@ pub(crate) fn serve<
         + Files<File = File>
         + Net<Listener = TcpListener, Stream = TcpStream>
         + Disk
+        + SharesFile
         + AsksServers
         + RandomSource
         + Env
@@ -92,6 +94,7 @@ fn run_service<
         + Files<File = File>
         + Net<Listener = TcpListener, Stream = TcpStream>
         + Disk
+        + SharesFile
         + AsksServers
         + RandomSource
         + Env

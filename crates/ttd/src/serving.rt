@@ -2,6 +2,7 @@
 
 use crate::checking::check as check_settings;
 use crate::faults::ServiceFault;
+use crate::places::check_places;
 use crate::services::Stop;
 use std::alloc::Global;
 use std::fs::{File, Files};
@@ -14,7 +15,7 @@ use std::thread::Threads;
 use std::time::Clock;
 use tt_epoch::EpochFault;
 use tt_report::Disk;
-use tt_server::{ServerFault, serve};
+use tt_server::{ServerFault, SharesFile, serve};
 use tt_settings::{FilePath, Refusal, Settings, SettingsFault};
 use tt_stream::ByteWriter;
 use ttd_masters::{StartFault, bytes_of};
@@ -66,6 +67,23 @@ fn say_refusal<H: Eprint>(rt: &H, path: &str, refusal: &Refusal) {
         Some(line) => eprint!(rt; "{path}:{line}: {refusal}\n"),
         None => eprint!(rt; "{path}: {refusal}\n"),
     };
+}
+
+/// Refuses files of the settings that are one, and says on standard error which.
+fn refuse_places<H: Files + Eprint>(
+    rt: &H,
+    alloc: Global,
+    file: &str,
+    settings: &Settings,
+) -> Result<(), ServiceFault> {
+    match check_places(rt, alloc, settings) {
+        Ok(()) => Ok(()),
+        Err(SettingsFault::Memory) => Err(ServiceFault::Memory),
+        Err(fault) => {
+            let _ = eprint!(rt; "{file}: {fault}, by another name of its folder\n");
+            Err(ServiceFault::Settings(fault))
+        }
+    }
 }
 
 /// The text of a path, if there is one.
@@ -134,8 +152,8 @@ fn say_no_key<H: Eprint>(rt: &H, settings: &Settings, number: u32) {
 /// machine ends because it knows that an assumption is broken, the program ends with status 3.
 ///
 /// Refuses with 1604 `ReadFailed` where the file is not a regular one or can't be read, with 1603 `BadFile` where it is
-/// longer than 1 MiB or is not UTF-8, with 1801 to 1806, 1810, 1817, 1818, 1825 or 1826 where the configuration is refused, and with
-/// what ended the server, or would refuse its start.
+/// longer than 1 MiB or is not UTF-8, with 1801 to 1806, 1810, 1817, 1818, 1825 or 1826 where the configuration is refused, with
+/// 1817 where two of its files are one, as their folders are found now ([`check_places`]), and with what ended the server, or would refuse its start.
 pub(crate) fn run_server<
     S: Read + Send + Drop,
     H: AllocGlobal
@@ -148,6 +166,7 @@ pub(crate) fn run_server<
         + Files<File = File>
         + Net<Listener = TcpListener, Stream = TcpStream>
         + Disk
+        + SharesFile
         + RandomSource
         + Copy
         + Send
@@ -155,6 +174,7 @@ pub(crate) fn run_server<
     O: ByteWriter,
 >(rt: &H, file: &str, check: bool, until_eof: bool, output: &mut O) -> Result<(), Stop> {
     let settings = settings_of(rt, rt.alloc(), file)?;
+    refuse_places(rt, rt.alloc(), file, &settings)?;
     if !check {
         return match serve(rt, &settings, until_eof) {
             Ok(end) => {

@@ -29,12 +29,14 @@ pub(crate) fn drift_option<'a>(alloc: Global) -> Arg<'a>
     ensures rule { rule_of result ≡ drift_rule }
     ensures local { result.global ≡ false }
 {
-    Arg::new(alloc, "drift")
-        .long("drift")
-        .value_name("N")
-        .default_value(default_drift())
-        .help("What the clock may be wrong by, in parts per million, up to 100000")
-        .value_parser(value_parser!(u64).range(..=i64::from(MAX_DRIFT)))
+    free_option(
+        alloc,
+        "drift",
+        "N",
+        "What the clock may be wrong by, in parts per million, up to 100000",
+    )
+    .default_value(default_drift())
+    .value_parser(value_parser!(u64).range(..=i64::from(MAX_DRIFT)))
 }
 
 /// The option `--drift N` of `master`: at most [`MAX_DRIFT`].
@@ -42,13 +44,13 @@ pub(crate) fn master_drift_option<'a>(alloc: Global) -> Arg<'a>
     ensures rule { rule_of result ≡ number_rule (codes "drift") max_drift }
     ensures local { result.global ≡ false }
 {
-    Arg::new(alloc, "drift")
-        .long("drift")
-        .value_name("N")
-        .help(
-            "NTP: what the monotonic clock may be wrong by, in parts per million, up to 100000 [default: 200]",
-        )
-        .value_parser(value_parser!(u64).range(..=i64::from(MAX_DRIFT)))
+    free_option(
+        alloc,
+        "drift",
+        "N",
+        "NTP: what the monotonic clock may be wrong by, in parts per million, up to 100000 [default: 200]",
+    )
+    .value_parser(value_parser!(u64).range(..=i64::from(MAX_DRIFT)))
 }
 
 /// A required option `--NAME VALUE` with a number of 64 bits.
@@ -61,11 +63,8 @@ pub(crate) fn given_option<'a>(
     ensures rule { rule_of result ≡ given_rule name.entry.now }
     ensures local { result.global ≡ false }
 {
-    Arg::new(alloc, name)
-        .long(name)
-        .value_name(value)
+    free_option(alloc, name, value, help)
         .required(true)
-        .help(help)
         .value_parser(value_parser!(u64))
 }
 
@@ -79,11 +78,7 @@ pub(crate) fn text_option<'a>(
     ensures rule { rule_of result ≡ text_rule name.entry.now }
     ensures local { result.global ≡ false }
 {
-    Arg::new(alloc, name)
-        .long(name)
-        .value_name(value)
-        .required(true)
-        .help(help)
+    free_option(alloc, name, value, help).required(true)
 }
 
 /// An option `--NAME TEXT` with any text, which may be left out.
@@ -107,11 +102,7 @@ pub(crate) fn id_option<'a>(alloc: Global, name: &'a str, help: &'a str) -> Arg<
     ensures rule { rule_of result ≡ id_rule name.entry.now }
     ensures local { result.global ≡ false }
 {
-    Arg::new(alloc, name)
-        .long(name)
-        .value_name("N")
-        .help(help)
-        .value_parser(value_parser!(u64).range(..=MOST_ID as i64))
+    free_option(alloc, name, "N", help).value_parser(value_parser!(u64).range(..=MOST_ID as i64))
 }
 
 /// The option `--source I`: at most [`MAX_SOURCE`].
@@ -119,11 +110,8 @@ pub(crate) fn source_option<'a>(alloc: Global) -> Arg<'a>
     ensures rule { rule_of result ≡ needed_rule (codes "source") max_source }
     ensures local { result.global ≡ false }
 {
-    Arg::new(alloc, "source")
-        .long("source")
-        .value_name("I")
+    free_option(alloc, "source", "I", "The source that it is, from 0 to 15")
         .required(true)
-        .help("The source that it is, from 0 to 15")
         .value_parser(value_parser!(u64).range(..=i64::from(MAX_SOURCE)))
 }
 
@@ -132,11 +120,7 @@ pub(crate) fn time_option<'a>(alloc: Global, name: &'a str, help: &'a str) -> Ar
     ensures rule { rule_of result ≡ number_rule name.entry.now max_time }
     ensures local { result.global ≡ false }
 {
-    Arg::new(alloc, name)
-        .long(name)
-        .value_name("NS")
-        .help(help)
-        .value_parser(value_parser!(u64).range(..=MAX_TIME as i64))
+    free_option(alloc, name, "NS", help).value_parser(value_parser!(u64).range(..=MAX_TIME as i64))
 }
 
 /// The option `--faulty N`: at most [`MOST_FAULTY`].
@@ -144,11 +128,13 @@ pub(crate) fn faulty_option<'a>(alloc: Global) -> Arg<'a>
     ensures rule { rule_of result ≡ number_rule (codes "faulty") max_faulty }
     ensures local { result.global ≡ false }
 {
-    Arg::new(alloc, "faulty")
-        .long("faulty")
-        .value_name("N")
-        .help("NTP: how many of the servers may be wrong, fewer than half of them [default: 0]")
-        .value_parser(value_parser!(u64).range(..=MOST_FAULTY as i64))
+    free_option(
+        alloc,
+        "faulty",
+        "N",
+        "NTP: how many of the servers may be wrong, fewer than half of them [default: 0]",
+    )
+    .value_parser(value_parser!(u64).range(..=MOST_FAULTY as i64))
 }
 
 /// An option `--NAME VALUE` with any text, which may be given often.
@@ -161,11 +147,7 @@ pub(crate) fn many_option<'a>(
     ensures rule { rule_of result ≡ many_rule name.entry.now }
     ensures local { result.global ≡ false }
 {
-    Arg::new(alloc, name)
-        .long(name)
-        .value_name(value)
-        .action(ArgAction::Append)
-        .help(help)
+    free_option(alloc, name, value, help).action(ArgAction::Append)
 }
 
 /// The option `--log FORM`.
@@ -173,11 +155,7 @@ pub(crate) fn log_option<'a>(alloc: Global) -> Arg<'a>
     ensures rule { rule_of result ≡ log_rule }
     ensures local { result.global ≡ false }
 {
-    Arg::new(alloc, "log")
-        .long("log")
-        .value_name("FORM")
-        .default_value("text")
-        .help("The form of its log: text or json")
+    free_option(alloc, "log", "FORM", "The form of its log: text or json").default_value("text")
 }
 
 /// The option `--retry N`: at most [`MOST_RETRY`].
@@ -185,12 +163,14 @@ pub(crate) fn retry_option<'a>(alloc: Global) -> Arg<'a>
     ensures rule { rule_of result ≡ retry_rule }
     ensures local { result.global ≡ false }
 {
-    Arg::new(alloc, "retry")
-        .long("retry")
-        .value_name("N")
-        .default_value("50")
-        .help("How often a line is sent again while nothing is published, 100 ms apart; up to 9999")
-        .value_parser(value_parser!(u64).range(..=MOST_RETRY as i64))
+    free_option(
+        alloc,
+        "retry",
+        "N",
+        "How often a line is sent again while nothing is published, 100 ms apart; up to 9999",
+    )
+    .default_value("50")
+    .value_parser(value_parser!(u64).range(..=MOST_RETRY as i64))
 }
 
 /// The option `--columns N`: from [`LEAST_COLUMNS`] to [`MOST_COLUMNS`].
@@ -198,11 +178,13 @@ pub(crate) fn columns_option<'a>(alloc: Global) -> Arg<'a>
     ensures rule { rule_of result ≡ columns_rule }
     ensures local { result.global ≡ false }
 {
-    Arg::new(alloc, "columns")
-        .long("columns")
-        .value_name("N")
-        .help("The width of the table in columns, from 40 to 300")
-        .value_parser(value_parser!(u64).range(LEAST_COLUMNS as i64..=MOST_COLUMNS as i64))
+    free_option(
+        alloc,
+        "columns",
+        "N",
+        "The width of the table in columns, from 40 to 300",
+    )
+    .value_parser(value_parser!(u64).range(LEAST_COLUMNS as i64..=MOST_COLUMNS as i64))
 }
 
 /// A flag `--NAME`.

@@ -55,6 +55,7 @@ Refused:
   1604, 1603    the file of --ntp-keys can't be read (the status is 4); it is too long or not UTF-8
   2411 to 2414  it has no line with the number of --ntp-key; that line is no key
   1829          the system gives no random bytes; the status is 4
+  1831          the stack is limited to less than 2 MiB
   1501          a socket can't be had; the status is 4
   1816          a thread can't be started";
 
@@ -85,6 +86,7 @@ Refused:
   1819          what is at the path of the Unix socket is not a socket
   1828          masters of IPv4 and of IPv6, or with a name, where one socket can't poll both
   1829          the system gives no random bytes; the status is 4
+  1831          the stack is limited to less than 2 MiB
   1830          the address of `http` can't be listened at; the status is 4
   2211 to 2216  the file of keys, as with `ttd master`; 1827: it has no key with a number of `key`";
 
