@@ -8,7 +8,7 @@ use std::alloc::{AllocError, Global};
 use std::net::Net;
 use std::sync::Wait;
 use std::time::Clock as SystemClock;
-use tt_connections::{AlwaysThere, Inbox, MachineClock, Post, Terms, Visit};
+use tt_connections::{AlwaysThere, Inbox, MachineClock, Post, Room, Terms, Visit};
 use tt_epoch::{MemoryStore, next_epoch};
 use tt_outline::outline;
 use tt_pages::{Asked, Limits, Page, Report, Wanted, push_answer};
@@ -42,7 +42,8 @@ address = \"[::1]:5701\"
 ";
 
 /// What a machine with these settings would do. A reading grows by twice what the drift makes of `poll` and `wait`, 1.25 s.
-/// There are a thread for each of 32 workers, one for the status, one for the names of masters, and four more.
+/// There are a thread for each of 32 workers, one for the status, one for the shared file, one for the names of masters, and
+/// four more.
 const OUTLINE: &str = "machine 3
 listen 127.0.0.1:5601
 master 10.1.0.1:5701 key 1 2
@@ -51,6 +52,7 @@ master [::1]:5701
 faulty 1
 workers 32
 drift 200
+rates 199960 200040
 poll 1000000000
 wait 250000000
 floor_ahead 1000000000
@@ -62,8 +64,9 @@ width 100000 600020
 width 1000000 1500200
 width 10000000 10502000
 width 100000000 100520000
-threads 38
+threads 39
 memory 8388608
+descriptors 13888
 state state
 socket socket
 shared run/time
@@ -166,7 +169,7 @@ pub(crate) fn answer(alloc: Global) -> Result<bool, u16> {
         status: &None,
         age: 0,
         evidence: &None,
-        limits: Limits::of(None, 1, 1),
+        limits: Limits::of(None, 1, 1, false),
     };
     let asked = Asked::Wants(Wanted::Whole(Some(Page::Health)));
     match push_answer(&mut text, alloc, asked, &report) {
@@ -177,7 +180,11 @@ pub(crate) fn answer(alloc: Global) -> Result<bool, u16> {
 
 /// Makes the inbox of a worker.
 pub(crate) fn inbox<R: Net>(rt: &R, alloc: Global) -> Result<bool, u16> {
-    match Inbox::new(rt, alloc) {
+    let room = Room {
+        waiting: 1,
+        sessions: 1,
+    };
+    match Inbox::new(rt, alloc, room) {
         Ok(inbox) => Ok(inbox.waiting() == 0 && inbox.load() == 0),
         Err(_) => Err(MEMORY),
     }
