@@ -28,6 +28,7 @@
 #include <inttypes.h>
 #include <netinet/in.h>
 #include <netinet/tcp.h>
+#include <poll.h>
 #include <stdbool.h>
 #include <stddef.h>
 #include <stdint.h>
@@ -94,22 +95,66 @@ static inline int tt_session_failed(tt_session *session, int error) {
     return error == EAGAIN || error == EWOULDBLOCK || error == EINPROGRESS ? -ETIMEDOUT : -error;
 }
 
+/* The machine's clock in milliseconds. */
+static inline int64_t tt_session_clock_ms(void) {
+    struct timespec now;
+    clock_gettime(CLOCK_MONOTONIC, &now);
+    return (int64_t)now.tv_sec * 1000 + now.tv_nsec / 1000000;
+}
+
+/* How long it is until the clock shows this, at least 0. */
+static inline int tt_session_left_ms(int64_t give_up_ms) {
+    int64_t left_ms = give_up_ms - tt_session_clock_ms();
+    return left_ms < 0 ? 0 : (int)left_ms;
+}
+
+/* Waits for these events of the socket until the clock shows this, however many signals come: 0, ETIMEDOUT, or another error. */
+static inline int tt_session_await(tt_session *session, short events, int64_t give_up_ms) {
+    for (;;) {
+        struct pollfd awaited = {session->socket, events, 0};
+        int left_ms = tt_session_left_ms(give_up_ms), ready = poll(&awaited, 1, left_ms);
+        if (ready > 0) return 0;
+        if (ready < 0 && errno != EINTR) return errno;
+        if (left_ms == 0) return ETIMEDOUT;
+    }
+}
+
+/* Connects the socket to a TCP address. What a signal interrupts goes on, and is not begun again. */
+static inline int tt_session_reach_tcp(tt_session *session, int64_t give_up_ms) {
+    int error = 0, at_once = 1;
+    socklen_t length = sizeof error;
+    if (connect(session->socket, (struct sockaddr *)&session->address, session->length) != 0) {
+        if (errno != EINPROGRESS && errno != EINTR) return errno;
+        error = tt_session_await(session, POLLOUT, give_up_ms);
+        if (error == 0 && getsockopt(session->socket, SOL_SOCKET, SO_ERROR, &error, &length) != 0) error = errno;
+    }
+    setsockopt(session->socket, IPPROTO_TCP, TCP_NODELAY, &at_once, sizeof at_once);
+    return error;
+}
+
+/* Connects the socket to a Unix socket: the time-out for sending is that of connecting, too. What a signal interrupts was not
+ * begun. */
+static inline int tt_session_reach_unix(tt_session *session, int64_t give_up_ms) {
+    for (;;) {
+        int left_ms = tt_session_left_ms(give_up_ms);
+        struct timeval timeout;
+        if (left_ms == 0) return ETIMEDOUT;
+        timeout.tv_sec = left_ms / 1000;
+        timeout.tv_usec = left_ms % 1000 * 1000;
+        if (setsockopt(session->socket, SOL_SOCKET, SO_SNDTIMEO, &timeout, sizeof timeout) != 0) return errno;
+        if (connect(session->socket, (struct sockaddr *)&session->address, session->length) == 0) return 0;
+        if (errno != EINTR) return errno;
+    }
+}
+
 /* Connects a session that has no connection. */
 static inline int tt_session_connect(tt_session *session) {
-    struct timeval timeout;
-    int at_once = 1;
-    timeout.tv_sec = session->timeout_ms / 1000;
-    timeout.tv_usec = session->timeout_ms % 1000 * 1000;
-    session->socket = socket(session->address.sun_family, SOCK_STREAM | SOCK_CLOEXEC, 0);
+    int64_t give_up_ms = tt_session_clock_ms() + session->timeout_ms;
+    bool is_tcp = session->address.sun_family == AF_INET;
+    session->socket = socket(session->address.sun_family, SOCK_STREAM | SOCK_CLOEXEC | (is_tcp ? SOCK_NONBLOCK : 0), 0);
     if (session->socket < 0) return -errno;
-    /* The time-out for sending is that of connecting, too. */
-    if (setsockopt(session->socket, SOL_SOCKET, SO_SNDTIMEO, &timeout, sizeof timeout) != 0 ||
-        setsockopt(session->socket, SOL_SOCKET, SO_RCVTIMEO, &timeout, sizeof timeout) != 0 ||
-        connect(session->socket, (struct sockaddr *)&session->address, session->length) != 0)
-        return tt_session_failed(session, errno);
-    if (session->address.sun_family == AF_INET)
-        setsockopt(session->socket, IPPROTO_TCP, TCP_NODELAY, &at_once, sizeof at_once);
-    return 0;
+    int error = is_tcp ? tt_session_reach_tcp(session, give_up_ms) : tt_session_reach_unix(session, give_up_ms);
+    return error == 0 ? 0 : tt_session_failed(session, error);
 }
 
 /* Connects to an address; NULL is none. */
@@ -125,8 +170,8 @@ static inline int tt_session_open(tt_session *session, const void *address, sock
     return failed;
 }
 
-/* Connects to an IPv4 address in digits, as "127.0.0.1". `timeout_ms` is how long connecting, sending, each receiving and
- * the waiting for a release may take, above 0. Answers -EINVAL where an argument is wrong. Where it does not answer 0, the
+/* Connects to an IPv4 address in digits, as "127.0.0.1". `timeout_ms` is how long connecting, sending, receiving a reply
+ * and the waiting for a release may take, above 0, however many signals come. Answers -EINVAL where an argument is wrong. Where it does not answer 0, the
  * session is not open. */
 static inline int tt_session_open_tcp(tt_session *session, const char *host, uint16_t port, int timeout_ms) {
     struct sockaddr_in address;
@@ -149,10 +194,13 @@ static inline int tt_session_open_unix(tt_session *session, const char *path, in
 }
 
 static inline int tt_session_send(tt_session *session, const char *bytes, size_t length) {
+    int64_t give_up_ms = tt_session_clock_ms() + session->timeout_ms;
     while (length > 0) {
-        ssize_t sent = send(session->socket, bytes, length, MSG_NOSIGNAL);
-        if (sent < 0 && errno == EINTR) continue;
-        if (sent < 0) return tt_session_failed(session, errno);
+        ssize_t sent = send(session->socket, bytes, length, MSG_NOSIGNAL | MSG_DONTWAIT);
+        int error = sent >= 0 || errno == EINTR ? 0 : errno;
+        if (error == EAGAIN || error == EWOULDBLOCK) error = tt_session_await(session, POLLOUT, give_up_ms);
+        if (error != 0) return tt_session_failed(session, error);
+        if (sent < 0) continue;
         bytes += sent;
         length -= (size_t)sent;
     }
@@ -160,11 +208,14 @@ static inline int tt_session_send(tt_session *session, const char *bytes, size_t
 }
 
 static inline int tt_session_receive(tt_session *session, char reply[TT_LINE_BYTES + 1]) {
+    int64_t give_up_ms = tt_session_clock_ms() + session->timeout_ms;
     size_t length = 0;
     while (length == 0 || reply[length - 1] != '\n') {
         if (length > TT_LINE_BYTES) return tt_session_failed(session, EPROTO);
-        ssize_t received = recv(session->socket, reply + length, TT_LINE_BYTES + 1 - length, 0);
-        if (received < 0 && errno == EINTR) continue;
+        int error = tt_session_await(session, POLLIN, give_up_ms);
+        if (error != 0) return tt_session_failed(session, error);
+        ssize_t received = recv(session->socket, reply + length, TT_LINE_BYTES + 1 - length, MSG_DONTWAIT);
+        if (received < 0 && (errno == EINTR || errno == EAGAIN || errno == EWOULDBLOCK)) continue;
         if (received <= 0) return tt_session_failed(session, received < 0 ? errno : ECONNRESET);
         length += (size_t)received;
     }
@@ -297,13 +348,6 @@ static inline int tt_session_begin(tt_session *session, uint64_t floor_ns, uint6
     int failed = tt_session_send_commit(session, session->number + 1, floor_ns);
     if (failed == 0) *stamp_ns = session->stamp_ns;
     return failed;
-}
-
-/* The machine's clock in milliseconds. */
-static inline int64_t tt_session_clock_ms(void) {
-    struct timespec now;
-    clock_gettime(CLOCK_MONOTONIC, &now);
-    return (int64_t)now.tv_sec * 1000 + now.tv_nsec / 1000000;
 }
 
 /* Waits until the timestamp of the commit has surely passed, and gives it. Answers -ETIMEDOUT where that takes longer than

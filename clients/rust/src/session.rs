@@ -85,10 +85,71 @@ pub struct Interval {
     pub latest_ns: u64,
 }
 
-trait Stream: Read + Write + Send + fmt::Debug {}
+trait Stream: Read + Write + Send + fmt::Debug {
+    /// How long a read and a write may take from now on.
+    fn set_timeout(&self, timeout: Duration) -> io::Result<()>;
+}
 
-impl Stream for TcpStream {}
-impl Stream for UnixStream {}
+impl Stream for TcpStream {
+    fn set_timeout(&self, timeout: Duration) -> io::Result<()> {
+        self.set_read_timeout(Some(timeout))?;
+        self.set_write_timeout(Some(timeout))
+    }
+}
+
+impl Stream for UnixStream {
+    fn set_timeout(&self, timeout: Duration) -> io::Result<()> {
+        self.set_read_timeout(Some(timeout))?;
+        self.set_write_timeout(Some(timeout))
+    }
+}
+
+/// A stream whose calls are over after a time-out, however many signals interrupt them.
+struct Patient<'a> {
+    stream: &'a mut dyn Stream,
+    timeout: Duration,
+    deadline: Instant,
+    /// Whether the stream has a shorter time-out, since a signal came.
+    is_shorter: bool,
+}
+
+impl Patient<'_> {
+    fn new(stream: &mut dyn Stream, timeout: Duration) -> Patient<'_> {
+        Patient { stream, timeout, deadline: Instant::now() + timeout, is_shorter: false }
+    }
+
+    /// Calls until that is not interrupted.
+    fn call(&mut self, mut call: impl FnMut(&mut dyn Stream) -> io::Result<usize>) -> io::Result<usize> {
+        loop {
+            match call(self.stream) {
+                Err(error) if error.kind() == ErrorKind::Interrupted => {}
+                result => return result,
+            }
+            let left = self.deadline.saturating_duration_since(Instant::now());
+            if left.is_zero() {
+                return Err(ErrorKind::TimedOut.into());
+            }
+            self.stream.set_timeout(left)?;
+            self.is_shorter = true;
+        }
+    }
+
+    fn send(&mut self, mut bytes: &[u8]) -> io::Result<()> {
+        while !bytes.is_empty() {
+            let sent = self.call(|stream| stream.write(bytes))?;
+            bytes = &bytes[sent..];
+        }
+        self.end()
+    }
+
+    /// The stream has its whole time-out again.
+    fn end(&self) -> io::Result<()> {
+        if self.is_shorter {
+            self.stream.set_timeout(self.timeout)?;
+        }
+        Ok(())
+    }
+}
 
 /// Where the service is.
 #[derive(Clone, Debug)]
@@ -128,7 +189,7 @@ pub struct Session {
 
 impl Session {
     /// Connects to a TCP address. `timeout` is how long connecting, sending, each receiving and the waiting for a release
-    /// may take; it may not be zero.
+    /// may take, however many signals come; it may not be zero.
     pub fn connect_tcp(address: impl Into<SocketAddr>, timeout: Duration) -> Result<Session, Error> {
         Session::connect(Address::Tcp(address.into()), timeout)
     }
@@ -154,8 +215,9 @@ impl Session {
             Some(connection) => connection,
             None => Connection::to(&self.address, self.timeout)?,
         };
-        connection.stream.write_all(format!("{line}\n").as_bytes()).map_err(named)?;
-        let reply = receive(&mut *connection.stream).map_err(named)?;
+        let stream = &mut *connection.stream;
+        Patient::new(stream, self.timeout).send(format!("{line}\n").as_bytes()).map_err(named)?;
+        let reply = receive(Patient::new(stream, self.timeout)).map_err(named)?;
         self.connection = Some(connection);
         Ok(reply)
     }
@@ -285,14 +347,12 @@ impl Connection {
             Address::Tcp(address) => {
                 let stream = TcpStream::connect_timeout(address, timeout)?;
                 stream.set_nodelay(true)?;
-                stream.set_read_timeout(Some(timeout))?;
-                stream.set_write_timeout(Some(timeout))?;
+                stream.set_timeout(timeout)?;
                 Box::new(stream)
             }
             Address::Unix(path) => {
-                let stream = UnixStream::connect(path)?;
-                stream.set_read_timeout(Some(timeout))?;
-                stream.set_write_timeout(Some(timeout))?;
+                let stream = reach(path)?;
+                stream.set_timeout(timeout)?;
                 Box::new(stream)
             }
         };
@@ -321,20 +381,29 @@ fn number_of(text: &str) -> Option<u64> {
     text.parse().ok().filter(|number: &u64| *number <= MAX_TIME_NS && number.to_string() == text)
 }
 
-fn receive(stream: &mut dyn Stream) -> io::Result<String> {
+/// Connects to a Unix socket. What a signal interrupts was not begun.
+fn reach(path: &Path) -> io::Result<UnixStream> {
+    loop {
+        match UnixStream::connect(path) {
+            Err(error) if error.kind() == ErrorKind::Interrupted => {}
+            result => return result,
+        }
+    }
+}
+
+fn receive(mut stream: Patient<'_>) -> io::Result<String> {
     let mut bytes = [0; LINE_BYTES + 1];
     let mut length = 0;
     while !bytes[..length].ends_with(b"\n") {
         if length > LINE_BYTES {
             return Err(ErrorKind::InvalidData.into());
         }
-        match stream.read(&mut bytes[length..]) {
-            Ok(0) => return Err(ErrorKind::UnexpectedEof.into()),
-            Ok(received) => length += received,
-            Err(error) if error.kind() == ErrorKind::Interrupted => {}
-            Err(error) => return Err(error),
+        match stream.call(|stream| stream.read(&mut bytes[length..]))? {
+            0 => return Err(ErrorKind::UnexpectedEof.into()),
+            received => length += received,
         }
     }
+    stream.end()?;
     let reply = &bytes[..length - 1];
     if !reply.iter().all(|byte| matches!(byte, b' '..=b'~')) {
         return Err(ErrorKind::InvalidData.into());
