@@ -1,6 +1,6 @@
 /* Spoils calls of the program that it is loaded into, each kind for as long as a file of its name is in the folder that SPOIL names:
  * the monotonic clock shows ten seconds less (`clock`), no packet is received (`receive`), none is sent to port N (`send-N`), sending
- * one lasts until the file is gone (`sending`), and so does a rename (`rename`); a connection takes seven bytes at a time (`few`);
+ * one lasts until the file is gone (`sending`), and so do a rename (`rename`) and a write at a place of a file (`writing`); a connection takes seven bytes at a time (`few`);
  * there are no random bytes (`random`), and no IPv6 (`six`). It stands before the C library by LD_PRELOAD.
  *
  * Others say in their file what is shown. `course` has lines FROM SHOWN RATE, in nanoseconds and parts per million: once the monotonic
@@ -126,6 +126,11 @@ ssize_t read(int file, void *place, size_t size) {
 
 ssize_t pread(int file, void *place, size_t size, off_t from) {
     return shown_of(file, place, size, syscall(SYS_pread64, file, place, size, from));
+}
+
+ssize_t pwrite(int file, const void *bytes, size_t size, off_t from) {
+    last("writing");
+    return syscall(SYS_pwrite64, file, bytes, size, from);
 }
 
 ssize_t recvfrom(int file, void *place, size_t size, int flags, struct sockaddr *address, socklen_t *length) {

@@ -16,7 +16,8 @@ ROWS = {
             '=timestamp(node_textfile_mtime_seconds{file=~".*truetime.*[.]prom", instance=~"$instance"}) - node_textfile_mtime_seconds':
                 "={{instance}} {{file}}"}),
         "Broken assumptions, host asleep": ("short", {"=increase(truetime_assumption_breaks_totalS[1h])": "breaks",
-                                                      "=increase(truetime_slept_seconds_totalS[1h])": "seconds asleep"}),
+                                                      "=increase(truetime_slept_seconds_totalS[1h])": "seconds asleep",
+                                                      "sleep_unseen": "sleep unseen"}),
         "Versions": ("short", {"build_info": "="}),
     },
     "Readings": {
@@ -46,7 +47,8 @@ ROWS = {
         "Keys": ("short", {"source_key": "source {{source}}"}),
     },
     "Clients": {
-        "Lines and sessions": ("ops", {"+lines_total": "lines", "+lines_refused_total": "refused", "+sessions_total": "sessions"}),
+        "Lines and sessions": ("ops", {"+lines_total": "lines", "+lines_refused_total": "refused", "+sessions_total": "sessions",
+                                     "+connections_unserved_total": "unserved"}),
         "Open sessions, workers, and connections that wait": ("short", {
             "workers": "workers", "workers_busy": "busy", "connections_waiting": "connections waiting", "sessions_open": "sessions"}),
         "Commit wait": ("s", {

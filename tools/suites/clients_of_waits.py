@@ -4,7 +4,9 @@ A wait is judged by a sleep of the same length beside it, which this process mak
 one of many tries has to be short enough; where none is, the shortest of the waits counts against the shortest of the sleeps. No wait ends
 early.
 """
+import contextlib
 import os
+import signal
 import socket
 import statistics
 import threading
@@ -220,19 +222,82 @@ class Silent(Answering):
     reply = b""
 
 
+@contextlib.contextmanager
+def interrupted(probe):
+    """Stops a probe and lets it go on again each 5 milliseconds: that interrupts what waits with a time-out, as signals do."""
+    ended = threading.Event()
+
+    def interrupt():
+        while not ended.wait(0.005):
+            for number in signal.SIGSTOP, signal.SIGCONT:
+                probe.send_signal(number)
+
+    thread = threading.Thread(target=interrupt)
+    thread.start()
+    try:
+        yield
+    finally:
+        ended.set()
+        thread.join()
+        probe.send_signal(signal.SIGCONT)
+
+
+def let_all_in(full):
+    """Lets in those that wait, and one more."""
+    full.settimeout(10)
+    with contextlib.suppress(OSError):
+        for _ in range(3):
+            full.accept()
+
+
+def try_interrupted(trial, name, words, silent):
+    """The waits of a session that is interrupted again and again: for a reply and for a connection that do not come, and for one that does."""
+    with full_socket() as full, Reader(words, "session") as probe:
+        late = threading.Timer(60, probe.probe.kill)
+        late.start()
+        for what, opened, line in [("no reply", silent, "now"), ("no connection", None, f"open tcp {full.getsockname()[1]} 200")]:
+            if opened:
+                wants(trial, name, probe.say, f"open tcp {opened} 200", "open")
+            with interrupted(probe.probe):
+                began = time.monotonic()
+                wants(trial, f"{name}: {what}", probe.say, line, "timed out")
+                trial.between(f"{name}: {what}, in ms", 190, 1000 * (time.monotonic() - began), 2000)
+        let_in = threading.Timer(0.2, let_all_in, [full])
+        let_in.start()
+        with interrupted(probe.probe):
+            wants(trial, f"{name}: a connection", probe.say, f"open tcp {full.getsockname()[1]} 20000", "open")
+        let_in.join()
+        late.cancel()
+
+
+@suite.case()
+def signals_that_come_often(trial):
+    """Signals that come more often than a time-out make no wait of C, C++ and Rust longer, and no connection fail."""
+    with Listening(Silent) as silent:
+        for name, words in session_probes(trial.shared):
+            if name.startswith(("C", "Rust")):
+                try_interrupted(trial, name, words, silent.server_address[1])
+
+
+@contextlib.contextmanager
+def full_socket():
+    """A socket that lets nobody in any more."""
+    with contextlib.ExitStack() as stack:
+        full = stack.enter_context(socket.socket())
+        full.bind(("127.0.0.1", 0))
+        full.listen(0)
+        for _ in range(3):
+            one = stack.enter_context(socket.socket())
+            one.setblocking(False)
+            one.connect_ex(full.getsockname())
+        yield full
+
+
 @suite.case()
 def waits_of_sessions(trial):
     """Time-outs of connecting, of a reply and of a release are no longer than was said, and a commit is asked for each millisecond."""
-    with Listening(Silent) as silent, socket.socket() as full, ThreadPoolExecutor() as pool:
-        full.bind(("127.0.0.1", 0))
-        full.listen(0)
-        waiting = [socket.socket() for _ in range(3)]  # from then on nobody is let in
-        for one in waiting:
-            one.setblocking(False)
-            one.connect_ex(full.getsockname())
+    with Listening(Silent) as silent, full_socket() as full, ThreadPoolExecutor() as pool:
         ports = silent.server_address[1], full.getsockname()[1]
         probes = list(session_probes(trial.shared))
         list(pool.map(lambda probe: try_session(trial, *probe, *ports), probes))
-        for one in waiting:
-            one.close()
     trial.note(f"{len(probes)} kinds of sessions; {len(trial.result.wrong)} wrong")

@@ -314,6 +314,20 @@ def ask_without_a_reply(trial):
         yield f"status {status} and {said!r} of a reply of 128 bytes"
 
 
+# What a service sends that is no text, and what is printed of it.
+STRANGE = {b"now \x1b]0;evil\x07\x1b[2J 1\n": "now \\x1b]0;evil\\x07\\x1b[2J 1\n", b"\xff\xfe\n": "\\xff\\xfe\n",
+           b"\x00 ~\x7f\x80\r\t\\\n": "\\x00 ~\\x7f\\x80\\x0d\\x09\\\n", b"\xc2\x9b2J\n": "\\xc2\\x9b2J\n"}
+
+
+@suite.case()
+def ask_of_a_service_that_controls_terminals(trial):
+    """Bytes that are not printable are escaped."""
+    for sent, wanted in STRANGE.items():
+        status, said, _, _ = ask_of(trial, lambda door, _, sent=sent: door.sendall(sent), "now")
+        if (status, said) != (0, wanted):
+            yield f"{sent!r}: status {status}, {said!r} in place of {wanted!r}"
+
+
 @suite.case()
 def ask_where_nothing_listens(trial):
     """The address or the path, the system's reason, and a question are on standard error."""

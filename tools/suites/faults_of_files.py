@@ -1,13 +1,16 @@
 """Scenarios of the suite `faults`: standard error, the status, drafts and locks, settings, and the shared file."""
+import contextlib
 import json
 import os
+import shlex
 import shutil
 import socket
+import subprocess
 import time
 from concurrent.futures import ThreadPoolExecutor
 
 from harness import trouble
-from harness.processes import free_port
+from harness.processes import free_port, truetime
 from harness.program import read, run, write
 from harness.trouble import as_nobody, full_listener, full_pipe, hold_lock
 from suites.faults import suite
@@ -279,6 +282,66 @@ def settings_that_are_refused(trial):
             yield from faults
 
 
+SOCKET_BYTES = 107
+
+
+@suite.case()
+def paths_of_one_file(trial):
+    """A file that has two purposes by two names of its folder, by `..` or a link, and a path of a socket that is too long: by --check and by the
+    start. The same names in folders of their own are taken."""
+    long = os.path.join(trial.room, "l" * (SOCKET_BYTES - len(trial.room) - 1))
+    cases = [({"status": "HERE/state/../state/epoch"}, "1817"), ({"status": "HERE/link/epoch"}, "1817"), ({"shared": "HERE/link/lock"}, "1817"),
+             ({"evidence": "HERE/link/break"}, "1817"), ({"socket": "HERE/link/epoch.new"}, "1817"), ({"status": "HERE/here/shared"}, "1817"),
+             ({"evidence": "HERE/e", "status": "HERE/here/e.break-2"}, "1817"), ({"status": "HERE/here/state"}, "1817"),
+             ({"socket": f"{long}s"}, "1804"), ({"socket": long}, None), ({"status": "HERE/other/epoch"}, None), ({"shared": "HERE/other/status"}, None)]
+    for number, (settings, refusal) in enumerate(cases):
+        folder = os.path.join(trial.room, str(number))
+        settings = {key: value.replace("HERE", folder) for key, value in settings.items()}
+        node = trial.node(["127.0.0.1:5701"], str(number), **settings)
+        for name in "state", "other":
+            os.makedirs(os.path.join(folder, name), exist_ok=True)
+        os.symlink("state", os.path.join(folder, "link"))
+        os.symlink(".", os.path.join(folder, "here"))
+        ran = trial.command("serve", "--check", node.path("node.toml"))
+        if refusal is None:
+            if ran.status != 0:
+                yield f"--check with {settings}: {ran.answer} {ran.error!r}"
+            continue
+        if ran.answer != (f"refused {refusal}\n", 2):
+            yield f"--check with {settings}: {ran.answer}, and {refusal} is wanted"
+        for fault in refused_by_start(trial, node, refusal, (2,)):
+            yield f"a start with {settings}: {fault}"
+
+
+@suite.case()
+def files_at_their_limit(trial):
+    """As the unit starts it, with SIGXFSZ ignored, a machine goes on where files may be no longer, and says so."""
+    unit = read("packaging/truetime@.service").decode()
+    command = next(line.partition("=")[2] for line in unit.splitlines() if line.startswith("ExecStart="))
+    words = [word.replace("$$", "$") for word in shlex.split(command)]
+    node = trial.node(trial.masters(3))
+    node.run(["prlimit", "--fsize=4096:4096", *words[:words.index("/usr/bin/ttd")]])
+    yield from node.publishes_within(2)
+    yield from node.goes_on()
+    yield from node.answers()
+    if not node.said("status_unwritten"):
+        yield "the log does not say status_unwritten"
+
+
+@suite.case(programs=("prlimit",))
+def stacks_that_are_small(trial):
+    """A stack below 2 MiB is refused with words, also where hardly the start has room, and one of 2 MiB is enough."""
+    node = trial.node(trial.masters(16))
+    master = ["master", "--source", "0", "--listen", "127.0.0.1:0", "--uncertainty", "1"]
+    for words in ["serve", node.path("node.toml")], ["serve", "--check", node.path("node.toml")], master:
+        for kib in 64, 512, 2047:
+            ran = run(["prlimit", f"--stack={1024 * kib}:{1024 * kib}", trial.program, *words], seconds=5)
+            if ran.answer != ("refused 1831\n", 2) or f"ttd: the stack is limited to {1024 * kib} bytes, and 2097152 are needed" not in ran.error:
+                yield f"{words[0]} with a stack of {kib} KiB: {ran.answer} {ran.error!r}"
+    node.run(["prlimit", "--stack=2097152:2097152"])
+    yield from node.serves()
+
+
 # The shared file.
 
 def is_read(trial, node):
@@ -405,6 +468,77 @@ def shared_lock_is_removed(trial):
     second = trial.running_node(masters, "B", shared=first.path("shared"))
     yield from second.comes_to("sharing", 0, 1)
     yield from first.comes_to("sharing", 1, 1)
+
+
+def disk_that_freezes(trial):
+    """The folder of a file system of its own; nothing where none can be mounted here."""
+    place, image = os.path.join(trial.room, "disk"), os.path.join(trial.room, "image")
+    os.mkdir(place)
+    if run(["sh", "-c", 'truncate -s 8M "$1" && mkfs.ext4 -q "$1" && mount -o loop "$1" "$2"', "sh", image, place]).status != 0:
+        trial.note("no disk is frozen: none can be mounted here")
+        return None
+    trial.processes.callback(subprocess.run, ["umount", place], check=True)
+    return place
+
+
+@contextlib.contextmanager
+def frozen(place):
+    """The file system there is frozen, as for a snapshot of a disk, as long as this lasts."""
+    subprocess.run(["fsfreeze", "-f", place], check=True)
+    try:
+        yield
+    finally:
+        subprocess.run(["fsfreeze", "-u", place], check=True)
+
+
+def is_closed(node):
+    """Whether nobody listens at its address."""
+    with contextlib.suppress(OSError), socket.create_connection(node.address, 1):
+        return False
+    return True
+
+
+@suite.case(root=True, programs=("fsfreeze", "mkfs.ext4", "mount"))
+def shared_on_a_frozen_disk(trial):
+    """Rounds and sessions go on, and log and status say it while it lasts. A machine that ends then leaves its address and its folder: only its
+    process stays until the kernel lets go of its write."""
+    if not (place := disk_that_freezes(trial)):
+        return
+    masters = trial.masters(3)
+    node = trial.node(masters, shared=os.path.join(place, "shared"))
+    node.client = lambda: truetime.Client(os.path.join(place, "shared"), os.geteuid())
+    node.run()
+    yield from node.publishes_within(2)
+    with frozen(place):
+        began = node.status_or_none()
+        yield from node.comes_to("sharing", 0, 3)
+        if [fields["number"] for fields in node.said("sharing_ended")] != ["1709"]:
+            yield f"the log has {node.said('sharing_ended')}"
+        yield from node.answers()
+        written = node.number()
+        time.sleep(1)
+        made = node.status_or_none()["truetime_publications_total"] - began["truetime_publications_total"]
+        if made < 5 or node.number() != written:
+            yield f"{made} publications, and {written} and {node.number()} in the file"
+    yield from node.comes_to("sharing", 1, 3)
+    if not node.said("sharing_resumed"):
+        yield "the log does not say sharing_resumed"
+    yield from node.goes_on()
+    with frozen(place):
+        time.sleep(0.3)
+        began = time.monotonic()
+        node.running.stdin.close()
+        while not is_closed(node) and time.monotonic() < began + 5:
+            time.sleep(0.01)
+        if (took := time.monotonic() - began) > 1:
+            yield f"it listens {took:.1f} seconds after the end of its input"
+        other = trial.node(masters, "B", state=node.path("state"), listen=f"127.0.0.1:{node.address[1]}")
+        other.run()
+        yield from other.publishes_within(2)
+        yield from other.answers(node.address)
+    node.running.wait(5)
+    if node.running.returncode != 0:
+        yield f"it ended with status {node.running.returncode}"
 
 
 @suite.case(root=True)

@@ -16,6 +16,7 @@ import glob
 import gzip
 import os
 import re
+import shlex
 import shutil
 import stat
 import subprocess
@@ -389,6 +390,11 @@ def succeeds(trial, host, what, *words, wanted=None):
     return ran.said
 
 
+def words_of(command):
+    """The words of a command of a unit."""
+    return [word.replace("$$", "$") for word in shlex.split(command)]
+
+
 def units_of(trial, host):
     """The commands that the units start, and that systemd takes both."""
     found = {}
@@ -415,8 +421,8 @@ def use(trial):
         for source in range(3):
             words = units["truetime-master@"].replace("${SOURCE}", str(source)).replace("${LISTEN}", f"127.0.0.1:570{source + 1}")
             words = words.replace("$TIME $UNCERTAINTY $OPTIONS", "--uncertainty 1000000")
-            processes.enter_context(running([*host.inside, *USER, *words.split()]))
-        processes.enter_context(running([*host.inside, *USER, *units["truetime@"].replace("%i", "a").split()]))
+            processes.enter_context(running([*host.inside, *USER, *words_of(words)]))
+        processes.enter_context(running([*host.inside, *USER, *words_of(units["truetime@"].replace("%i", "a"))]))
         eventually(lambda: all(host.exists(f"run/truetime/a/{name}") for name in ("time", "status.prom", "evidence")), 10)
         before = time.time_ns()
         earliest, latest = (*succeeds(trial, host, "ask", "ttd", "ask", "127.0.0.1:5601", "now").split()[1:], 0, 0)[:2]

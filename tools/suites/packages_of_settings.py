@@ -1,9 +1,12 @@
 """The lines of the units and of the examples of settings, each against a list that was written by hand from what the documents say of them."""
 import os
 import re
+import signal
+import time
 import tomllib
 
-from harness.program import in_top, read_text
+from harness.program import in_top, read_text, run, write
+from harness.trouble import Spoils, honest
 from suites.packages import suite
 
 # What keeps a service apart from the host: all have these.
@@ -21,6 +24,8 @@ ALONE = {
 ENDLESS = {"StartLimitIntervalSec": "0"}
 STARTED_AGAIN = {"Restart": "on-failure", "RestartSec": "200ms", "RestartPreventExitStatus": "2"}
 STARTED_WITH_HOST = {"WantedBy": "multi-user.target"}
+#: What starts a program with SIGXFSZ ignored.
+IGNORING = """/bin/sh -c 'trap "" XFSZ; exec "$$0" "$$@"' """
 LOOK_AFTER = "Time service, look after machine %i"
 
 # Each section of each unit; a key that stands there more than once has its values in their order.
@@ -29,7 +34,7 @@ WANTED = {
         "Unit": {"Description": "Time service, machine %i", "Documentation": "man:ttd(1) man:node.toml(5) file:/usr/share/doc/truetime",
                  "After": "time-sync.target", "Wants": "truetime-watch@%i.timer", **ENDLESS},
         "Service": {
-            "Type": "exec", "User": "truetime", "ExecStart": "/usr/bin/ttd serve /etc/truetime/%i.toml",
+            "Type": "exec", "User": "truetime", "ExecStart": IGNORING + "/usr/bin/ttd serve /etc/truetime/%i.toml",
             "ExecStartPost": "-/usr/libexec/truetime/await /etc/truetime/%i.toml",
             "ExecReload": ["/usr/bin/ttd serve --check /etc/truetime/%i.toml", "+/usr/bin/systemctl --no-block restart truetime@%i.service"],
             **STARTED_AGAIN, "RestartForceExitStatus": "3",
@@ -45,7 +50,7 @@ WANTED = {
         "Service": {
             "Type": "exec", "User": "truetime", "Environment": ["TIME=--uncertainty", "UNCERTAINTY=", "OPTIONS="],
             "EnvironmentFile": "/etc/truetime/%i.master",
-            "ExecStart": "/usr/bin/ttd master --source ${SOURCE} --listen ${LISTEN} $TIME $UNCERTAINTY $OPTIONS",
+            "ExecStart": IGNORING + "/usr/bin/ttd master --source ${SOURCE} --listen ${LISTEN} $TIME $UNCERTAINTY $OPTIONS",
             **STARTED_AGAIN, "RuntimeDirectory": "truetime-master/%i", "RuntimeDirectoryMode": "0755", "UMask": "0022",
             **ALONE, "RestrictAddressFamilies": "AF_INET AF_INET6", "ProcSubset": "pid", "MemoryMax": "64M", "TasksMax": "24",
         },
@@ -75,8 +80,9 @@ OTHERS = {
 SCRIPTS = {
     "await": ["end=$(($(seconds) + 30))", "ttd ask \"$address\" now --retry 0 ", "    sleep 0.05\n", "kill -0 \"$MAINPID\"",
               "echo \"<4>the machine of $1 gives no time yet\" >&2\nexit 1\n", "RES_OPTIONS='timeout:1 attempts:1' ttd serve --check"],
-    "stands-still": ["limit=$((10 * ($(of poll) + $(of wait)) / 1000000000 + 30))\n", "find \"$status\" \"$(of state)/epoch\" -newermt \"-$limit seconds\"",
-                     "|| exit 2\n", "RES_OPTIONS='timeout:1 attempts:1' ttd serve --check"],
+    "stands-still": ["limit=$((10 * round / 1000000000 + 30))\n",
+                     "find \"$status\" ${shared:+\"$shared\"} \"$(of state)/epoch\" -newermt \"-$limit seconds\"",
+                     "timeout 5 ttd ask \"$address\" now --retry 0 ", "for _ in 1 2 3; do\n", "|| exit 2\n", "RES_OPTIONS='timeout:1 attempts:1' ttd serve --check"],
 }
 # The examples: a drift as docs/OPERATING.md has it for chrony, and all paths in the folders of the units.
 MACHINE = {
@@ -124,3 +130,82 @@ def settings_of_units(trial):
     trial.equal("node.toml", tomllib.loads(read_text("packaging/node.toml")), MACHINE)
     trial.equal("time.master", lines_of("time.master"), MASTER)
     trial.note(f"{number} settings; {len(trial.result.wrong)} wrong")
+
+
+# What `ttd` says in the place of the program: the settings of a machine, whose paths are in HERE, and then a reading of LINES at each `ask`.
+SAYS = """#!/bin/sh
+case $1 in
+serve) printf '%s\\n' "listen 127.0.0.1:0" "drift 200" "poll 40000000" "wait 10000000" "state HERE" "socket HERE/socket" "status HERE/status" SHARED;;
+ask) sed -n 1p HERE/lines; sed -i 1d HERE/lines;;
+esac
+"""
+OLD, NEW, DAY = 100, 5, 86_400 * 10 ** 9
+
+
+def aged(passed_ns, rounded=0):
+    """What a reading of a millisecond shows so much later, where nothing was published meanwhile."""
+    beyond = -(-passed_ns * 200 // 1_000_000) + rounded
+    return f"now {DAY + passed_ns - beyond} {DAY + 1_000_000 + passed_ns + beyond}"
+
+
+# How old the status, the last start and the shared file are, None where there is none, the readings, and whether the machine stands still.
+STANDS = {
+    "status": (NEW, OLD, OLD, [], False),
+    "start": (OLD, NEW, OLD, [], False),
+    "shared file": (OLD, OLD, NEW, [], False),
+    "no readings": (OLD, OLD, OLD, ["refused 801"], True),
+    "no shared file and no readings": (OLD, OLD, None, [], True),
+    "readings that grow alone": (OLD, OLD, None, [aged(0), aged(60_000_001), aged(130_000_007, 1), aged(200_000_003)], True),
+    "readings that grow alone, and a shared file": (OLD, OLD, OLD, [aged(0), aged(51_000_000), aged(102_000_000), aged(153_000_000)], True),
+    "a reading that grew less": (OLD, OLD, None, [aged(0), aged(60_000_000, -5)], False),
+    "a reading that grew more": (OLD, OLD, None, [aged(0), aged(60_000_000), aged(120_000_000), aged(180_000_000, 5)], False),
+    "no reading, and then one": (OLD, OLD, None, [aged(0), "refused 1824", aged(120_000_000, -20_000)], False),
+}
+
+
+@suite.case()
+def stands_still(trial):
+    """What packaging/stands-still says of a machine whose files are so old and whose readings are these."""
+    for number, (name, (status, start, shared, lines, wanted)) in enumerate(STANDS.items()):
+        here = os.path.join(trial.room, str(number))
+        os.mkdir(here)
+        for file, age in (("status", status), ("epoch", start), ("shared", shared)):
+            if age is not None:
+                write(os.path.join(here, file), b"")
+                os.utime(os.path.join(here, file), (time.time() - age, ) * 2)
+        write(os.path.join(here, "lines"), "".join(f"{line}\n" for line in lines).encode())
+        says = SAYS.replace("SHARED", '"shared HERE/shared"' if shared is not None else "").replace("HERE", here)
+        write(os.path.join(here, "ttd"), says.encode())
+        os.chmod(os.path.join(here, "ttd"), 0o755)
+        ran = run([in_top("packaging/stands-still"), "settings"], env={**os.environ, "PATH": f"{here}:{os.environ['PATH']}"})
+        trial.equal(name, (ran.status, bool(ran.error)), (0, True) if wanted else (1, False))
+
+
+@suite.case()
+def stands_still_by_readings(trial):
+    """What it says of a machine whose status cannot be written: one with a shared file, and one without, whose rounds then stand still while it
+    answers, and which is then stopped."""
+    os.symlink(os.path.abspath(trial.program), os.path.join(trial.room, "ttd"))
+    spoils, masters = Spoils(trial.room), trial.fakes(*[honest] * 3)
+
+    def says(node):
+        for path in (node.path("status"), node.path("state/epoch")):
+            os.utime(path, (time.time() - OLD, ) * 2)
+        ran = run([in_top("packaging/stands-still"), node.path("node.toml")], env={**os.environ, "PATH": f"{trial.room}:{os.environ['PATH']}"})
+        return {0: "still", 1: "goes on"}.get(ran.status)
+
+    for name, settings in (("A", {}), ("B", {"shared": None})):
+        node = trial.node(masters, name, **settings)
+        os.makedirs(node.path("status.new/kept"))
+        write(node.path("status"), b"")
+        node.environment = spoils.environment
+        node.run()
+        node.wait_until_ready()
+        trial.equal(f"{name}, which goes on", says(node), "goes on")
+    with spoils.spoiled("sending"):
+        time.sleep(0.5)
+        trial.equal("rounds stand still", says(node), "still")
+    time.sleep(0.5)
+    trial.equal("rounds that go on again", says(node), "goes on")
+    node.running.send_signal(signal.SIGSTOP)
+    trial.equal("a machine that is stopped", says(node), "still")

@@ -10,10 +10,11 @@ import time
 
 from harness.processes import Fault
 from harness.program import read_text, run, write
-from suites.packages import TRIES, UNITS, USER, Host, host_of, running, suite
+from suites.packages import TRIES, UNITS, USER, Host, host_of, running, suite, words_of
 from suites.wiring_checks import eventually
 
 SETTINGS, STATUS, EPOCH = "etc/truetime/a.toml", "run/truetime/a/status.prom", "var/lib/truetime/a/epoch"
+SHARED = "run/truetime/a/time"
 TIMER, WATCH = "truetime-watch@a.timer", ("ExecCondition", "ExecStart")
 ASK = ["ttd", "ask", "127.0.0.1:5601", "now", "--retry", "0"]
 # The triggers are those of other packages, and take long.
@@ -84,7 +85,7 @@ class Unit:
         """The words of each command of a key."""
         for prefix, line in re.findall(rf"^{key}=([-+]*)(.*)$", self.text, re.MULTILINE):
             environment = [f"MAINPID={self.main.pid}"] if self.main else []
-            yield [*environment, *([] if "+" in prefix else self.user), *line.replace("%i", self.instance).split()]
+            yield [*environment, *([] if "+" in prefix else self.user), *words_of(line.replace("%i", self.instance))]
 
     def run(self, key):
         """Runs the commands of a key until one fails: what came of each."""
@@ -147,6 +148,11 @@ def put(host, line, *more):
     write(f"{host.root}/{SETTINGS}", text.encode())
 
 
+def put_without(host, key):
+    """The example of settings without this one."""
+    write(f"{host.root}/{SETTINGS}", re.sub(f"\n{key} = .*", "", read_text("packaging/node.toml")).encode())
+
+
 def put_keys(host, lines):
     """The example of settings with masters whose polls are sealed under the key 7, and these lines in their file of keys."""
     text = read_text("packaging/node.toml")
@@ -170,9 +176,15 @@ def installed(trial):
 
 
 def age(host, seconds):
-    """Status and last start are so old."""
-    for path in (STATUS, EPOCH):
-        os.utime(f"{host.root}/{path}", (time.time() - seconds, ) * 2)
+    """Status, shared file and last start are so old."""
+    for path in (STATUS, SHARED, EPOCH):
+        with contextlib.suppress(FileNotFoundError):
+            os.utime(f"{host.root}/{path}", (time.time() - seconds, ) * 2)
+
+
+def is_old(host, path):
+    """Whether a file was not written for a minute."""
+    return os.stat(f"{host.root}/{path}").st_mtime < time.time() - 60
 
 
 @suite.case(root=True, programs=TRIES)
@@ -216,6 +228,21 @@ def watched(trial):
         age(host, 100)
         eventually(lambda: os.stat(f"{host.root}/{STATUS}").st_mtime > time.time() - 5)
         trial.equal("a machine that runs", watch.told(*WATCH)[1], [])
+        host.do("mkdir", "-p", f"/{STATUS}.new/kept")
+        time.sleep(2)
+        age(host, 100)
+        time.sleep(2)
+        trial.equal("one whose status can't be written", (is_old(host, STATUS), is_old(host, SHARED), watch.told(*WATCH)[1]), (True, False, []))
+        machine.close()
+        put_without(host, "shared")
+        os.remove(f"{host.root}/{SHARED}")
+        machine.start()
+        age(host, 100)
+        trial.equal("the same without a shared file", (is_old(host, STATUS), watch.told(*WATCH)[1]), (True, []))
+        host.do("rm", "-r", f"/{STATUS}.new")
+        put(host, GOOD)
+        machine.close()
+        machine.start()
         machine.main.send_signal(signal.SIGSTOP)
         time.sleep(0.1)
         for seconds, wanted in (0, []), (40, []), (44, restart):  # ten rounds of 1.25 s, and half a minute
@@ -231,7 +258,7 @@ def watched(trial):
     put(host, "machine = 9")
     ran, told = watch.told(*WATCH)
     trial.equal("settings that are refused", (ran.status, told), (2, []))
-    write(f"{host.root}/{SETTINGS}", re.sub("\nstatus = .*", "", read_text("packaging/node.toml")).encode())
+    put_without(host, "status")
     trial.equal("settings without a status", (watch.told(*WATCH)[0].status, watch.told(*WATCH)[1]), (1, []))
 
 

@@ -497,6 +497,44 @@ def lines_in_pieces(trial):
                         pass
 
 
+@suite.case()
+def requests_of_http(trial):
+    """A session whose first line is that of a request ends behind its refusal, and no line of its body is heard, also where it comes in pieces:
+    a commit there holds nobody's commit up. Another first line that is refused, or such a line later, ends no session."""
+    node = trial.running_node(trial.masters(3), workers=1)
+    body = b"Host: 127.0.0.1:5601\r\nContent-Type: text/plain\r\n\r\ncommit 1 %d\nnow\n"
+    firsts = ((b"POST / HTTP/1.1\r\n", "1101"), (b"GET /now HTTP/1.0\n", "1101"), (b"PRI * HTTP/2.0\r\n", "1101"),
+              (b"POST /%s HTTP/1.1\r\n" % (b"a" * 700), "1102"))
+    with contextlib.ExitStack() as stack:
+        other = Door(stack, node.address)
+        for number, ((first, refusal), piece) in enumerate(itertools.product(firsts, (4096, 1))):
+            door, text = Door(stack, node.address), first + body % (time.time_ns() + 9 * SECOND)
+            with contextlib.suppress(OSError):
+                for at in range(0, len(text), piece):
+                    door.send(text[at:at + piece])
+                    if piece == 1:
+                        time.sleep(0.0005)
+            replies = []
+            with contextlib.suppress(OSError):
+                while reply := door.reply():
+                    replies.append(reply)
+            if replies != [f"refused {refusal}"]:
+                yield f"{first[:40]} in pieces of {piece} has the replies {replies}"
+            if not is_closed_within(door.door, 1):
+                yield f"{first[:40]} in pieces of {piece} ends no session"
+            began = time.monotonic()
+            while not (said := other.ask(f"commit {number + 1} 0")).startswith("committed"):
+                if not said.startswith("waiting") or time.monotonic() > began + 3:
+                    yield f"behind {first[:40]} in pieces of {piece} a commit of another has {said!r} after {time.monotonic() - began} s"
+                    break
+        for lines in (b"nonsense\nnow\n", b"GET /now\nnow\n", b"now HTTP/1.1 \nnow\n", b"HTTP/1.1\nnow\n", b"now\nGET / HTTP/1.1\r\nnow\n", b"\nGET / HTTP/1.1\nnow\n"):
+            door = Door(stack, node.address)
+            door.send(lines)
+            words = [door.reply().split()[0] for _ in range(lines.count(b"\n"))]
+            if words.count("refused") < 1 or words[-1] != "now" or not door.is_open():
+                yield f"{lines} has the replies {words}"
+
+
 # Clients that say nothing, and the end.
 
 @suite.case()

@@ -49,8 +49,9 @@ LAST = {
     "rounds": "truetime_rounds_total", "publications": "truetime_publications_total", "answers_refused": "truetime_answers_refused_total",
     "rounds_stale": "truetime_rounds_stale_total", "fusions_504": 'truetime_fusions_refused_total{number="504"}',
     "fusions_701": 'truetime_fusions_refused_total{number="701"}', "strangers": "truetime_strangers_total", "breaks": "truetime_assumption_breaks_total",
-    "slept": "truetime_slept_seconds_total", "sessions": "truetime_sessions_total", "lines": "truetime_lines_total",
-    "lines_refused": "truetime_lines_refused_total", "waiting": "truetime_connections_waiting", "workers": "truetime_workers",
+    "slept": "truetime_slept_seconds_total", "sleep_unseen": "truetime_sleep_unseen", "sessions": "truetime_sessions_total", "lines": "truetime_lines_total",
+    "lines_refused": "truetime_lines_refused_total", "waiting": "truetime_connections_waiting", "unserved": "truetime_connections_unserved_total",
+    "workers": "truetime_workers",
     "busy": "truetime_workers_busy", "sessions_open": "truetime_sessions_open", "commits_waiting": "truetime_commits_waiting",
     "commits_waited": "truetime_commit_wait_seconds_sum", "commits_released": "truetime_commit_wait_seconds_count",
     "round_trips": "truetime_round_trip_seconds_sum", "answers": "truetime_round_trip_seconds_count",
@@ -82,7 +83,7 @@ EVENTS = {
     "publication_slow": "warn lasted_ns", "clock_back": "warn", "status_unwritten": "warn errno", "not_accepted": "warn errno",
     "state_loose": "warn", "epoch_loose": "warn", "shared_loose": "warn", "answers_refused": "warn count", "master_failed": "warn number",
     "assumption_broken": "warn clock_ns lower_ns upper_ns last_lower_ns last_upper_ns", "host_slept": "warn slept_ns",
-    "guest_disrupted": "warn", "sleep_unseen": "warn", "sources_stale": "warn answered needed", "start_paused": "warn pause_ns breaks",
+    "guest_disrupted": "warn", "sleep_unseen": "warn", "descriptors": "info limit needed sessions", "sources_stale": "warn answered needed", "start_paused": "warn pause_ns breaks",
     "evidence_unwritten": "warn errno", "keys_read": "info keys", "keys_refused": "warn number line", "polls_unopened": "warn count", "address_awaited": "warn pause_ns",
     "stranger": "warn address", "source_unresolved": "warn source", "source_resolved": "info source address",
     "master_silent": "warn number", "master_answers": "info", "width_above": "warn width_ns limit_ns", "clock_stepped": "error",
@@ -93,10 +94,11 @@ EVENTS = {
 TIMES = {
     # A session; the looks of a worker at its clients; the wait for the first publication; a read and a write of a connection.
     "session": 86_400 * SECOND, "look": SECOND, "first": 2 * SECOND, "read": SECOND // 5, "write": SECOND // 1000,
-    # What a round may last longer than `wait`; a pause before the first publication; the sleep of a writer of records.
-    "slow": SECOND, "quick round": SECOND // 10, "records": SECOND,
+    # What a round may last longer than `wait`; how long a write of the shared file lasts before it hangs; a pause before the first
+    # publication; the sleep of a writer of records.
+    "slow": SECOND, "hang": SECOND, "quick round": SECOND // 10, "records": SECOND,
     # A request over HTTP, and the answer to it; the looks for what is not written at the end.
-    "page": SECOND, "end look": SECOND // 500,
+    "page": 2 * SECOND, "end look": SECOND // 500,
     # A connection of `ask`, a read of its reply, and its pause; a connection of `top`, and its pause.
     "ask link": 30 * SECOND, "ask read": SECOND // 10, "ask again": SECOND // 10, "top link": 5 * SECOND, "top again": SECOND // 2,
     # A packet that a master awaits; the reply of a server of its host.

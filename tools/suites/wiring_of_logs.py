@@ -134,16 +134,17 @@ def sleep_that_is_not_seen(trial):
     trial.logs(node, "sleep_unseen")
     time.sleep(0.5)
     trial.equal("log sleep_unseen", len(node.said("sleep_unseen")), 1)
-    trial.numbers(node, slept=0, breaks=0)
+    trial.numbers(node, sleep_unseen=1, slept=0, breaks=0)
     trial.equal("log sleep_unseen", len(node.said("sleep_unseen")), 1)
-    trial.numbers(node, slept=0, breaks=0)
+    trial.numbers(node, sleep_unseen=1, slept=0, breaks=0)
     # It can be read again, and then it cannot. Of one kind a line comes each ten seconds.
     os.remove(spoils.path("no-uptime"))
+    trial.numbers(node, sleep_unseen=0, slept=0, breaks=0)
     time.sleep(10.2)
     trial.equal("log sleep_unseen", len(node.said("sleep_unseen")), 1)
     spoils.tell("no-uptime")
     trial.check("log sleep_unseen", eventually(lambda: len(node.said("sleep_unseen")) == 2), "it is not said a second time")
-    trial.numbers(node, slept=0, breaks=0)
+    trial.numbers(node, sleep_unseen=1, slept=0, breaks=0)
 
 
 @suite.case()

@@ -235,6 +235,27 @@ def keys_written_in_place(trial):
 
 
 @suite.case()
+def keys_of_the_same_times(trial):
+    """A file of keys that was written in its place and has the length and the times of the one before is read anew."""
+    keys = os.path.join(trial.room, "keys")
+    put_keys(keys, f"7 {OLD.hex()}")
+    os.utime(keys, (1, 1))
+    asked = Asked(trial, 3, uncertainty=[5], keys=[keys])
+    trial.logs(asked.process, "master_started")
+    trial.check("option keys", is_answered(asked, 7, OLD, 5), "no answer under its key")
+    time.sleep(1.1)
+    with open(keys, "r+b", buffering=0) as file:
+        file.write(f"7 {NEW.hex()}".encode())
+    os.utime(keys, (1, 1))
+    trial.logs(asked.process, "keys_read", keys=1)
+    trial.check("option keys", not is_answered(asked, 7, OLD), "an answer under the key before")
+    trial.check("option keys", is_answered(asked, 7, NEW, 5), "no answer under the key that was written")
+    os.utime(keys)
+    time.sleep(2.5)
+    trial.equal("log keys_read", len(asked.process.said("keys_read")), 1)
+
+
+@suite.case()
 def status_of_open_masters(trial):
     """A master without keys counts its answers as not sealed."""
     status = os.path.join(trial.room, "status")

@@ -7,11 +7,11 @@ import time
 import typing
 
 from harness.metrics import faults_in, numbers_in
-from harness.processes import free_port
+from harness.processes import free_port, truetime
 from harness.program import read_text, run, write
 from harness.trouble import disrupt, honest, page, silent
 from suites.wiring import suite
-from suites.wiring_checks import eventually, spans
+from suites.wiring_checks import TIMES, eventually, spans
 
 ROUNDS = "truetime_rounds_total"
 PLAIN = "text/plain; charset=utf-8"
@@ -109,7 +109,7 @@ def pages_without_files(trial):
     node, port = with_pages(trial, trial.scripts(honest), status=None, workers=5)
     node.run()
     node.wait_until_ready()
-    trial.equal("setting http", node.look_at_resources()[2], 5 + 6 - 1)
+    trial.equal("setting http", node.look_at_resources()[2], 5 + 7 - 1)
     answer = eventually(lambda: (seen := get(port, "/metrics")).words == "200 OK" and seen)
     trial.check("setting http", answer and 'truetime_publications_total{machine="0"} ' in answer.text, f"the status is {answer}")
     answer = eventually(lambda: (seen := get(port, "/evidence")).words == "200 OK" and seen)
@@ -143,7 +143,7 @@ def other_requests(trial):
 
 @suite.case(quiet=True)
 def clients_that_take_their_time(trial):
-    """One that sends nothing, one that sends a byte now and then, and one that takes nothing keep another away for two seconds at most."""
+    """One that sends nothing, one that sends a byte now and then, and one that takes nothing keep no other away, and end after two seconds."""
     node, port = with_pages(trial, trial.scripts(honest))
     node.run()
     node.wait_until_ready()
@@ -153,7 +153,7 @@ def clients_that_take_their_time(trial):
             with contextlib.suppress(OSError):
                 door.sendall(given)
             trial.equal("setting http", get(port, "/").words, "404 Not Found")
-            trial.between("setting http", 0, time.monotonic() - began, 2.3)
+            trial.between("setting http", 0, time.monotonic() - began, 0.5)
     with socket.create_connection(("127.0.0.1", port), 5) as door:
         began, gone = time.monotonic(), None
         for byte in b"GET /metrics HTTP/1.1\r\nHost: here\r\n":
@@ -163,8 +163,50 @@ def clients_that_take_their_time(trial):
                 gone = time.monotonic() - began
                 break
             time.sleep(0.1)
-        trial.between("setting http", 0.9, gone, 2.0)
+        trial.between("setting http", 1.9, gone, 3.0)
     comes_to(trial, port, None)
+
+
+@suite.case(quiet=True)
+def five_hundred_slow_clients(trial):
+    """They send a byte now and then. Three times one more has its answer soon. Eight of them at most are served at a time, each for two
+    seconds in all, and the others are closed at once."""
+    node, port = with_pages(trial, trial.scripts(honest))
+    node.run()
+    node.wait_until_ready()
+    comes_to(trial, port, None)
+    for _ in range(3):
+        with contextlib.ExitStack() as stack:
+            doors = [stack.enter_context(socket.socket()) for _ in range(500)]
+            for door in doors:
+                door.settimeout(5)
+                door.connect(("127.0.0.1", port))
+            began = time.monotonic()
+            trial.equal("setting http", reasons_of(get(port, "/health")), None)
+            trial.between("setting http", 0, time.monotonic() - began, 1)
+            time.sleep(0.2)
+            still = [door for door in doors if not has_ended(door)]
+            trial.between("slow clients that are served at a time", 7, len(still), 8)
+            while still and time.monotonic() < began + 6:
+                last = time.monotonic() - began
+                still = [door for door in still if not has_ended(door)]
+                time.sleep(0.1)
+            trial.between("for how long a slow client is served", 1.5, last, 2.6)
+
+
+def has_ended(door):
+    """Whether this connection is closed. If not, it is given one more byte of a request."""
+    door.setblocking(False)
+    try:
+        if door.recv(1) == b"":
+            return True
+        raise ValueError("a slow client has an answer")
+    except BlockingIOError:
+        with contextlib.suppress(OSError):
+            door.send(b"G")
+        return False
+    except OSError:
+        return True
 
 
 @suite.case()
@@ -227,6 +269,46 @@ def broken_assumption(trial):
     comes_to(trial, port, None)
     disrupt(path, 2)
     comes_to(trial, port, ["1823"])
+
+
+@suite.case()
+def shared_file_that_hangs(trial):
+    """A write of it lasts. Rounds and sessions go on, and log, status and health say it while it lasts. Then the file has the newest publication.
+    A machine ends while one lasts."""
+    port = free_port(socket.SOCK_STREAM)
+    node, spoils = trial.spoilable(trial.scripts(honest), http=f"127.0.0.1:{port}", poll="50ms", wait="100ms")
+    comes_to(trial, port, None)
+    trial.numbers(node, sharing=1)
+    with node.client() as client:
+        hung = time.monotonic_ns()
+        with spoils.spoiled("writing"):
+            time.sleep(0.3)
+            written, began = client.read().number, node.status()
+            trial.logs(node, "sharing_ended", number=1709)
+            trial.between("time hang", TIMES["hang"], time.monotonic_ns() - hung, 4 * TIMES["hang"])
+            trial.numbers(node, sharing=0)
+            comes_to(trial, port, ["sharing_ended"])
+            with truetime.Session(node.address, 5) as session:
+                before, now, after = time.time_ns(), session.now(), time.time_ns()
+            trial.check("setting shared", now.earliest_ns <= after and before <= now.latest_ns, f"a session has {now} from {before} to {after}")
+            made = {name: node.status()[f"truetime_{name}_total"] - began[f"truetime_{name}_total"] for name in ("rounds", "publications")}
+            trial.check("setting shared", min(made.values()) >= 5, f"{made} while a write lasts")
+            trial.equal("shared number", client.read().number, written)
+            trial.check("shared valid_until_ns", not client.now().fresh, "the file is fresh")
+        trial.logs(node, "sharing_resumed")
+        trial.numbers(node, sharing=1)
+        comes_to(trial, port, None)
+        trial.check("shared number", client.read().number > written + made["publications"], f"the file has {client.read().number} behind {written}")
+        trial.check("shared valid_until_ns", client.now().fresh, "the file is not fresh")
+    with spoils.spoiled("writing"):
+        time.sleep(0.3)
+        for what in node.ends():
+            trial.check("setting shared", False, what)
+    trial.equal("log ended", len(node.said("ended")), 1)
+    node, port = with_pages(trial, trial.scripts(honest), name="B", shared=None)
+    node.run()
+    comes_to(trial, port, None)
+    trial.numbers(node, sharing=0)
 
 
 @suite.case()

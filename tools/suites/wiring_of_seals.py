@@ -1,9 +1,12 @@
 """Scenarios of the suite `wiring`: polls that are sealed, of masters with addresses and with names."""
+import contextlib
 import os
 import shutil
 import socket
 import subprocess
+import time
 
+from harness.program import write
 from harness.trouble import REQUEST, Network, Spoils, honest, silent
 from suites.wiring import suite
 from suites.wiring_checks import Sealed, answer, eventually, put_keys, sealed, status_of
@@ -171,7 +174,7 @@ def names_of_masters(trial):
     said, status = trial.command("serve", "--check", node.path("node.toml")).answer
     lines = [line for line in said.splitlines() if line.split()[0] in ("master", "threads", "keys", "key", "resolved", "unresolved", "warning")]
     wanted = [f"master {masters[0]['address']} key 7", "master nowhere.invalid:5701 key 8", f"master {last.address} key 4294967295",
-              "threads 10", f"keys {keys_at(trial)}", "key 7", "key 8", "key 4294967295", f"resolved localhost {local.address}", "unresolved nowhere.invalid"]
+              "threads 11", f"keys {keys_at(trial)}", "key 7", "key 8", "key 4294967295", f"resolved localhost {local.address}", "unresolved nowhere.invalid"]
     # A name may have further addresses.
     lines = [" ".join(line.split()[:3]) if line.startswith("resolved ") else line for line in lines]
     trial.equal("--check", (status, lines), (0, wanted))
@@ -252,3 +255,37 @@ def no_random_bytes(trial):
     node.run(stdout=subprocess.PIPE)
     trial.equal("refusal 1829", (node.running.stdout.read(), node.running.wait(5)), (b"refused 1829\n", 4))
     trial.equal("refusal 1829", os.listdir(node.path("state")), [])
+
+
+def polls_at(door):
+    """How many packets came to a socket since the last look."""
+    count = 0
+    with contextlib.suppress(BlockingIOError):
+        while door.recv(100):
+            count += 1
+    return count
+
+
+@suite.case(root=True, programs=("unshare", "mount"))
+def addresses_of_a_name(trial):
+    """They are asked in turn, each for four silent rounds, and round again. One that answers is asked from then on."""
+    hosts = os.path.join(trial.room, "hosts")
+    write(hosts, "".join(f"127.0.0.{last} m0.lab.test\n" for last in (2, 3, 4)).encode())
+    last = scripted(trial, {7: FIRST}, silent, host="127.0.0.4")
+    with contextlib.ExitStack() as stack:
+        doors = [stack.enter_context(socket.socket(socket.AF_INET, socket.SOCK_DGRAM)) for _ in range(2)]
+        for door, host in zip(doors, ("127.0.0.2", "127.0.0.3")):
+            door.bind((host, int(last.address.rpartition(":")[2])))
+            door.setblocking(False)
+        node = trial.node([table(last, 7, "m0.lab.test")], keys=keys_at(trial), poll="70ms", wait="30ms")
+        node.run(["unshare", "--mount", "sh", "-c", 'mount --bind "$0" /etc/hosts && exec "$@"', hosts])
+        trial.check("names", eventually(lambda: len(last.numbers) > 3, 20), "the third address is not asked")
+        asked = [polls_at(door) for door in doors]
+        trial.check("names", min(asked) > 3, f"the first two were asked {asked} times")
+        trial.check("names", eventually(lambda: polls_at(doors[0]), 20), "the first address is not asked again")
+        last.acts = [honest]
+        trial.check("names", eventually(lambda: status_of(node)["known"] == 1, 20), "the address that answers is not heard")
+        for door in doors:
+            polls_at(door)
+        time.sleep(3)
+        trial.equal("names", [polls_at(door) for door in doors], [0, 0])

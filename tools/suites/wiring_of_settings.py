@@ -1,6 +1,7 @@
 """Scenarios of the suite `wiring`: each setting of a machine has its effect."""
 import contextlib
 import os
+import resource
 import socket
 import statistics
 import subprocess
@@ -334,6 +335,47 @@ def end_of_input(trial):
             trial.check("--until-eof", node.running.poll() is None, "it ends without being told")
 
 
+@contextlib.contextmanager
+def descriptors_up_to(number):
+    """What is started meanwhile may have so many descriptors."""
+    before = resource.getrlimit(resource.RLIMIT_NOFILE)
+    resource.setrlimit(resource.RLIMIT_NOFILE, (number, before[1]))
+    try:
+        yield
+    finally:
+        resource.setrlimit(resource.RLIMIT_NOFILE, before)
+
+
+def connect_many(doors, address, number):
+    """So many connections, each of which is there once it is the machine's, or its kernel's."""
+    for _ in range(number):
+        door = doors.enter_context(socket.socket(socket.AF_UNIX if isinstance(address, str) else socket.AF_INET))
+        door.settimeout(5)
+        door.connect(address)
+
+
+@suite.case()
+def descriptors(trial):
+    """Clients take what they can of a machine that may have 200: its four workers have 16 sessions each, and 64 descriptors and its own are left,
+    so that it goes on with its files and its looks. A machine that may have more than it wants has all sessions."""
+    with descriptors_up_to(200):
+        node = trial.running_node(trial.scripts(honest), poll="50ms", wait="20ms", floor_ahead="10s", evidence=f"{trial.room}/evidence")
+    trial.logs(node, "descriptors", limit=200, needed=32 + 64 + 4 * (3 + 320 + 107 + 1), sessions=64)
+    trial.numbers(node, sleep_unseen=0)
+    most, rounds = 0, status_of(node)["rounds"]
+    with contextlib.ExitStack() as doors:
+        for address in (node.address, node.path("socket")) * 3:
+            connect_many(doors, address, 60)
+            most = max(most, len(os.listdir(f"/proc/{node.running.pid}/fd")))
+        trial.check("log descriptors", most <= 200 - 64, f"{most} descriptors are open")
+        trial.numbers(node, sessions_open=64)
+        trial.check("status rounds", eventually(lambda: status_of(node)["rounds"] > rounds + 20), "they do not go on")
+        trial.equal("shared number", eventually(lambda: published(node).number > rounds + 20), True)
+        trial.equal("log descriptors", reply_to(doors.enter_context(truetime.Session(node.address, 5)), "now").split()[0], "now")
+    for event in ("not_accepted", "status_unwritten", "evidence_unwritten", "sleep_unseen", "sharing_ended"):
+        trial.equal(f"log {event}", node.said(event), [])
+
+
 @suite.case()
 def outline(trial):
     """What `--check` says of settings none of which is a default."""
@@ -344,15 +386,18 @@ def outline(trial):
                       http="127.0.0.1:40")
     growth = 2 * -(-63_000_000 * 321 // 1_000_000)
     widths = [f"width {trip} {trip + -(-trip * 321 // 1_000_000) + growth}" for trip in (100_000, 1_000_000, 10_000_000, 100_000_000)]
-    numbers = {"faulty": 0, "workers": 7, "drift": 321, "poll": 31_000_000, "wait": 32_000_000, "floor_ahead": 33_000_000,
+    # A clock that loses 320,896 parts of a billion loses 321 parts of a million of what it shows, and so does one that gains 321,103.
+    numbers = {"faulty": 0, "workers": 7, "drift": 321, "rates": "320896 321103", "poll": 31_000_000, "wait": 32_000_000, "floor_ahead": 33_000_000,
                "idle": 34 * SECOND, "lease": "35 36", "stampers": "38 39", "on_break": "warn", "max_width": 37_000_000, "growth": growth,
-               "threads": 14, "memory": 4_194_304 + 7 * 131_072}
+               "threads": 15, "memory": 4_194_304 + 7 * 131_072, "descriptors": 32 + 64 + 7 * (3 + 320 + 107 + 1)}
     lines = ["machine 6", f"listen 127.0.0.1:{node.address[1]}", "http 127.0.0.1:40", *(f"master {master}" for master in masters),
              *(f"{name} {value}" for name, value in numbers.items()),
-             *(f"{name} {node.path(name)}" for name in ("state", "socket", "shared", "status")), "evidence evidence", "vmclock vmclock"]
-    place = lines.index("threads 14")
+             *(f"{name} {node.path(name)}" for name in ("state", "socket", "shared", "status")), "evidence evidence", "vmclock vmclock",
+             "limit 200 49"]
+    place = lines.index("threads 15")
     lines[place:place] = widths
-    said, status = trial.command("serve", "--check", node.path("node.toml")).answer
+    with descriptors_up_to(200):
+        said, status = trial.command("serve", "--check", node.path("node.toml")).answer
     trial.equal("--check", (status, said.splitlines()), (0, lines))
 
 
@@ -508,6 +553,7 @@ REFUSED = [
     ({"max_width": "5"}, 1804, "max_width: 5: a whole number and ns, us, ms or s, in quotes"),
     ({"state": '""'}, 1804, 'state: "": a path'),
     ({"socket": "7"}, 1804, "socket: 7: a path, in quotes"),
+    ({"socket": f'"{"s" * 108}"'}, 1804, f'socket: "{"s" * 79}..: 108 bytes, and the path of a Unix socket has at most 107'),
     ({"shared": '["a"]'}, 1804, "shared: a list: a path, in quotes"),
     ({"status": '"./state/epoch\\n"', "shared": '"state/epoch\\n"'}, 1817,
      'status: "./state/epoch\\n": the path, its draft or its lock has another purpose as well'),

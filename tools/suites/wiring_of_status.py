@@ -2,6 +2,7 @@
 that tell of rounds."""
 import contextlib
 import os
+import resource
 import socket
 import subprocess
 import sys
@@ -9,12 +10,15 @@ import time
 from concurrent.futures import ThreadPoolExecutor
 
 from harness.processes import SECOND, truetime
-from harness.program import write
+from harness.program import read_text, write
 from harness.trouble import disrupt, honest, late, page, reset, silent
 from harness.users import latest_of
 from suites.wiring import suite
 from suites.wiring_checks import (
     BUCKETS, REASONS, UNREACHED, eventually, forges, lies, look_at_form, names_of, other, published, runs, spans, status_of)
+
+# How many sessions a worker has at most.
+MOST_SESSIONS = 320
 
 # The epoch of the life before, and the times of the rounds.
 EPOCH = 41
@@ -53,7 +57,7 @@ def rounds(trial):
     trial.logs(node, "started", machine=3, epoch=EPOCH + 1, port=node.address[1])
     made = TOO_FEW + NO_POINT + 1 + len(REFUSED)
     eventually(lambda: len(masters[0].polls) > made, 15)
-    nothing = "waiting left_out sessions lines lines_refused breaks slept busy sessions_open commits_waiting commits_released".split()
+    nothing = "waiting unserved left_out sessions lines lines_refused breaks slept sleep_unseen busy sessions_open commits_waiting commits_released".split()
     wanted = {"epoch": EPOCH + 1, "sources": 7, "known": 6, "suspect": [int(source in LIARS) for source in range(7)],
               "answers_refused": sum(map(len, REFUSED)), "fusions_701": TOO_FEW, "fusions_504": NO_POINT, "rounds_stale": TOO_FEW,
               "sharing": 1, "workers": 4, "refused": [0] * 7, "unsent": [0] * 7, **dict.fromkeys(nothing, 0)}
@@ -437,6 +441,47 @@ def connections_waiting(trial):
             seen.append(waits(address))
         trial.check("status waiting", seen.count(True) > 1, f"at {address} one that waits beside one session is counted in {seen}")
     trial.numbers(node, waiting=0, busy=0)
+
+
+@suite.case()
+def connections_unserved(trial):
+    """A worker that has no memory for one more session closes its connection, and so does one whose sessions all wait for a commit. Each is
+    counted. It serves new sessions once there is room."""
+    node = trial.running_node(trial.scripts(honest), workers=1, socket=None, poll="50ms", floor_ahead="10s")
+    pid = node.running.pid
+    with contextlib.ExitStack() as stack:
+        doors, closed = [], 0
+
+        def opens(line):
+            """Whether a new session answers."""
+            door = stack.enter_context(socket.create_connection(node.address, 5))
+            with contextlib.suppress(OSError):
+                door.sendall(line)
+                if door.recv(64):
+                    doors.append(door)
+                    return True
+            return False
+
+        trial.numbers(node, unserved=0)
+        limits = resource.prlimit(pid, resource.RLIMIT_DATA)
+        has, = (int(line.split()[1]) * 1024 for line in read_text(f"/proc/{pid}/status").splitlines() if line.startswith("VmData:"))
+        resource.prlimit(pid, resource.RLIMIT_DATA, (has, limits[1]))
+        while len(doors) < MOST_SESSIONS and closed < 3:
+            closed += not opens(b"now\n")
+        resource.prlimit(pid, resource.RLIMIT_DATA, limits)
+        trial.equal("sessions without memory that are closed", closed, 3)
+        trial.numbers(node, unserved=3, sessions_open=len(doors))
+        while doors:
+            doors.pop().close()
+        eventually(lambda: status_of(node)["sessions_open"] == 0)
+        line = b"commit 1 %d\n" % (time.time_ns() + 9 * SECOND)
+        trial.equal("sessions with a commit", [opens(line) for _ in range(MOST_SESSIONS)], [True] * MOST_SESSIONS)
+        trial.equal("one more beside them", opens(b"now\n"), False)
+        trial.numbers(node, unserved=4, sessions_open=MOST_SESSIONS)
+        reset(doors.pop())
+        eventually(lambda: status_of(node)["sessions_open"] == MOST_SESSIONS - 1)
+        trial.equal("one in the place of one that left", opens(b"now\n"), True)
+        trial.numbers(node, unserved=4)
 
 
 @suite.case()
