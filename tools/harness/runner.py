@@ -45,7 +45,6 @@ def parser(about: str) -> argparse.ArgumentParser:
 
 def add_options(add) -> None:
     """The options of the suites."""
-    add("--rows", metavar="FILE", help="the built tt_memory_sweep, for `sweep`")
     add("--stamps", metavar="FILE", help="the built tt_stamp_rows, for `clients`; that of this repository where it is left out and there")
     add("--seconds", type=float, metavar="N", help="how long `service`, `clients`, `fuzz`, `demo`, `failover`, `soak`, `fleet` and `masters` go on")
     add("--seed", type=int, metavar="N", help="the seed of `judge`, `sweep`, `epochs`, `fuzz`, `failover`, `soak`, `fleet` and `masters`, which is drawn else")
@@ -57,7 +56,7 @@ def add_options(add) -> None:
 def options_of(given: argparse.Namespace) -> Options:
     """The options that were given."""
     stamps = given.stamps or (STAMPS if os.path.isfile(STAMPS) else None)
-    return Options(program=os.path.realpath(given.program or PROGRAM), rows=given.rows, stamps=stamps, seconds=given.seconds, seed=given.seed,
+    return Options(program=os.path.realpath(given.program or PROGRAM), stamps=stamps, seconds=given.seconds, seed=given.seed,
                    number=given.number, long=given.long, proved=given.proved)
 
 

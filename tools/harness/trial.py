@@ -14,8 +14,6 @@ from harness.trouble import POLL_S, WAIT_S, Fake, Node
 class Options:
     """The words of the command. What is None has its own value in each suite that has a use for it."""
     program: str = PROGRAM
-    #: The program that makes each call which takes memory, or None where these are left out.
-    rows: str | None = None
     #: The program that says what a stamper has to answer, or None where only what was worked out by hand is tried.
     stamps: str | None = None
     seconds: float | None = None

@@ -23,9 +23,9 @@ def sums_of(trial, what, command):
 @suite.case(programs=("rt", "rustc"))
 def sums(trial):
     here, plain = f"{trial.room}/here", f"{trial.room}/plain"
-    for words in [in_top("bench/rows/build"), here, "-O0"], ["rustc", "--edition", "2024", "-C", "opt-level=1", "-o", plain, in_top("bench/plain.rs")]:
+    for words in [in_top("tools/build_texts"), in_top("bench/rows"), here, "-O0"], ["rustc", "--edition", "2024", "-C", "opt-level=1", "-o", plain, in_top("bench/plain.rs")]:
         built = run(words, seconds=600, stderr=subprocess.STDOUT)
-        trial.holds(built.status == 0, f"{words[0]}: status {built.status}: {built.said}")
+        trial.holds(built.status == 0, f"{words}: status {built.status}: {built.said}")
         if built.status != 0:
             return
     listed = re.findall(r"^(\w+): ", run([here]).said, re.MULTILINE)

@@ -8,7 +8,7 @@ where each read and write moves one byte, the answer is as ever.
 wrong reading, in which a session may have been told `refused 1` in place of a reading. Where the daemon's packets fail, it has
 to end within seconds, whatever its clients still have to send.
 
-The program of --rows makes each call that takes memory. An allocation that is refused has to give `CALL refused 1` and then `CALL as
+The program of tests/memory_sweep makes each call that takes memory, and writes what its file `stdout` has. An allocation that is refused has to give `CALL refused 1` and then `CALL as
 without` for just one call, or `CALL prepared again` where it fell before the call, or the output without the refusal
 where that growth was not needed. For each call it is said which allocations of the run were refused in it.
 
@@ -21,9 +21,10 @@ that variable and tools/refuse_memory.c; in threads, the N-th call need not be t
 import itertools
 import os
 import re
+import subprocess
 import time
 
-from harness.program import compile_c, read, run
+from harness.program import compile_c, in_top, read, run
 from harness.suite import Suite
 from suites.sweep_of_services import Counts, sweep_services
 
@@ -159,19 +160,22 @@ def call_refused(plain, lines):
     return False
 
 
+@suite.case(programs=("rt",))
 def calls_that_take_memory(trial):
     """The same for the program that makes each call."""
-    program, spared, last = trial.options.rows, 0, 0
-    if not program:
-        trial.note("left out: --rows names no program")
+    program, spared, last = f"{trial.room}/memory_sweep", 0, 0
+    built = run([in_top("tools/build_texts"), in_top("tests/memory_sweep"), program, "-O0"], seconds=600, stderr=subprocess.STDOUT)
+    trial.holds(built.status == 0, f"tests/memory_sweep is not built: status {built.status}: {built.said}")
+    if built.status != 0:
         return
     output, status, _ = trial.shared.run([program], b"", 0)
     plain = output.decode(errors="replace").splitlines()
+    trial.holds(plain == read("tests/memory_sweep/stdout").decode().splitlines(), f"memory_sweep without a refusal writes {output[-200:]!r}")
     calls = {line.rsplit(" ", 1)[0]: {"refused": [], "prepared": []} for line in plain}
-    trial.holds(status == 0 and len(plain) == 2 * len(calls) > 0, f"{program}: status {status} without a refusal, and {plain[-1:]}")
+    trial.holds(status == 0 and len(plain) == 2 * len(calls) > 0, f"memory_sweep: status {status} without a refusal, and {plain[-1:]}")
     for refused, (output, status, _) in trial.shared.each([program], b"") if not trial.result.wrong else ():
         last, met = refused, call_refused(plain, output.decode(errors="replace").splitlines())
-        trial.holds(status == 0 and met is not False, f"{program}: allocation {refused} refused gives status {status} and {output[-120:]!r}")
+        trial.holds(status == 0 and met is not False, f"memory_sweep: allocation {refused} refused gives status {status} and {output[-120:]!r}")
         if met:
             calls[met[0]][met[1]].append(refused)
         spared += met is None
@@ -179,7 +183,7 @@ def calls_that_take_memory(trial):
         places = ranges(met["refused"])
         trial.note(f"{call}: {len(met['refused'])} refusals{', of allocations ' + places if places else ''}; {len(met['prepared'])} before the call")
     # The last run met none.
-    trial.note(f"{program}: {last - 1} allocations, {spared - 1} of them not needed")
+    trial.note(f"memory_sweep: {last - 1} allocations, {spared - 1} of them not needed")
 
 
 def ranges(numbers):
@@ -195,4 +199,4 @@ def services(trial):
 @suite.family
 def all_cases():
     yield from ((name, try_command, words, file) for name, words, file in CASES)
-    yield from ((call.__name__, call) for call in (live, live_without_its_daemon, calls_that_take_memory, services))
+    yield from ((call.__name__, call) for call in (live, live_without_its_daemon, services))
