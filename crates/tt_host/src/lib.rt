@@ -8,11 +8,12 @@
 //! }
 //! ```
 //!
-//! `descriptor_limit(rt)` is how many descriptors the process may have. What a look means is decided in `tt_health`. Nothing is claimed of what the kernel's files show.
+//! `descriptor_limit(rt)` and `stack_limit(rt)` are what the process may have. What a look means is decided in `tt_health`.
+//! Nothing is claimed of what the kernel's files show.
 #![tactic(auto)]
 
 mod limits;
 mod signs;
 
-pub use limits::descriptor_limit;
+pub use limits::{descriptor_limit, stack_limit};
 pub use signs::{GuestWatch, MOST, Sleep, SleepWatch, read_at};

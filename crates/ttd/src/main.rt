@@ -43,7 +43,7 @@ fn main(rt: HostRuntime) -> ExitCode {
     let mut input = Counted::new(rt.stdin());
     let mut output = Counted::new(rt.stdout());
     let status = match words_given(&rt) {
-        Ok(words) => match check_stack(&rt, rt.alloc(), words.as_slice()) {
+        Ok(words) => match check_stack(&rt, words.as_slice()) {
             Ok(()) => run(&rt, words.as_slice(), &mut input, &mut output),
             Err(fault) => {
                 explain(&rt, u64::from(fault.number()), &fault);
