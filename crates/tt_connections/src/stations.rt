@@ -1,9 +1,7 @@
 //! The service of one session.
 
-ghost use Rattle.std.specs.Prelude.{◌≡◌, ◌⊎◌, [], Bool, None, Ok, Err};
+ghost use Rattle.std.specs.Prelude.{◌≡◌, [], Bool, None, Ok};
 ghost use Rattle.tt_span.specs.Interval.{whole};
-ghost use Rattle.tt_session.specs.Fault.{line_number_of};
-ghost use Rattle.tt_session.specs.declared.faults.LineFault.TheVariants.{BadLine};
 ghost use Rattle.tt_connections.specs.declared.presence.Question.TheVariants.{IsBroken};
 ghost use Rattle.tt_connections.specs.Station.{Allows, AnswersReceipt, BeginsAt, LooksPost, SetsLease, admission};
 
@@ -187,7 +185,6 @@ impl<'a, 'c, R: Wait, C: Clock, V: Presence> Service for Station<'a, 'c, R, C, V
     /// 101, 102.
     fn lease(&mut self, lo: u64, hi: u64) -> Result<(), u16>
         ensures sets { SetsLease lo hi self.old result self.new }
-        ensures allowed { ((result ≡ Err (line_number_of BadLine)) × (self.new ≡ self.old)) ⊎ SetsLease lo hi self.old result self.new }
     {
         match Span::new(lo, hi) {
             Ok(lease) => {

@@ -9,11 +9,11 @@ use Rattle.std.proofs.lemmas.Bool.{false≢true}
 use Rattle.std.proofs.lemmas.Option.{slice_get_within, none-some}
 use Rattle.tt_span.specs.Interval.{Interval}
 use Rattle.tt_publish.specs.Reading.{HasPassed, IsToCome}
-use Rattle.tt_session.specs.Answers.{AnswersLines, AnswersLine, AnswersSpelled, Commits, CommitsBy, Begins, BeginsWith, Releases, Passes, Refuses, Says, SaysOf, Leases, SetsLease, leased_reply, is_yes, release_reply}
+use Rattle.tt_session.specs.Answers.{AnswersLines, AnswersLine, AnswersSpelled, Commits, CommitsBy, Begins, BeginsWith, Releases, Passes, Refuses, Says, SaysOf, leased_reply, is_yes, release_reply}
 use Rattle.tt_session.specs.declared.begun.Begun.{Begun}
 use Rattle.tt_session.specs.declared.calls.Call.{Call}
 use Rattle.tt_session.specs.declared.calls.Call.TheVariants as call
-use Rattle.tt_session.specs.declared.faults.LineFault.TheVariants.{BadLine, OtherWaits}
+use Rattle.tt_session.specs.declared.faults.LineFault.TheVariants.{OtherWaits}
 use Rattle.tt_session.specs.declared.replies.LineReply.{LineReply}
 use Rattle.tt_session.specs.declared.replies.LineReply.TheVariants.{Now, Yes, No, Committed, Waiting, Leased, Refused}
 use Rattle.tt_session.specs.declared.requests.Request.{Request}
@@ -182,13 +182,6 @@ other_leased : (reply : LineReply) (lo hi : ℕ) (answer : Result (Unit {0}) ℕ
 other_leased reply lo hi (Ok done) is number stamp too = cc
 other_leased reply lo hi (Err fault) is number stamp too = other_refused reply fault is number stamp too
 
-tells_leases : (lo hi : ℕ) (past : List Call) (last : Option Begun) → Knows past last → (calls : List Call) (reply : LineReply) (after : Option Begun) → Leases lo hi last calls reply after → Tells (past ++ calls) reply after
-tells_leases lo hi past last knows calls reply after says =
-    ⊎_elim
-    (λ (none : Refuses BadLine last calls reply after). tells_same past calls reply last after knows (other_refused reply _ none.says) none.same)
-    (λ (sets : SetsLease lo hi last calls reply after). tells_same past calls reply last after knows (other_leased reply lo hi sets.answer sets.says) sets.same)
-    says
-
 tells_answers : (waits : ℕ) (past : List Call) (last : Option Begun) → Knows past last → (asked : Option Request) (calls : List Call) (reply : LineReply) (after : Option Begun) → AnswersSpelled waits last asked calls reply after → Tells (past ++ calls) reply after
 tells_answers waits past last knows None calls reply after says =
     tells_same past calls reply last after knows (other_refused reply _ says.says) says.same
@@ -201,7 +194,7 @@ tells_answers waits past last knows (Some (request.Before t)) calls reply after 
 tells_answers waits past last knows (Some (request.Commit number floor)) calls reply after says =
     tells_commits waits number floor past last knows calls reply after says
 tells_answers waits past last knows (Some (request.Lease lo hi)) calls reply after says =
-    tells_leases lo hi past last knows calls reply after says
+    tells_same past calls reply last after knows (other_leased reply lo hi says.answer says.says) says.same
 
 tells_line : (waits : ℕ) (past : List Call) (last : Option Begun) → Knows past last → (line : List ℕ) (calls : List Call) (reply : LineReply) (after : Option Begun) → AnswersLine waits last line calls reply after → Tells (past ++ calls) reply after
 tells_line waits past last knows line calls reply after says =

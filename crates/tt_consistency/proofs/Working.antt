@@ -163,7 +163,7 @@ module _ {C G : Type 0} (gives : C → Option ℕ → C → Type 0) (failed : C 
       from-gate _ before answer after (λ b a does. record { book = goes-same b.book a.book does.book; session = does.works.session }) allowed
   from-call before (call.Begin number floor answer) after allowed =
       from-gate _ before answer after (λ b a does. record { book = begun-book (id_of b number) b.book does.begins.2.0 answer a.book does.begins.2.2; session = does.works.session }) allowed
-  from-call before (call.Lease lo hi answer) after allowed = absurd allowed
+  from-call before (call.Lease lo hi answer) after allowed = from-same before after allowed.1
   from-call before (call.Pass number answer) after allowed =
       from-gate _ before answer after (λ b a does. record { book = from-passes number answer does.passes.0 b a does.passes.2; session = does.works.session }) allowed
 

@@ -106,7 +106,8 @@ module _ {C G : Type 0} (gives : C → Option ℕ → C → Type 0) (failed : C 
   on-call before (call.Now answer) after allowed = on-passes (Reads gives failed) before answer after (λ b a does. on-reads b answer a does) allowed
   on-call before (call.Begin number floor answer) after allowed =
       on-passes (Commits gives failed number floor) before answer after (λ b a does. on-unnoted b.watch a.watch b.notes a.notes (works-later b a does.works) does.notes) allowed
-  on-call before (call.Lease lo hi answer) after allowed = absurd allowed
+  on-call before (call.Lease lo hi answer) after allowed =
+      on-unnoted before.watch after.watch before.notes after.notes (watch-same before.watch after.watch (ap (λ w. w.watch) allowed.1)) (ap (λ w. w.notes) allowed.1)
   on-call before (call.Pass number answer) after allowed =
       on-passes (Releases gives failed number) before answer after (λ b a does. on-unnoted b.watch a.watch b.notes a.notes (works-later b a does.works) does.notes) allowed
 

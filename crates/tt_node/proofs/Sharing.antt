@@ -145,7 +145,7 @@ module _ {C G : Type 0} (gives : C → Option ℕ → C → Type 0) (failed : C 
   later-call before (call.Now answer) after allowed = later-passes _ before answer after (λ b a does. later-same b.seat a.seat does.seat) allowed
   later-call before (call.Begin number floor answer) after allowed =
       later-passes _ before answer after (λ b a does. let (looked, looks, (begun, begins, answers)) = does.begins in later-begins floor b.lease looked b.seat begun a.seat begins) allowed
-  later-call before (call.Lease lo hi answer) after allowed = absurd allowed
+  later-call before (call.Lease lo hi answer) after allowed = later-same before.seat after.seat (ap (λ w. w.seat) allowed.1)
   later-call before (call.Pass number answer) after allowed = later-passes _ before answer after (λ b a does. later-same b.seat a.seat does.seat) allowed
 
   pub later-talked : (before : WorkerState C G) (calls : List Call) (after : WorkerState C G) → Conversation (Allows gives failed says hears) before calls after → IsLater before.seat after.seat

@@ -20,6 +20,7 @@ use Rattle.tt_stamp.specs.declared.faults.BeginFault.{BeginFault}
 use Rattle.tt_stamp.specs.declared.faults.BookFault.{BookFault}
 use Rattle.tt_audit.specs.declared.live.LiveNote.{LiveNote}
 use Rattle.tt_node.specs.Gating.{Asks}
+use Rattle.tt_session.specs.Desk.{KeepsNoLease}
 use Rattle.tt_session.specs.declared.calls.Call.{Call}
 use Rattle.tt_session.specs.declared.calls.Call.TheVariants.{Now, Begin, Lease, Pass}
 
@@ -149,9 +150,9 @@ pub record Releases {C G : Type 0} (gives : C → Option ℕ → C → Type 0) (
   pub notes : after.notes ≡ before.notes
   pub passes : LooksThen gives failed before (λ looked. PassesAt number before looked answer after) after
 
--- what a worker promises of each call of its service; it keeps no lease of the session
+-- what a worker promises of each call of its service; of a lease its gate is not asked
 abbrev pub Allows : {C G : Type 0} → (C → Option ℕ → C → Type 0) → (C → ℕ) → (G → ℕ → ℕ → Bool → G → Type 0) → (G → ℕ → ℕ → G → Type 0) → WorkerState C G → Call → WorkerState C G → Type 0
 Allows gives failed says hears before (Now answer) after = PassesGate says hears (Reads gives failed) before answer after
 Allows gives failed says hears before (Begin number floor answer) after = PassesGate says hears (Commits gives failed number floor) before answer after
-Allows gives failed says hears before (Lease lo hi answer) after = ⊥
+Allows gives failed says hears before (Lease lo hi answer) after = KeepsNoLease before answer after
 Allows gives failed says hears before (Pass number answer) after = PassesGate says hears (Releases gives failed number) before answer after

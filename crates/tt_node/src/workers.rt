@@ -13,7 +13,7 @@ use std::sync::Wait;
 use tt_audit::LiveNote;
 use tt_publish::{Clock, Reading, Watch};
 use tt_rounds::NodeFault;
-use tt_session::{CommitBook, CommitFault, Service, StampSeat, begin_commit};
+use tt_session::{CommitBook, CommitFault, LineFault, Service, StampSeat, begin_commit};
 use tt_span::Span;
 use tt_stamp::{BookFault, Id, Receipt, Seat, Sequencer};
 
@@ -333,6 +333,11 @@ impl<'a, R: Wait, C: Clock, G: Gate, J: WhichBook> Service for Worker<'a, R, C, 
         let answer = self.commit_where(passes, number, floor);
         self.tell(session, call);
         answer
+    }
+
+    /// A worker keeps no lease of the session: refuses with 1101, and nothing is done. The gate is not asked.
+    fn lease(&mut self, _lo: u64, _hi: u64) -> Result<(), u16> {
+        Err(LineFault::BadLine.number())
     }
 
     /// One [`Watch::now`], then one [`SharedBook::release_and_ask`] by this reading. Answers whether the commit is

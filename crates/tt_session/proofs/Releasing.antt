@@ -1,8 +1,8 @@
 -- Conversations that answer a request.
-use Rattle.std.proofs.Common.{◌≡◌, ℕ, ◌+◌, ◌<◌, ◌⊎◌, inl, inr, ⊎_elim, true, false, [], ◌∷◌, ◌++◌, replicate, Option, Result, Ok, Err, refl, ap}
+use Rattle.std.proofs.Common.{ℕ, ◌+◌, ◌<◌, true, false, [], ◌∷◌, ◌++◌, replicate, Option, Result, Ok, Err, refl}
 use Rattle.std.proofs.lemmas.List.{replicate_more}
 use Rattle.tt_session.specs.Conversation.{Conversation, Talked}
-use Rattle.tt_session.specs.Answers.{Passes, Begins, Releases, Reads, SaysOf, Leases, leased_reply}
+use Rattle.tt_session.specs.Answers.{Passes, Begins, Releases, Reads, SaysOf, SetsLease, leased_reply}
 use Rattle.tt_session.specs.declared.begun.Begun.{Begun}
 use Rattle.tt_session.specs.declared.calls.Call.{Call}
 use Rattle.tt_session.specs.declared.calls.Call.TheVariants.{Now, Begin, Lease, Pass}
@@ -70,22 +70,12 @@ module _ {S : Type 0} (allows : S → Call → S → Type 0) where
         holds = record { answer = answer; called = refl; says = says; same = refl };
       }
 
-  -- a lease is set or refused, or the service keeps none
+  -- a lease is set or refused
   pub leases : (before after : S) (lo hi : ℕ) (answer : Result (Unit {0}) ℕ) (last : Option Begun)
-      → ((answer ≡ Err 1101) × (after ≡ before)) ⊎ allows before (Lease lo hi answer) after
-      → Talked allows before after (λ calls. Leases lo hi last calls (leased_reply lo hi answer) last)
-  leases before after lo hi answer last says =
-      ⊎_elim
-      (λ none.
-      record {
-        calls = [];
-        talked = none.1;
-        holds = inl (record { uncalled = refl; says = ap (leased_reply lo hi) none.0; same = refl });
-      })
-      (λ called.
+      → allows before (Lease lo hi answer) after → Talked allows before after (λ calls. SetsLease lo hi last calls (leased_reply lo hi answer) last)
+  leases before after lo hi answer last called =
       record {
         calls = Lease lo hi answer ∷ [];
         talked = Conversation-one allows before after (Lease lo hi answer) called;
-        holds = inr (record { answer = answer; called = refl; says = refl; same = refl });
-      })
-      says
+        holds = record { answer = answer; called = refl; says = refl; same = refl };
+      }

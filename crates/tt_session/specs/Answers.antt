@@ -104,16 +104,12 @@ abbrev pub leased_reply : ℕ → ℕ → Result (Unit {0}) ℕ → LineReply
 leased_reply lo hi (Ok done) = Leased lo hi
 leased_reply lo hi (Err fault) = Refused fault
 
--- the service is called once to set the lease, and the last commit stays
+-- the service is called once to set the lease, its answer is the reply, and the last commit stays
 pub record SetsLease (lo hi : ℕ) (last : Option Begun) (calls : List Call) (reply : LineReply) (after : Option Begun) : Type 0 where
   pub answer : Result (Unit {0}) ℕ
   pub called : calls ≡ call.Lease lo hi answer ∷ []
   pub says : reply ≡ leased_reply lo hi answer
   pub same : after ≡ last
-
--- a lease is set or refused by the service; where the service keeps none, the line is refused as one that is no request
-abbrev pub Leases : ℕ → ℕ → Option Begun → List Call → LineReply → Option Begun → Type 0
-Leases lo hi last calls reply after = Refuses BadLine last calls reply after ⊎ SetsLease lo hi last calls reply after
 
 -- a request takes these calls of the service and is answered this
 abbrev pub Answers : ℕ → Option Begun → Request → List Call → LineReply → Option Begun → Type 0
@@ -121,7 +117,7 @@ Answers waits last request.Now calls reply after = Reads (λ reading reply. repl
 Answers waits last (request.After t) calls reply after = Reads (λ reading reply. Says (HasPassed reading t) reply) last calls reply after
 Answers waits last (request.Before t) calls reply after = Reads (λ reading reply. Says (IsToCome reading t) reply) last calls reply after
 Answers waits last (request.Commit number floor) calls reply after = Commits waits number floor last calls reply after
-Answers waits last (request.Lease lo hi) calls reply after = Leases lo hi last calls reply after
+Answers waits last (request.Lease lo hi) calls reply after = SetsLease lo hi last calls reply after
 
 -- the same for what a line spells, if it is a request
 abbrev pub AnswersSpelled : ℕ → Option Begun → Option Request → List Call → LineReply → Option Begun → Type 0

@@ -14,8 +14,9 @@ use Rattle.tt_stamp.specs.declared.commits.Entry.TheVariants.{Queued}
 use Rattle.tt_stamp.specs.declared.faults.BookFault.{BookFault}
 use Rattle.tt_stamp.specs.declared.faults.BookFault.TheVariants.{Memory}
 use Rattle.tt_session.specs.Commits.{CommitsBy, numbered}
-use Rattle.tt_session.specs.Fault.{commit_number_of}
+use Rattle.tt_session.specs.Fault.{commit_number_of, line_number_of}
 use Rattle.tt_session.specs.declared.faults.CommitFault.{CommitFault}
+use Rattle.tt_session.specs.declared.faults.LineFault.TheVariants.{BadLine}
 use Rattle.tt_session.specs.declared.calls.Call.{Call}
 use Rattle.tt_session.specs.declared.calls.Call.TheVariants.{Now, Begin, Lease, Pass}
 
@@ -72,9 +73,13 @@ PassesAt before number answer after (Ok reading) =
     × (answer ≡ Ok (is_some (receipt_of after.book (id_at before number))))
 PassesAt before number answer after (Err fault) = (answer ≡ Err (read_number_of fault)) × (after.row ≡ before.row) × (after.book ≡ before.book)
 
--- what a desk promises of each call of its service; it keeps no lease of the session
+-- a service that keeps no lease of the session refuses each, as a line that is no request, and nothing is done
+abbrev pub KeepsNoLease : {S : Type 0} → S → Result (Unit {0}) ℕ → S → Type 0
+KeepsNoLease before answer after = (answer ≡ Err (line_number_of BadLine)) × (after ≡ before)
+
+-- what a desk promises of each call of its service
 abbrev pub Allows : {C : Type 0} → (C → Option ℕ → C → Type 0) → (C → ℕ) → DeskState C → Call → DeskState C → Type 0
 Allows gives failed before (Now answer) after = LooksThen gives failed before (AnswersReading before answer after) after
 Allows gives failed before (Begin number floor answer) after = LooksThen gives failed before (BeginsAt before number floor answer after) after
-Allows gives failed before (Lease lo hi answer) after = ⊥
+Allows gives failed before (Lease lo hi answer) after = KeepsNoLease before answer after
 Allows gives failed before (Pass number answer) after = LooksThen gives failed before (PassesAt before number answer after) after

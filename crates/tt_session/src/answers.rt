@@ -2,7 +2,7 @@
 
 ghost use Rattle.std.specs.Prelude.{◌≡◌};
 ghost use Rattle.tt_session.specs.Conversation.{Talked};
-ghost use Rattle.tt_session.specs.Answers.{Answers, Commits, Begins, GoesOn, Releases, Passes, Leases};
+ghost use Rattle.tt_session.specs.Answers.{Answers, Commits, Begins, GoesOn, Releases, Passes, SetsLease};
 
 use crate::begun::Begun;
 use crate::faults::LineFault;
@@ -130,9 +130,9 @@ fn release<S: Service>(
     reply
 }
 
-/// Sets the lease of the session, if the service keeps one.
+/// Sets the lease of the session by one call of the service.
 fn lease<S: Service>(lo: u64, hi: u64, service: &mut S, last: &mut Option<Begun>) -> LineReply
-    ensures { Talked S.allows service.old service.new (λ calls. Leases lo hi last.old calls result last.new) }
+    ensures { Talked S.allows service.old service.new (λ calls. SetsLease lo hi last.old calls result last.new) }
 {
     match service.lease(lo, hi) {
         Ok(()) => LineReply::Leased { lo, hi },

@@ -5,7 +5,7 @@ ghost use Rattle.tt_span.specs.Interval.{whole};
 ghost use Rattle.tt_session.specs.Desk.{Allows, id_at};
 
 use crate::commits::{CommitBook, begin_commit};
-use crate::faults::CommitFault;
+use crate::faults::{CommitFault, LineFault};
 use crate::services::Service;
 use std::marker::Model;
 use tt_publish::{Clock, Reading, Watch};
@@ -100,6 +100,11 @@ impl<C: Clock> Service for Desk<C> {
             &self.lease,
         )?;
         Ok(stamp)
+    }
+
+    /// The line of a session sets no lease of a desk: refuses with 1101, and nothing is done.
+    fn lease(&mut self, _lo: u64, _hi: u64) -> Result<(), u16> {
+        Err(LineFault::BadLine.number())
     }
 
     /// One [`Watch::now`], then one [`Book::release`] by this reading. Answers whether the book has released the commit

@@ -5,7 +5,6 @@ use tt_publish::Reading;
 
 /// The service of one session. A refusal is its number; docs/FORMATS.md has the numbers.
 pub trait Service {
-    ghost use Rattle.std.specs.Prelude.{◌≡◌, ◌⊎◌, Err};
     ghost use Rattle.tt_session.specs.declared.calls.Call.{Call};
 
     /// Which calls the service allows: the state before a call, the call with its answer, and the state after it.
@@ -22,13 +21,9 @@ pub trait Service {
         ensures { allows self.old (Call.Begin number floor result) self.new };
 
     /// Sets the lease of the session: the stamps that follow lie in it, as far as the service says. After a refusal the
-    /// lease is what it was. A service that keeps no lease refuses with 1101, and nothing is done; this body is that of
-    /// such a service.
+    /// lease is what it was. A service that keeps no lease refuses with 1101, and nothing is done.
     fn lease(&mut self, lo: u64, hi: u64) -> Result<(), u16>
-        ensures { ((result ≡ Err 1101) × (self.new ≡ self.old)) ⊎ allows self.old (Call.Lease lo hi result) self.new }
-    {
-        Err(1101)
-    }
+        ensures { allows self.old (Call.Lease lo hi result) self.new };
 
     /// One release step: releases each commit whose stamp has surely passed. Answers whether the commit with this
     /// number is released.

@@ -2,7 +2,7 @@
 
 use std::alloc::Global;
 use tt_publish::Reading;
-use tt_session::{ServeFault, Served, Service, Turns, serve};
+use tt_session::{LineFault, ServeFault, Served, Service, Turns, serve};
 use tt_span::Span;
 use tt_stream::{MemoryReader, MemoryWriter};
 
@@ -78,6 +78,10 @@ impl Service for Fixed {
 
     fn begin(&mut self, _number: u64, _floor: u64) -> Result<u64, u16> {
         Ok(200)
+    }
+
+    fn lease(&mut self, _lo: u64, _hi: u64) -> Result<(), u16> {
+        Err(LineFault::BadLine.number())
     }
 
     fn pass(&mut self, _number: u64) -> Result<bool, u16> {
