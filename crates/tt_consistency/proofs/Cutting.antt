@@ -53,7 +53,7 @@ use Rattle.tt_consistency.proofs.Walking.{session-within}
 
 -- ---- lists
 -- of two beginnings of one list the shorter one begins the other
-shorter : {A : Type 0} (xs ys zs : List A) → IsPrefix xs zs → IsPrefix ys zs → length xs ≤ length ys → IsPrefix xs ys
+pub shorter : {A : Type 0} (xs ys zs : List A) → IsPrefix xs zs → IsPrefix ys zs → length xs ≤ length ys → IsPrefix xs ys
 shorter [] ys zs p q less = (ys, refl)
 shorter (x ∷ xs) [] zs p q less = absurd (omega (arith, less))
 shorter (x ∷ xs) (y ∷ ys) [] p q less = let none : x ∷ (xs ++ p.0) ≡ [] = p.1 in absurd cc
@@ -161,6 +161,33 @@ pub few-first : (config : Configuration) (life : WorldLife) (later timeline : Li
 few-first config life later timeline few more before at clock are =
     let fusion : Timed = record { at = at; happening = Does (Fuses clock) } in
     few (later ++ more) before at clock (ap (λ (list : List Timed). later ++ list) are ∙ sym (append_assoc later more (fusion ∷ before)))
+
+-- ---- no more is assumed of a reading over fewer moments, nor of the first times of calls
+module _ {C : Type 0} (gives : C → Option ℕ → C → Type 0) (ppm : ℕ) (later moments : List Moment) where
+  among-later : (more : List Moment) (moment : Moment) → IsAmong moment moments → IsAmong moment (more ++ moments)
+  among-later [] moment is = is
+  among-later (other ∷ more) moment is = inr (among-later more moment is)
+
+  taken-first : (watch : WatchState) (before after : C) (reading : Interval) (time : ℕ) → IsTakenAt gives ppm (later ++ moments) watch before after reading time → IsTakenAt gives ppm moments watch before after reading time
+  taken-first watch before after reading time taken = record {
+    last = taken.last;
+    clock = taken.clock;
+    last_is = taken.last_is;
+    gave = taken.gave;
+    can = taken.can;
+    reading_is = taken.reading_is;
+    drift = (all-of_end (AgreesWith ppm (record { clock = taken.clock; time = time })) later moments taken.drift.0, drift-first ppm later moments taken.drift.1);
+    in_time = taken.in_time;
+    no_earlier = λ made is. taken.no_earlier made (among-later later (record { clock = (fused_span_of taken.last).clock; time = made }) is);
+  }
+
+  pub read-first : {Fault : Type 0} (watch : WatchState) (before after : C) (given : Result Interval Fault) (time : ℕ) → IsReadAt gives ppm (later ++ moments) watch before after given time → IsReadAt gives ppm moments watch before after given time
+  read-first watch before after (Ok reading) time read = taken-first watch before after reading time read
+  read-first watch before after (Err fault) time read = tt
+
+pub order-first : (from : ℕ) (times more : List CallTimes) → AreInOrder from (times ++ more) → AreInOrder from times
+order-first from [] more order = tt
+order-first from (t ∷ times) more order = (order.0, order.1, order.2, order-first t.answered times more order.3)
 
 module _ {C V : Type 0} (gives : C → Option ℕ → C → Type 0) (failed : C → ℕ) (says : V → Question → Bool → Type 0) (waits : ℕ) where
   pub assumed-first : (life : Life gives failed says waits) (start : Start) (later timeline : List Timed) (calls : List RoundsCall) → IsAssumed life start (later ++ timeline) → steps_told timeline ≡ calls_steps calls → IsAssumed (record life { calls = calls }) start timeline
@@ -287,27 +314,6 @@ module _ {C V : Type 0} (gives : C → Option ℕ → C → Type 0) (failed : C 
 
   -- ---- no more is assumed of the first calls of a session
   module _ (ppm : ℕ) (later moments : List Moment) where
-    among-later : (more : List Moment) (moment : Moment) → IsAmong moment moments → IsAmong moment (more ++ moments)
-    among-later [] moment is = is
-    among-later (other ∷ more) moment is = inr (among-later more moment is)
-
-    taken-first : (watch : WatchState) (before after : C) (reading : Interval) (time : ℕ) → IsTakenAt gives ppm (later ++ moments) watch before after reading time → IsTakenAt gives ppm moments watch before after reading time
-    taken-first watch before after reading time taken = record {
-      last = taken.last;
-      clock = taken.clock;
-      last_is = taken.last_is;
-      gave = taken.gave;
-      can = taken.can;
-      reading_is = taken.reading_is;
-      drift = (all-of_end (AgreesWith ppm (record { clock = taken.clock; time = time })) later moments taken.drift.0, drift-first ppm later moments taken.drift.1);
-      in_time = taken.in_time;
-      no_earlier = λ made is. taken.no_earlier made (among-later later (record { clock = (fused_span_of taken.last).clock; time = made }) is);
-    }
-
-    pub read-first : (watch : WatchState) (before after : C) (given : Result Interval ℕ) (time : ℕ) → IsReadAt gives ppm (later ++ moments) watch before after given time → IsReadAt gives ppm moments watch before after given time
-    read-first watch before after (Ok reading) time read = taken-first watch before after reading time read
-    read-first watch before after (Err fault) time read = tt
-
     calls-first : (early rest : List Call) (before after : StationState C V) (talked : Conversation (AllowsOn gives failed says) before (early ++ rest) after) (times more : List CallTimes) → length early ≡ length times
         → AllReadAt gives failed says ppm (later ++ moments) before (early ++ rest) after talked (times ++ more)
         → AllReadAt gives failed says ppm moments before early (split early rest before after talked).0 (split early rest before after talked).1 times
@@ -316,13 +322,9 @@ module _ {C V : Type 0} (gives : C → Option ℕ → C → Type 0) (failed : C 
     calls-first [] rest before after talked (t ∷ times) more same read = absurd (omega (arith, same))
     calls-first (call ∷ early) rest before after talked [] more same read = absurd (omega (arith, same))
     calls-first (call ∷ early) rest before after talked (t ∷ times) more same read = (
-      read-first talked.0.post.watch talked.1.post.clock talked.0.post.clock (given_of gives failed says (record before { post = talked.1.post }) call talked.0 talked.1.allowed) t.read read.0,
+      read-first gives ppm later moments talked.0.post.watch talked.1.post.clock talked.0.post.clock (given_of gives failed says (record before { post = talked.1.post }) call talked.0 talked.1.allowed) t.read read.0,
       calls-first early rest talked.0 after talked.2 times more (omega (arith, same)) read.1,
     )
-
-  order-first : (from : ℕ) (times more : List CallTimes) → AreInOrder from (times ++ more) → AreInOrder from times
-  order-first from [] more order = tt
-  order-first from (t ∷ times) more order = (order.0, order.1, order.2, order-first t.answered times more order.3)
 
   pub read-cut : (life : Life gives failed says waits) (start : Start) (later timeline : List Timed) (whole : WorkerSession gives failed says waits) (early rest : List Call) (times more : List CallTimes)
       → IsTimedIn life start (later ++ timeline) whole (times ++ more) → whole.session.calls ≡ early ++ rest → length early ≡ length times

@@ -174,7 +174,7 @@ module _ {C V : Type 0} (gives : C → Option ℕ → C → Type 0) (failed : C 
     reads-first [] before after talked times read = read
     reads-first (call ∷ calls) before after talked [] read = absurd read
     reads-first (call ∷ calls) before after talked (t ∷ times) read = (
-      read-first gives failed says waits ppm later moments talked.0.post.watch talked.1.post.clock talked.0.post.clock (given_of gives failed says (record before { post = talked.1.post }) call talked.0 talked.1.allowed) t.read read.0,
+      read-first gives ppm later moments talked.0.post.watch talked.1.post.clock talked.0.post.clock (given_of gives failed says (record before { post = talked.1.post }) call talked.0 talked.1.allowed) t.read read.0,
       reads-first calls talked.0 after talked.2 times read.1,
     )
 

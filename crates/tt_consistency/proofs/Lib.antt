@@ -36,6 +36,7 @@ mod WorkedLife
 mod BesideSessions
 pub mod Cutting
 pub mod LeastCuts
+mod CuttingNodes
 mod WorkedBreak
 mod Coming
 mod Sealing

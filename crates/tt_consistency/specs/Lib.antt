@@ -15,6 +15,7 @@ pub mod Lives
 pub mod Assumed
 pub mod Stampers
 pub mod Cuts
+pub mod NodeCuts
 pub mod Coming
 pub mod Sealed
 pub mod Terms

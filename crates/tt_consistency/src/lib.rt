@@ -45,13 +45,14 @@
 //!   `meeting_laws`.
 //! - `orders`: `session_laws`, `lease_laws`, `reply_laws`, `order_laws` and `sequencer_laws`.
 //! - `services`: `machine_laws`, `service_laws`, `consistency_laws` and `node_laws`.
-//! - `lives`: `life_laws`. `cuts`: `cut_laws` and `broken_life_laws`. `stampers`: `stamper_laws`. `terms`: `term_laws`.
-//!   `sealed`: `seal_laws`.
+//! - `lives`: `life_laws`. `cuts`: `cut_laws` and `broken_life_laws`. `node_cuts`: `node_cut_laws`. `stampers`:
+//!   `stamper_laws`. `terms`: `term_laws`. `sealed`: `seal_laws`.
 #![tactic(auto)]
 
 mod cuts;
 mod lives;
 mod meeting;
+mod node_cuts;
 mod orders;
 mod runs;
 mod sealed;
@@ -62,6 +63,7 @@ mod terms;
 pub use cuts::{broken_life_laws, cut_laws};
 pub use lives::life_laws;
 pub use meeting::meeting_laws;
+pub use node_cuts::node_cut_laws;
 pub use orders::{lease_laws, order_laws, reply_laws, sequencer_laws, session_laws};
 pub use runs::{assumption_laws, reading_laws, round_laws, step_laws, timeline_laws};
 pub use sealed::seal_laws;

@@ -111,7 +111,7 @@ module _ {C G : Type 0} (gives : C → Option ℕ → C → Type 0) (failed : C 
   on-call before (call.Pass number answer) after allowed =
       on-passes (Releases gives failed number) before answer after (λ b a does. on-unnoted b.watch a.watch b.notes a.notes (works-later b a does.works) does.notes) allowed
 
-  on-talked : (before : WorkerState C G) (calls : List Call) (after : WorkerState C G) → Conversation (Allows gives failed says hears) before calls after → ReadsOn before.watch before.notes after.watch after.notes
+  pub on-talked : (before : WorkerState C G) (calls : List Call) (after : WorkerState C G) → Conversation (Allows gives failed says hears) before calls after → ReadsOn before.watch before.notes after.watch after.notes
   on-talked before [] after same = on-unnoted before.watch after.watch before.notes after.notes (watch-same before.watch after.watch (ap (λ w. w.watch) same)) (ap (λ w. w.notes) same)
   on-talked before (one ∷ calls) after (mid, allowed, rest) =
       let here = on-call before one mid allowed in
