@@ -705,6 +705,15 @@ def readers(trial):
                    f"{len(trial.result.wrong) - before} wrong")
 
 
+# Runs a command in a time namespace that shifts the clock by a nanosecond, which unshare does not.
+SHIFTED = """import ctypes, subprocess, sys
+if ctypes.CDLL(None).unshare(0x80) == 0:
+    with open("/proc/self/timens_offsets", "w", encoding="ascii") as file:
+        file.write("monotonic 0 1")
+    sys.exit(subprocess.call(sys.argv[1:]))
+"""
+
+
 @suite.case(root=True, programs=("unshare",))
 def time_namespaces(trial):
     """A file whose clock the reader's time namespace shifts is refused; one that shifts nothing does not matter."""
@@ -721,6 +730,8 @@ def time_namespaces(trial):
         for offset, wanted in ([], answer), (["--monotonic", "-1"], "refused 1702"), (["--monotonic", "1000"], "refused 1702"):
             said = run([*apart, *offset, *words, "open", path], seconds=60).said.strip()
             trial.check(name, said == wanted, f"{offset}: {said} in place of {wanted!r}")
+        said = run([sys.executable, "-c", SHIFTED, *words, "open", path], seconds=60).said.strip()
+        trial.check(name, said == "refused 1702", f"a nanosecond: {said} in place of 'refused 1702'")
     trial.note(f"time namespaces: {len(trial.shared)} languages, {len(trial.result.wrong)} wrong")
 
 

@@ -279,18 +279,81 @@ def signals_that_come_often(trial):
                 try_interrupted(trial, name, words, silent.server_address[1])
 
 
+class OneByOne(Answering):
+    """A session that answers its first line after 1.2 seconds, and the others after 0.8 seconds."""
+
+    def handle(self):
+        for number, _ in enumerate(self.rfile):
+            time.sleep(0.8 if number else 1.2)
+            self.wfile.write(self.reply)
+
+
+def try_whole_again(trial, name, words, address):
+    """A reply that comes late in a call that is interrupted again and again, and one of the next call, which has the whole time-out again."""
+    with Reader(words, "session") as probe:
+        wants(trial, name, probe.say, f"open tcp {address} 1600", "open")
+        with interrupted(probe.probe):
+            wants(trial, f"{name}: a late reply between signals", probe.say, "now", "5 15")
+        wants(trial, f"{name}: a reply behind these signals", probe.say, "now", "5 15")
+
+
+@suite.case()
+def whole_time_out_behind_signals(trial):
+    """What signals take off the time-out of one call of C, C++ and Rust they take off no later one."""
+    probes = [probe for probe in session_probes(trial.shared) if probe[0].startswith(("C", "Rust"))]
+    with Listening(OneByOne) as late, ThreadPoolExecutor() as pool:
+        list(pool.map(lambda probe: try_whole_again(trial, *probe, late.server_address[1]), probes))
+
+
+@suite.case()
+def interrupts(trial):
+    """A thread of Java that is interrupted while it waits for a release is told, and still counts as interrupted."""
+    with Listening(Releasing) as releasing:
+        releasing.pauses, releasing.never = [], b"1"
+        for name, words in session_probes(trial.shared):
+            if name == "Java":
+                with Reader(words, "session") as probe:
+                    for _ in range(5):  # some come while it sends a line, and most while it pauses
+                        lines = [(f"open tcp {releasing.server_address[1]} 30000", "open"), ("begin 0", "200"), ("interrupt", "interrupt"),
+                                 ("wait", "failed"), ("interrupted", "yes")]
+                        for line, wanted in lines:
+                            wants(trial, name, probe.say, line, wanted)
+
+
 @contextlib.contextmanager
-def full_socket():
-    """A socket that lets nobody in any more."""
+def full_socket(address=("127.0.0.1", 0)):
+    """A socket that lets nobody in any more: one of TCP, or one at a path."""
+    family = socket.AF_UNIX if isinstance(address, str) else socket.AF_INET
     with contextlib.ExitStack() as stack:
-        full = stack.enter_context(socket.socket())
-        full.bind(("127.0.0.1", 0))
+        full = stack.enter_context(socket.socket(family))
+        full.bind(address)
         full.listen(0)
         for _ in range(3):
-            one = stack.enter_context(socket.socket())
+            one = stack.enter_context(socket.socket(family))
             one.setblocking(False)
             one.connect_ex(full.getsockname())
         yield full
+
+
+def try_full_path(trial, name, words, path):
+    """Connecting at the path of a socket that lets nobody in."""
+    what = f"{name}: no connection in time at a socket"
+    with Reader(words, "session") as probe:
+        late = threading.Timer(60, probe.probe.kill)
+        late.start()
+        judge(trial, what, TIMEOUT_MS, lambda: wants(trial, what, probe.say, f"open unix {path} {TIMEOUT_MS}", "timed out"), lambda: None,
+              TIMEOUT_MS - TICK_MS)
+        late.cancel()
+
+
+@suite.case()
+def waits_at_full_paths(trial):
+    """The time-out of C and C++ is that of connecting to a Unix socket, too. In Rust and Java that has none."""
+    path = os.path.join(trial.room, "full")
+    with full_socket(path):
+        for name, words in session_probes(trial.shared):
+            if name.startswith("C"):
+                try_full_path(trial, name, words, path)
 
 
 @suite.case()

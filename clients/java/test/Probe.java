@@ -96,10 +96,27 @@ public final class Probe {
                 return "leased " + rest;
             case "ask":
                 return session.ask(rest);
+            case "interrupt":
+                interruptSoon(Thread.currentThread());
+                return name;
+            case "interrupted":
+                return Thread.interrupted() ? "yes" : "no";
             default:
                 session.close();
                 return "closed";
         }
+    }
+
+    /** Interrupts this thread 10 milliseconds later. */
+    private static void interruptSoon(Thread waiting) {
+        new Thread(() -> {
+            try {
+                Thread.sleep(10);
+            } catch (InterruptedException ended) {
+                return;
+            }
+            waiting.interrupt();
+        }).start();
     }
 
     private static void trySessions(BufferedReader calls) throws IOException {
