@@ -268,9 +268,10 @@ def polls_at(door):
 
 @suite.case(root=True, programs=("unshare", "mount"))
 def addresses_of_a_name(trial):
-    """They are asked in turn, each for four silent rounds, and round again. One that answers is asked from then on."""
+    """They are asked in turn, each for four silent rounds or a second, and round again, also one that the name has several times. One that answers
+    is asked from then on."""
     hosts = os.path.join(trial.room, "hosts")
-    write(hosts, "".join(f"127.0.0.{last} m0.lab.test\n" for last in (2, 3, 4)).encode())
+    write(hosts, "".join(f"127.0.0.{last} m0.lab.test\n" for last in (2, 2, 2, 2, 2, 3, 4)).encode())
     last = scripted(trial, {7: FIRST}, silent, host="127.0.0.4")
     with contextlib.ExitStack() as stack:
         doors = [stack.enter_context(socket.socket(socket.AF_INET, socket.SOCK_DGRAM)) for _ in range(2)]
@@ -281,7 +282,7 @@ def addresses_of_a_name(trial):
         node.run(["unshare", "--mount", "sh", "-c", 'mount --bind "$0" /etc/hosts && exec "$@"', hosts])
         trial.check("names", eventually(lambda: len(last.numbers) > 3, 20), "the third address is not asked")
         asked = [polls_at(door) for door in doors]
-        trial.check("names", min(asked) > 3, f"the first two were asked {asked} times")
+        trial.check("names", 3 < min(asked) and max(asked) < 30, f"the first two were asked {asked} times")
         trial.check("names", eventually(lambda: polls_at(doors[0]), 20), "the first address is not asked again")
         last.acts = [honest]
         trial.check("names", eventually(lambda: status_of(node)["known"] == 1, 20), "the address that answers is not heard")
@@ -289,3 +290,19 @@ def addresses_of_a_name(trial):
             polls_at(door)
         time.sleep(3)
         trial.equal("names", [polls_at(door) for door in doors], [0, 0])
+
+
+@suite.case(root=True, programs=("unshare", "mount"))
+def first_address_of_a_name(trial):
+    """The address that is asked first is asked for four silent rounds, too, before the next one is."""
+    hosts = os.path.join(trial.room, "hosts")
+    write(hosts, b"127.0.0.2 m0.lab.test\n127.0.0.3 m0.lab.test\n")
+    last = scripted(trial, {7: FIRST}, honest, host="127.0.0.3")
+    with socket.socket(socket.AF_INET, socket.SOCK_DGRAM) as door:
+        door.bind(("127.0.0.2", int(last.address.rpartition(":")[2])))
+        door.setblocking(False)
+        node = trial.node([table(last, 7, "m0.lab.test")], keys=keys_at(trial), poll="500ms", wait="50ms")
+        node.run(["unshare", "--mount", "sh", "-c", 'mount --bind "$0" /etc/hosts && exec "$@"', hosts])
+        eventually(lambda: last.numbers, 20)
+        trial.between("names: seconds until the second address is asked", 2.2, time.monotonic() - node.began, 20)
+        trial.check("names", polls_at(door) > 3, "the first address is not asked for four rounds")
