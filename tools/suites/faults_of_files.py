@@ -292,7 +292,9 @@ def paths_of_one_file(trial):
     long = os.path.join(trial.room, "l" * (SOCKET_BYTES - len(trial.room) - 1))
     cases = [({"status": "HERE/state/../state/epoch"}, "1817"), ({"status": "HERE/link/epoch"}, "1817"), ({"shared": "HERE/link/lock"}, "1817"),
              ({"evidence": "HERE/link/break"}, "1817"), ({"socket": "HERE/link/epoch.new"}, "1817"), ({"status": "HERE/here/shared"}, "1817"),
-             ({"evidence": "HERE/e", "status": "HERE/here/e.break-2"}, "1817"), ({"status": "HERE/here/state"}, "1817"),
+             ({"evidence": "HERE/e", "status": "HERE/here/e.break-1"}, "1817"), ({"evidence": "HERE/e", "status": "HERE/here/e.break-2"}, "1817"),
+             ({"evidence": "HERE/e", "status": "HERE/here/e"}, "1817"), ({"status": "HERE/here/state"}, "1817"),
+             ({"keys": "HERE/here/status"}, "1817"), ({"keys": "HERE/k", "evidence": "HERE/here/k"}, "1817"),
              ({"socket": f"{long}s"}, "1804"), ({"socket": long}, None), ({"status": "HERE/other/epoch"}, None), ({"shared": "HERE/other/status"}, None)]
     for number, (settings, refusal) in enumerate(cases):
         folder = os.path.join(trial.room, str(number))
@@ -338,6 +340,10 @@ def stacks_that_are_small(trial):
             ran = run(["prlimit", f"--stack={1024 * kib}:{1024 * kib}", trial.program, *words], seconds=5)
             if ran.answer != ("refused 1831\n", 2) or f"ttd: the stack is limited to {1024 * kib} bytes, and 2097152 are needed" not in ran.error:
                 yield f"{words[0]} with a stack of {kib} KiB: {ran.answer} {ran.error!r}"
+    # The soft limit counts, not the hard one.
+    ran = run(["prlimit", "--stack=1048576:2097152", trial.program, "serve", "--check", node.path("node.toml")], seconds=5)
+    if ran.answer != ("refused 1831\n", 2):
+        yield f"with a soft limit of 1 MiB and a hard one of 2 MiB: {ran.answer} {ran.error!r}"
     node.run(["prlimit", "--stack=2097152:2097152"])
     yield from node.serves()
 
