@@ -11,7 +11,7 @@ from harness.program import read, write
 from harness.trouble import Spoils, disrupt, hold_lock, honest, page, silent
 from suites.breaks_world import is_valid
 from suites.wiring import suite
-from suites.wiring_checks import eventually, published, status_of
+from suites.wiring_checks import eventually, lies, published, status_of
 
 
 @suite.case()
@@ -115,13 +115,20 @@ def status_that_fails(trial):
 def evidence_that_fails(trial):
     """A folder lies where it is written, and later does not."""
     path = os.path.join(trial.room, "evidence")
-    node = trial.running_node(trial.scripts(honest), evidence=path)
+    masters = trial.scripts(honest)
+    node = trial.running_node(masters, evidence=path)
     trial.check("setting evidence", eventually(lambda: is_valid(trial.program, path)), "nothing valid is there")
     eventually(lambda: os.makedirs(f"{path}.new/kept") or True)
     trial.logs(node, "evidence_unwritten", errno=errno.EISDIR)
     shutil.rmtree(f"{path}.new", ignore_errors=True)
     before = read(path)
     trial.check("setting evidence", eventually(lambda: read(path) != before), "it stays as it was")
+    # Of a break the later one is still written.
+    os.makedirs(f"{path}.break-1.new/kept")
+    masters[0].acts = [lies(5 * SECOND)]
+    eventually(lambda: node.running.poll() is not None)
+    is_there = os.path.exists(f"{path}.break-2") and is_valid(trial.program, f"{path}.break-2")
+    trial.check("setting evidence", is_there, "behind a break the later one is not there where the one before can't be written")
 
 
 @suite.case()

@@ -1,6 +1,7 @@
 """Scenarios of the suite `wiring`: what a machine answers over HTTP."""
 import contextlib
 import os
+import resource
 import shutil
 import socket
 import time
@@ -194,6 +195,38 @@ def five_hundred_slow_clients(trial):
             trial.between("for how long a slow client is served", 1.5, last, 2.6)
 
 
+@suite.case()
+def client_that_makes_room(trial):
+    """Where one more comes than are served at a time, the one that came before all others is closed, and no other."""
+    node, port = with_pages(trial, trial.scripts(honest))
+    node.run()
+    comes_to(trial, port, None)
+    time.sleep(0.1)
+    with contextlib.ExitStack() as stack:
+        doors = []
+        for _ in range(9):
+            doors.append(stack.enter_context(socket.create_connection(("127.0.0.1", port), 5)))
+            time.sleep(0.02)
+        trial.check("setting http", eventually(lambda: any(map(has_ended, doors)), 1.5), "none is closed")
+        trial.equal("setting http", [has_ended(door) for door in doors], [True] + [False] * 8)
+
+
+@suite.case()
+def pages_without_descriptors(trial):
+    """A client that comes where no descriptor is left is served once there is one, though nobody comes behind it."""
+    node, port = with_pages(trial, trial.scripts(honest), poll="50ms")
+    node.run()
+    comes_to(trial, port, None)
+    pid = node.running.pid
+    limits = resource.prlimit(pid, resource.RLIMIT_NOFILE)
+    resource.prlimit(pid, resource.RLIMIT_NOFILE, (len(os.listdir(f"/proc/{pid}/fd")), limits[1]))
+    with socket.create_connection(("127.0.0.1", port), 5) as door:
+        door.sendall(b"GET /health HTTP/1.1\r\nHost: here\r\n\r\n")
+        time.sleep(0.5)
+        resource.prlimit(pid, resource.RLIMIT_NOFILE, limits)
+        trial.equal("setting http", reasons_of(answer_of(door)), None)
+
+
 def has_ended(door):
     """Whether this connection is closed. If not, it is given one more byte of a request."""
     door.setblocking(False)
@@ -300,8 +333,10 @@ def shared_file_that_hangs(trial):
         comes_to(trial, port, None)
         trial.check("shared number", client.read().number > written + made["publications"], f"the file has {client.read().number} behind {written}")
         trial.check("shared valid_until_ns", client.now().fresh, "the file is not fresh")
+    time.sleep(10.2)  # of one kind a line comes each ten seconds
+    trial.equal("log sharing_resumed", len(node.said("sharing_resumed")), 1)
     with spoils.spoiled("writing"):
-        time.sleep(0.3)
+        trial.check("log sharing_ended", eventually(lambda: len(node.said("sharing_ended")) == 2), "it is not said a second time")
         for what in node.ends():
             trial.check("setting shared", False, what)
     trial.equal("log ended", len(node.said("ended")), 1)

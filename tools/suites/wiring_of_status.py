@@ -412,6 +412,40 @@ def nothing_published(trial):
     trial.check("status rounds", eventually(look, 4), f"rounds, those with 701, stale ones, and polls are {seen[-3:]}")
 
 
+@suite.case()
+def shared_between_publications(trial):
+    """A machine that publishes nothing for longer than a write of its shared file may last still says that it shares: no write lasts."""
+    node = trial.node(trial.scripts(silent), poll="100ms", wait="50ms")
+    node.run()
+    trial.check("status rounds", eventually(lambda: status_of(node)["rounds"] > 15), "they do not go on")
+    trial.numbers(node, publications=0, sharing=1)
+    trial.equal("log sharing_ended", node.said("sharing_ended"), [])
+
+
+@suite.case()
+def connections_unserved_of_the_socket(trial):
+    """A connection of the Unix socket that finds no place is counted as one of the address is: of the sessions for which few descriptors are
+    enough, each waits for a commit."""
+    before = resource.getrlimit(resource.RLIMIT_NOFILE)
+    resource.setrlimit(resource.RLIMIT_NOFILE, (150, before[1]))
+    try:
+        node = trial.running_node(trial.scripts(honest), workers=2, poll="50ms", floor_ahead="10s")
+    finally:
+        resource.setrlimit(resource.RLIMIT_NOFILE, before)
+    room = int(trial.logs(node, "descriptors", limit=150)["sessions"]) // 2
+    with contextlib.ExitStack() as stack:
+        for number in range(1, room + 3):
+            door = stack.enter_context(socket.socket(socket.AF_UNIX))
+            door.settimeout(5)
+            door.connect(node.path("socket"))
+            door.sendall(b"commit 1 %d\n" % (time.time_ns() + 9 * SECOND))
+            said = b""
+            with contextlib.suppress(OSError):
+                said = door.recv(64)
+            trial.equal("status unserved", (number, said[:7]), (number, b"waiting" if number <= room else b""))
+        trial.numbers(node, unserved=2, sessions_open=room)
+
+
 def ends_of_waits(session, latest, number):
     """Releases a commit whose floor is a quarter of a second ahead, and some that have none; how long each took, in nanoseconds."""
     took = []

@@ -117,6 +117,44 @@ def waits_at_the_end(trial):
 
 
 @suite.case()
+def ends_once_its_last_is_shared(trial):
+    """A machine waits at its end for a write of its shared file that lasts a little, so that the file says that it has ended. Where none lasts it
+    waits for nothing more, though some lasted before. One of five lives has to do each: the host may be busy."""
+    node, spoils = trial.spoilable(trial.scripts(honest), poll="20ms", wait="300ms")
+
+    def ends_in_a_write():
+        with spoils.spoiled("writing"):
+            time.sleep(0.2)
+            node.running.stdin.close()
+            time.sleep(0.06)
+        node.running.wait(20)
+        with node.client() as client:
+            return client.now().fresh
+
+    def ends_behind_a_write():
+        with spoils.spoiled("writing"):
+            time.sleep(0.2)
+        time.sleep(0.2)
+        began = time.monotonic()
+        node.running.stdin.close()
+        node.running.wait(20)
+        return 1000 * (time.monotonic() - began)
+
+    def lives(call, is_right):
+        found = []
+        while len(found) < 5 and not any(map(is_right, found)):
+            if node.running.poll() is not None:
+                node.run()
+                node.wait_until_ready()
+            found.append(call())
+        return found
+
+    fresh, took = lives(ends_in_a_write, lambda is_fresh: not is_fresh), lives(ends_behind_a_write, lambda ms: ms < 150)
+    trial.check("time end look", not all(fresh), f"behind its end the file is fresh: {fresh}")
+    trial.check("time end look", min(took) < 150, f"it ends {took} ms after its input")
+
+
+@suite.case()
 def ends_once_all_is_written(trial):
     """A machine whose lines and status are written waits for nothing more at its end, in one of five lives at least: the host may be busy."""
     node, took = trial.node(trial.scripts(honest)), []
