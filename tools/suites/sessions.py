@@ -527,6 +527,13 @@ def requests_of_http(trial):
                 if not said.startswith("waiting") or time.monotonic() > began + 3:
                     yield f"behind {first[:40]} in pieces of {piece} a commit of another has {said!r} after {time.monotonic() - began} s"
                     break
+        # What came behind the line is taken, so that the connection ends and is not broken off.
+        with socket.create_connection(node.address, 5) as door:
+            door.sendall(b"POST / HTTP/1.1\r\n" + b"a" * 6000)
+            said = b"".join(iter(lambda: door.recv(100), b""))
+            time.sleep(0.1)
+            if (said, error := door.getsockopt(socket.SOL_SOCKET, socket.SO_ERROR)) != (b"refused 1101\n", 0):
+                yield f"a line with a long body has {said!r}, and its connection ends with the error {error}"
         for lines in (b"nonsense\nnow\n", b"GET /now\nnow\n", b"now HTTP/1.1 \nnow\n", b"HTTP/1.1\nnow\n", b"now\nGET / HTTP/1.1\r\nnow\n", b"\nGET / HTTP/1.1\nnow\n"):
             door = Door(stack, node.address)
             door.send(lines)

@@ -169,7 +169,8 @@ OLD, NEW, OTHER = bytes(range(32)), bytes(range(100, 132)), bytes(range(200, 232
 
 @suite.case()
 def polls_that_do_not_open(trial):
-    """They are logged once a second and at most once in ten, with how many there were so far."""
+    """They are logged once a second and at most once in ten, with how many there were so far. What is refused of a file of keys is logged once as
+    long as the file stays as it is."""
     keys = os.path.join(trial.room, "keys")
     put_keys(keys, f"7 {OLD.hex()} host-a")
     asked = Asked(trial, 3, uncertainty=[5], keys=[keys])
@@ -179,7 +180,10 @@ def polls_that_do_not_open(trial):
         trial.check("option keys", not is_answered(asked, number, key, 0.1), "an answer")
     trial.equal("option keys", asked.poll(0.1)[0], None)
     trial.between("log polls_unopened", 1, int(trial.logs(asked.process, "polls_unopened").get("count", 0)), 3)
+    put_keys(keys, f"7 {OLD.hex()} host-a", "8 00")
+    trial.logs(asked.process, "keys_refused", number=2215, line=2)
     time.sleep(10.5)
+    trial.equal("log keys_refused", len(asked.process.said("keys_refused")), 1)
     trial.check("option keys", not is_answered(asked, 7, OTHER, 0.1), "an answer")
     trial.logs(asked.process, "polls_unopened", count=4)
 
