@@ -73,6 +73,12 @@ ROWS = {
             f"+master_server_{name}_total": f"server {{{{server}}}} {name}" for name in ("requests", "replies", "refused", "kisses")}),
     },
 }
+# Panels that are no lines over time: their type, the colours from which number on, and what else their questions have.
+OTHERS = {
+    "Alerts that fire": ("stat", [("green", None), ("red", 1)], [{}]),
+    "Machines": ("stat", [], [{}]),
+    "Versions": ("table", [], [{"format": "table", "instant": True}]),
+}
 OF_MACHINE, OF_MASTER = '{machine=~"$machine", instance=~"$instance"}', '{instance=~"$instance"}'
 
 
@@ -90,6 +96,13 @@ def line_of(expr, name):
     return f"truetime_{expr}{of}", full
 
 
+def kind_of(panel):
+    """Its type, the colours from which number on, and what its questions have beside their expressions and names."""
+    steps = panel["fieldConfig"]["defaults"].get("thresholds", {"steps": []})["steps"]
+    asked = [{key: value for key, value in target.items() if key not in ("refId", "expr", "legendFormat")} for target in panel["targets"]]
+    return panel["type"], [(step["color"], step["value"]) for step in steps], asked
+
+
 @suite.case()
 def panels(trial):
     """What each panel shows."""
@@ -98,6 +111,8 @@ def panels(trial):
         if panel["type"] == "row":
             row = rows.setdefault(panel["title"], {})
         else:
+            lined = "timeseries", [], [{} for _ in panel["targets"]]
+            trial.equal(f"how {panel['title']} is shown", kind_of(panel), OTHERS.get(panel["title"], lined))
             row[panel["title"]] = panel["fieldConfig"]["defaults"]["unit"], [(target["expr"], target["legendFormat"]) for target in panel["targets"]]
     trial.equal("rows", list(rows), list(ROWS))
     for row, wanted in ROWS.items():

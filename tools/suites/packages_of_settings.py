@@ -178,7 +178,8 @@ def stands_still(trial):
         write(os.path.join(here, "ttd"), says.encode())
         os.chmod(os.path.join(here, "ttd"), 0o755)
         ran = run([in_top("packaging/stands-still"), "settings"], env={**os.environ, "PATH": f"{here}:{os.environ['PATH']}"})
-        trial.equal(name, (ran.status, bool(ran.error)), (0, True) if wanted else (1, False))
+        # A warning, as the unit of the watch lets nothing less through.
+        trial.equal(name, (ran.status, ran.error[:3]), (0, "<4>") if wanted else (1, ""))
 
 
 @suite.case()
