@@ -111,6 +111,10 @@ def service(trial):
             time.sleep(0.1)
         form = re.sub("[A-Z]+", "[0-9]+", said.rpartition(": " if ": " in said else " now ")[2].strip())
         trial.holds(re.fullmatch(f"(now )?{form}\n", asked.said), f"{command.strip()} answers {asked.said!r}, {asked.error}")
+    started = [read_text(f"/proc/{child}/cmdline").split("\0") for child in read_text(f"/proc/{ran.pid}/task/{ran.pid}/children").split()]
+    stated = re.search("three masters .*? ± ([0-9]+) ms", read_text("README.md"), re.IGNORECASE | re.DOTALL)[1]
+    uncertain = [words[words.index("--uncertainty") + 1] for words in started if words[1] == "master"]
+    trial.equal("uncertainties of the masters", uncertain, [f"{stated}000000"] * 3)
     ran.send_signal(signal.SIGINT)
     told, error = ran.communicate(timeout=30)
     trial.holds(len(lines) == 2 and ran.returncode == 130 and "Ctrl-C" in told, f"status {ran.returncode}: {told}{error}")
