@@ -227,10 +227,14 @@ def waits_of_masters(trial):
 @suite.case(root=True, programs=("unshare",))
 def waits_of_masters_of_other_hosts(trial):
     """A server on another host, from a network without a route: no packet leaves it. It is asked at once, and about a minute later."""
-    words = ["master", "--source", "0", "--listen", "127.0.0.1:1", "--ntp", "192.0.2.1:123"]
+    status = os.path.join(trial.room, "status")
+    words = ["master", "--source", "0", "--listen", "127.0.0.1:1", "--ntp", "192.0.2.1:123", "--status", status]
     started = trial.keep(Noted(trial, "master", words, ("unshare", "--net")))
     waits_for(trial, started.notes, "receive", "far reply", "packet")
     waits_for(trial, started.notes, "sleep", "far look", others=[(1, TIMES["far look"])])
+    asked = 'truetime_master_server_requests_total{source="0",server="0"} '
+    found = eventually(lambda: [line for line in read_text(status).splitlines() if line.startswith(asked)])
+    trial.equal("master server_requests_total", found, [f"{asked}1"])
 
 
 # What is compared with readings of the clock.

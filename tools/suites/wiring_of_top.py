@@ -69,6 +69,25 @@ def top_on_a_terminal(trial):
         trial.equal("top", (more, any(" suspect" in line for line in red), "\x1b" in said), (more, is_red, is_red))
 
 
+# Names of locales, and whether their characters are UTF-8.
+LOCALES = {"C": False, "": False, "de_DE.ISO-8859-1": False, "UTF-8.C": False, "C.UTF-8": True, "C.utf8": True, "en_US.UTF8": True, "de_DE.utf-8": True}
+
+
+@suite.case()
+def top_by_locales(trial):
+    """It draws widths in ASCII unless the name of the locale says UTF-8, as that is written."""
+    _, port = machine(trial)
+    with contextlib.ExitStack() as stack:
+        shown = {name: stack.enter_context(subprocess.Popen([trial.program, "top", f"127.0.0.1:{port}"], env=PLAIN | {"LC_ALL": name},
+                                                            stdout=subprocess.PIPE)) for name in LOCALES}
+        for name, is_utf8 in LOCALES.items():
+            frames = b""
+            while frames.count(CLEAR) < 4:  # the third has widths of looks before, and is whole
+                frames += os.read(shown[name].stdout.fileno(), 65536)
+            shown[name].kill()
+            trial.equal("top", (name, frames.isascii()), (name, not is_utf8))
+
+
 def on_terminal(words, environment, folder):
     """What a command prints to a terminal."""
     reading, writing = pty.openpty()
