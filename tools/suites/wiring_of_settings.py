@@ -474,6 +474,9 @@ def found_beside_machine(trial):
     trial.equal("--check", [line for line in ran.said.splitlines() if line.startswith("warning")],
                 ["warning shared node.toml: it is not a folder", "warning status none: there is no such folder"])
     trial.equal("--check", (ran.status, contents_of(other.folder)), (0, before))
+    in_root = trial.node(["127.0.0.1:5701"], "C", status="/status")
+    warned = [line for line in trial.command("serve", "--check", in_root.path("node.toml")).said.splitlines() if line.startswith("warning")]
+    trial.equal("--check", warned, [] if os.access("/", os.W_OK) else ["warning status /: this user may not write it"])
 
 
 # The keys that have to be there, each with a value as a file writes it.
