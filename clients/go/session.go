@@ -9,6 +9,7 @@ import (
 	"os"
 	"sync"
 	"sync/atomic"
+	"syscall"
 	"time"
 )
 
@@ -16,8 +17,9 @@ import (
 const Timeout = 30 * time.Second
 
 const (
-	lineBytes = 64               // the most bytes of a line and of a reply, without the line feed
-	pause     = time.Millisecond // before a line is sent again
+	lineBytes    = 64                   // the most bytes of a line and of a reply, without the line feed
+	pause        = time.Millisecond     // before a line is sent again
+	connectPause = 5 * time.Millisecond // before connecting again to a Unix socket at which as many wait as may
 )
 
 // A Session is a connection to the service: one line and its reply at a time. Calls of several goroutines take turns. A
@@ -105,8 +107,7 @@ func (s *Session) connect(ctx context.Context) (*link, error) {
 		case <-ctx.Done():
 		}
 	}()
-	dialer := net.Dialer{Timeout: time.Duration(s.timeout.Load())}
-	conn, err := dialer.DialContext(ctx, s.network, s.address) // which sets TCP_NODELAY
+	conn, err := s.dial(ctx)
 	if err != nil {
 		return nil, err
 	}
@@ -119,6 +120,25 @@ func (s *Session) connect(ctx context.Context) (*link, error) {
 	default:
 	}
 	return made, nil
+}
+
+// dial connects. Where as many wait at a Unix socket as may, the system says so at once, so it is tried again.
+func (s *Session) dial(ctx context.Context) (net.Conn, error) {
+	dialer := net.Dialer{}
+	if timeout := time.Duration(s.timeout.Load()); timeout > 0 {
+		dialer.Deadline = time.Now().Add(timeout)
+	}
+	for {
+		conn, err := dialer.DialContext(ctx, s.network, s.address) // which sets TCP_NODELAY
+		if !errors.Is(err, syscall.EAGAIN) {
+			return conn, err
+		}
+		select {
+		case <-ctx.Done():
+			return nil, ctx.Err()
+		case <-time.After(connectPause):
+		}
+	}
 }
 
 // SetTimeout sets how long the reply to a line, and connecting anew, may take; 0 is without end.

@@ -348,11 +348,11 @@ def try_full_path(trial, name, words, path):
 
 @suite.case()
 def waits_at_full_paths(trial):
-    """The time-out of C and C++ is that of connecting to a Unix socket, too. In Rust and Java that has none."""
+    """The time-out of C, C++, Python and Go is that of connecting to a Unix socket, too. In Rust and Java that has none."""
     path = os.path.join(trial.room, "full")
     with full_socket(path):
         for name, words in session_probes(trial.shared):
-            if name.startswith("C"):
+            if name.startswith(("C", "Python", "Go")):
                 try_full_path(trial, name, words, path)
 
 

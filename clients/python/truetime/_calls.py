@@ -11,6 +11,8 @@ TIMEOUT_S = 30.0
 LINE_BYTES = 64
 #: The pause before a line is sent again.
 _PAUSE_S = 0.001
+#: The pause before connecting again to a Unix socket at which as many wait as may.
+CONNECT_PAUSE_S = 0.005
 _LINE = re.compile("[ -~]{0,64}")
 _NUMBER = re.compile("0|[1-9][0-9]{0,18}")
 

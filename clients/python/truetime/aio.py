@@ -8,10 +8,11 @@
         await session.wait()               # only now may anybody be told of the commit
 """
 import asyncio
+import socket
 import time
 from typing import Any, Optional, TypeVar, Union, cast
 
-from ._calls import TIMEOUT_S, Address, Call, Calls, Interval, reply_in
+from ._calls import CONNECT_PAUSE_S, TIMEOUT_S, Address, Call, Calls, Interval, reply_in
 
 __all__ = ["Session"]
 
@@ -195,11 +196,8 @@ class Session:
 
     async def _connect(self) -> _Connection:
         self._check_open()
-        loop, connection = asyncio.get_running_loop(), _Connection()
-        if isinstance(self._address, str):
-            connecting = loop.create_task(loop.create_unix_connection(lambda: connection, self._address))
-        else:
-            connecting = loop.create_task(loop.create_connection(lambda: connection, *self._address))
+        connection = _Connection()
+        connecting = asyncio.get_running_loop().create_task(_reach(self._address, connection))
         try:
             await asyncio.wait({connecting}, timeout=self._timeout_s)
             if not connecting.done():
@@ -225,3 +223,28 @@ class Session:
             self._connection.end(ConnectionError("the session is closed"))
         self._connection = self._owed = None
         self._calls.forget()
+
+
+async def _reach(address: Address, connection: _Connection) -> None:
+    """Connects to the service."""
+    loop = asyncio.get_running_loop()
+    if isinstance(address, str):
+        await loop.create_unix_connection(lambda: connection, sock=await _connected(address))
+    else:
+        await loop.create_connection(lambda: connection, *address)
+
+
+async def _connected(path: str) -> socket.socket:
+    """A socket that is connected to the one at this path."""
+    made = socket.socket(socket.AF_UNIX)
+    try:
+        made.setblocking(False)
+        while True:
+            try:
+                made.connect(path)
+                return made
+            except BlockingIOError:  # as many wait there as may, of which asyncio would make a connection
+                await asyncio.sleep(CONNECT_PAUSE_S)
+    except BaseException:
+        made.close()
+        raise

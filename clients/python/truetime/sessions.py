@@ -3,7 +3,7 @@ import socket
 import time
 from typing import Optional, TypeVar
 
-from ._calls import LINE_BYTES, TIMEOUT_S, Address, Call, Calls, Interval, reply_in
+from ._calls import CONNECT_PAUSE_S, LINE_BYTES, TIMEOUT_S, Address, Call, Calls, Interval, reply_in
 
 _T = TypeVar("_T")
 
@@ -150,11 +150,17 @@ def _connected(address: Address, timeout_s: float) -> socket.socket:
         made = socket.create_connection(address, timeout_s)
         made.setsockopt(socket.IPPROTO_TCP, socket.TCP_NODELAY, 1)
         return made
-    made = socket.socket(socket.AF_UNIX)
+    made, end = socket.socket(socket.AF_UNIX), time.monotonic() + timeout_s
     try:
         made.settimeout(timeout_s)
-        made.connect(address)
+        while True:
+            try:
+                made.connect(address)
+                return made
+            except BlockingIOError:  # as many wait there as may
+                if time.monotonic() >= end:
+                    raise socket.timeout from None
+                time.sleep(CONNECT_PAUSE_S)
     except BaseException:
         made.close()
         raise
-    return made
