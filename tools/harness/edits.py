@@ -63,15 +63,32 @@ def names_in(folder: str) -> tuple[list[str], list[str]]:
 
 
 def owner_in(line: str) -> str:
-    """The name under which a check has the functions of this block: that of its type, behind it that of the trait."""
-    plain = line.replace("->", "")
-    while (shorter := re.sub(r"<[^<>]*>", "", plain)) != plain:
-        plain = shorter
+    """The name under which a check has the functions of this block: that of its type, behind it that of the trait. Functions of a type's own
+    that it has only with some type in place of a parameter have what it is given behind it."""
+    plain = without_angles(line)
     found = OWNER.match(plain)
     if not found:
         name = re.match(r"(?:pub )?trait (\w+)", plain)
         return name[1] if name else ""
-    return found["type"].split("::")[-1] + (found["trait"] or "").split("::")[-1]
+    if found["trait"]:
+        return found["type"].split("::")[-1] + found["trait"].split("::")[-1]
+    heads = re.match(r"(?:unsafe )?impl(?:<(?P<parameters>.*?)>)? +&?(?:mut +)?[\w:]+(?:<(?P<given>.*)>)? *(?:where.*)?\{?$", line)
+    parameters, given = (names_in_angles(heads[part]) if heads else [] for part in ("parameters", "given"))
+    return "+".join([found["type"].split("::")[-1], *(given if set(given) - set(parameters) else [])])
+
+
+def without_angles(text: str) -> str:
+    """A text without what stands in angle brackets."""
+    plain = text.replace("->", "")
+    while (shorter := re.sub(r"<[^<>]*>", "", plain)) != plain:
+        plain = shorter
+    return plain
+
+
+def names_in_angles(text: str | None) -> list[str]:
+    """The names of parameters or types in a list, but for lifetimes."""
+    items = [item.partition(":")[0].strip().removeprefix("const ") for item in without_angles(text or "").split(",")]
+    return [item for item in items if item and not item.startswith("'")]
 
 
 def homes_in(texts: dict[str, str]) -> dict[str, list[str]]:
@@ -96,7 +113,7 @@ def functions_in(file: str, texts: dict[str, str]) -> list[tuple[int, int, Place
             ends = (f"{head[1]}}}", f"{head[1]}{{}}")
             behind = number if line.endswith("{}") else len(lines) - 1
             last = next((at for at in range(number, behind) if lines[at] in ends), behind)
-            home = homes.get(owner, [file])
+            home = homes.get(owner.partition("+")[0], [file])
             found.append((number + 1, last + 1, Place(file, owner, head[2], file if file in home else home[0])))
     return found
 
