@@ -402,8 +402,9 @@ def run(trying):
         running.kill()
         status = running.wait()
     (output, errors), after = trying.written(), time.time_ns()
-    # Of a folder that can't be looked at there is a warning.
+    # Of a folder that can't be looked at there is a warning, and of limits that can't be read no line.
     replies = [line for line in output.splitlines(keepends=True) if not line.startswith(b"warning ")]
+    lines = [line for line in lines if not line.startswith(b"limit ") or line + b"\n" in replies]
     right = 0
     while right < min(len(replies), len(lines)) and is_reply(replies[right], lines[right], before, after):
         right += 1
