@@ -58,7 +58,7 @@ def words_of(unit: str, instance: str, variables: dict[str, str]) -> list[str]:
     """The words of the command of a unit's instance, as systemd makes them: `${X}` is a part of a word, `$X` any number of words."""
     words = []
     variables = {**dict(line.split("=", 1) for line in lines_of(unit, "Environment")), **variables}
-    for word in lines_of(unit, "ExecStart")[0].replace("%i", instance).split():
+    for word in shlex.split(lines_of(unit, "ExecStart")[0].replace("%i", instance)):
         if re.fullmatch(r"\$[A-Z_]+", word):
             words += shlex.split(variables.get(word[1:], ""))
         else:
@@ -105,7 +105,8 @@ class Instance(OnHost):
         for folder, inside in (("run", "truetime"), ("run", "truetime-master"), ("lib", "truetime")):
             os.makedirs(site.path(folder, f"{inside}/{name}"), exist_ok=True)
         words = words_of(UNITS[end], name, {key: value.strip("\"'") for key, value in variables.items()})
-        super().__init__(site, f"{site.name}-{name}{end}", words[1:])
+        # What is before the program is for signals, which no lab sends.
+        super().__init__(site, f"{site.name}-{name}{end}", words[words.index("/usr/bin/ttd") + 1:])
 
     def inside(self, path: str) -> str:
         """Where a file is on this computer that has this path on the host."""

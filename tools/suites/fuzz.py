@@ -158,7 +158,10 @@ class Fuzz:
         self.packets = [("127.0.0.1", int(master.address.split(":")[1])) for master in masters]
         self.machine = trial.fleet({"M": [*masters, self.liar]}, poll="20ms", wait="10ms", idle="2s")["M"]
         self.processes = [*masters, self.machine]
-        self.corpora["read"] = Corpus(chance, [read(self.machine.path("shared"))], is_text=False)
+        shared, until = self.machine.path("shared"), time.monotonic() + 10
+        while not os.path.isfile(shared) and time.monotonic() < until:  # a thread of its own writes it, maybe behind the first reading
+            time.sleep(0.01)
+        self.corpora["read"] = Corpus(chance, [read(shared)], is_text=False)
         self.lines = Corpus(chance, [b"now\n", b"after 5\nbefore 1\n", b"commit 1 0\ncommit 1 0\n", b"commit 7 4000000000000000000\nnow\n"])
         self.polls = Corpus(chance, [bytes.fromhex("54545032010000000000000000000001000000000000000" + "1"), b"TTP1\1\0\0\0" + bytes(7) + b"\1", bytes(40)], is_text=False)
         self.epoch = os.path.join(self.room, "state/epoch")
