@@ -23,6 +23,7 @@ import os
 import re
 import subprocess
 import time
+from concurrent.futures import ThreadPoolExecutor
 
 from harness.program import compile_c, in_top, read, run
 from harness.suite import Suite
@@ -147,6 +148,17 @@ def live_without_its_daemon(trial):
     trial.note(f"it ends {took:.1f} seconds after it began")
 
 
+def side_by_side(library, words, count):
+    """What `Refusing.each` gives of a program that makes so many allocations in one thread; as many runs at once as there are processors."""
+    def some(first):
+        refusing = Refusing(library)
+        return [(refused, refusing.run(words, b"", refused)) for refused in range(first, count + 2, lanes)]
+
+    lanes = os.cpu_count()
+    with ThreadPoolExecutor(lanes) as pool:
+        yield from sorted(found for part in pool.map(some, range(1, lanes + 1)) for found in part)
+
+
 def call_refused(plain, lines):
     """The call that met the refusal and what came of it, `None` where none did, or `False` where the output is wrong."""
     if lines == plain:
@@ -168,12 +180,12 @@ def calls_that_take_memory(trial):
     trial.holds(built.status == 0, f"tests/memory_sweep is not built: status {built.status}: {built.said}")
     if built.status != 0:
         return
-    output, status, _ = trial.shared.run([program], b"", 0)
+    output, status, count = trial.shared.run([program], b"", 0)
     plain = output.decode(errors="replace").splitlines()
     trial.holds(plain == read("tests/memory_sweep/stdout").decode().splitlines(), f"memory_sweep without a refusal writes {output[-200:]!r}")
     calls = {line.rsplit(" ", 1)[0]: {"refused": [], "prepared": []} for line in plain}
     trial.holds(status == 0 and len(plain) == 2 * len(calls) > 0, f"memory_sweep: status {status} without a refusal, and {plain[-1:]}")
-    for refused, (output, status, _) in trial.shared.each([program], b"") if not trial.result.wrong else ():
+    for refused, (output, status, _) in side_by_side(trial.shared.library, [program], count) if not trial.result.wrong else ():
         last, met = refused, call_refused(plain, output.decode(errors="replace").splitlines())
         trial.holds(status == 0 and met is not False, f"memory_sweep: allocation {refused} refused gives status {status} and {output[-120:]!r}")
         if met:
