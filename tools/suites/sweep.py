@@ -176,7 +176,7 @@ def call_refused(plain, lines):
 def calls_that_take_memory(trial):
     """The same for the program that makes each call."""
     program, spared, last = f"{trial.room}/memory_sweep", 0, 0
-    built = run([in_top("tools/build_texts"), in_top("tests/memory_sweep"), program, "-O0"], seconds=600, stderr=subprocess.STDOUT)
+    built = run([in_top("tools/build_texts"), in_top("tests/memory_sweep"), program, "-O1"], seconds=600, stderr=subprocess.STDOUT)
     trial.holds(built.status == 0, f"tests/memory_sweep is not built: status {built.status}: {built.said}")
     if built.status != 0:
         return
