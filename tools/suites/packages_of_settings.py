@@ -78,7 +78,7 @@ OTHERS = {
 
 # How long the scripts wait, and for what.
 SCRIPTS = {
-    "await": ["end=$(($(seconds) + 30))", "ttd ask \"$address\" now --retry 0 ", "    sleep 0.05\n", "kill -0 \"$MAINPID\"",
+    "await": ["end=$(($(seconds) + 30))", "ttd ask \"$address\" now --retry 0 ", "    sleep 0.05\n", "kill -0 \"$MAINPID\"", " timeout 1 sh ",
               "echo \"<4>the machine of $1 gives no time yet\" >&2\nexit 1\n", "RES_OPTIONS='timeout:1 attempts:1' ttd serve --check"],
     "stands-still": ["limit=$((10 * round / 1000000000 + 30))\n",
                      "find \"$status\" ${shared:+\"$shared\"} \"$(of state)/epoch\" -newermt \"-$limit seconds\"",
@@ -180,6 +180,38 @@ def stands_still(trial):
         ran = run([in_top("packaging/stands-still"), "settings"], env={**os.environ, "PATH": f"{here}:{os.environ['PATH']}"})
         # A warning, as the unit of the watch lets nothing less through.
         trial.equal(name, (ran.status, ran.error[:3]), (0, "<4>") if wanted else (1, ""))
+
+
+# The same for packaging/await. A machine that gives the time at once, and whose shared file can be read from the third look on, or holds who
+# reads it up.
+AWAITED = """#!/bin/sh
+case $1 in
+serve) printf '%s\\n' "listen 127.0.0.1:5601" "socket HERE/socket" SHARED;;
+ask) echo "$*" >>HERE/asked;;
+read) echo "$*" "$(cat)" >>HERE/looks; HELD; [ "$(wc -l <HERE/looks)" -ge 3 ] || exit 4;;
+esac
+"""
+# Whether there is a shared file, what holds a reader up, how often it is looked at, and how many seconds that takes.
+AWAITS = {"none": (False, ":", 0, 0), "one that comes": (True, ":", 3, 0), "one that stands still": (True, "exec sleep 60", 1, 1)}
+
+
+@suite.case()
+def awaits_the_shared_file(trial):
+    """packaging/await ends once the shared file can be read, and not without one, nor later than a second where it stands still."""
+    for number, (name, (has_shared, held, wanted, least)) in enumerate(AWAITS.items()):
+        here = os.path.join(trial.room, str(number))
+        os.mkdir(here)
+        says = AWAITED.replace("SHARED", '"shared HERE/shared"' if has_shared else "").replace("HERE", here).replace("HELD", held)
+        write(os.path.join(here, "ttd"), says.encode())
+        os.chmod(os.path.join(here, "ttd"), 0o755)
+        environment = {**os.environ, "PATH": f"{here}:{os.environ['PATH']}", "MAINPID": str(os.getpid())}
+        began = time.monotonic()
+        ran = run([in_top("packaging/await"), "settings"], env=environment)
+        trial.equal(name, ran.answer, ("", 0))
+        trial.between(f"{name}: seconds", least, time.monotonic() - began, least + 20)
+        trial.equal(f"{name}: asked", read_text(os.path.join(here, "asked")), "ask 127.0.0.1:5601 now --retry 0\n")
+        looks = read_text(os.path.join(here, "looks")) if has_shared else ""
+        trial.equal(f"{name}: looks", looks, f"read {here}/shared now\n" * wanted)
 
 
 @suite.case()
