@@ -22,12 +22,18 @@ def all_sources_silent(trial):
         yield "`ttd read` says stale from the beginning"
     for source in world.sources:
         source.is_silent = True
-    since = time.time_ns()
-    if not eventually(lambda: world.read_shared()[1]):
+    since, calls = time.time_ns(), []
+
+    def says_stale():
+        began, is_stale = time.time_ns(), world.read_shared()[1]
+        calls.append((began, time.time_ns()))
+        return is_stale
+
+    if not eventually(says_stale):
         yield "`ttd read` does not say stale"
-    took = (time.time_ns() - since) / SECOND
-    trial.note(f"`ttd read` says stale {took:.2f} seconds after the last answer")
-    if took > THREE_ROUNDS_S + 0.2:
+    took, longest = (calls[-1][0] - since) / SECOND, max(end - began for began, end in calls) / SECOND
+    trial.note(f"`ttd read` says stale {took:.2f} seconds after the last answer, and takes {longest:.2f} at most")
+    if took > THREE_ROUNDS_S + 0.2 + 2 * longest:
         yield f"`ttd read` says stale {took:.2f} seconds after the last answer"
     for name, age in ages.items():
         yield from world.rises(name, age + 1)

@@ -9,6 +9,7 @@ import time
 
 from harness import trouble
 from harness.processes import free_port
+from harness.program import read_text
 from harness.trouble import Network, flooded
 from suites.faults import suite
 
@@ -78,10 +79,18 @@ def interface_down(trial):
     yield from node.goes_on()
 
 
-def publishes(node, number, part=0.0, seconds=12, sources=range(3)):
-    """It comes to publish so often more, each round, and each of these is accepted in such a part of its rounds. A busy host takes its time."""
+def lost_of(port):
+    """How many packets to a port of the loopback found its socket full."""
+    rows = [line.split() for line in read_text("/proc/net/udp").splitlines()[1:]]
+    return sum(int(row[-1]) for row in rows if row[1].endswith(f":{port:04X}"))
+
+
+def publishes(node, number, part=0.0, seconds=12, sources=range(3), port=None):
+    """It comes to publish so often more, each round, and each of these is accepted in such a part of its rounds. A busy host takes its time,
+    and lets the socket of the polls overflow, if its port is given: then no part is wanted."""
     while not (before := node.status_or_none()):
         time.sleep(0.02)
+    began, held_up, lost = time.monotonic_ns(), node.held_up_ns(), lost_of(port) if port else 0
     end, more = time.monotonic() + seconds, collections.Counter()
     while more["truetime_publications_total"] < number and time.monotonic() < end:
         time.sleep(0.1)
@@ -91,7 +100,8 @@ def publishes(node, number, part=0.0, seconds=12, sources=range(3)):
     if made < max(number, rounds - 1):
         yield f"{made} publications in {rounds} rounds and {seconds} seconds"
     heard = [more[f'truetime_source_rounds_total{{source="{source}",outcome="accepted"}}'] for source in sources]
-    if min(heard) < int(rounds * part):
+    is_busy = node.held_up_ns() - held_up > (time.monotonic_ns() - began) // 20
+    if min(heard) < int(rounds * part) and not (is_busy and port and lost_of(port) > lost):
         yield f"the sources are heard in {heard} of {rounds} rounds"
 
 
@@ -148,7 +158,7 @@ def strangers_flood_the_machine(trial):
     masters = trial.fakes(*[trouble.late(0.01)] * 3)
     node = trial.running_node(masters)
     with flooded(masters[0].machine[1], 0, 40, pause_s=0.005):
-        yield from publishes(node, 8, 0.5)
+        yield from publishes(node, 8, 0.5, port=masters[0].machine[1])
     with flooded(masters[0].machine[1], 0, 40):
         yield from publishes(node, 4)
         yield from node.answers()
@@ -168,22 +178,23 @@ def forged_before_true(trial):
 
 
 def exact(trial, wait_ms):
-    """With one source dead, a round lasts as long as `wait` says: the median of 20, or on a busy host the third shortest, is within 5 ms."""
+    """With one source dead, a round lasts as long as `wait` says: the median of 20, or on a busy host the third shortest, is within 5 ms, and
+    within as much more as the machine could run in a round and had no processor."""
     masters = trial.fakes(trouble.honest, trouble.honest, trouble.silent)
     node = trial.node(masters, wait=f"{wait_ms}ms", poll="1ms")
     node.run()
     end = time.monotonic() + 25 * wait_ms / 1000 * 3
     while len(masters[2].came) < 22 and time.monotonic() < end:
         time.sleep(0.01)
-    came = masters[2].came[1:22]
+    came, held_up_ms = masters[2].came[1:22], node.held_up_ns() / len(masters[2].came) / 1e6 if masters[2].came else 0
     lengths = [1000 * (second - first) - 1 for first, second in zip(came, came[1:])]
     if len(lengths) < 20:
         yield f"{len(lengths)} rounds in {25 * wait_ms * 3 / 1000:.0f} seconds"
         return
     median, short = statistics.median(lengths), sorted(lengths)[2]
     trial.note(f"a round lasts {median:.1f} ms, and {short:.1f} where it is short")
-    if median < wait_ms - 5 or min(median, short) > wait_ms + 5:
-        yield f"a round lasts {median:.1f} ms, {short:.1f} where it is short, and wait is {wait_ms}"
+    if median < wait_ms - 5 or min(median, short) > wait_ms + 5 + held_up_ms:
+        yield f"a round lasts {median:.1f} ms, {short:.1f} where it is short, {held_up_ms:.1f} of it without a processor, and wait is {wait_ms}"
 
 
 @suite.case(quiet=True)
