@@ -10,12 +10,12 @@ import subprocess
 import threading
 import time
 
+from harness import wire
 from harness.processes import Fault, Machine, free_port, truetime
 from harness.program import compile_c, read_text, write
 
 NOBODY = 65534
 POLL_S, WAIT_S = 0.1, 0.1
-REQUEST, SPAN = struct.Struct(">4s4BQQ"), struct.Struct(">QQ")
 
 
 class Node(Machine):
@@ -171,7 +171,7 @@ class Fake(threading.Thread):
     def run(self):
         while not self.ended:
             packet, sender = self.door.recvfrom(2048)
-            if len(packet) != REQUEST.size or packet[:4] != b"TTP2":
+            if len(packet) != wire.REQUEST.size or packet[:4] != b"TTP2":
                 self.strange.append(packet)
                 continue
             self.came.append(time.monotonic())
@@ -189,8 +189,8 @@ class Fake(threading.Thread):
     @staticmethod
     def answer_to(poll, nonce_ahead=0, ahead_ns=0):
         """The answer to a poll by this host's clock, or by one that is so far ahead of it."""
-        nonce, now = int.from_bytes(poll[8:16], "big") + nonce_ahead, time.time_ns() + ahead_ns
-        return poll[:4] + b"\2" + poll[5:8] + nonce.to_bytes(8, "big") + poll[16:24] + SPAN.pack(now - 1_000_000, now + 1_000_000)
+        now = time.time_ns() + ahead_ns
+        return wire.answer_to(poll, now - 1_000_000, now + 1_000_000, nonce=wire.poll_in(poll).nonce + nonce_ahead)
 
 
 def silent(*_):

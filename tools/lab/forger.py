@@ -11,8 +11,9 @@ import socket
 import time
 import typing
 
+from harness.wire import ANSWER_BYTES, NUMBER, REQUEST, TAG_BYTES, answer_to, poll_in, sealed
 from lab.hosts import DEVICE, Host, bytes_of, inside
-from lab.packets import ANSWER_BYTES, HEAD, NUMBER, TAG_BYTES, Datagram, answer_to, datagram_in, packet_of, sealed, spoiled
+from lab.packets import Datagram, datagram_in, packet_of, spoiled
 from lab.router import FORKED, Child
 from lab.services import POLLS
 
@@ -77,7 +78,7 @@ class Forging:
             self.forge("with its key" if self.keys else self.chance.choice(AT_ONCE), datagram)
         elif datagram.target in self.machines and datagram.source_port == POLLS:
             self.answers.append(datagram)
-            self.answered.value += datagram.payload[:HEAD.size] in self.wanted
+            self.answered.value += datagram.payload[:REQUEST.size] in self.wanted
 
     def forge(self, kind: str, poll: Datagram) -> None:
         """Sends a packet of this kind, once it has seen an answer."""
@@ -89,7 +90,7 @@ class Forging:
     def lie(self, poll: Datagram, nonces_ahead: int = 0) -> bytes:
         """An answer to a poll, or to one that is foretold, without an envelope."""
         now = time.time_ns() + AHEAD_NS
-        return answer_to(poll.payload, now - 1000, now + 1000, nonces_ahead)
+        return answer_to(poll.payload, now - 1000, now + 1000, nonce=(poll_in(poll.payload).nonce + nonces_ahead) % 2**64)
 
     # What it sends.
 
@@ -140,9 +141,9 @@ class Forging:
 
     def poll_bare(self, poll: Datagram) -> Datagram:
         """A poll that comes in time, without an envelope: who answered it would answer tomorrow's today."""
-        magic, kind, machine, source, zero, nonce, epoch = HEAD.unpack_from(poll.payload)
-        request = HEAD.pack(magic, kind, machine, source, zero, (nonce + TOMORROW) % 2**64, epoch)
-        self.wanted.append(answer_to(request, 0, 0)[:HEAD.size])
+        head = poll_in(poll.payload)
+        request = head._replace(nonce=(head.nonce + TOMORROW) % 2**64).packet
+        self.wanted.append(answer_to(request, 0, 0)[:REQUEST.size])
         return poll._replace(payload=request)
 
     def poll_copied(self, poll: Datagram) -> Datagram:
@@ -159,7 +160,7 @@ def back(poll: Datagram, payload: bytes) -> Datagram:
 
 def number_in(poll: Datagram) -> bytes:
     """The number of the key of a poll, as it stands there."""
-    return poll.payload[HEAD.size:HEAD.size + NUMBER.size].ljust(NUMBER.size, b"\0")
+    return poll.payload[REQUEST.size:REQUEST.size + NUMBER.size].ljust(NUMBER.size, b"\0")
 
 
 CALLS = (Forging.bare, Forging.with_any_tag, Forging.with_own_key, Forging.foretold, Forging.foretold_bare, Forging.copied, Forging.moved,

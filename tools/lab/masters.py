@@ -11,7 +11,7 @@ from harness.metrics import numbers_in
 from harness.ntp import FakeServer, Says
 from harness.processes import Fault, fields_of
 from harness.program import read_text
-from harness.trouble import REQUEST, SPAN
+from harness.wire import ANSWER_BYTES, Poll, ends_in
 from lab.hosts import Host, inside
 from lab.servers import PORT, Chronyd, Ntpd, Servers
 from lab.services import POLLS, KeyFile, Machine, OnHost, Source, new_key, sum_in, wait_until
@@ -30,15 +30,14 @@ LOOKS_S, READY_S = 0.1, 30
 
 def answer_of(address: str, source: int, door: socket.socket, nonce: int) -> tuple[int, int] | None:
     """The interval of an open master, or nothing where it is silent."""
-    poll = REQUEST.pack(b"TTP2", 1, 0, source, 0, nonce, 1)
+    poll = Poll(source=source, nonce=nonce).packet
     host, _, port = address.rpartition(":")
     door.sendto(poll, (host, int(port)))
     try:
         while True:
             packet = door.recv(100)
-            if len(packet) == REQUEST.size + SPAN.size and packet[8:16] == poll[8:16]:
-                low, high = SPAN.unpack(packet[REQUEST.size:])
-                return low, high
+            if len(packet) == ANSWER_BYTES and packet[8:16] == poll[8:16]:
+                return ends_in(packet)
     except TimeoutError:
         return None
 

@@ -1,15 +1,9 @@
-"""IPv4 and IPv6 packets of UDP, poll messages and their envelopes, as bytes."""
-import hashlib
-import hmac
+"""IPv4 and IPv6 packets of UDP as bytes."""
 import random
 import struct
 import typing
 
 UDP = 17
-ANSWER_BYTES, TAG_BYTES = 40, 16
-#: Kind, machine, source, 0, nonce, epoch; in an answer the ends of the span follow.
-HEAD, ENDS, NUMBER = struct.Struct(">4s4BQQ"), struct.Struct(">QQ"), struct.Struct(">I")
-ANSWERS = 2
 
 
 class Datagram(typing.NamedTuple):
@@ -64,15 +58,3 @@ def spoiled(payload: bytes, chance: random.Random) -> bytes:
         return payload
     place = chance.randrange(len(payload))
     return payload[:place] + bytes([payload[place] ^ chance.randrange(1, 256)]) + payload[place + 1:]
-
-
-def sealed(message: bytes, number: int, secret: bytes) -> bytes:
-    """The envelope of a message."""
-    body = message + NUMBER.pack(number)
-    return body + hmac.digest(secret, body, hashlib.sha256)[:TAG_BYTES]
-
-
-def answer_to(request: bytes, low: int, high: int, nonces_ahead: int = 0) -> bytes:
-    """An answer to a request, or to one whose nonce is so much greater."""
-    magic, _, machine, source, _, nonce, epoch = HEAD.unpack_from(request)
-    return HEAD.pack(magic, ANSWERS, machine, source, 0, (nonce + nonces_ahead) % 2**64, epoch) + ENDS.pack(low, high)

@@ -11,6 +11,7 @@ from harness import trouble
 from harness.processes import free_port
 from harness.program import read_text
 from harness.trouble import Network, flooded
+from harness.wire import Poll
 from suites.faults import suite
 
 IN_NETWORK = {"root": True, "programs": ("ip", "unshare", "nsenter")}
@@ -248,7 +249,7 @@ def idle_cost(trial):
 def poll_master(door, port, nonce):
     """The seconds that an answer to an honest poll took, or nothing where none came in 0.2 seconds."""
     began = time.monotonic()
-    door.sendto(trouble.REQUEST.pack(b"TTP2", 1, 0, 0, 0, nonce, 1), ("127.0.0.1", port))
+    door.sendto(Poll(nonce=nonce).packet, ("127.0.0.1", port))
     while time.monotonic() < began + 0.2:
         with contextlib.suppress(TimeoutError):
             if door.recv(64)[8:16] == nonce.to_bytes(8, "big"):
@@ -272,7 +273,7 @@ def packets_from_port_0(trial):
     master = trial.master(0)
     port = int(master.address.split(":")[1])
     with polling(port) as door:
-        request = trouble.REQUEST.pack(b"TTP2", 1, 0, 0, 0, 7, 1)
+        request = Poll(nonce=7).packet
         slow = []
         for nonce in range(2, 12):
             trouble.send_from_port_0(port, request, 3)

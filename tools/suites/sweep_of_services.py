@@ -22,6 +22,7 @@ import tempfile
 import time
 from concurrent.futures import ProcessPoolExecutor
 
+from harness import wire
 from harness.processes import Fault, Machine, Service, truetime
 from harness.program import read, run as run_once
 from harness.users import Seen
@@ -37,7 +38,6 @@ ENDED_BY_SIGNALS = "FAIL_RECV", "FAIL_SEND", "FAIL_RECVFROM", "FAIL_SENDTO", "FA
 UNCERTAINTY, SOURCE, POLLS = 1_000_000, 5, 4
 LEASE = "0 4000000000000000000"
 COUNT = struct.Struct("24sQ")
-POLL, ANSWER = struct.Struct(">4s4BQQ"), struct.Struct(">4s4BQQQQ")
 LOG_LINE = re.compile(rb"time=[-0-9]{10}T[:0-9]{8}\.[0-9]{9}Z level=(info|warn|error) event=[a-z_]+( [a-z_]+=[0-9]+)*\Z|ttd: ")
 DEVICES = {803, 1501, 1604, 1605, 1701, 1807, 1808, 1809, 1811, 1812, 1830}
 
@@ -339,7 +339,7 @@ def live_as_master(trying):
                 nonce = random.getrandbits(63) + 1
                 polls[nonce] = time.time_ns()
                 with contextlib.suppress(OSError):
-                    door.send(POLL.pack(b"TTP2", 1, 0, SOURCE, 0, nonce, 1))
+                    door.send(wire.Poll(source=SOURCE, nonce=nonce).packet)
                     answers += is_answer(door.recv(64), polls, outcome)
         # Its log is written by another thread.
         give_up = min(give_up, time.monotonic() + 0.2)
@@ -360,10 +360,11 @@ def live_as_master(trying):
 
 def is_answer(packet, polls, outcome):
     """Whether a packet is the answer to one of these polls, each sent at some time. Any other is wrong."""
-    after, fields = time.time_ns(), ANSWER.unpack(packet) if len(packet) == ANSWER.size else ()
-    sent = polls.pop(fields[5], None) if fields else None
-    is_right = sent is not None and fields[:5] == (b"TTP2", 2, 0, SOURCE, 0) and fields[6] == 1
-    if not is_right or fields[8] - fields[7] != 2 * UNCERTAINTY or fields[7] > after or fields[8] < sent:
+    after, head = time.time_ns(), wire.poll_in(packet) if len(packet) == wire.ANSWER_BYTES else None
+    sent = polls.pop(head.nonce, None) if head else None
+    is_right = sent is not None and head == wire.Poll(kind=wire.ANSWERS, source=SOURCE, nonce=head.nonce)
+    low, high = wire.ends_in(packet) if is_right else (0, 0)
+    if not is_right or high - low != 2 * UNCERTAINTY or low > after or high < sent:
         outcome.wrong.append(f"the answer {packet!r}")
     return is_right
 

@@ -1,19 +1,18 @@
 """What the suite `wiring` checks, by the names of docs/FORMATS.md, and what its scenarios share."""
 import contextlib
-import hmac
 import itertools
 import os
 import re
 import shutil
 import time
-import typing
 from decimal import Decimal
 
 from harness.metrics import faults_in
 from harness.processes import SECOND, Process, fields_of, truetime
 from harness.program import read_text, run
 from harness.trial import Trial
-from harness.trouble import REQUEST, SPAN, Fake, Spoils, honest
+from harness.trouble import Fake, Spoils, honest
+from harness.wire import REQUEST, answer_to, poll_in, sealed
 
 # The names. One that changes is changed here; that of a setting or of an event also where a scenario gives or awaits it.
 
@@ -240,12 +239,6 @@ def published(node, number=1, seconds=6.0):
 
 # Keys.
 
-def sealed(message, number, key):
-    """The envelope of a message."""
-    body = message + number.to_bytes(4, "big")
-    return body + hmac.digest(key, body, "sha256")[:16]
-
-
 def put_keys(path, *lines):
     """A file of keys, in place of the one before."""
     with open(f"{path}.new", "w", encoding="ascii", opener=lambda name, flags: os.open(name, flags, 0o600)) as file:
@@ -264,7 +257,7 @@ class Scripted(Fake):
 
     def play(self, poll):
         self.times.append(time.time_ns())
-        self.polls.append(Poll(*REQUEST.unpack(poll)))
+        self.polls.append(poll_in(poll))
         self.acts[min(len(self.polls), len(self.acts)) - 1](self, poll)
 
 
@@ -295,22 +288,10 @@ class Sealed(Scripted):
         super().send(packet)
 
 
-class Poll(typing.NamedTuple):
-    """A request of docs/FORMATS.md, section 1."""
-    magic: bytes
-    kind: int
-    machine: int
-    source: int
-    zero: int
-    nonce: int
-    epoch: int
-
-
 def answer(poll, ahead_ns=0, **changed):
     """The answer to a poll, by this host's clock and so far ahead, with these fields changed."""
-    head = Poll(*REQUEST.unpack(poll))._replace(**{"kind": 2, **changed})
     now = time.time_ns() + ahead_ns
-    return REQUEST.pack(*head) + SPAN.pack(now - 1_000_000, now + 1_000_000)
+    return answer_to(poll, now - 1_000_000, now + 1_000_000, **changed)
 
 
 def lies(ahead_ns):
@@ -322,7 +303,7 @@ def spans(below_ns, above_ns):
     """Its span goes from so much below this host's clock to so much above it."""
     def act(fake, poll):
         now = time.time_ns()
-        fake.send(answer(poll)[:REQUEST.size] + SPAN.pack(now - below_ns, now + above_ns))
+        fake.send(answer_to(poll, now - below_ns, now + above_ns))
     return act
 
 
@@ -342,4 +323,4 @@ def forges(*packets):
 
 def other(**ahead):
     """An answer in which these numbers are greater by so much than those of the poll."""
-    return lambda poll: answer(poll, **{name: getattr(Poll(*REQUEST.unpack(poll)), name) + by for name, by in ahead.items()})
+    return lambda poll: answer(poll, **{name: getattr(poll_in(poll), name) + by for name, by in ahead.items()})

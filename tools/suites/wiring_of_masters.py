@@ -8,7 +8,8 @@ import time
 
 from harness.metrics import faults_in
 from harness.processes import SECOND, Process, free_port
-from harness.trouble import REQUEST, SPAN, Spoils
+from harness.trouble import Spoils
+from harness.wire import ANSWER_BYTES, ANSWERS, REQUEST, Poll, ends_in
 from harness.program import read_text
 from suites.wiring import suite
 from suites.wiring_checks import eventually, put_keys, sealed
@@ -33,7 +34,7 @@ class Asked:
     def poll(self, seconds=5, source=None):
         """The packet that comes back, or nothing; and the real-time clock before and after."""
         self.nonce += 1
-        poll = REQUEST.pack(b"TTP2", 1, MACHINE, self.source if source is None else source, 0, self.nonce, EPOCH)
+        poll = Poll(machine=MACHINE, source=self.source if source is None else source, nonce=self.nonce, epoch=EPOCH).packet
         before = time.time_ns()
         self.door.settimeout(seconds)
         with contextlib.suppress(OSError):
@@ -42,14 +43,14 @@ class Asked:
         return None, before, time.time_ns()
 
     def head(self):
-        return REQUEST.pack(b"TTP2", 2, MACHINE, self.source, 0, self.nonce, EPOCH)
+        return Poll(kind=ANSWERS, machine=MACHINE, source=self.source, nonce=self.nonce, epoch=EPOCH).packet
 
 
 def is_span(asked, packet, before, after, ahead, uncertainty):
     """Whether it is the answer to the last poll with the span of a clock that is so far ahead."""
-    if not packet or packet[:24] != asked.head() or len(packet) != 40:
+    if not packet or packet[:REQUEST.size] != asked.head() or len(packet) != ANSWER_BYTES:
         return False
-    low, high = SPAN.unpack(packet[24:])
+    low, high = ends_in(packet)
     return high - low == 2 * uncertainty and before + ahead <= (low + high) // 2 <= after + ahead
 
 
@@ -60,9 +61,9 @@ def options_of_masters(trial):
         asked = Asked(trial, source, uncertainty=[uncertainty], offset=[offset])
         trial.logs(asked.process, "master_started", source=source, port=asked.address.split(":")[1])
         packet, before, after = asked.poll()
-        trial.equal("option source", (packet or b"")[:24], asked.head())
+        trial.equal("option source", (packet or b"")[:REQUEST.size], asked.head())
         trial.check("option listen", packet, "no answer at its address")
-        low, high = SPAN.unpack(packet[24:]) if packet and len(packet) == 40 else (0, 0)
+        low, high = ends_in(packet) if packet and len(packet) == ANSWER_BYTES else (0, 0)
         trial.equal("option uncertainty", high - low, 2 * uncertainty)
         trial.between("option offset", before, (low + high) // 2 - offset, after)
         packet, _, _ = asked.poll(0.3, source=(source + 1) % 16)
@@ -154,7 +155,7 @@ def master_without_socket(trial):
 def is_answered(asked, number, key, seconds=0.3):
     """Whether a poll under this key has an answer under it."""
     asked.nonce += 1
-    poll = REQUEST.pack(b"TTP2", 1, MACHINE, asked.source, 0, asked.nonce, EPOCH)
+    poll = Poll(machine=MACHINE, source=asked.source, nonce=asked.nonce, epoch=EPOCH).packet
     before = time.time_ns()
     asked.door.settimeout(seconds)
     with contextlib.suppress(OSError):

@@ -10,7 +10,8 @@ from harness.metrics import faults_in, numbers_in
 from harness.ntp import PACKET, SHORT, FakeServer, Key, Says, kiss, stamp_of
 from harness.processes import SECOND
 from harness.program import read_text, write
-from harness.trouble import REQUEST, SPAN, Spoils
+from harness.trouble import Spoils
+from harness.wire import ANSWER_BYTES, REQUEST, Poll, answer_to, ends_in
 from suites.wiring import suite
 from suites.wiring_checks import OF_MASTERS, eventually, number_of
 from suites.wiring_of_masters import EPOCH, MACHINE, Asked, Spoiled
@@ -36,7 +37,7 @@ class Polls(threading.Thread):
             door.connect(self.over.door.getpeername())
             while not self.ended.wait(PAUSE_S):
                 with contextlib.suppress(OSError):
-                    door.send(REQUEST.pack(b"TTP2", 1, MACHINE, self.over.source, 0, 1, EPOCH))
+                    door.send(Poll(machine=MACHINE, source=self.over.source, epoch=EPOCH).packet)
 
     def close(self):
         self.ended.set()
@@ -61,9 +62,9 @@ class Over(Asked):
     def span(self, seconds=1.0):
         """The interval of its answer, and the real-time clock before and after; or nothing."""
         packet, before, after = self.poll(seconds)
-        if not packet or packet[:REQUEST.size] != self.head() or len(packet) != REQUEST.size + SPAN.size:
+        if not packet or packet[:REQUEST.size] != self.head() or len(packet) != ANSWER_BYTES:
             return None
-        return *SPAN.unpack(packet[REQUEST.size:]), before, after
+        return *ends_in(packet), before, after
 
     def holds(self, ahead_ns=0, width_ns=None):
         """Whether it comes to answer an interval that holds the host's clock and so much more, about so wide."""
@@ -211,7 +212,7 @@ def silent_servers_of_masters(trial):
         sent, last = time.monotonic(), 0.0
         for _ in range(200):
             over.nonce += 1
-            over.door.send(REQUEST.pack(b"TTP2", 1, MACHINE, over.source, 0, over.nonce, EPOCH))
+            over.door.send(Poll(machine=MACHINE, source=over.source, nonce=over.nonce, epoch=EPOCH).packet)
         answered = 0
         with contextlib.suppress(OSError):
             over.door.settimeout(3)
@@ -477,8 +478,8 @@ def counts_of_masters(trial):
     for name, least in (("server_replies_total", 4), ("server_width_seconds", 1_000_000)):
         is_seen = eventually(lambda name=name, least=least: all(number >= least for number in over.numbers()[name]), SOON_S)
         trial.check(f"master {name}", is_seen, f"{over.numbers()[name]}")
-    for packet, number, times in ((b"no poll", 301, 2), (REQUEST.pack(b"TTP2", 1, MACHINE, 5, 0, 1, EPOCH), 302, 3),
-                                  (REQUEST.pack(b"TTP2", 2, MACHINE, 2, 0, 1, EPOCH) + SPAN.pack(1, 2), 303, 4)):
+    for packet, number, times in ((b"no poll", 301, 2), (Poll(machine=MACHINE, source=5, epoch=EPOCH).packet, 302, 3),
+                                  (answer_to(Poll(machine=MACHINE, source=2, epoch=EPOCH).packet, 1, 2), 303, 4)):
         for _ in range(times):
             over.door.send(packet)
         over.comes_to(trial, **{f"unanswered_{number}": times})

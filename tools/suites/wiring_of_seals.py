@@ -7,9 +7,10 @@ import subprocess
 import time
 
 from harness.program import write
-from harness.trouble import REQUEST, Network, Spoils, honest, silent
+from harness.trouble import Network, Spoils, honest, silent
+from harness.wire import REQUEST, sealed
 from suites.wiring import suite
-from suites.wiring_checks import Sealed, answer, eventually, put_keys, sealed, status_of
+from suites.wiring_checks import Sealed, answer, eventually, put_keys, status_of
 
 FIRST, SECOND_KEY, THIRD, OTHER = (bytes(range(start, start + 32)) for start in (0, 50, 100, 150))
 KEYS = [f"7 {FIRST.hex()} a", f"8 {SECOND_KEY.hex()}", "# no key", f"4294967295 {THIRD.hex()}"]
