@@ -247,13 +247,14 @@ def fifo_as_counter(trial):
 
 @suite.case()
 def guest_disrupted(trial):
-    """Its counter changes."""
+    """Its counter changes: it rises, and it falls, as where an older snapshot was put back."""
     path = os.path.join(trial.room, "vmclock0")
     write(path, page(7))
     world = World(trial, vmclock=path)
     if world.line("guest_disrupted", seconds=0):
         yield "it was disrupted from the beginning"
     yield from world.breaks("guest_disrupted", disrupt(path, 8), 2)
+    yield from world.breaks("guest_disrupted", disrupt(path, 3), 2)
     yield from world.goes_on_rightly()
 
 

@@ -566,6 +566,23 @@ def locks_held_by_another_user(trial):
 
 
 @suite.case(root=True)
+def lock_that_may_only_be_read(trial):
+    """A start refuses the lock of another user that it may read and not write, and `--check` refuses it alike."""
+    node = trial.node(["127.0.0.1:5701"])
+    os.makedirs(node.path("state"), exist_ok=True)
+    write(node.path("state/lock"), b"")
+    os.chmod(node.path("state/lock"), 0o444)
+    for path in (trial.room, node.folder, node.path("state")):
+        os.chmod(path, 0o755)
+    os.chown(node.path("state"), trouble.NOBODY, trouble.NOBODY)
+    for words in (["--check"], ["--until-eof"]):
+        ran = subprocess.run([trial.program, "serve", node.path("node.toml"), *words], user=trouble.NOBODY, group=trouble.NOBODY, extra_groups=[],
+                             stdin=subprocess.DEVNULL, capture_output=True, text=True, timeout=10, check=False)
+        if (ran.stdout, ran.returncode) != ("refused 1812\n", 4):
+            yield f"{words[0]} answers {ran.stdout!r}, and {ran.stderr[-200:]!r}"
+
+
+@suite.case(root=True)
 def shared_file_prepared_by_another(trial):
     """It is not taken for the machine's own."""
     folder = os.path.join(trial.room, "open")

@@ -10,7 +10,7 @@ import typing
 from harness.metrics import faults_in, numbers_in
 from harness.processes import free_port, truetime
 from harness.program import read_text, run, write
-from harness.trouble import disrupt, honest, page, silent
+from harness.trouble import Spoils, disrupt, honest, page, silent
 from suites.wiring import suite
 from suites.wiring_checks import TIMES, eventually, spans
 
@@ -140,6 +140,12 @@ def other_requests(trial):
         trial.equal("setting http", (request[:40], answer.words), (request[:40], words))
         trial.equal("setting http", answer.fields.get("Allow"), "GET, HEAD" if words.startswith("405") else None)
         trial.equal("setting http", (request[:40], answer.text == ""), (request[:40], request.startswith(b"HEAD")))
+    with socket.create_connection(("127.0.0.1", port), 5) as door:
+        door.sendall(b"POST /metrics HTTP/1.1\r\nContent-Length: 5000\r\n\r\n")
+        for _ in range(10):  # its body, which is taken and not read
+            time.sleep(0.02)
+            door.sendall(b"a" * 500)
+        trial.equal("setting http", answer_of(door).words, "405 Method Not Allowed")
 
 
 @suite.case(quiet=True)
@@ -344,6 +350,20 @@ def shared_file_that_hangs(trial):
     node.run()
     comes_to(trial, port, None)
     trial.numbers(node, sharing=0)
+
+
+@suite.case()
+def shared_file_that_hangs_at_the_start(trial):
+    """The first write of it lasts: that is said as of a later one, and readings go on."""
+    spoils, node = Spoils(trial.room), trial.node(trial.scripts(honest), poll="50ms", wait="100ms")
+    node.environment = spoils.environment
+    with spoils.spoiled("writing"):
+        node.run()
+        trial.logs(node, "first_publication")
+        trial.logs(node, "sharing_ended", number=1709)
+        trial.numbers(node, sharing=0)
+    trial.logs(node, "sharing_resumed")
+    trial.numbers(node, sharing=1)
 
 
 @suite.case()

@@ -198,6 +198,10 @@ def both_families(trial):
     node.run()
     trial.numbers(node, key=[7, None], known=1)
     trial.check("status unsent", status_of(node)["unsent"][1] > 0, "packets to the other are sent")
+    with spoils.spoiled("receive"):
+        trial.logs(node, "socket_renewed")
+    heard = status_of(node)["accepted"][0]
+    trial.check("renewal", eventually(lambda: status_of(node)["accepted"][0] > heard + 2), "it is not asked from the new socket")
 
 
 @suite.case()

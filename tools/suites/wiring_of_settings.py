@@ -317,6 +317,11 @@ def files(trial):
         trial.check(f"setting {name}", eventually(lambda name=name: os.path.getsize(node.path(name))), "nothing is there, and its path is relative")
     there = {"node.toml", "shared.lock", *places}
     trial.equal("setting state", set(os.listdir(node.folder)) - {"status.new", "evidence.new"}, there)
+    epoch = published(node).epoch
+    node.kill()
+    node.run(cwd=node.folder)
+    trial.check("setting shared", eventually(lambda: published(node).epoch > epoch), "the next life does not write it")
+    trial.equal("setting shared", set(os.listdir(node.folder)) - {"status.new", "evidence.new"}, there)
 
 
 @suite.case()

@@ -265,7 +265,8 @@ RATES = [0, 20_000, 0, -10_000, 0]
 @suite.case(quiet=True)
 def rates(trial):
     """Two of five sources run fast and slow: the machine's clock loses and gains as much, within an error that shrinks."""
-    node = trial.running_node(trial.scripts(*map(runs, RATES)), poll="50ms", wait="50ms")
+    masters = trial.scripts(*map(runs, RATES))
+    node = trial.running_node(masters, poll="50ms", wait="50ms")
     wanted, seen = [-fast * 1000 for fast in RATES], []
 
     def look():
@@ -279,6 +280,12 @@ def rates(trial):
         trial.check(f"status {name}", is_right, f"the rates and their errors are {seen[-1]}, and {wanted} is wanted")
     rate_errors = [max(errors) for _, errors in seen if None not in errors]
     trial.check("status rate_error", len(rate_errors) > 1 and rate_errors[-1] < rate_errors[0], f"the greatest errors were {rate_errors}")
+    # A source that falls silent keeps the rate of its last answers.
+    masters[0].acts = [silent]
+    before = eventually(lambda: (status := status_of(node))["silent"][0] > 1 and status)
+    trial.check("status rate", eventually(lambda: status_of(node)["silent"][0] > before["silent"][0] + 5), "it is not silent")
+    for name in ("rate", "rate_error"):
+        trial.equal(f"status {name}", status_of(node)[name][0], before[name][0])
 
 
 @suite.case()

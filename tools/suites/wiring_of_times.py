@@ -182,6 +182,29 @@ def waits_of_names(trial):
 
 
 @suite.case()
+def replies_at_once(trial):
+    """No reply over TCP waits for others to be sent with."""
+    node, notes = trial.node(trial.scripts(honest)), Notes(trial, "machine")
+    node.environment = notes.environment
+    node.run()
+    node.wait_until_ready()
+    before = notes.calls().count(["nodelay"])
+    for opened in range(1, 4):
+        with truetime.Session(node.address, 5) as session:
+            session.now()
+            trial.equal("sessions at once", notes.calls().count(["nodelay"]) - before, opened)
+
+
+@suite.case()
+def waits_for_the_address_of_a_master(trial):
+    """A master whose address does not come tries again behind one second, then two, and so on."""
+    words = ["master", "--source", "0", "--listen", "198.51.100.1:7001", "--uncertainty", "5", "--keys", keys_at(trial)]
+    notes = trial.keep(Noted(trial, "master-away", words)).notes
+    eventually(lambda: len(notes.waits("sleep")) > 1, 10)
+    trial.equal("time master address", notes.waits("sleep")[:2], [SECOND, 2 * SECOND])
+
+
+@suite.case()
 def waits_before_a_publication(trial):
     """Rounds follow each other quickly for two seconds where nobody answers, however long `poll` is, and then no more."""
     node, notes = trial.node(trial.scripts(silent), wait="20ms", poll="1300ms"), Notes(trial, "machine")
@@ -226,15 +249,17 @@ def waits_of_masters(trial):
 
 @suite.case(root=True, programs=("unshare",))
 def waits_of_masters_of_other_hosts(trial):
-    """A server on another host, from a network without a route: no packet leaves it. It is asked at once, and about a minute later."""
+    """Servers on other hosts, from a network without a route: no packet leaves it. Each is asked at once, and about a minute later."""
     status = os.path.join(trial.room, "status")
-    words = ["master", "--source", "0", "--listen", "127.0.0.1:1", "--ntp", "192.0.2.1:123", "--status", status]
+    words = ["master", "--source", "0", "--listen", "127.0.0.1:1", "--ntp", "192.0.2.1:123", "--ntp", "192.0.2.2:123", "--status", status]
     started = trial.keep(Noted(trial, "master", words, ("unshare", "--net")))
     waits_for(trial, started.notes, "receive", "far reply", "packet")
     waits_for(trial, started.notes, "sleep", "far look", others=[(1, TIMES["far look"])])
-    asked = 'truetime_master_server_requests_total{source="0",server="0"} '
-    found = eventually(lambda: [line for line in read_text(status).splitlines() if line.startswith(asked)])
-    trial.equal("master server_requests_total", found, [f"{asked}1"])
+    asked = [f'truetime_master_server_requests_total{{source="0",server="{server}"}} 1' for server in range(2)]
+    eventually(lambda: set(asked) <= set(read_text(status).splitlines()))
+    trial.equal("master server_requests_total", [line for line in read_text(status).splitlines() if line.startswith(asked[0].split("{")[0] + "{")], asked)
+    silent_ones = eventually(lambda: len(lines := started.said("server_silent")) == 2 and lines) or []
+    trial.equal("log server_silent", [line["server"] for line in silent_ones], ["0", "1"])
 
 
 # What is compared with readings of the clock.

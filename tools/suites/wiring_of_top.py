@@ -67,6 +67,7 @@ def top_on_a_terminal(trial):
         said = on_terminal(words, PLAIN | more, node.folder)
         red = [line for line in said.splitlines() if "\x1b[31m" in line]
         trial.equal("top", (more, any(" suspect" in line for line in red), "\x1b" in said), (more, is_red, is_red))
+    trial.equal("top --svg", "\x1b" in on_terminal([*words, "--svg"], PLAIN, node.folder), False)
 
 
 # Names of locales, and whether their characters are UTF-8.
