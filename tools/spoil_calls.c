@@ -1,15 +1,18 @@
 /* Spoils calls of the program that it is loaded into, each kind for as long as a file of its name is in the folder that SPOIL names:
  * the monotonic clock shows ten seconds less (`clock`), no packet is received (`receive`), none is sent to port N (`send-N`), sending
- * one lasts until the file is gone (`sending`), and so do a rename (`rename`) and a write at a place of a file (`writing`); a connection takes seven bytes at a time (`few`);
- * there are no random bytes (`random`), and no IPv6 (`six`). It stands before the C library by LD_PRELOAD.
+ * one lasts until the file is gone (`sending`), and so do a rename (`rename`), a write at a place of a file (`writing`) and a look for the
+ * addresses of a name (`lookup`); a connection takes seven bytes at a time (`few`); there are no random bytes (`random`), and no IPv6 (`six`).
+ * Each look for addresses adds a byte to the file `lookups`, if it is there. It stands before the C library by LD_PRELOAD.
  *
  * Others say in their file what is shown. `course` has lines FROM SHOWN RATE, in nanoseconds and parts per million: once the monotonic
  * clock shows FROM it shows SHOWN, and runs by RATE faster; so it stands still by a RATE of -1000000. /proc/uptime goes with that clock, as
  * in a guest that is paused, and shows besides as many nanoseconds more as `uptime` says, as after a suspend; it cannot be read by
  * `no-uptime`. `timens` is what stands in /proc/self/timens_offsets. All programs that have the same folder see the same clock. */
 #define _GNU_SOURCE
+#include <dlfcn.h>
 #include <errno.h>
 #include <fcntl.h>
+#include <netdb.h>
 #include <netinet/in.h>
 #include <stdio.h>
 #include <stdlib.h>
@@ -172,4 +175,15 @@ int getentropy(void *place, size_t size) {
 int rename(const char *from, const char *to) {
     last("rename");
     return (int)syscall(SYS_rename, from, to);
+}
+
+int getaddrinfo(const char *name, const char *service, const struct addrinfo *hints, struct addrinfo **found) {
+    int (*look)(const char *, const char *, const struct addrinfo *, struct addrinfo **);
+    char path[PATH_BYTES];
+    int file = open(path_of("lookups", path), O_WRONLY | O_APPEND | O_CLOEXEC);
+    if (file >= 0) syscall(SYS_write, file, ".", 1);
+    if (file >= 0) close(file);
+    last("lookup");
+    *(void **)&look = dlsym(RTLD_NEXT, "getaddrinfo");
+    return look(name, service, hints, found);
 }

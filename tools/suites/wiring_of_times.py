@@ -13,7 +13,7 @@ import time
 from harness.ntp import FakeServer
 from harness.processes import SECOND, Process, free_port, truetime
 from harness.program import compile_c, read_text, write
-from harness.trouble import Answerer, disrupt, full_pipe, honest, page, silent
+from harness.trouble import Answerer, Spoils, disrupt, full_pipe, honest, page, silent
 from suites.wiring import suite
 from suites.wiring_checks import TIMES as TIMES_OF_ALL, TIMES_OF_OTHERS, eventually, lies
 from suites.wiring_of_pages import get, with_pages
@@ -179,6 +179,29 @@ def waits_of_names(trial):
     trial.logs(node, "source_resolved", source=0, address=local.address)
     time.sleep(0.5)
     waits_for(trial, notes, "park", "records", others=[(70 * MILLISECOND, 70 * MILLISECOND), (TIMES["quick round"], TIMES["quick round"])])
+
+
+@suite.case()
+def minute_between_lookups(trial):
+    """The name of a silent master is looked up again a minute after its last lookup ended, however long that took."""
+    silent_one = {"address": f"localhost:{free_port(socket.SOCK_DGRAM)}", "key": 7}
+    spoils, node = Spoils(trial.room), trial.node([silent_one, *({"address": master.address} for master in trial.scripts(honest, honest))],
+                                                  keys=keys_at(trial), on_break="warn", faulty=1)
+    node.environment = spoils.environment
+    spoils.tell("lookups")
+
+    def looks():
+        return len(read_text(spoils.path("lookups")))
+
+    with spoils.spoiled("lookup"):
+        node.run()
+        trial.check("time lookup", eventually(looks), "its name is not looked up")
+        spoils.turn(jump_ns=70 * SECOND)
+    trial.logs(node, "source_resolved", source=0)
+    time.sleep(2.5)  # it looks each second whether one is due
+    trial.equal("time lookup", looks(), 1)
+    spoils.turn(jump_ns=61 * SECOND)
+    trial.check("time lookup", eventually(lambda: looks() == 2), f"{looks()} lookups in more than two minutes")
 
 
 @suite.case()
