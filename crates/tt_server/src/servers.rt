@@ -11,12 +11,13 @@ ghost use Rattle.tt_server.specs.Thread.{AreReady, HasSettings, IsServing, terms
 use crate::breaks::{pause_after_breaks, record_break};
 use crate::descriptors::{needed_descriptors, room_of, sessions_within};
 use crate::faults::ServerFault;
+use crate::hosts::ServerHost;
 use crate::links::{Polling, link_to};
 use crate::lives::{LifeEnd, WorkerEnd};
 use crate::modes::Loose;
-use crate::names::{HostNames, Names, start_names};
-use crate::rounds::{Polled, Poller, run_daemon};
-use crate::sharers::{SharesFile, start_sharing};
+use crate::names::{Names, start_names};
+use crate::rounds::{Polled, run_daemon};
+use crate::sharers::start_sharing;
 use crate::starts::{
     acceptor_of, backlog_of, front_of, pages_of, poller_of, publications_of, reporter_of,
     shows_evidence, side_of, sights_of, watch_all,
@@ -25,10 +26,7 @@ use crate::states::{Ending, Life, ServerState, ThreadContext, say};
 use crate::workers::{WorkerHandle, WorkerSeat, start_worker, worker_seats_of};
 use mio::Waker;
 use std::alloc::Global;
-use std::fs::{File, Files};
-use std::io::{Eprint, Input, Read};
-use std::net::{Net, TcpListener, TcpStream};
-use std::random::RandomSource;
+use std::io::{Input, Read};
 use std::sync::{Arc, Wait};
 use std::thread;
 use std::thread::{JoinHandle, Scope, Threads};
@@ -37,7 +35,7 @@ use tt_connections::{Acceptor, Listeners, MachineClock, Sight, reading_of};
 use tt_epoch::{FolderStore, Store, next_epoch};
 use tt_host::descriptor_limit;
 use tt_publish::{Teller, Told, Watch};
-use tt_report::{Disk, Pages};
+use tt_report::Pages;
 use tt_settings::Settings;
 use tt_stamp::Sequencer;
 use tt_status::LogEvent;
@@ -253,11 +251,7 @@ fn start_end<R: Threads + EndOfInput + Copy + Send + 'static>(
 
 /// Starts all threads except the daemon's. Answers whether all were started. Each watch is a new one of the teller that
 /// told `opened`.
-fn start_all<
-    's,
-    E,
-    R: Threads + Wait + SystemClock + EndOfInput + HostNames + Sync + Copy + Send + 'static,
->(
+fn start_all<'s, E, R: ServerHost>(
     scope: &Scope<'s, E>,
     context: ThreadContext<'s, R>,
     acceptor: Acceptor,
@@ -299,22 +293,7 @@ struct Parts<'a, R> {
 }
 
 /// Starts all other threads, makes the rounds of the daemon until the machine ends, and joins the workers.
-fn run_threads<
-    's,
-    E,
-    R: Threads
-        + Wait
-        + SystemClock
-        + EndOfInput
-        + HostNames
-        + SharesFile
-        + Sync
-        + Files<File = File>
-        + Net<Listener = TcpListener, Stream = TcpStream>
-        + Copy
-        + Send
-        + 'static,
->(
+fn run_threads<'s, E, R: ServerHost>(
     scope: &Scope<'s, E>,
     context: ThreadContext<'s, R>,
     settings: &'s Settings,
@@ -390,21 +369,7 @@ fn run_threads<
 }
 
 /// Runs a machine whose epoch is taken. With `until_eof` it returns after the end of standard input.
-fn run<
-    'n,
-    R: Threads
-        + Wait
-        + SystemClock
-        + EndOfInput
-        + HostNames
-        + SharesFile
-        + Sync
-        + Files<File = File>
-        + Net<Listener = TcpListener, Stream = TcpStream>
-        + Copy
-        + Send
-        + 'static,
->(
+fn run<'n, R: ServerHost>(
     context: ThreadContext<'n, R>,
     settings: &'n Settings,
     parts: Parts<'n, R>,
@@ -475,24 +440,7 @@ struct Start<'a> {
 }
 
 /// Starts the reporter, takes the next epoch from this store, and runs the machine of this life.
-fn run_life<
-    'n,
-    R: Threads
-        + Wait
-        + SystemClock
-        + Eprint
-        + EndOfInput
-        + HostNames
-        + SharesFile
-        + Sync
-        + Files<File = File>
-        + Net<Listener = TcpListener, Stream = TcpStream>
-        + Disk
-        + Copy
-        + Send
-        + 'static,
-    S: Store,
->(
+fn run_life<'n, R: ServerHost, S: Store>(
     rt: &'n R,
     alloc: Global,
     start: Start<'n>,
@@ -546,24 +494,7 @@ fn run_life<
 }
 
 /// Makes the other parts of a machine that listens and holds its folder, and runs it.
-fn run_behind<
-    'n,
-    'e,
-    R: Threads
-        + Wait
-        + SystemClock
-        + Eprint
-        + EndOfInput
-        + HostNames
-        + SharesFile
-        + Sync
-        + Files<File = File>
-        + Net<Listener = TcpListener, Stream = TcpStream>
-        + Disk
-        + Copy
-        + Send
-        + 'static,
->(
+fn run_behind<'n, 'e, R: ServerHost>(
     rt: &'n R,
     alloc: Global,
     start: Start<'n>,
@@ -632,24 +563,11 @@ fn run_behind<
 /// the one that it made. Then it answers the epoch of the life, what its daemon published, and what each worker had seen
 /// of that. In contracts this is the end of a life with these settings: its daemon began new, its calls came one after the
 /// other, and its workers read nothing but what it published; all that a worker did was turns of its sessions.
-pub fn serve<
-    R: Threads
-        + Wait
-        + SystemClock
-        + Eprint
-        + EndOfInput
-        + HostNames
-        + SharesFile
-        + Sync
-        + AllocGlobal
-        + Files<File = File>
-        + Net<Listener = TcpListener, Stream = TcpStream>
-        + Disk
-        + RandomSource
-        + Copy
-        + Send
-        + 'static,
->(rt: &R, settings: &Settings, until_eof: bool) -> Result<LifeEnd, ServerFault>
+pub fn serve<R: ServerHost>(
+    rt: &R,
+    settings: &Settings,
+    until_eof: bool,
+) -> Result<LifeEnd, ServerFault>
     ensures life { IfOk result (λ end. (life : ServerLife) × TellsOf settings.now end life) }
 {
     let alloc = rt.alloc();

@@ -15,6 +15,7 @@ use std::os::unix::net::UnixStream;
 use std::thread;
 use std::time::{Clock as SystemClock, Duration};
 use thiserror::Error;
+use tt_host::Host;
 use tt_live::{ExchangeFault, Meaning, Reply, exchange, meaning_of, refusal_in};
 use tt_publish::Clock;
 use tt_session::{Deadline, DeadlineReader, DeadlineWriter, Timed};
@@ -94,11 +95,7 @@ fn say_unconnected<H: Eprint>(rt: &H, peer: Peer<'_>, error: &io::Error) {
 /// Refuses with 1501 `LinkFailed` where there is no connection, the connection failed, or no reply of at most 128 bytes
 /// came in 30 seconds; and with 1604 `ReadFailed` where the input failed. Where a reply is `refused N`, the program ends
 /// with status 2; else, where a reply is still `waiting`, with status 5.
-pub(crate) fn ask<
-    H: AllocGlobal + SystemClock + Eprint + Net<Stream = TcpStream>,
-    I: ByteReader,
-    O: ByteWriter,
->(
+pub(crate) fn ask<H: Host, I: ByteReader, O: ByteWriter>(
     rt: &H,
     peer: Peer<'_>,
     text: Option<&str>,

@@ -8,10 +8,10 @@ use crate::services::Stop;
 use crate::serving::say_place;
 use std::alloc::{AllocError, Global};
 use std::fs::{File, Files};
-use std::io::Eprint;
 use std::net::{Ipv4Addr, SocketAddr};
 use thiserror::Error;
 use tt_files::{Facts, facts_at};
+use tt_host::Host;
 use tt_outline::outline;
 use tt_server::{
     HostNames, MAX_FOUND, ServerFault, check_start, descriptor_limit, sessions_within,
@@ -169,7 +169,7 @@ fn report<H: Files<File = File> + HostNames>(
 ///
 /// Refuses what a start would refuse of what it finds, as [`check_start`]. It changes nothing, and a machine with these
 /// settings may be running.
-pub(crate) fn check<H: AllocGlobal + Files<File = File> + HostNames + Eprint, O: ByteWriter>(
+pub(crate) fn check<H: Host + HostNames, O: ByteWriter>(
     rt: &H,
     settings: &Settings,
     output: &mut O,

@@ -13,16 +13,9 @@ use crate::commands::answer_command;
 use crate::faults::ServiceFault;
 use crate::services::serve;
 use crate::watching::Screen;
-use std::fs::{File, Files};
-use std::io::{Eprint, Input, Read};
-use std::net::{Net, TcpListener, TcpStream};
-use std::random::RandomSource;
+use std::io::Eprint;
 use std::rt::Env;
-use std::sync::Wait;
-use std::thread::Threads;
-use std::time::Clock;
-use tt_report::Disk;
-use tt_server::SharesFile;
+use tt_server::ServerHost;
 use tt_stream::{ByteReader, ByteWriter};
 use ttd_commands::asked_by;
 use ttd_masters::AsksServers;
@@ -31,29 +24,12 @@ use ttd_words::{Asked, Status, WordsFault, explain, mistake_text, refuse, usage_
 /// Runs the program with these arguments: does what they ask for, and answers how the program ends. Standard error says
 /// what a refusal means. What it keeps on the stack is taken when it is called.
 #[inline(never)]
-pub(crate) fn run<
-    S: Read + Send + Drop,
-    H: AllocGlobal
-        + Threads
-        + Wait
-        + Clock
-        + Sync
-        + Eprint
-        + Input<Reader = S>
-        + Files<File = File>
-        + Net<Listener = TcpListener, Stream = TcpStream>
-        + Disk
-        + SharesFile
-        + AsksServers
-        + RandomSource
-        + Env
-        + Screen
-        + Copy
-        + Send
-        + 'static,
-    I: ByteReader,
-    O: ByteWriter,
->(rt: &H, words: &[String], input: &mut I, output: &mut O) -> Status
+pub(crate) fn run<H: ServerHost + AsksServers + Env + Screen, I: ByteReader, O: ByteWriter>(
+    rt: &H,
+    words: &[String],
+    input: &mut I,
+    output: &mut O,
+) -> Status
     ensures taken { AreTaken (map string_bytes words.now) → ¬ (IsForService (asked_of (map string_bytes words.now))) →
         Answers (most_to (asked_of (map string_bytes words.now))) (IsReplyTo (asked_of (map string_bytes words.now)))
         (input_of I.ByteReader input.old) (input_of I.ByteReader input.new)
@@ -71,29 +47,12 @@ pub(crate) fn run<
 }
 
 /// Does what the arguments ask for, and answers how the program ends.
-fn answer<
-    S: Read + Send + Drop,
-    H: AllocGlobal
-        + Threads
-        + Wait
-        + Clock
-        + Sync
-        + Eprint
-        + Input<Reader = S>
-        + Files<File = File>
-        + Net<Listener = TcpListener, Stream = TcpStream>
-        + Disk
-        + SharesFile
-        + AsksServers
-        + RandomSource
-        + Env
-        + Screen
-        + Copy
-        + Send
-        + 'static,
-    I: ByteReader,
-    O: ByteWriter,
->(rt: &H, words: &[&str], input: &mut I, output: &mut O) -> Status
+fn answer<H: ServerHost + AsksServers + Env + Screen, I: ByteReader, O: ByteWriter>(
+    rt: &H,
+    words: &[&str],
+    input: &mut I,
+    output: &mut O,
+) -> Status
     ensures taken { AreTaken (texts words.now) → ¬ (IsForService (asked_of (texts words.now))) →
         Answers (most_to (asked_of (texts words.now))) (IsReplyTo (asked_of (texts words.now)))
         (input_of I.ByteReader input.old) (input_of I.ByteReader input.new)

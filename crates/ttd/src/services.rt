@@ -10,16 +10,8 @@ use crate::reading::read;
 use crate::serving::run_server;
 use crate::standard::fill_standard;
 use crate::watching::{Manner, Screen, show};
-use std::fs::{File, Files};
-use std::io::{Eprint, Input, Read};
-use std::net::{Net, TcpListener, TcpStream};
-use std::random::RandomSource;
 use std::rt::Env;
-use std::sync::Wait;
-use std::thread::Threads;
-use std::time::Clock;
-use tt_report::Disk;
-use tt_server::SharesFile;
+use tt_server::ServerHost;
 use tt_stream::{ByteReader, ByteWriter};
 use ttd_masters::{AsksServers, MasterPlan, serve_polls};
 use ttd_words::{Service, Status, explain, explain_unwritten, refuse};
@@ -44,29 +36,12 @@ impl From<ServiceFault> for Stop {
 }
 
 /// Runs a service, and answers how the program ends. Standard error says what a refusal means.
-pub(crate) fn serve<
-    S: Read + Send + Drop,
-    H: AllocGlobal
-        + Threads
-        + Wait
-        + Clock
-        + Sync
-        + Eprint
-        + Input<Reader = S>
-        + Files<File = File>
-        + Net<Listener = TcpListener, Stream = TcpStream>
-        + Disk
-        + SharesFile
-        + AsksServers
-        + RandomSource
-        + Env
-        + Screen
-        + Copy
-        + Send
-        + 'static,
-    I: ByteReader,
-    O: ByteWriter,
->(rt: &H, service: &Service<'_>, input: &mut I, output: &mut O) -> Status {
+pub(crate) fn serve<H: ServerHost + AsksServers + Env + Screen, I: ByteReader, O: ByteWriter>(
+    rt: &H,
+    service: &Service<'_>,
+    input: &mut I,
+    output: &mut O,
+) -> Status {
     match run_service(rt, service, input, output) {
         Ok(()) => Status::Fine,
         Err(Stop::Refused(fault)) => {
@@ -82,29 +57,12 @@ pub(crate) fn serve<
 }
 
 /// Runs a service.
-fn run_service<
-    S: Read + Send + Drop,
-    H: AllocGlobal
-        + Threads
-        + Wait
-        + Clock
-        + Sync
-        + Eprint
-        + Input<Reader = S>
-        + Files<File = File>
-        + Net<Listener = TcpListener, Stream = TcpStream>
-        + Disk
-        + SharesFile
-        + AsksServers
-        + RandomSource
-        + Env
-        + Screen
-        + Copy
-        + Send
-        + 'static,
-    I: ByteReader,
-    O: ByteWriter,
->(rt: &H, service: &Service<'_>, input: &mut I, output: &mut O) -> Result<(), Stop> {
+fn run_service<H: ServerHost + AsksServers + Env + Screen, I: ByteReader, O: ByteWriter>(
+    rt: &H,
+    service: &Service<'_>,
+    input: &mut I,
+    output: &mut O,
+) -> Result<(), Stop> {
     fill_standard(rt)?;
     match service {
         Service::Master {

@@ -6,16 +6,10 @@ use crate::places::check_places;
 use crate::services::Stop;
 use std::alloc::Global;
 use std::fs::{File, Files};
-use std::io::{Eprint, Input, Read};
-use std::net::{Net, TcpListener, TcpStream};
-use std::random::RandomSource;
+use std::io::Eprint;
 use std::str;
-use std::sync::Wait;
-use std::thread::Threads;
-use std::time::Clock;
 use tt_epoch::EpochFault;
-use tt_report::Disk;
-use tt_server::{ServerFault, SharesFile, serve};
+use tt_server::{ServerFault, ServerHost, serve};
 use tt_settings::{FilePath, Refusal, Settings, SettingsFault};
 use tt_stream::ByteWriter;
 use ttd_masters::{StartFault, bytes_of};
@@ -154,25 +148,13 @@ fn say_no_key<H: Eprint>(rt: &H, settings: &Settings, number: u32) {
 /// Refuses with 1604 `ReadFailed` where the file is not a regular one or can't be read, with 1603 `BadFile` where it is
 /// longer than 1 MiB or is not UTF-8, with 1801 to 1806, 1810, 1817, 1818, 1825 or 1826 where the configuration is refused, with
 /// 1817 where two of its files are one, as their folders are found now ([`check_places`]), and with what ended the server, or would refuse its start.
-pub(crate) fn run_server<
-    S: Read + Send + Drop,
-    H: AllocGlobal
-        + Threads
-        + Wait
-        + Clock
-        + Sync
-        + Eprint
-        + Input<Reader = S>
-        + Files<File = File>
-        + Net<Listener = TcpListener, Stream = TcpStream>
-        + Disk
-        + SharesFile
-        + RandomSource
-        + Copy
-        + Send
-        + 'static,
-    O: ByteWriter,
->(rt: &H, file: &str, check: bool, until_eof: bool, output: &mut O) -> Result<(), Stop> {
+pub(crate) fn run_server<H: ServerHost, O: ByteWriter>(
+    rt: &H,
+    file: &str,
+    check: bool,
+    until_eof: bool,
+    output: &mut O,
+) -> Result<(), Stop> {
     let settings = settings_of(rt, rt.alloc(), file)?;
     refuse_places(rt, rt.alloc(), file, &settings)?;
     if !check {

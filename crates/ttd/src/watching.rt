@@ -10,6 +10,7 @@ use std::net::{Ipv4Addr, Net, SocketAddr, TcpStream};
 use std::rt::Env;
 use std::time::{Clock as SystemClock, Duration};
 use std::{env, thread};
+use tt_host::Host;
 use tt_publish::Clock;
 use tt_session::{Deadline, DeadlineReader, Timed};
 use tt_settings::{Key, SettingsFault};
@@ -189,16 +190,12 @@ fn say<H: Eprint>(rt: &H, origin: &Origin, fault: &LookFault) {
 /// where the status can't be read, with 1501 `LinkFailed` where nothing answers with it, with 2601 and 2602 where what is
 /// read is not the status or the evidence of a machine, and with 1 `Memory`. With neither `once` nor `svg` it refuses the
 /// configuration alone.
-pub(crate) fn show<
-    H: AllocGlobal
-        + Files<File = File>
-        + Net<Stream = TcpStream>
-        + SystemClock
-        + Env
-        + Screen
-        + Eprint,
-    O: ByteWriter,
->(rt: &H, place: TopPlace<'_>, manner: Manner, output: &mut O) -> Result<(), Stop> {
+pub(crate) fn show<H: Host + Env + Screen, O: ByteWriter>(
+    rt: &H,
+    place: TopPlace<'_>,
+    manner: Manner,
+    output: &mut O,
+) -> Result<(), Stop> {
     let sight = sight_of(rt, place)?;
     let form = Form {
         columns: manner.columns.unwrap_or(columns_of(rt)),
@@ -219,10 +216,12 @@ pub(crate) fn show<
 }
 
 /// Draws a machine again and again. It ends only where the output fails.
-fn show_on<
-    H: AllocGlobal + Files<File = File> + Net<Stream = TcpStream> + SystemClock,
-    O: ByteWriter,
->(rt: &H, origin: &Origin, form: &Form, output: &mut O) -> Result<(), Stop> {
+fn show_on<H: Host, O: ByteWriter>(
+    rt: &H,
+    origin: &Origin,
+    form: &Form,
+    output: &mut O,
+) -> Result<(), Stop> {
     let mut widths = Vec::new(rt.alloc());
     for _look in 0..u64::MAX {
         let did = match draw_next(rt, origin, form, &mut widths) {
@@ -238,7 +237,7 @@ fn show_on<
 }
 
 /// One look, as text or as SVG.
-fn draw_once<H: AllocGlobal + Files<File = File> + Net<Stream = TcpStream> + SystemClock>(
+fn draw_once<H: Host>(
     rt: &H,
     origin: &Origin,
     form: &Form,
@@ -255,7 +254,7 @@ fn draw_once<H: AllocGlobal + Files<File = File> + Net<Stream = TcpStream> + Sys
 }
 
 /// One look of many, on a clear screen. Its width is added to those of the looks before.
-fn draw_next<H: AllocGlobal + Files<File = File> + Net<Stream = TcpStream> + SystemClock>(
+fn draw_next<H: Host>(
     rt: &H,
     origin: &Origin,
     form: &Form,
@@ -274,10 +273,7 @@ fn draw_next<H: AllocGlobal + Files<File = File> + Net<Stream = TcpStream> + Sys
 }
 
 /// What the texts of a machine show now.
-fn view_of<H: AllocGlobal + Files<File = File> + Net<Stream = TcpStream> + SystemClock>(
-    rt: &H,
-    origin: &Origin,
-) -> Result<View, LookFault> {
+fn view_of<H: Host>(rt: &H, origin: &Origin) -> Result<View, LookFault> {
     let texts = texts_of(rt, origin)?;
     let view = read_view(
         rt.alloc(),
@@ -333,10 +329,7 @@ fn sight_in<H: AllocGlobal + Files<File = File> + Eprint>(
 }
 
 /// The texts of a machine now.
-fn texts_of<H: AllocGlobal + Files<File = File> + Net<Stream = TcpStream> + SystemClock>(
-    rt: &H,
-    origin: &Origin,
-) -> Result<Texts, LookFault> {
+fn texts_of<H: Host>(rt: &H, origin: &Origin) -> Result<Texts, LookFault> {
     match origin {
         Origin::Files { status, evidence } => {
             let status = match bytes_of(rt, rt.alloc(), status.as_str()) {

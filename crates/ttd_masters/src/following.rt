@@ -10,14 +10,12 @@ use crate::references::{KnownTime, NtpServers};
 use crate::upstreams::{Upstream, every_of, follow};
 use std::fs::{File, Files};
 use std::io::{Eprint, ErrorKind};
-use std::net::{Net, SocketAddr};
+use std::net::SocketAddr;
 use std::random::RandomSource;
-use std::sync::Wait;
 use std::thread;
-use std::thread::Threads;
-use std::time::Clock as SystemClock;
 use tt_files::Reason;
 use tt_fuse::check_counts;
+use tt_host::{Host, ServiceHost};
 use tt_ntp::PacketKey;
 use tt_report::Reporter;
 use tt_upstream::{NtpKeyFault, Plan, packet_key_of};
@@ -68,7 +66,7 @@ fn say_refusal<H: Eprint>(rt: &H, path: &str, number: u32, fault: NtpKeyFault) {
 }
 
 /// The server at this address, which has this place among the servers.
-fn upstream_of<H: Net + Files<File = File> + Eprint + RandomSource + SystemClock + AllocGlobal>(
+fn upstream_of<H: Host + RandomSource>(
     rt: &H,
     time: &NtpTime<'_>,
     place: u64,
@@ -87,7 +85,7 @@ fn upstream_of<H: Net + Files<File = File> + Eprint + RandomSource + SystemClock
 }
 
 /// Starts the thread that asks a server on another host.
-fn start_following<H: Threads + Wait + SystemClock + AsksServers + Copy + Send + 'static>(
+fn start_following<H: ServiceHost + AsksServers>(
     rt: &H,
     reporter: &Reporter,
     upstream: Upstream,
@@ -105,21 +103,11 @@ fn start_following<H: Threads + Wait + SystemClock + AsksServers + Copy + Send +
 /// Refuses with 1601 `BadPlan` where there are more than 16 servers or more than may be faulty, with 1604, 1603 or 2411 to
 /// 2414 where the file of keys gives no key, with 1829 where there are no random bytes, with 1501 where a socket can't be had,
 /// with 1816 where a thread can't be started, and with 1 where it is out of memory.
-pub(crate) fn servers_of<
-    'a,
-    H: Threads
-        + Wait
-        + SystemClock
-        + Eprint
-        + Files<File = File>
-        + Net
-        + AllocGlobal
-        + RandomSource
-        + AsksServers
-        + Copy
-        + Send
-        + 'static,
->(rt: &'a H, reporter: &'a Reporter, time: &NtpTime<'_>) -> Result<KnownTime<'a, H>, StartFault> {
+pub(crate) fn servers_of<'a, H: ServiceHost + AsksServers>(
+    rt: &'a H,
+    reporter: &'a Reporter,
+    time: &NtpTime<'_>,
+) -> Result<KnownTime<'a, H>, StartFault> {
     if check_counts(time.servers.len(), time.faulty as usize).is_err() {
         return Err(StartFault::BadPlan);
     }

@@ -18,12 +18,11 @@ use crate::telling::told_by;
 use std::fs::{File, Files};
 use std::io::{self, Eprint, ErrorKind};
 use std::net::{Net, SocketAddr, UdpSocket};
-use std::random::RandomSource;
 use std::sync::Wait;
 use std::thread;
-use std::thread::Threads;
 use std::time::{Clock as SystemClock, Duration};
 use tt_files::Reason;
+use tt_host::ServiceHost;
 use tt_keys::KeysFault;
 use tt_master::{Act, Master, SpanMaster};
 use tt_poll::MAX_SOURCE;
@@ -69,21 +68,10 @@ pub struct MasterPlan<'a> {
 /// Refuses with 1601 `BadPlan` where the source is above [`MAX_SOURCE`] or the uncertainty is above [`MAX_TIME`]; with 2211
 /// to 2216 or 1 where the file of keys is refused; with 1816 or 1 where a thread can't be started; with what refuses the NTP
 /// servers ([`servers_of`]); and with 1501 `CannotListen` where the socket can't be opened, unless its address is not up.
-pub fn serve_polls<
-    H: Threads
-        + Wait
-        + SystemClock
-        + Eprint
-        + Files<File = File>
-        + Net
-        + AllocGlobal
-        + Disk
-        + RandomSource
-        + AsksServers
-        + Copy
-        + Send
-        + 'static,
->(rt: &H, plan: MasterPlan<'_>) -> Result<(), StartFault> {
+pub fn serve_polls<H: ServiceHost + Disk + AsksServers>(
+    rt: &H,
+    plan: MasterPlan<'_>,
+) -> Result<(), StartFault> {
     match plan.keys {
         None => {
             let reporter = reporter_of(rt, &plan)?;
@@ -116,21 +104,11 @@ fn source_of(plan: &MasterPlan<'_>) -> Result<u8, StartFault>
 }
 
 /// How the master answers polls: honestly, unless other acts were given.
-fn player_of<
-    'a,
-    H: Threads
-        + Wait
-        + SystemClock
-        + Eprint
-        + Files<File = File>
-        + Net
-        + AllocGlobal
-        + RandomSource
-        + AsksServers
-        + Copy
-        + Send
-        + 'static,
->(rt: &'a H, reporter: &'a Reporter, plan: &MasterPlan<'a>) -> Result<Player<'a, H>, StartFault> {
+fn player_of<'a, H: ServiceHost + AsksServers>(
+    rt: &'a H,
+    reporter: &'a Reporter,
+    plan: &MasterPlan<'a>,
+) -> Result<Player<'a, H>, StartFault> {
     let source = source_of(plan)?;
     match plan.time {
         MasterTime::Stated {
@@ -185,9 +163,10 @@ fn first_keys<H: Files<File = File> + Eprint + AllocGlobal>(
 }
 
 /// The reporter of a master.
-fn reporter_of<
-    H: Threads + Wait + SystemClock + Eprint + AllocGlobal + Disk + Copy + Send + 'static,
->(rt: &H, plan: &MasterPlan<'_>) -> Result<Reporter, StartFault> {
+fn reporter_of<H: ServiceHost + Disk>(
+    rt: &H,
+    plan: &MasterPlan<'_>,
+) -> Result<Reporter, StartFault> {
     match Reporter::start(rt, rt.alloc(), plan.log, plan.status, None) {
         Ok(reporter) => Ok(reporter),
         Err(ReporterFault::NoThread) => Err(StartFault::NoThread),

@@ -8,11 +8,10 @@ use crate::pauses::Looks;
 use crate::players::{Player, take_turn};
 use crate::standing::{Told, numbers_of, sealed_status};
 use crate::telling::told_by;
-use std::fs::{File, Files};
-use std::net::Net;
 use std::random::RandomSource;
 use std::sync::Wait;
 use std::time::Clock as SystemClock;
+use tt_host::Host;
 use tt_keys::KeysFault;
 use tt_report::Reporter;
 use tt_rounds::SealedAnswers;
@@ -49,11 +48,7 @@ impl<'a> Sealed<'a> {
 
     /// Looks at the file, and takes its keys if it has another text than before. If they are refused, the keys stay. Either is
     /// logged.
-    fn look<H: Wait + SystemClock + Net + RandomSource + Files<File = File> + AllocGlobal>(
-        &mut self,
-        rt: &H,
-        reporter: &Reporter,
-    ) {
+    fn look<H: Host + Wait + RandomSource>(&mut self, rt: &H, reporter: &Reporter) {
         let event = match self.file.look(rt, rt.alloc()) {
             Ok(None) => return,
             Ok(Some(keys)) => self.take(rt, keys),
@@ -106,9 +101,7 @@ fn refused(fault: KeysFault) -> LogEvent {
 
 /// Answers sealed polls, and never ends. About once a second it looks at its file of keys, logs that packets did not open
 /// and, if there is a status file, shows its status.
-pub(crate) fn answer_sealed<
-    H: Wait + SystemClock + Net + RandomSource + Files<File = File> + AllocGlobal,
->(
+pub(crate) fn answer_sealed<H: Host + Wait + RandomSource>(
     rt: &H,
     reporter: &Reporter,
     plan: &MasterPlan<'_>,
