@@ -18,6 +18,17 @@ NOBODY = 65534
 POLL_S, WAIT_S = 0.1, 0.1
 
 
+def of_threads(process, name):
+    """What the kernel says of each thread of a process in the file of this name."""
+    tasks = f"/proc/{process}/task"
+    return [read_text(f"{tasks}/{task}/{name}") for task in os.listdir(tasks)]
+
+
+def held_up_ns(process):
+    """For how long the threads of a process could run so far, and had no processor."""
+    return sum(int(text.split()[1]) for text in of_threads(process, "schedstat"))
+
+
 class Node(Machine):
     """A machine that a scenario starts in a way of its own."""
     #: Its environment, where that is not the one of this process.
@@ -130,7 +141,7 @@ class Node(Machine):
 
     def held_up_ns(self):
         """For how long its threads and this process could run so far, and had no processor."""
-        return sum(int(text.split()[1]) for text in [*self.of_threads("schedstat"), read_text("/proc/self/schedstat")])
+        return held_up_ns(self.running.pid) + int(read_text("/proc/self/schedstat").split()[1])
 
     def wakes(self):
         """How often its threads have waited for something, and gone on."""
@@ -139,8 +150,7 @@ class Node(Machine):
 
     def of_threads(self, name):
         """What the kernel says of each of its threads in the file of this name."""
-        tasks = f"/proc/{self.running.pid}/task"
-        return [read_text(f"{tasks}/{task}/{name}") for task in os.listdir(tasks)]
+        return of_threads(self.running.pid, name)
 
     def allow_no_more_descriptors(self):
         number = len(os.listdir(f"/proc/{self.running.pid}/fd"))
