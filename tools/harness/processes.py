@@ -184,6 +184,7 @@ class Machine(Process):
         tables = [master for master in masters if isinstance(master, dict)]
         settings = {"machine": number, "masters": None if tables else masters, "listen": f"127.0.0.1:{self.address[1]}",
                     **{key: self.path(key) for key in ("state", "socket", "shared", "status")}, **settings}
+        self.shared = settings["shared"] and os.path.join(self.folder, settings["shared"])
         with open(self.path("node.toml"), "w", encoding="utf-8") as file:
             file.writelines(f"{key} = {json.dumps(value)}\n" for key, value in settings.items() if value is not None)
             for table in tables:
@@ -194,12 +195,16 @@ class Machine(Process):
         return os.path.join(self.folder, name)
 
     def wait_until_ready(self, seconds=10):
-        """Returns once it has a time to show."""
+        """Returns once it has a time to show, and its shared file is there, which a thread of its own makes; a disk may stand still."""
         end = time.monotonic() + seconds
         while True:
             try:
                 with truetime.Session(self.address, seconds) as session:
-                    return session.now()
+                    now = session.now()
+                end = time.monotonic() + 1
+                while self.shared and not os.path.exists(self.shared) and time.monotonic() < end:
+                    time.sleep(0.005)
+                return now
             except (OSError, truetime.Refused) as fault:
                 if time.monotonic() > end or self.running.poll() is not None:
                     raise Fault(f"no time from machine {self.name}: {fault}\n{self.end_of_log()}") from fault

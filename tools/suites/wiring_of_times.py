@@ -397,7 +397,10 @@ def modes_of_files(trial):
         node = trial.node(masters, name, shared=os.path.join(folder, "folder/shared"), evidence=os.path.join(folder, "evidence"))
         os.rmdir(node.path("state"))
         wanted = {path: mode & ~umask for path, mode in MODES.items()}
-        for _ in range(2):
+        for life in range(2):
+            if life:  # locks that anybody could hold
+                for lock in ("state/lock", "folder/shared.lock"):
+                    os.chmod(node.path(lock), 0o666)
             node.run(umask=umask)
             node.wait_until_ready()
             eventually(lambda node=node, wanted=wanted: modes_of(node, wanted) == wanted)
