@@ -69,6 +69,20 @@ def said_of_call(name, rest, given):
     return f"{given.earliest_ns} {given.latest_ns}" if name == "now" else given
 
 
+def said_of_error(error):
+    """What is printed of an error of a call, with what it carries."""
+    if isinstance(error, truetime.CommitPending):
+        return f"refused {error.number} {error.commit} {error.stamp_ns}"
+    if isinstance(error, truetime.Refused):
+        return f"refused {error.number}"
+    if not isinstance(error, OSError):
+        return "invalid"
+    name = "timed out" if isinstance(error, TimeoutError) or isinstance(error.__cause__, TimeoutError) else "failed"
+    if isinstance(error, truetime.SessionLost):
+        name += f" {error.commit} {error.stamp_ns}" * bool(error.commit) + " lease" * error.had_lease
+    return name
+
+
 def try_sessions(kind, calls):
     session, loop = None, asyncio.new_event_loop()
     for call in calls:
@@ -82,14 +96,8 @@ def try_sessions(kind, calls):
             given = loop.run_until_complete(given) if inspect.isawaitable(given) else given
             session = given if name == "open" else session
             print(said_of_call(name, rest, given), flush=True)
-        except truetime.Refused as refused:
-            print("refused", refused.number, flush=True)
-        except TimeoutError:
-            print("timed out", flush=True)
-        except OSError:
-            print("failed", flush=True)
-        except (RuntimeError, ValueError):
-            print("invalid", flush=True)
+        except (truetime.Refused, OSError, RuntimeError, ValueError) as error:
+            print(said_of_error(error), flush=True)
     loop.close()
 
 

@@ -32,7 +32,7 @@ a little-endian 64-bit machine, Python 3.9 or later, and nothing but the standar
 """
 from ._calls import TIMEOUT_S, Interval
 from .readers import MAX_DRIFT_PPM, Client, Publication, Reading
-from .refusals import MAX_TIME_NS, Refused
+from .refusals import MAX_TIME_NS, CommitPending, Refused, SessionLost
 from .sessions import Session
 from .stampers import MAX_AHEAD_NS, Stamp, Stamper
 
@@ -42,11 +42,13 @@ __all__ = [
     "MAX_TIME_NS",
     "TIMEOUT_S",
     "Client",
+    "CommitPending",
     "Interval",
     "Publication",
     "Reading",
     "Refused",
     "Session",
+    "SessionLost",
     "Stamp",
     "Stamper",
 ]

@@ -1,9 +1,10 @@
 """The rules of sessions, which the blocking session and that for asyncio share."""
 import re
+import select
 import time
 from typing import Generator, NamedTuple, Optional, Tuple, TypeVar, Union
 
-from .refusals import MAX_TIME_NS, Refused
+from .refusals import MAX_TIME_NS, CommitPending, Refused, SessionLost
 
 #: How long a session waits for one reply, and for a commit to be released.
 TIMEOUT_S = 30.0
@@ -13,6 +14,8 @@ LINE_BYTES = 64
 _PAUSE_S = 0.001
 #: The pause before connecting again to a Unix socket at which as many wait as may.
 CONNECT_PAUSE_S = 0.005
+#: The refusals that say of the line of a pending commit that the service knows of no such one.
+_NOT_PENDING = (1103, 1104, 1822)
 _LINE = re.compile("[ -~]{0,64}")
 _NUMBER = re.compile("0|[1-9][0-9]{0,18}")
 
@@ -20,8 +23,9 @@ _NUMBER = re.compile("0|[1-9][0-9]{0,18}")
 Address = Union[Tuple[str, int], str]
 
 _T = TypeVar("_T")
-#: A call without its connection: it gives a line to send, and is sent its reply, or it gives a pause in seconds.
-Call = Generator[Union[str, float], str, _T]
+#: A call without its connection: it gives a line to send, and is sent its reply, or it gives a pause in seconds, or None where
+#: the connection is to be given up.
+Call = Generator[Union[str, float, None], str, _T]
 
 
 class Interval(NamedTuple):
@@ -46,9 +50,22 @@ class Calls:
         self._number = 0
         self._stamp_ns = 0
         self._state = ""
-        # The last commit whose timestamp a caller has: another one where a call was cancelled.
+        # The last commit for which a caller may wait: another one where a call was cancelled; and whether its timestamp was given.
         self._told = 0
+        self._is_given = False
         self._is_leased = False
+
+    @property
+    def _is_kept(self) -> bool:
+        """Whether a commit is pending whose timestamp a caller has."""
+        return self._state == "waiting" and self._is_given and self._told == self._number
+
+    def lost(self, failed: OSError) -> OSError:
+        """Forgets what belongs to a connection that failed; the error that says so."""
+        commit, stamp_ns = (self._number, self._stamp_ns) if self._is_kept else (0, 0)
+        had_lease = self._is_leased
+        self.forget()
+        return SessionLost(failed, commit, stamp_ns, had_lease) if commit or had_lease else failed
 
     def ask(self, line: str) -> "Call[str]":
         if not _LINE.fullmatch(line):
@@ -77,27 +94,21 @@ class Calls:
         self._is_leased = True
 
     def begin(self, floor_ns: int) -> "Call[int]":
-        is_pending = self._state == "waiting"
-        if is_pending and self._told == self._number:
-            raise Refused(1104)
-        if self._wants_lease and not self._is_leased:
-            raise Refused(903)
-        if is_pending:  # nobody has its timestamp, which may be too early for the commit that begins now
-            yield from self._release()
-        self._state = ""
-        yield from self._send_commit(self._number + 1, floor_ns)
-        self._told = self._number
+        yield from self._begin(floor_ns, self._give_up())
+        self._is_given = True
         return self._stamp_ns
 
     def wait(self) -> "Call[int]":
         if not self._state or self._told != self._number:
             raise RuntimeError("no commit was begun")
-        yield from self._release()
+        yield from self._release(self._give_up())
         return self._stamp_ns
 
     def commit(self, floor_ns: int) -> "Call[int]":
-        yield from self.begin(floor_ns)
-        return (yield from self.wait())
+        give_up = self._give_up()
+        yield from self._begin(floor_ns, give_up)
+        yield from self._release(give_up)
+        return self._stamp_ns
 
     def take_late(self, call: "Call[object]", line: str, reply: str) -> None:
         """Takes the reply that is owed to a call that was cancelled. Nobody has the timestamp that it may give."""
@@ -113,9 +124,28 @@ class Calls:
             call.close()
             self._told = told
 
-    def _release(self) -> "Call[None]":
+    def _give_up(self) -> float:
+        return time.monotonic() + self._timeout_s
+
+    def _begin(self, floor_ns: int, give_up: float) -> "Call[None]":
+        """Begins a commit, after the end of one that is pending and whose timestamp nobody has: it may be too early for this one."""
+        if self._is_kept:
+            raise CommitPending(self._number, self._stamp_ns)
+        if self._state == "waiting":
+            try:
+                yield from self._release(give_up)
+            except Refused as refused:
+                if refused.number not in _NOT_PENDING:
+                    raise
+                yield None
+        if self._wants_lease and not self._is_leased:
+            raise Refused(903)
+        self._state = ""
+        yield from self._send_commit(self._number + 1, floor_ns)
+        self._told, self._is_given = self._number, False
+
+    def _release(self, give_up: float) -> "Call[None]":
         """Sends the line of the last commit until it is released."""
-        give_up = time.monotonic() + self._timeout_s
         while self._state == "waiting":
             yield from self._send_commit(self._number, 0)
             if self._state == "waiting":
@@ -144,6 +174,14 @@ class Calls:
         if words.get(word) != len(numbers) or any(number > MAX_TIME_NS for number in numbers):
             raise not_a_reply(line, reply)
         return word, numbers
+
+
+def has_ended(connection: int) -> bool:
+    """Whether a connection, by its descriptor, is of no more use at the beginning of a call: its end is there to be received, or what
+    nobody asked for."""
+    looking = select.poll()
+    looking.register(connection, select.POLLIN)
+    return bool(looking.poll(0))
 
 
 def reply_in(received: bytes) -> Optional[str]:

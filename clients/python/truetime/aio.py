@@ -12,7 +12,8 @@ import socket
 import time
 from typing import Any, Optional, TypeVar, Union, cast
 
-from ._calls import CONNECT_PAUSE_S, TIMEOUT_S, Address, Call, Calls, Interval, reply_in
+from ._calls import CONNECT_PAUSE_S, TIMEOUT_S, Address, Call, Calls, Interval, has_ended, reply_in
+from .refusals import SessionLost
 
 __all__ = ["Session"]
 
@@ -37,6 +38,11 @@ class _Connection(asyncio.Protocol):
         self._reply = asyncio.get_running_loop().create_future()
         self._transport.write(line.encode("ascii") + b"\n")
         return self._reply
+
+    def has_ended(self) -> bool:
+        """Whether it is of no more use, as far as can be seen before the loop runs again."""
+        connection = self._transport and self._transport.get_extra_info("socket")
+        return self._failed is not None or connection is None or has_ended(connection.fileno())
 
     def end(self, failed: ConnectionError) -> None:
         """Ends the connection. The first reason counts."""
@@ -78,9 +84,9 @@ class Session:
     A call that is cancelled, as by :func:`asyncio.wait_for`, leaves the session as it is. If its line was sent, the reply is
     still to come: the next call waits for it, and drops it. The call may have been done:
 
-    - After :meth:`wait` or :meth:`commit`, call :meth:`wait` again. :meth:`begin` refuses with 1104 before that.
-    - After :meth:`begin`, nobody has the timestamp, and no other commit gets it: the next :meth:`begin` has the service
-      release that commit first.
+    - After :meth:`wait`, call :meth:`wait` again. :meth:`begin` raises :class:`truetime.CommitPending` before that.
+    - After :meth:`begin` or :meth:`commit`, nobody has the timestamp, and no other commit gets it: the next one has the service release that
+      commit first.
     - After :meth:`lease`, the lease is the old one or the new one.
     """
 
@@ -160,24 +166,35 @@ class Session:
                 if self._owed:
                     _, _, cancelled, line = self._owed
                     self._calls.take_late(cancelled, line, await self._received())
+                self._look()
                 step = next(call)
                 while True:
                     if isinstance(step, str):
                         step = call.send(await self._exchanged(call, step))
+                    elif step is None:
+                        self._drop()
+                        step = call.send("")
                     else:
                         await asyncio.sleep(step)
                         step = call.send("")
             except StopIteration as done:
                 given: _T = done.value
                 return given
-            except ConnectionError:
-                self._drop()
-                raise
+            except ConnectionError as failed:
+                raise self._lost(failed)
+
+    def _look(self) -> None:
+        """Gives up a connection that has ended. Raises where that loses what the caller has to make good."""
+        if self._connection and self._connection.has_ended():
+            failed = self._lost(ConnectionError("the service ended the session"))
+            if isinstance(failed, SessionLost):
+                raise failed
 
     async def _exchanged(self, call: "Call[Any]", line: str) -> str:
+        give_up = time.monotonic() + self._timeout_s
         connection = self._connection or await self._connect()
         reply = connection.send(line)
-        self._owed = reply, time.monotonic() + self._timeout_s, call, line
+        self._owed = reply, give_up, call, line
         return await self._received()
 
     async def _received(self) -> str:
@@ -187,8 +204,7 @@ class Session:
         await asyncio.wait({reply}, timeout=max(give_up - time.monotonic(), 0))
         self._owed = None
         if not reply.done():
-            self._drop()
-            raise TimeoutError("no reply in time")
+            raise self._lost(TimeoutError("no reply in time"))
         received = reply.result()
         if isinstance(received, ConnectionError):
             raise received
@@ -216,6 +232,12 @@ class Session:
     def _check_open(self) -> None:
         if self._is_closed:
             raise ConnectionError("the session is closed")
+
+    def _lost(self, failed: OSError) -> OSError:
+        """Gives the connection up; the error that says so."""
+        error = self._calls.lost(failed)
+        self._drop()
+        return error
 
     def _drop(self) -> None:
         """Gives the connection up, and all that belongs to it."""

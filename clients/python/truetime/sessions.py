@@ -3,7 +3,8 @@ import socket
 import time
 from typing import Optional, TypeVar
 
-from ._calls import CONNECT_PAUSE_S, LINE_BYTES, TIMEOUT_S, Address, Call, Calls, Interval, reply_in
+from ._calls import CONNECT_PAUSE_S, LINE_BYTES, TIMEOUT_S, Address, Call, Calls, Interval, has_ended, reply_in
+from .refusals import SessionLost
 
 _T = TypeVar("_T")
 
@@ -13,17 +14,20 @@ class Session:
 
     A call raises :class:`Refused` where the service refuses, and an :class:`OSError` where the connection fails:
     :class:`TimeoutError` where no reply came in time, :class:`ConnectionError` where the service ended the session or what
-    came is no reply. Nobody knows then whether a commit that was asked for was begun.
+    came is no reply. Nobody knows then whether a commit that was asked for was begun. It is a :class:`SessionLost` where a
+    commit of :meth:`begin` was pending or a lease was set.
 
-    The next call after that connects anew, to a new session of the service. No line is sent a second time by that: the last
-    commit is forgotten. Nor is the lease set again: once :meth:`lease` was called, :meth:`begin` refuses with 903 as long as
-    the connection has no lease.
+    The next call after that connects anew, to a new session of the service. So does a call that finds the connection ended
+    before its line was sent, as behind a pause, where that loses nothing of the caller's; no line is sent a second time. Nor is
+    the lease set again: once :meth:`lease` was called, :meth:`begin` and :meth:`commit` refuse with 903 as long as the
+    connection has no lease.
     """
 
     def __init__(self, address: Address, timeout_s: float = TIMEOUT_S) -> None:
         """Connects to a TCP address, or to the Unix socket at a path.
 
-        ``timeout_s`` is how long connecting, sending, each receiving and the waiting for a release may take.
+        ``timeout_s`` is how long connecting, sending, each receiving and the waiting for a release may take. Connecting anew is
+        part of the sending and receiving that follow it.
         """
         self._address, self._timeout_s = address, timeout_s
         self._calls = Calls(timeout_s)
@@ -72,9 +76,9 @@ class Session:
     def begin(self, floor_ns: int = 0) -> int:
         """Begins a commit and gives its timestamp, no less than ``floor_ns``.
 
-        One commit at a time: refuses with 1104 before the release of the last one. Refuses with 903 where the lease is over or
-        was lost with its connection: set it again. After another refusal begin again, with the same floor: the service may
-        have begun it.
+        One commit at a time: raises :class:`CommitPending` before the release of the last one that was begun by this. One that a
+        :meth:`commit` left pending is ended first, as :meth:`commit` says. Refuses with 903 where the lease is over or was lost
+        with its connection: set it again. After another refusal begin again, with the same floor: the service may have begun it.
         """
         return self._made(self._calls.begin(floor_ns))
 
@@ -88,32 +92,50 @@ class Session:
         return self._made(self._calls.wait())
 
     def commit(self, floor_ns: int = 0) -> int:
-        """Begins a commit, waits for its release, and gives its timestamp."""
+        """Begins a commit, waits for its release, and gives its timestamp. Refuses as :meth:`begin`, and raises as :meth:`wait`.
+
+        Where it fails while it waits, the commit stays pending, and nobody has its timestamp. :meth:`wait` goes on with it; the
+        next :meth:`commit` or :meth:`begin` waits for its release first, and then begins another one.
+        """
         return self._made(self._calls.commit(floor_ns))
 
     def _made(self, call: "Call[_T]") -> _T:
         """What a call gives."""
         if self._is_closed:
             raise ConnectionError("the session is closed")
+        self._look()
         try:
             step = next(call)
             while True:
                 if isinstance(step, str):
                     step = call.send(self._exchanged(step))
+                elif step is None:
+                    self._drop()
+                    step = call.send("")
                 else:
                     time.sleep(step)
                     step = call.send("")
         except StopIteration as done:
             given: _T = done.value
             return given
-        except ConnectionError:
-            self._drop()
-            raise
+        except ConnectionError as failed:
+            raise self._lost(failed)
+
+    def _look(self) -> None:
+        """Gives up a connection that has ended. Raises where that loses what the caller has to make good."""
+        if self._socket and has_ended(self._socket.fileno()):
+            failed = self._lost(ConnectionError("the service ended the session"))
+            if isinstance(failed, SessionLost):
+                raise failed
 
     def _exchanged(self, line: str) -> str:
         """Sends a line, and gives its reply. Without a reply the connection is given up."""
+        give_up = time.monotonic() + self._timeout_s
+        is_new = self._socket is None
         connection = self._socket or self._connect()
         try:
+            if is_new:  # connecting took some of the time
+                connection.settimeout(max(give_up - time.monotonic(), 0.001))
             connection.sendall(line.encode("ascii") + b"\n")
             received, reply = b"", None
             while reply is None:
@@ -122,10 +144,14 @@ class Session:
                     raise ConnectionError("the service ended the session")
                 received += piece
                 reply = reply_in(received)
+            if is_new:
+                connection.settimeout(self._timeout_s)
             return reply
         except socket.timeout:
-            self._drop()
-            raise TimeoutError("no reply in time") from None
+            late = self._lost(TimeoutError("no reply in time"))
+            raise late from late.__cause__
+        except OSError as failed:
+            raise self._lost(failed)
         except BaseException:
             self._drop()
             raise
@@ -136,6 +162,12 @@ class Session:
         except socket.timeout:
             raise TimeoutError("no connection in time") from None
         return self._socket
+
+    def _lost(self, failed: OSError) -> OSError:
+        """Gives the connection up; the error that says so."""
+        error = self._calls.lost(failed)
+        self._drop()
+        return error
 
     def _drop(self) -> None:
         """Gives the connection up, and all that belongs to it."""
