@@ -2,6 +2,7 @@ package truetime
 
 import (
 	"errors"
+	"fmt"
 	"strconv"
 )
 
@@ -10,6 +11,7 @@ type Refusal uint16
 
 // The refusals that a caller may want to tell apart; docs/FORMATS.md has all.
 const (
+	OutOfMemory    Refusal = 1    // the service is out of memory
 	LeaseBackwards Refusal = 101  // the ends of the lease are out of order
 	LeasePastMax   Refusal = 102  // the upper end of the lease is above the greatest time
 	Nothing        Refusal = 801  // the daemon has published nothing so far, or nothing is published any more
@@ -18,6 +20,12 @@ const (
 	UsedUp         Refusal = 901  // no timestamp is left up to the greatest time
 	FloorTooFar    Refusal = 902  // the floor is too far ahead
 	LeaseOver      Refusal = 903  // the least timestamp is above the upper end of the lease, or a session has lost its lease
+	TooManyCommits Refusal = 1001 // as many commits are pending as may
+	NumberUsed     Refusal = 1002 // a commit with this number is pending or was released
+	StampUsed      Refusal = 1003 // another commit has this timestamp
+	NoLine         Refusal = 1101 // the service knows no such line
+	LineTooLong    Refusal = 1102 // the line has more than 64 bytes
+	CommitPassed   Refusal = 1103 // a later commit has begun in this session
 	CommitPending  Refusal = 1104 // the last commit is not known as released
 	NoFile         Refusal = 1701 // the file cannot be opened, mapped or read, or the client is closed
 	OtherFile      Refusal = 1702 // not such a file, or of another owner, writable by others, of another boot or another clock
@@ -25,11 +33,13 @@ const (
 	Busy           Refusal = 1704 // another publication came during each of the tries
 	TooWide        Refusal = 1708 // the clock is past the last reading at which the publication may be used
 	FloorAboveCap  Refusal = 1821 // the floor, or the lower end of the lease, is further ahead than the machine allows
+	CommitGone     Refusal = 1822 // the commit is pending no more: its connection broke, or the machine ends
 	Broken         Refusal = 1823 // the machine knows that an assumption of the service is broken
 	ReadingTooWide Refusal = 1824 // the reading is wider than the machine allows
 )
 
 var meanings = map[Refusal]string{
+	OutOfMemory:    "the service is out of memory",
 	LeaseBackwards: "the ends of the lease are out of order",
 	LeasePastMax:   "the upper end of the lease is above the greatest time",
 	Nothing:        "the daemon has published nothing so far, or nothing is published any more",
@@ -37,7 +47,13 @@ var meanings = map[Refusal]string{
 	ClockFailed:    "the clock gave no reading",
 	UsedUp:         "no timestamp is left up to the greatest time",
 	FloorTooFar:    "the floor is too far ahead",
-	LeaseOver:      "the least timestamp is above the upper end of the lease, or the session has lost its lease",
+	LeaseOver:      "the least timestamp is above the upper end of the lease, or the session has lost its lease: set it again",
+	TooManyCommits: "as many commits are pending as may",
+	NumberUsed:     "a commit with this number is pending or was released",
+	StampUsed:      "another commit has this timestamp",
+	NoLine:         "the service knows no such line",
+	LineTooLong:    "the line has more than 64 bytes",
+	CommitPassed:   "a later commit has begun in this session",
 	CommitPending:  "the last commit is not known as released",
 	NoFile:         "the file cannot be opened, mapped or read, or the client is closed",
 	OtherFile:      "not such a file, or of another owner, writable by others, of another boot or another clock",
@@ -45,6 +61,7 @@ var meanings = map[Refusal]string{
 	Busy:           "another publication came during each of the tries",
 	TooWide:        "the clock is past the last reading at which the publication may be used",
 	FloorAboveCap:  "the floor, or the lower end of the lease, is further ahead than the machine allows",
+	CommitGone:     "the commit is pending no more: its connection broke, or the machine ends",
 	Broken:         "the machine knows that an assumption of the service is broken",
 	ReadingTooWide: "the reading is wider than the machine allows",
 }
@@ -61,7 +78,7 @@ func (r Refusal) Error() string {
 // of the step that would have released it: then it is pending, and has a timestamp.
 func (r Refusal) neverBegins() bool {
 	switch r {
-	case UsedUp, FloorTooFar, LeaseOver, 1001, 1002, 1003, CommitPending, FloorAboveCap:
+	case UsedUp, FloorTooFar, LeaseOver, TooManyCommits, NumberUsed, StampUsed, CommitPending, FloorAboveCap:
 		return true
 	}
 	return false
@@ -78,15 +95,43 @@ var (
 	ErrUnsupported = errors.New("truetime: the shared file needs Linux on a little-endian machine of 64 bits; ask by a session")
 )
 
+// A PendingError is the CommitPending of Begin and Commit: a commit that Begin began is not known as released. Call Wait.
+type PendingError struct {
+	Commit uint64 // its number in the session
+	Stamp  uint64 // its timestamp
+}
+
+func (p *PendingError) Error() string {
+	return fmt.Sprintf("%v: call Wait for commit %d, whose timestamp is %d", CommitPending, p.Commit, p.Stamp)
+}
+
+// Unwrap gives CommitPending.
+func (p *PendingError) Unwrap() error { return CommitPending }
+
 // A BrokenError says that the connection failed, and why: os.ErrDeadlineExceeded where no reply came in time,
 // io.ErrUnexpectedEOF where the service ended the session, ErrReply where what came is no reply, net.ErrClosed where the
 // session was closed by Close, or another error of the connection. If it failed within Begin or Commit, the commit may have
 // begun: begin another one. The next call connects anew.
+//
+// A commit of Begin that was pending is never known as released: begin it again, or give it up. A new connection has no lease
+// until it is set again.
 type BrokenError struct {
-	Err error
+	Err       error
+	Commit    uint64 // the number of the commit of Begin that was pending; 0 where none was
+	Stamp     uint64 // its timestamp
+	LostLease bool   // whether the session had a lease
 }
 
-func (b *BrokenError) Error() string { return "truetime: the connection failed: " + b.Err.Error() }
+func (b *BrokenError) Error() string {
+	text := "truetime: the connection failed: " + b.Err.Error()
+	if b.Commit != 0 {
+		text += fmt.Sprintf("; commit %d, whose timestamp is %d, was pending: begin it again, or give it up", b.Commit, b.Stamp)
+	}
+	if b.LostLease {
+		text += "; the lease has to be set again"
+	}
+	return text
+}
 
 // Unwrap gives the reason.
 func (b *BrokenError) Unwrap() error { return b.Err }

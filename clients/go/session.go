@@ -28,16 +28,17 @@ const (
 // A call ends when its context does, with the context's error, and the session goes on. If its line was sent, the reply is
 // still to come: the next call waits for it, and drops it. A call that was cancelled may have been done:
 //
-//   - After Wait or Commit, call Wait again: the service says the same of the same commit. Begin refuses with CommitPending
+//   - After Wait, call Wait again: the service says the same of the same commit. Begin and Commit fail with a PendingError
 //     before that.
-//   - After Begin, nobody has the timestamp, and no other commit gets it, since it may be too early for one that comes later:
-//     where that commit is pending, the next Begin has the service release it first. So it is after a refused Begin, too.
+//   - After Begin or Commit, nobody has the timestamp, and no other commit gets it, since it may be too early for one that comes
+//     later: where that commit is pending, the next one has the service release it first. So it is after a refusal, too.
 //   - After Lease, the lease is the old one or the new one.
 //
 // If no reply comes in time, or the connection fails otherwise, a call fails with a BrokenError. The next call connects anew,
-// to a new session of the service. No line is sent a second time by that: the last commit is forgotten, and Wait fails with
-// ErrNoCommit. Nor is the lease set again: once Lease was called, Begin refuses with LeaseOver as long as the connection has no
-// lease.
+// to a new session of the service. So does a call that finds the connection ended before its line was sent, as behind a pause,
+// unless a commit of Begin is pending or a lease was set. No line is sent a second time by that: the last commit is forgotten,
+// and Wait fails with ErrNoCommit. Nor is the lease set again: once Lease was called, Begin and Commit refuse with LeaseOver as
+// long as the connection has no lease.
 type Session struct {
 	network, address string
 	timeout          atomic.Int64
@@ -51,7 +52,7 @@ type Session struct {
 
 	// And this belongs to the connection.
 	judge    func(reply string) error // of the reply that is owed, also a late one; nil where none is
-	sent     time.Time                // when the last line was
+	began    time.Time                // when that of the last line did, with connecting anew
 	last     commit
 	hasLease bool
 }
@@ -77,7 +78,8 @@ type commit struct {
 	stamp     uint64
 	isStamped bool // whether the timestamp is known
 	isPending bool // whether it may not be released
-	isTold    bool // whether a caller has it, and may wait for it
+	isTold    bool // whether a caller may wait for it
+	isGiven   bool // whether Begin gave its timestamp to a caller
 }
 
 // Dial connects to the service. The network is "tcp" (an address as "127.0.0.1:5601") or "unix" (a path). Close the session
@@ -201,13 +203,14 @@ func (s *Session) compare(ctx context.Context, line string) (bool, error) {
 }
 
 // Begin begins a commit, and gives its timestamp, no less than floor, and whether it is released already, so that Wait sends
-// nothing. It refuses with CommitPending before the last commit is known as released, and with LeaseOver where the lease is
-// over or was lost with its connection: set it again.
+// nothing. It fails with a PendingError before the last commit that it began is known as released, and refuses with LeaseOver
+// where the lease is over or was lost with its connection: set it again. One that Commit left pending is ended first.
 func (s *Session) Begin(ctx context.Context, floor uint64) (stamp uint64, isCommitted bool, err error) {
 	err = s.inTurn(ctx, func() error {
 		if err := s.begin(ctx, floor); err != nil {
 			return err
 		}
+		s.last.isGiven = true
 		stamp, isCommitted = s.last.stamp, !s.last.isPending
 		return nil
 	})
@@ -225,7 +228,9 @@ func (s *Session) Wait(ctx context.Context) (stamp uint64, err error) {
 	return stamp, err
 }
 
-// Commit begins a commit, waits for its release, and gives its timestamp, as Begin and Wait.
+// Commit begins a commit, waits for its release, and gives its timestamp, with the errors of Begin and Wait. Where it fails
+// while it waits, the commit stays pending, and nobody has its timestamp: Wait goes on with it, and the next Commit or Begin
+// waits for its release first, and then begins another one.
 func (s *Session) Commit(ctx context.Context, floor uint64) (stamp uint64, err error) {
 	err = s.inTurn(ctx, func() error {
 		err := s.begin(ctx, floor)
@@ -268,16 +273,17 @@ func (s *Session) Ask(ctx context.Context, line string) (string, error) {
 // Commits.
 
 func (s *Session) begin(ctx context.Context, floor uint64) error {
-	if s.last.isTold && s.last.isPending {
-		return CommitPending
+	if s.last.isPending && s.last.isGiven {
+		return &PendingError{s.last.number, s.last.stamp}
 	}
-	if s.wantsLease && !s.hasLease {
-		return LeaseOver
+	if s.last.isPending && s.last.isStamped {
+		if err := s.end(ctx); err != nil {
+			return err
+		}
 	}
 	err := s.sendBegin(ctx, floor)
-	if err == CommitPending && s.last.isPending {
-		// Nobody has the timestamp of the commit that is pending.
-		if err = s.release(ctx); err == nil {
+	if err == CommitPending && s.last.isPending { // it began, though it was refused
+		if err = s.end(ctx); err == nil {
 			err = s.sendBegin(ctx, floor)
 		}
 	}
@@ -285,8 +291,22 @@ func (s *Session) begin(ctx context.Context, floor uint64) error {
 	return err
 }
 
+// end waits for the release of a commit whose timestamp nobody has. One of which the service does not know is forgotten, with
+// the connection.
+func (s *Session) end(ctx context.Context) error {
+	err := s.release(ctx)
+	if err == CommitPassed || err == CommitPending || err == CommitGone {
+		s.fail(err)
+		return nil
+	}
+	return err
+}
+
 // sendBegin sends the first line of the next commit.
 func (s *Session) sendBegin(ctx context.Context, floor uint64) error {
+	if s.wantsLease && !s.hasLease {
+		return LeaseOver
+	}
 	number := s.last.number + 1
 	line := lineOf("commit", number, floor)
 	_, err := s.exchange(ctx, line, func(reply string) error {
@@ -333,7 +353,7 @@ func (s *Session) release(ctx context.Context) error {
 			return ctx.Err()
 		case <-s.closed:
 			timer.Stop()
-			return &BrokenError{net.ErrClosed}
+			return &BrokenError{Err: net.ErrClosed}
 		}
 	}
 	return nil
@@ -375,14 +395,35 @@ func (s *Session) inTurn(ctx context.Context, call func() error) error {
 			return err
 		}
 	}
+	if err := s.notice(); err != nil {
+		return err
+	}
 	return call()
+}
+
+// notice gives up a connection that has ended since the last reply, or on which something came that nobody asked for. It fails
+// where that loses what the caller has to make good.
+func (s *Session) notice() error {
+	link := s.link.Load()
+	if link == nil || (len(link.replies) == 0 && !hasEnded(link.conn)) {
+		return nil
+	}
+	select {
+	case got := <-link.replies:
+		if broken := s.fail(got.err); broken.Commit != 0 || broken.LostLease {
+			return broken
+		}
+		return nil
+	case <-s.closed:
+		return &BrokenError{Err: net.ErrClosed}
+	}
 }
 
 // ended says whether the session or the context has ended.
 func (s *Session) ended(ctx context.Context) error {
 	select {
 	case <-s.closed:
-		return &BrokenError{net.ErrClosed}
+		return &BrokenError{Err: net.ErrClosed}
 	default:
 		return ctx.Err()
 	}
@@ -404,6 +445,7 @@ func (s *Session) question(ctx context.Context, line string, isReply func(reply 
 // exchange sends one line, and gives its reply once it is judged: a refusal is an error, and so is what is no reply, which
 // breaks the session. Where the context ends before, the reply is owed: the next call has it judged, and drops it.
 func (s *Session) exchange(ctx context.Context, line string, judge func(reply string) error) (string, error) {
+	s.began = time.Now()
 	link := s.link.Load()
 	if link == nil {
 		made, err := s.connect(ctx)
@@ -420,10 +462,9 @@ func (s *Session) exchange(ctx context.Context, line string, judge func(reply st
 		return "", s.fail(got.err) // the connection has ended since the last reply
 	default:
 	}
-	s.sent = time.Now()
 	var deadline time.Time
 	if timeout := time.Duration(s.timeout.Load()); timeout > 0 {
-		deadline = s.sent.Add(timeout)
+		deadline = s.began.Add(timeout)
 	}
 	if err := link.conn.SetWriteDeadline(deadline); err != nil {
 		return "", s.fail(err)
@@ -464,7 +505,7 @@ func (s *Session) await(ctx context.Context, link *link) (reply, error) {
 	}
 	var late <-chan time.Time
 	if timeout := time.Duration(s.timeout.Load()); timeout > 0 {
-		timer := time.NewTimer(time.Until(s.sent.Add(timeout)))
+		timer := time.NewTimer(time.Until(s.began.Add(timeout)))
 		defer timer.Stop()
 		late = timer.C
 	}
@@ -476,20 +517,24 @@ func (s *Session) await(ctx context.Context, link *link) (reply, error) {
 	case <-late:
 		return reply{}, s.fail(os.ErrDeadlineExceeded)
 	case <-s.closed:
-		return reply{}, &BrokenError{net.ErrClosed}
+		return reply{}, &BrokenError{Err: net.ErrClosed}
 	}
 }
 
 // fail gives the connection up, and all that belongs to it.
-func (s *Session) fail(err error) error {
+func (s *Session) fail(err error) *BrokenError {
 	if link := s.link.Swap(nil); link != nil {
 		link.close()
 	}
+	broken := &BrokenError{Err: err, LostLease: s.hasLease}
+	if s.last.isPending && s.last.isGiven {
+		broken.Commit, broken.Stamp = s.last.number, s.last.stamp
+	}
 	s.judge, s.last, s.hasLease = nil, commit{}, false
 	if s.ended(context.Background()) != nil {
-		err = net.ErrClosed
+		broken.Err = net.ErrClosed
 	}
-	return &BrokenError{err}
+	return broken
 }
 
 // receiveAll receives replies until the connection ends, or what comes is no reply.

@@ -113,7 +113,8 @@ func TestCommit(t *testing.T) {
 		t.Error("it waits")
 	}
 	wantStamp(t, 200, stamp, err)
-	if _, _, err := session.Begin(always, 0); err != CommitPending {
+	var pending *PendingError
+	if _, _, err := session.Begin(always, 0); !errors.Is(err, CommitPending) || !errors.As(err, &pending) || *pending != (PendingError{1, 200}) {
 		t.Error(err)
 	}
 	stamp, err = session.Wait(always)
@@ -242,8 +243,7 @@ func TestBeginIsCancelled(t *testing.T) {
 		close(heard)
 		<-isOver
 		s.say("waiting 1 200")
-		s.answer("commit 2 0", "refused 1104", "commit 1 0", "waiting 1 200", "commit 1 0", "committed 1 200", "commit 2 0", "waiting 2 300",
-			"commit 2 0", "committed 2 300")
+		s.answer("commit 1 0", "waiting 1 200", "commit 1 0", "committed 1 200", "commit 2 0", "waiting 2 300", "commit 2 0", "committed 2 300")
 	})
 	cancelled(t, heard, func(ctx context.Context) error {
 		_, _, err := session.Begin(ctx, 0)
@@ -407,8 +407,6 @@ func TestNobodyListens(t *testing.T) {
 		time.Sleep(time.Millisecond)
 	}
 	_, err = session.Now(always)
-	wantBroken(t, err, io.ErrUnexpectedEOF)
-	_, err = session.Now(always)
 	wantBroken(t, err, syscall.ECONNREFUSED)
 	ctx, cancel := context.WithCancel(always)
 	cancel()
@@ -435,12 +433,15 @@ func TestServiceEnds(t *testing.T) {
 func TestUnasked(t *testing.T) {
 	received := make(chan struct{})
 	session := dialStandIn(t, func(s *standIn) {
-		s.answer("now", "now 5 15")
+		s.answer("now", "now 5 15", "lease 5 9", "leased 5 9")
 		<-received
 		s.say("now 7 9")
 	})
 	if now, err := session.Now(always); now != (Interval{5, 15}) || err != nil {
 		t.Fatal(now, err)
+	}
+	if err := session.Lease(always, 5, 9); err != nil {
+		t.Fatal(err)
 	}
 	close(received)
 	for len(session.link.Load().replies) == 0 {
@@ -448,8 +449,8 @@ func TestUnasked(t *testing.T) {
 	}
 	now, err := session.Now(always)
 	wantBroken(t, err, ErrReply)
-	if now != allTimes {
-		t.Fatal(now)
+	if !strings.HasSuffix(err.Error(), "; the lease has to be set again") || now != allTimes {
+		t.Fatal(now, err)
 	}
 }
 
@@ -526,7 +527,7 @@ func TestErrors(t *testing.T) {
 	}
 	for refusal, text := range map[Refusal]string{
 		1704: "truetime: refused 1704: another publication came during each of the tries",
-		1001: "truetime: refused 1001: see docs/FORMATS.md",
+		7777: "truetime: refused 7777: see docs/FORMATS.md",
 	} {
 		if refusal.Error() != text {
 			t.Error(refusal)

@@ -353,16 +353,19 @@ func number(text string) uint64 {
 // said is the line of a call: what it gives, or its error.
 func said(text string, err error) string {
 	var refusal truetime.Refusal
+	var pending *truetime.PendingError
 	var broken *truetime.BrokenError
 	switch {
 	case err == nil:
 		return strings.TrimSuffix(text, "\n")
+	case errors.As(err, &pending):
+		return fmt.Sprintf("refused %d %d %d", uint16(truetime.CommitPending), pending.Commit, pending.Stamp)
 	case errors.As(err, &refusal):
 		return fmt.Sprintf("refused %d", uint16(refusal))
+	case errors.As(err, &broken):
+		return saidOfBroken(broken)
 	case errors.Is(err, os.ErrDeadlineExceeded), errors.Is(err, context.DeadlineExceeded):
 		return "timed out"
-	case errors.As(err, &broken):
-		return "failed"
 	case errors.Is(err, truetime.ErrNoCommit), errors.Is(err, truetime.ErrBadLine):
 		return "invalid"
 	}
@@ -371,4 +374,16 @@ func said(text string, err error) string {
 		return "failed"
 	}
 	return err.Error()
+}
+
+// saidOfBroken is a connection that failed, with what was lost by that.
+func saidOfBroken(broken *truetime.BrokenError) string {
+	text := map[bool]string{true: "timed out", false: "failed"}[errors.Is(broken, os.ErrDeadlineExceeded)]
+	if broken.Commit != 0 {
+		text += fmt.Sprintf(" %d %d", broken.Commit, broken.Stamp)
+	}
+	if broken.LostLease {
+		text += " lease"
+	}
+	return text
 }
