@@ -106,14 +106,26 @@ fn try_sessions() -> io::Result<()> {
         let (name, rest) = line.split_once(' ').unwrap_or((&line, ""));
         match call_session(&mut session, name, rest) {
             Ok(said) => println!("{said}"),
-            Err(Error::Refused(number)) => println!("refused {number}"),
-            Err(Error::Failed(error)) if error.kind() == io::ErrorKind::TimedOut => println!("timed out"),
-            Err(Error::Failed(_)) => println!("failed"),
-            Err(Error::NotReleased) => println!("timed out"),
-            Err(Error::NoCommit | Error::BadLine) => println!("invalid"),
+            Err(error) => println!("{}", said_of_error(&error)),
         }
     }
     Ok(())
+}
+
+/// An error of a session, with what it carries.
+fn said_of_error(error: &Error) -> String {
+    let how = |error: &io::Error| String::from(if error.kind() == io::ErrorKind::TimedOut { "timed out" } else { "failed" });
+    match error {
+        Error::Refused(number) => format!("refused {number}"),
+        Error::Pending(of) => format!("refused {} {} {}", error.number().unwrap_or(0), of.commit, of.stamp_ns),
+        Error::Failed(error) => how(error),
+        Error::Lost { error, pending, had_lease } => {
+            let commit = pending.map(|of| format!(" {} {}", of.commit, of.stamp_ns)).unwrap_or_default();
+            how(error) + &commit + if *had_lease { " lease" } else { "" }
+        }
+        Error::NotReleased => "timed out".to_string(),
+        Error::NoCommit | Error::BadLine => "invalid".to_string(),
+    }
 }
 
 /// The stamp behind the last one, 0 where none was given, by the reading [_, LATEST].

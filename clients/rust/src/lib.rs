@@ -103,22 +103,39 @@ impl Refused {
 
 impl fmt::Display for Refused {
     fn fmt(&self, out: &mut fmt::Formatter<'_>) -> fmt::Result {
-        let meaning = match self {
-            Refused::LeaseBackwards => "the ends of the lease are out of order",
-            Refused::LeasePastMax => "the upper end of the lease is above the greatest time",
-            Refused::Nothing => "the daemon has published nothing so far, or nothing is published any more",
-            Refused::ClockBack => "the clock is below that of the publication, or above the greatest time",
-            Refused::ClockFailed => "the clock gave no reading",
-            Refused::UsedUp => "no stamp is left up to the greatest time",
-            Refused::FloorTooFar => "the floor is too far ahead of the latest",
-            Refused::LeaseOver => "the least stamp is above the upper end of the lease",
-            Refused::NoFile => "the file cannot be opened, mapped or read",
-            Refused::OtherFile => "not such a file, or of another owner, writable by others, of another boot or another clock",
-            Refused::NoSlot => "no daemon wrote what stands there",
-            Refused::Busy => "another publication came during each of the tries",
-            Refused::TooWide => "the clock is past the last reading at which the publication may be used",
-        };
-        write!(out, "refused {}: {meaning}", self.number())
+        write!(out, "refused {}: {}", self.number(), meaning_of(self.number()))
+    }
+}
+
+/// What the refusal of this number means, also one of a session.
+pub(crate) fn meaning_of(number: u16) -> &'static str {
+    match number {
+        1 => "the service is out of memory",
+        101 => "the ends of the lease are out of order",
+        102 => "the upper end of the lease is above the greatest time",
+        801 => "the daemon has published nothing so far, or nothing is published any more",
+        802 => "the clock is below that of the publication, or above the greatest time",
+        803 => "the clock gave no reading",
+        901 => "no stamp is left up to the greatest time",
+        902 => "the floor is too far ahead of the latest",
+        903 => "the least stamp is above the upper end of the lease, or the session has lost its lease: set it again",
+        1001 => "as many commits are pending as may",
+        1002 => "a commit with this id is pending or was released",
+        1003 => "another commit has this stamp",
+        1101 => "the service knows no such line",
+        1102 => "the line has more than 64 bytes",
+        1103 => "a later commit has begun in this session",
+        1104 => "the last commit is not known as released",
+        1701 => "the file cannot be opened, mapped or read",
+        1702 => "not such a file, or of another owner, writable by others, of another boot or another clock",
+        1703 => "no daemon wrote what stands there",
+        1704 => "another publication came during each of the tries",
+        1708 => "the clock is past the last reading at which the publication may be used",
+        1821 => "the floor, or the lower end of the lease, is further ahead than the machine allows",
+        1822 => "the commit is pending no more: its connection broke, or the machine ends",
+        1823 => "the machine knows that an assumption of the service is broken",
+        1824 => "the reading is wider than the machine allows",
+        _ => "see docs/FORMATS.md",
     }
 }
 

@@ -11,10 +11,11 @@
 //! ```
 //!
 //! If the connection fails, the call fails, and nobody knows whether a commit that was asked for was begun. The next call
-//! connects anew, to a new session of the service. No line is sent a second time by that: the last commit is forgotten. Nor is
-//! the lease set again: once [`Session::lease`] was called, [`Session::begin`] refuses with 903 as long as the connection has
-//! no lease.
-use crate::MAX_TIME_NS;
+//! connects anew, to a new session of the service. So does a call that finds the connection ended before its line was sent, as
+//! behind a pause, unless a commit of [`Session::begin`] is pending or a lease was set. No line is sent a second time by that:
+//! the last commit is forgotten. Nor is the lease set again: once [`Session::lease`] was called, [`Session::begin`] and
+//! [`Session::commit`] refuse with 903 as long as the connection has no lease.
+use crate::{meaning_of, MAX_TIME_NS};
 use std::fmt;
 use std::io::{self, ErrorKind, Read, Write};
 use std::net::{SocketAddr, TcpStream};
@@ -31,16 +32,38 @@ const PAUSE: Duration = Duration::from_millis(1);
 const LEASE_LOST: u16 = 903;
 /// The refusal of a commit before the last one is released.
 const COMMIT_PENDING: u16 = 1104;
+/// The refusals that say of the line of a pending commit that the service knows of no such one.
+const NOT_PENDING: [u16; 3] = [1103, COMMIT_PENDING, 1822];
+
+/// A commit of [`Session::begin`] that is not known as released.
+#[derive(Clone, Copy, Debug, PartialEq, Eq)]
+pub struct Pending {
+    /// Its number in the session.
+    pub commit: u64,
+    /// Its timestamp.
+    pub stamp_ns: u64,
+}
 
 /// Why a call of a session has no answer.
 #[derive(Debug)]
 pub enum Error {
     /// The service refuses, by this number. The session goes on.
     Refused(u16),
+    /// The session refuses another commit before this one is known as released, as by 1104: call [`Session::wait`].
+    Pending(Pending),
     /// The connection failed: no reply came in time (`TimedOut`), the service ended the session (`UnexpectedEof`), or what
     /// came is no reply (`InvalidData`). Nobody knows whether a commit that was asked for was begun. The next call connects
     /// anew.
     Failed(io::Error),
+    /// The connection failed, as with `Failed`, and took along what the caller has to make good.
+    Lost {
+        /// How it failed.
+        error: io::Error,
+        /// The commit that was pending. It is never known as released: begin it again, or give it up.
+        pending: Option<Pending>,
+        /// Whether the session had a lease: a new one has none until it is set again.
+        had_lease: bool,
+    },
     /// The commit is not released in time. The session goes on, and may wait again.
     NotReleased,
     /// No commit was begun that could be waited for, or the connection of the last one failed.
@@ -49,11 +72,38 @@ pub enum Error {
     BadLine,
 }
 
+impl Error {
+    /// The number of the refusal, where it is one.
+    pub fn number(&self) -> Option<u16> {
+        match self {
+            Error::Refused(number) => Some(*number),
+            Error::Pending(_) => Some(COMMIT_PENDING),
+            _ => None,
+        }
+    }
+}
+
+impl fmt::Display for Pending {
+    fn fmt(&self, out: &mut fmt::Formatter<'_>) -> fmt::Result {
+        write!(out, "commit {}, whose timestamp is {}", self.commit, self.stamp_ns)
+    }
+}
+
 impl fmt::Display for Error {
     fn fmt(&self, out: &mut fmt::Formatter<'_>) -> fmt::Result {
         match self {
-            Error::Refused(number) => write!(out, "refused {number}"),
+            Error::Refused(number) => write!(out, "refused {number}: {}", meaning_of(*number)),
+            Error::Pending(pending) => {
+                write!(out, "refused {COMMIT_PENDING}: {}: wait for {pending}", meaning_of(COMMIT_PENDING))
+            }
             Error::Failed(error) => write!(out, "the connection failed: {error}"),
+            Error::Lost { error, pending, had_lease } => {
+                write!(out, "the connection failed: {error}")?;
+                if let Some(pending) = pending {
+                    write!(out, "; {pending}, was pending: begin it again, or give it up")?;
+                }
+                out.write_str(if *had_lease { "; the lease has to be set again" } else { "" })
+            }
             Error::NotReleased => out.write_str("the commit is not released in time"),
             Error::NoCommit => out.write_str("no commit was begun"),
             Error::BadLine => out.write_str("the line is too long or has a line feed"),
@@ -64,7 +114,7 @@ impl fmt::Display for Error {
 impl std::error::Error for Error {
     fn source(&self) -> Option<&(dyn std::error::Error + 'static)> {
         match self {
-            Error::Failed(error) => Some(error),
+            Error::Failed(error) | Error::Lost { error, .. } => Some(error),
             _ => None,
         }
     }
@@ -88,12 +138,19 @@ pub struct Interval {
 trait Stream: Read + Write + Send + fmt::Debug {
     /// How long a read and a write may take from now on.
     fn set_timeout(&self, timeout: Duration) -> io::Result<()>;
+
+    /// Whether they wait at all.
+    fn set_waiting(&self, waits: bool) -> io::Result<()>;
 }
 
 impl Stream for TcpStream {
     fn set_timeout(&self, timeout: Duration) -> io::Result<()> {
         self.set_read_timeout(Some(timeout))?;
         self.set_write_timeout(Some(timeout))
+    }
+
+    fn set_waiting(&self, waits: bool) -> io::Result<()> {
+        self.set_nonblocking(!waits)
     }
 }
 
@@ -102,6 +159,10 @@ impl Stream for UnixStream {
         self.set_read_timeout(Some(timeout))?;
         self.set_write_timeout(Some(timeout))
     }
+
+    fn set_waiting(&self, waits: bool) -> io::Result<()> {
+        self.set_nonblocking(!waits)
+    }
 }
 
 /// A stream whose calls are over after a time-out, however many signals interrupt them.
@@ -109,29 +170,30 @@ struct Patient<'a> {
     stream: &'a mut dyn Stream,
     timeout: Duration,
     deadline: Instant,
-    /// Whether the stream has a shorter time-out, since a signal came.
+    /// Whether the stream has a shorter time-out, since a signal came or connecting took some of it.
     is_shorter: bool,
 }
 
 impl Patient<'_> {
-    fn new(stream: &mut dyn Stream, timeout: Duration) -> Patient<'_> {
-        Patient { stream, timeout, deadline: Instant::now() + timeout, is_shorter: false }
-    }
-
     /// Calls until that is not interrupted.
     fn call(&mut self, mut call: impl FnMut(&mut dyn Stream) -> io::Result<usize>) -> io::Result<usize> {
         loop {
             match call(self.stream) {
-                Err(error) if error.kind() == ErrorKind::Interrupted => {}
+                Err(error) if error.kind() == ErrorKind::Interrupted => self.shorten()?,
                 result => return result,
             }
-            let left = self.deadline.saturating_duration_since(Instant::now());
-            if left.is_zero() {
-                return Err(ErrorKind::TimedOut.into());
-            }
-            self.stream.set_timeout(left)?;
-            self.is_shorter = true;
         }
+    }
+
+    /// The stream has what is left of its time-out.
+    fn shorten(&mut self) -> io::Result<()> {
+        let left = self.deadline.saturating_duration_since(Instant::now());
+        if left.is_zero() {
+            return Err(ErrorKind::TimedOut.into());
+        }
+        self.stream.set_timeout(left)?;
+        self.is_shorter = true;
+        Ok(())
     }
 
     fn send(&mut self, mut bytes: &[u8]) -> io::Result<()> {
@@ -139,7 +201,7 @@ impl Patient<'_> {
             let sent = self.call(|stream| stream.write(bytes))?;
             bytes = &bytes[sent..];
         }
-        self.end()
+        Ok(())
     }
 
     /// The stream has its whole time-out again.
@@ -173,6 +235,8 @@ struct Connection {
     last: Commit,
     /// Whether there is a commit to wait for, which is the last one.
     is_begun: bool,
+    /// Whether `begin` gave its timestamp to the caller.
+    is_given: bool,
     has_lease: bool,
 }
 
@@ -189,7 +253,8 @@ pub struct Session {
 
 impl Session {
     /// Connects to a TCP address. `timeout` is how long connecting, sending, each receiving and the waiting for a release
-    /// may take, however many signals come; it may not be zero.
+    /// may take, however many signals come; it may not be zero. Connecting anew is part of the sending and receiving that
+    /// follow it.
     pub fn connect_tcp(address: impl Into<SocketAddr>, timeout: Duration) -> Result<Session, Error> {
         Session::connect(Address::Tcp(address.into()), timeout)
     }
@@ -210,20 +275,13 @@ impl Session {
         if line.len() > LINE_BYTES || line.contains('\n') {
             return Err(Error::BadLine);
         }
-        // The connection comes back after a whole reply alone.
-        let mut connection = match self.connection.take() {
-            Some(connection) => connection,
-            None => Connection::to(&self.address, self.timeout)?,
-        };
-        let stream = &mut *connection.stream;
-        Patient::new(stream, self.timeout).send(format!("{line}\n").as_bytes()).map_err(named)?;
-        let reply = receive(Patient::new(stream, self.timeout)).map_err(named)?;
-        self.connection = Some(connection);
-        Ok(reply)
+        self.look()?;
+        self.exchange(line)
     }
 
     /// The time now.
     pub fn now(&mut self) -> Result<Interval, Error> {
+        self.look()?;
         match self.question("now")?.numbers_behind("now") {
             Some([earliest_ns, latest_ns]) if earliest_ns <= latest_ns => Ok(Interval { earliest_ns, latest_ns }),
             _ => self.fail(),
@@ -244,6 +302,7 @@ impl Session {
     /// 101 and 102, and then the lease is what it was.
     pub fn lease(&mut self, lo_ns: u64, hi_ns: u64) -> Result<(), Error> {
         self.wants_lease = true;
+        self.look()?;
         let reply = self.question(&format!("lease {lo_ns} {hi_ns}"))?;
         match (reply.numbers_behind("leased"), &mut self.connection) {
             (Some(lease), Some(connection)) if lease == [lo_ns, hi_ns] => {
@@ -254,28 +313,57 @@ impl Session {
         }
     }
 
-    /// Begins a commit and gives its timestamp, no less than `floor_ns`. One commit at a time: refuses with 1104 before the
-    /// release of the last one. Refuses with 903 where the lease is over or was lost with its connection: set it again. After
-    /// another refusal begin again, with the same floor: the service may have begun it.
+    /// Begins a commit and gives its timestamp, no less than `floor_ns`. One commit at a time: fails with [`Error::Pending`]
+    /// before the release of the last one that was begun by this. One that [`Session::commit`] left pending is ended first, as
+    /// it says. Refuses with 903 where the lease is over or was lost with its connection: set it again. After another refusal
+    /// begin again, with the same floor: the service may have begun it.
     pub fn begin(&mut self, floor_ns: u64) -> Result<u64, Error> {
-        let connection = self.connection.as_ref();
-        if connection.is_some_and(|connection| connection.is_begun && !connection.last.is_released) {
-            return Err(Error::Refused(COMMIT_PENDING));
-        }
-        if self.wants_lease && !connection.is_some_and(|connection| connection.has_lease) {
-            return Err(Error::Refused(LEASE_LOST));
-        }
-        let mut number = 1;
+        let begun = self.start(floor_ns, Instant::now())?;
         if let Some(connection) = &mut self.connection {
-            connection.is_begun = false;
-            number = connection.last.number + 1;
+            connection.is_given = true;
         }
-        Ok(self.send_commit(number, floor_ns)?.stamp_ns)
+        Ok(begun.stamp_ns)
     }
 
     /// Waits until the timestamp of the commit has surely passed, and gives it. After a refusal the session may wait again.
     pub fn wait(&mut self) -> Result<u64, Error> {
+        self.look()?;
+        self.release(Instant::now())
+    }
+
+    /// Begins a commit, waits for its release, and gives its timestamp, with the errors of `begin` and `wait`. Where it fails
+    /// while it waits, the commit stays pending, and nobody has its timestamp: `wait` goes on with it, and the next `commit` or
+    /// `begin` waits for its release first, and then begins another one.
+    pub fn commit(&mut self, floor_ns: u64) -> Result<u64, Error> {
         let began = Instant::now();
+        self.start(floor_ns, began)?;
+        self.release(began)
+    }
+
+    /// Begins a commit, after the end of one whose timestamp nobody has: it may be too early for this one.
+    fn start(&mut self, floor_ns: u64, began: Instant) -> Result<Commit, Error> {
+        self.look()?;
+        if let Some(pending) = self.connection.as_ref().and_then(Connection::pending) {
+            return Err(Error::Pending(pending));
+        }
+        match self.release(began) {
+            Ok(_) | Err(Error::NoCommit) => {}
+            Err(Error::Refused(number)) if NOT_PENDING.contains(&number) => self.connection = None,
+            Err(error) => return Err(error),
+        }
+        if self.wants_lease && !self.connection.as_ref().is_some_and(|connection| connection.has_lease) {
+            return Err(Error::Refused(LEASE_LOST));
+        }
+        let mut number = 1;
+        if let Some(connection) = &mut self.connection {
+            (connection.is_begun, connection.is_given) = (false, false);
+            number = connection.last.number + 1;
+        }
+        self.send_commit(number, floor_ns)
+    }
+
+    /// Sends the line of the last commit until it is released.
+    fn release(&mut self, began: Instant) -> Result<u64, Error> {
         let mut last = match &self.connection {
             Some(connection) if connection.is_begun => connection.last,
             _ => return Err(Error::NoCommit),
@@ -290,12 +378,6 @@ impl Session {
             }
         }
         Ok(last.stamp_ns)
-    }
-
-    /// Begins a commit, waits for its release, and gives its timestamp, as `begin` and `wait`.
-    pub fn commit(&mut self, floor_ns: u64) -> Result<u64, Error> {
-        self.begin(floor_ns)?;
-        self.wait()
     }
 
     /// Sends the line of a commit. The timestamp of one that has none so far has to be at least `floor_ns`.
@@ -318,6 +400,7 @@ impl Session {
     }
 
     fn compare(&mut self, line: &str) -> Result<bool, Error> {
+        self.look()?;
         match self.question(line)?.0.as_str() {
             "yes" => Ok(true),
             "no" => Ok(false),
@@ -327,17 +410,50 @@ impl Session {
 
     /// Sends one line and gives its reply, which is not that of a refusal.
     fn question(&mut self, line: &str) -> Result<Reply, Error> {
-        let reply = Reply(self.ask(line)?);
+        let reply = Reply(self.exchange(line)?);
         match reply.numbers_behind("refused").map(|[number]| u16::try_from(number)) {
             Some(Ok(number)) if number > 0 => Err(Error::Refused(number)),
             _ => Ok(reply),
         }
     }
 
+    /// Sends one line and gives its reply. Without a reply the connection is given up.
+    fn exchange(&mut self, line: &str) -> Result<String, Error> {
+        let (timeout, deadline, is_new) = (self.timeout, Instant::now() + self.timeout, self.connection.is_none());
+        let connection = match &mut self.connection {
+            Some(connection) => connection,
+            none => none.insert(Connection::to(&self.address, timeout)?),
+        };
+        let mut stream = Patient { stream: &mut *connection.stream, timeout, deadline, is_shorter: false };
+        let ready = if is_new { stream.shorten() } else { Ok(()) };
+        let sent = ready.and_then(|()| stream.send(format!("{line}\n").as_bytes()));
+        sent.and_then(|()| receive(stream)).map_err(|error| self.lost(named(error)))
+    }
+
+    /// Gives up a connection that has ended. Fails where that loses what the caller has to make good.
+    fn look(&mut self) -> Result<(), Error> {
+        if self.connection.as_mut().is_some_and(Connection::has_ended) {
+            if let lost @ Error::Lost { .. } = self.lost(ErrorKind::UnexpectedEof.into()) {
+                return Err(lost);
+            }
+        }
+        Ok(())
+    }
+
+    /// Gives the connection up, and says so.
+    fn lost(&mut self, error: io::Error) -> Error {
+        let connection = self.connection.take();
+        let pending = connection.as_ref().and_then(Connection::pending);
+        let had_lease = connection.is_some_and(|connection| connection.has_lease);
+        if pending.is_none() && !had_lease {
+            return Error::Failed(error);
+        }
+        Error::Lost { error, pending, had_lease }
+    }
+
     /// Gives the connection up, since what came is no reply.
     fn fail<T>(&mut self) -> Result<T, Error> {
-        self.connection = None;
-        Err(Error::Failed(ErrorKind::InvalidData.into()))
+        Err(self.lost(ErrorKind::InvalidData.into()))
     }
 }
 
@@ -357,7 +473,20 @@ impl Connection {
             }
         };
         let last = Commit { number: 0, stamp_ns: 0, is_released: true };
-        Ok(Connection { stream, last, is_begun: false, has_lease: false })
+        Ok(Connection { stream, last, is_begun: false, is_given: false, has_lease: false })
+    }
+
+    /// The commit that the caller has to wait for.
+    fn pending(&self) -> Option<Pending> {
+        let Commit { number, stamp_ns, is_released } = self.last;
+        (self.is_begun && self.is_given && !is_released).then_some(Pending { commit: number, stamp_ns })
+    }
+
+    /// Whether it is of no more use before a line: its end is there to be received, or what nobody asked for.
+    fn has_ended(&mut self) -> bool {
+        let looked = self.stream.set_waiting(false).and_then(|()| self.stream.read(&mut [0]));
+        let is_quiet = looked.is_err_and(|error| matches!(error.kind(), ErrorKind::WouldBlock | ErrorKind::Interrupted));
+        !is_quiet || self.stream.set_waiting(true).is_err()
     }
 }
 
