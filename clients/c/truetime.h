@@ -22,6 +22,8 @@
 #ifndef TRUETIME_H
 #define TRUETIME_H
 
+#include "truetime_errors.h"
+
 #include <fcntl.h>
 #include <stdbool.h>
 #include <stddef.h>
@@ -50,7 +52,7 @@ extern "C" {
 /* The greatest drift of a clock, in parts per million. */
 #define TT_MAX_DRIFT_PPM UINT64_C(100000)
 
-/* The refusals. */
+/* The refusals; tt_strerror has words for them. */
 enum tt_refusal {
     TT_NOTHING = 801,      /* the daemon has published nothing so far, or nothing is published any more */
     TT_CLOCK_BACK = 802,   /* the clock is below that of the publication, or above the greatest time */

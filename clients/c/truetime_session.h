@@ -13,15 +13,20 @@
  * reply, or that of the system. Nobody knows then whether a commit that was asked for was begun. A caller that does not look
  * is told nothing wrong: a call that does not answer 0 gives the interval of all times, false, or the timestamp 0.
  *
- * The next call after a failure connects anew, to a new session of the service. No line is sent a second time by that: the
- * last commit is forgotten. Nor is the lease set again: once tt_session_lease was called, tt_session_begin refuses with 903
- * as long as the connection has no lease. A session that was closed, or never opened, answers -ENOTCONN.
+ * The next call after a failure connects anew, to a new session of the service. So does a call that finds the connection ended
+ * before its line was sent, as behind a pause, unless a commit of tt_session_begin is pending or a lease was set. No line is
+ * sent a second time by that: the last commit is forgotten. Nor is the lease set again: once tt_session_lease was called,
+ * tt_session_begin and tt_session_commit refuse with 903 as long as the connection has no lease. Where the connection failed,
+ * lost_number, lost_stamp_ns and lost_lease of the session say what the caller has to make good. A session that was closed, or
+ * never opened, answers -ENOTCONN. tt_strerror has words for all answers.
  *
  * A session is for one thread, and takes no memory but its own. Needs POSIX and GCC or Clang: C11 or later (-std=gnu11, or
  * -std=c11 -D_POSIX_C_SOURCE=200809L), or C++17.
  */
 #ifndef TRUETIME_SESSION_H
 #define TRUETIME_SESSION_H
+
+#include "truetime_errors.h"
 
 #include <arpa/inet.h>
 #include <errno.h>
@@ -51,9 +56,13 @@ extern "C" {
 /* The most bytes of a line and of a reply, without the line feed; and of a number that is at most the greatest time. */
 enum { TT_LINE_BYTES = 64, TT_NUMBER_DIGITS = 19 };
 
-/* The refusals of a commit by the session itself: the lease was lost with its connection, and the one that was begun is not
- * known as released. */
+/* The refusals of a commit by the session itself: the lease was lost with its connection, and the one that tt_session_begin
+ * began is not known as released: wait for it. Its number and its timestamp stand in the session. */
 enum { TT_LEASE_LOST = 903, TT_COMMIT_PENDING = 1104 };
+
+/* What the service says, beside TT_COMMIT_PENDING, of the line of a pending commit of which it does not know: a later one has
+ * begun, or it is pending no more. */
+enum { TT_COMMIT_PASSED = 1103, TT_COMMIT_GONE = 1822 };
 
 /* The true time lies in [earliest_ns, latest_ns], both ends included. */
 typedef struct tt_interval {
@@ -68,9 +77,14 @@ typedef struct tt_session {
     int timeout_ms;
     uint64_t number, stamp_ns;   /* the last commit that has a timestamp, counted from 1, and its timestamp */
     tt_commit_state state;       /* whether there is a commit to wait for */
+    bool is_given;               /* whether tt_session_begin gave its timestamp */
     bool wants_lease, has_lease; /* whether a lease was ever asked for, and whether this connection has one */
     struct sockaddr_un address;  /* where to connect to; large enough for one of TCP, too */
     socklen_t length;            /* of the address; 0: not open */
+    /* What went with the last connection that failed: the commit of tt_session_begin that was pending, 0 where none was, which
+     * is never known as released, so begin it again or give it up; and whether there was a lease, which has to be set again. */
+    uint64_t lost_number, lost_stamp_ns;
+    bool lost_lease;
 } tt_session;
 
 /* Gives the connection up, and all that belongs to it. */
@@ -79,7 +93,7 @@ static inline void tt_session_drop(tt_session *session) {
     session->socket = -1;
     session->number = session->stamp_ns = 0;
     session->state = TT_NO_COMMIT;
-    session->has_lease = false;
+    session->is_given = session->has_lease = false;
 }
 
 /* Ends the session for good; a commit that is not released by then is never known as released. One that is not open stays
@@ -89,8 +103,17 @@ static inline void tt_session_close(tt_session *session) {
     session->length = 0;
 }
 
+/* Whether a commit is pending whose timestamp tt_session_begin gave. */
+static inline bool tt_session_is_pending(const tt_session *session) {
+    return session->state == TT_WAITING && session->is_given;
+}
+
 /* Drops a connection that failed. */
 static inline int tt_session_failed(tt_session *session, int error) {
+    bool is_pending = tt_session_is_pending(session);
+    session->lost_number = is_pending ? session->number : 0;
+    session->lost_stamp_ns = is_pending ? session->stamp_ns : 0;
+    session->lost_lease = session->has_lease;
     tt_session_drop(session);
     return error == EAGAIN || error == EWOULDBLOCK || error == EINPROGRESS ? -ETIMEDOUT : -error;
 }
@@ -148,11 +171,10 @@ static inline int tt_session_reach_unix(tt_session *session, int64_t give_up_ms)
 }
 
 /* Connects a session that has no connection. */
-static inline int tt_session_connect(tt_session *session) {
-    int64_t give_up_ms = tt_session_clock_ms() + session->timeout_ms;
+static inline int tt_session_connect(tt_session *session, int64_t give_up_ms) {
     bool is_tcp = session->address.sun_family == AF_INET;
     session->socket = socket(session->address.sun_family, SOCK_STREAM | SOCK_CLOEXEC | (is_tcp ? SOCK_NONBLOCK : 0), 0);
-    if (session->socket < 0) return -errno;
+    if (session->socket < 0) return tt_session_failed(session, errno);
     int error = is_tcp ? tt_session_reach_tcp(session, give_up_ms) : tt_session_reach_unix(session, give_up_ms);
     return error == 0 ? 0 : tt_session_failed(session, error);
 }
@@ -165,14 +187,14 @@ static inline int tt_session_open(tt_session *session, const void *address, sock
     if (address == NULL || timeout_ms <= 0) return -EINVAL;
     memcpy(&session->address, address, length);
     session->length = length;
-    int failed = tt_session_connect(session);
+    int failed = tt_session_connect(session, tt_session_clock_ms() + timeout_ms);
     if (failed != 0) tt_session_close(session);
     return failed;
 }
 
-/* Connects to an IPv4 address in digits, as "127.0.0.1". `timeout_ms` is how long connecting, sending, receiving a reply
- * and the waiting for a release may take, above 0, however many signals come. Answers -EINVAL where an argument is wrong. Where it does not answer 0, the
- * session is not open. */
+/* Connects to an IPv4 address in digits, as "127.0.0.1". `timeout_ms` is how long connecting, a line with its reply, with
+ * connecting anew, and the waiting for a release may take, above 0, however many signals come. Answers -EINVAL where an argument is
+ * wrong. Where it does not answer 0, the session is not open. */
 static inline int tt_session_open_tcp(tt_session *session, const char *host, uint16_t port, int timeout_ms) {
     struct sockaddr_in address;
     memset(&address, 0, sizeof address);
@@ -193,8 +215,19 @@ static inline int tt_session_open_unix(tt_session *session, const char *path, in
     return tt_session_open(session, &address, sizeof address, timeout_ms);
 }
 
-static inline int tt_session_send(tt_session *session, const char *bytes, size_t length) {
-    int64_t give_up_ms = tt_session_clock_ms() + session->timeout_ms;
+/* Gives up a connection that has ended, or on which something came that nobody asked for. Fails where that loses what the caller
+ * has to make good. */
+static inline int tt_session_look(tt_session *session) {
+    char first;
+    if (session->length == 0) return -ENOTCONN;
+    if (session->socket < 0) return 0;
+    bool is_quiet = recv(session->socket, &first, 1, MSG_PEEK | MSG_DONTWAIT) < 0;
+    if (is_quiet && (errno == EAGAIN || errno == EWOULDBLOCK || errno == EINTR)) return 0;
+    int failed = tt_session_failed(session, ECONNRESET);
+    return session->lost_number != 0 || session->lost_lease ? failed : 0;
+}
+
+static inline int tt_session_send(tt_session *session, const char *bytes, size_t length, int64_t give_up_ms) {
     while (length > 0) {
         ssize_t sent = send(session->socket, bytes, length, MSG_NOSIGNAL | MSG_DONTWAIT);
         int error = sent >= 0 || errno == EINTR ? 0 : errno;
@@ -207,8 +240,7 @@ static inline int tt_session_send(tt_session *session, const char *bytes, size_t
     return 0;
 }
 
-static inline int tt_session_receive(tt_session *session, char reply[TT_LINE_BYTES + 1]) {
-    int64_t give_up_ms = tt_session_clock_ms() + session->timeout_ms;
+static inline int tt_session_receive(tt_session *session, char reply[TT_LINE_BYTES + 1], int64_t give_up_ms) {
     size_t length = 0;
     while (length == 0 || reply[length - 1] != '\n') {
         if (length > TT_LINE_BYTES) return tt_session_failed(session, EPROTO);
@@ -225,20 +257,28 @@ static inline int tt_session_receive(tt_session *session, char reply[TT_LINE_BYT
     return 0;
 }
 
+/* Sends a line of at most 64 bytes, and gives its reply. Without a reply the connection is given up. */
+static inline int tt_session_exchange(tt_session *session, const char *line, char reply[TT_LINE_BYTES + 1]) {
+    int64_t give_up_ms = tt_session_clock_ms() + session->timeout_ms;
+    char bytes[TT_LINE_BYTES + 1];
+    size_t length = strnlen(line, TT_LINE_BYTES);
+    memcpy(bytes, line, length);
+    bytes[length] = '\n';
+    reply[0] = '\0';
+    int failed = session->socket < 0 ? tt_session_connect(session, give_up_ms) : 0;
+    if (failed == 0) failed = tt_session_send(session, bytes, length + 1, give_up_ms);
+    return failed != 0 ? failed : tt_session_receive(session, reply, give_up_ms);
+}
+
 /* Sends one line and gives its reply, both without the line feed; `refused N` is a reply like another. Begin no commit and
  * set no lease by it: the other calls do not know of that. Answers -EINVAL where the line has more than 64 bytes or a line
  * feed, and then nothing was sent. */
 static inline int tt_session_ask(tt_session *session, const char *line, char reply[TT_LINE_BYTES + 1]) {
-    char bytes[TT_LINE_BYTES + 1];
-    size_t length = strlen(line);
+    int failed = tt_session_look(session);
     reply[0] = '\0';
-    if (session->length == 0) return -ENOTCONN;
-    if (length > TT_LINE_BYTES || strchr(line, '\n') != NULL) return -EINVAL;
-    memcpy(bytes, line, length);
-    bytes[length] = '\n';
-    int failed = session->socket < 0 ? tt_session_connect(session) : 0;
-    if (failed == 0) failed = tt_session_send(session, bytes, length + 1);
-    return failed != 0 ? failed : tt_session_receive(session, reply);
+    if (failed != 0) return failed;
+    if (strlen(line) > TT_LINE_BYTES || strchr(line, '\n') != NULL) return -EINVAL;
+    return tt_session_exchange(session, line, reply);
 }
 
 /* Takes a space and a number off a reply, and gives what is behind; NULL where something else stands there. A number has
@@ -265,7 +305,7 @@ static inline bool tt_is_reply(const char *reply, const char *word, int count, u
 /* Sends one line and gives its reply, which is not that of a refusal. */
 static inline int tt_session_question(tt_session *session, const char *line, char reply[TT_LINE_BYTES + 1]) {
     uint64_t number;
-    int failed = tt_session_ask(session, line, reply);
+    int failed = tt_session_exchange(session, line, reply);
     if (failed == 0 && tt_is_reply(reply, "refused", 1, &number) && number >= 1 && number <= UINT16_MAX) return (int)number;
     return failed;
 }
@@ -276,7 +316,8 @@ static inline int tt_session_now(tt_session *session, tt_interval *now) {
     uint64_t numbers[2];
     now->earliest_ns = 0;
     now->latest_ns = TT_MAX_TIME_NS;
-    int failed = tt_session_question(session, "now", reply);
+    int failed = tt_session_look(session);
+    if (failed == 0) failed = tt_session_question(session, "now", reply);
     if (failed != 0) return failed;
     if (!tt_is_reply(reply, "now", 2, numbers) || numbers[0] > numbers[1]) return tt_session_failed(session, EPROTO);
     now->earliest_ns = numbers[0];
@@ -288,7 +329,8 @@ static inline int tt_session_compare(tt_session *session, const char *word, uint
     char line[TT_LINE_BYTES + 1], reply[TT_LINE_BYTES + 1];
     *is_so = false;
     snprintf(line, sizeof line, "%s %" PRIu64, word, t_ns);
-    int failed = tt_session_question(session, line, reply);
+    int failed = tt_session_look(session);
+    if (failed == 0) failed = tt_session_question(session, line, reply);
     if (failed != 0) return failed;
     *is_so = strcmp(reply, "yes") == 0;
     return *is_so || strcmp(reply, "no") == 0 ? 0 : tt_session_failed(session, EPROTO);
@@ -311,7 +353,8 @@ static inline int tt_session_lease(tt_session *session, uint64_t lo_ns, uint64_t
     uint64_t numbers[2];
     session->wants_lease = true;
     snprintf(line, sizeof line, "lease %" PRIu64 " %" PRIu64, lo_ns, hi_ns);
-    int failed = tt_session_question(session, line, reply);
+    int failed = tt_session_look(session);
+    if (failed == 0) failed = tt_session_question(session, line, reply);
     if (failed != 0) return failed;
     if (!tt_is_reply(reply, "leased", 2, numbers) || numbers[0] != lo_ns || numbers[1] != hi_ns)
         return tt_session_failed(session, EPROTO);
@@ -336,29 +379,9 @@ static inline int tt_session_send_commit(tt_session *session, uint64_t number, u
     return 0;
 }
 
-/* Begins a commit and gives its timestamp, no less than `floor_ns`. One commit at a time: refuses with 1104 before the
- * release of the last one. Refuses with 903 where the lease is over or was lost with its connection: set it again. After
- * another refusal begin again, with the same floor: the service may have begun it. */
-static inline int tt_session_begin(tt_session *session, uint64_t floor_ns, uint64_t *stamp_ns) {
-    *stamp_ns = 0;
-    if (session->length == 0) return -ENOTCONN;
-    if (session->state == TT_WAITING) return TT_COMMIT_PENDING;
-    if (session->wants_lease && !session->has_lease) return TT_LEASE_LOST;
-    session->state = TT_NO_COMMIT;
-    int failed = tt_session_send_commit(session, session->number + 1, floor_ns);
-    if (failed == 0) *stamp_ns = session->stamp_ns;
-    return failed;
-}
-
-/* Waits until the timestamp of the commit has surely passed, and gives it. Answers -ETIMEDOUT where that takes longer than
- * the time-out; as after a refusal, the commit still waits then, and may be waited for again. Answers -EINVAL where no commit
- * was begun, or the connection of the last one failed. */
-static inline int tt_session_wait(tt_session *session, uint64_t *stamp_ns) {
+/* Sends the line of the last commit until it is released. */
+static inline int tt_session_release(tt_session *session, int64_t give_up_ms) {
     const struct timespec pause = {0, 1000000};
-    int64_t give_up_ms = tt_session_clock_ms() + session->timeout_ms;
-    *stamp_ns = 0;
-    if (session->length == 0) return -ENOTCONN;
-    if (session->state == TT_NO_COMMIT) return -EINVAL;
     while (session->state == TT_WAITING) {
         int failed = tt_session_send_commit(session, session->number, 0);
         if (failed != 0) return failed;
@@ -366,14 +389,56 @@ static inline int tt_session_wait(tt_session *session, uint64_t *stamp_ns) {
         if (tt_session_clock_ms() > give_up_ms) return -ETIMEDOUT;
         nanosleep(&pause, NULL);
     }
-    *stamp_ns = session->stamp_ns;
     return 0;
 }
 
-/* Begins a commit, waits for its release, and gives its timestamp, as tt_session_begin and tt_session_wait. */
+/* Begins a commit, after the end of one whose timestamp nobody has: it may be too early for this one. */
+static inline int tt_session_start(tt_session *session, uint64_t floor_ns, int64_t give_up_ms) {
+    int failed = tt_session_look(session);
+    if (failed != 0) return failed;
+    if (tt_session_is_pending(session)) return TT_COMMIT_PENDING;
+    failed = tt_session_release(session, give_up_ms);
+    if (failed == TT_COMMIT_PASSED || failed == TT_COMMIT_PENDING || failed == TT_COMMIT_GONE)
+        tt_session_drop(session);
+    else if (failed != 0)
+        return failed;
+    if (session->wants_lease && !session->has_lease) return TT_LEASE_LOST;
+    session->state = TT_NO_COMMIT;
+    session->is_given = false;
+    return tt_session_send_commit(session, session->number + 1, floor_ns);
+}
+
+/* Begins a commit and gives its timestamp, no less than `floor_ns`. One commit at a time: refuses with TT_COMMIT_PENDING before
+ * the release of the last one that was begun by this. One that tt_session_commit left pending is ended first, as that says.
+ * Refuses with 903 where the lease is over or was lost with its connection: set it again. After another refusal begin again, with
+ * the same floor: the service may have begun it. */
+static inline int tt_session_begin(tt_session *session, uint64_t floor_ns, uint64_t *stamp_ns) {
+    int failed = tt_session_start(session, floor_ns, tt_session_clock_ms() + session->timeout_ms);
+    session->is_given = session->is_given || failed == 0;
+    *stamp_ns = failed == 0 ? session->stamp_ns : 0;
+    return failed;
+}
+
+/* Waits until the timestamp of the commit has surely passed, and gives it. Answers -ETIMEDOUT where that takes longer than
+ * the time-out; as after a refusal, the commit still waits then, and may be waited for again. Answers -EINVAL where no commit
+ * was begun, or the connection of the last one failed. */
+static inline int tt_session_wait(tt_session *session, uint64_t *stamp_ns) {
+    int64_t give_up_ms = tt_session_clock_ms() + session->timeout_ms;
+    int failed = tt_session_look(session);
+    if (failed == 0) failed = session->state == TT_NO_COMMIT ? -EINVAL : tt_session_release(session, give_up_ms);
+    *stamp_ns = failed == 0 ? session->stamp_ns : 0;
+    return failed;
+}
+
+/* Begins a commit, waits for its release, and gives its timestamp, with the answers of tt_session_begin and tt_session_wait.
+ * Where it fails while it waits, the commit stays pending, and nobody has its timestamp: tt_session_wait goes on with it, and the
+ * next tt_session_commit or tt_session_begin waits for its release first, and then begins another one. */
 static inline int tt_session_commit(tt_session *session, uint64_t floor_ns, uint64_t *stamp_ns) {
-    int failed = tt_session_begin(session, floor_ns, stamp_ns);
-    return failed != 0 ? failed : tt_session_wait(session, stamp_ns);
+    int64_t give_up_ms = tt_session_clock_ms() + session->timeout_ms;
+    int failed = tt_session_start(session, floor_ns, give_up_ms);
+    if (failed == 0) failed = tt_session_release(session, give_up_ms);
+    *stamp_ns = failed == 0 ? session->stamp_ns : 0;
+    return failed;
 }
 
 #ifdef __cplusplus

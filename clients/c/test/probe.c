@@ -135,6 +135,22 @@ static void send_signal(void) {
     setitimer(ITIMER_REAL, &soon, NULL);
 }
 
+/* Prints what a call answers that does not answer 0, and what it says of a commit and of a lease. */
+static void print_error(const tt_session *session, int failed) {
+    if (failed == TT_COMMIT_PENDING && tt_session_is_pending(session))
+        printf("refused %d %" PRIu64 " %" PRIu64 "\n", failed, session->number, session->stamp_ns);
+    else if (failed > 0)
+        printf("refused %d\n", failed);
+    else if (failed == -EINVAL)
+        puts("invalid");
+    else {
+        bool is_open = session->length != 0 && session->socket < 0;
+        fputs(failed == -ETIMEDOUT ? "timed out" : "failed", stdout);
+        if (is_open && session->lost_number != 0) printf(" %" PRIu64 " %" PRIu64, session->lost_number, session->lost_stamp_ns);
+        puts(is_open && session->lost_lease ? " lease" : "");
+    }
+}
+
 static int try_sessions(void) {
     tt_session session;
     char call[256], said[TT_LINE_BYTES + 1];
@@ -157,10 +173,8 @@ static int try_sessions(void) {
             failed = call_session(&session, call, rest, said);
         if (failed == 0)
             puts(said);
-        else if (failed > 0)
-            printf("refused %d\n", failed);
         else
-            puts(failed == -ETIMEDOUT ? "timed out" : failed == -EINVAL ? "invalid" : "failed");
+            print_error(&session, failed);
         fflush(stdout);
     }
     return 0;
