@@ -13,6 +13,7 @@ import java.nio.channels.SocketChannel;
 import java.nio.charset.StandardCharsets;
 import java.time.Duration;
 import java.util.Map;
+import java.util.Set;
 import java.util.regex.Pattern;
 
 /**
@@ -30,17 +31,20 @@ import java.util.regex.Pattern;
  * <p>A session has one line and its reply at a time, and is for one thread. A call throws {@link TrueTime.Refused} where the
  * service refuses, and an {@link IOException} where the connection fails: {@link SocketTimeoutException} where no reply came
  * in time, {@link EOFException} where the service ended the session. Nobody knows then whether a commit that was asked for
- * was begun.
+ * was begun. It is {@link Lost}, with that as its cause, where a commit of {@link #begin} was pending or a lease was set.
  *
- * <p>The next call after that connects anew, to a new session of the service. No line is sent a second time by that: the last
- * commit is forgotten. Nor is the lease set again: once {@link #lease} was called, {@link #begin} refuses with 903 as long as
- * the connection has no lease. A session that was closed throws {@link ClosedChannelException}.
+ * <p>The next call after that connects anew, to a new session of the service. So does a call that finds the connection ended
+ * before its line was sent, as behind a pause, where that loses nothing of the caller's. No line is sent a second time by that:
+ * the last commit is forgotten. Nor is the lease set again: once {@link #lease} was called, {@link #begin} and {@link #commit}
+ * refuse with 903 as long as the connection has no lease. A session that was closed throws {@link ClosedChannelException}.
  */
 public final class Session implements AutoCloseable {
     /** The most bytes of a line and of a reply, without the line feed. */
     private static final int LINE_BYTES = 64;
     private static final int LEASE_LOST = 903;
     private static final int COMMIT_PENDING = 1104;
+    /** The refusals that say of the line of a pending commit that the service knows of no such one. */
+    private static final Set<Integer> NOT_PENDING = Set.of(1103, COMMIT_PENDING, 1822);
     private static final long PAUSE_MS = 1;
     private static final Pattern LINE = Pattern.compile("[ -~]{0,64}");
     private static final Pattern NUMBER = Pattern.compile("0|[1-9][0-9]{0,18}");
@@ -55,6 +59,8 @@ public final class Session implements AutoCloseable {
     private boolean isClosed;
     /** Whether a lease was ever asked for: then no commit begins without one. */
     private boolean wantsLease;
+    /** Until when a line may take with its reply, by {@link System#nanoTime}. */
+    private long giveUpNs;
     /** The connection, and null where there is none. What follows belongs to it. */
     private SocketChannel channel;
     private Selector selector;
@@ -62,6 +68,8 @@ public final class Session implements AutoCloseable {
     private long number;
     private long stampNs;
     private State state = State.NO_COMMIT;
+    /** Whether begin gave its timestamp to the caller. */
+    private boolean isGiven;
     private boolean hasLease;
 
     private Session(SocketAddress address, Duration timeout) {
@@ -72,11 +80,67 @@ public final class Session implements AutoCloseable {
     /** The true time lies from earliestNs to latestNs, both included. */
     public record Interval(long earliestNs, long latestNs) {}
 
+    /** The refusal 1104: a commit of {@link #begin} is not known as released. Call {@link #awaitRelease}. */
+    public static final class CommitPending extends TrueTime.Refused {
+        private static final long serialVersionUID = 1;
+        private final long commit;
+        private final long stampNs;
+
+        private CommitPending(long commit, long stampNs) {
+            super(COMMIT_PENDING, ": await the release of commit " + commit + ", whose timestamp is " + stampNs);
+            this.commit = commit;
+            this.stampNs = stampNs;
+        }
+
+        /** Its number in the session. */
+        public long commit() {
+            return commit;
+        }
+
+        /** Its timestamp. */
+        public long stampNs() {
+            return stampNs;
+        }
+    }
+
+    /** The connection failed, as its cause says, and took along what the caller has to make good. */
+    public static final class Lost extends IOException {
+        private static final long serialVersionUID = 1;
+        private final long commit;
+        private final long stampNs;
+        private final boolean hadLease;
+
+        private Lost(IOException failed, long commit, long stampNs, boolean hadLease) {
+            super(failed
+                + (commit == 0 ? "" : "; commit " + commit + ", whose timestamp is " + stampNs + ", was pending: begin it again, or give it up")
+                + (hadLease ? "; the lease has to be set again" : ""), failed);
+            this.commit = commit;
+            this.stampNs = stampNs;
+            this.hadLease = hadLease;
+        }
+
+        /** The number of the commit of begin that was pending, and 0 where none was. It is never known as released. */
+        public long commit() {
+            return commit;
+        }
+
+        /** Its timestamp. */
+        public long stampNs() {
+            return stampNs;
+        }
+
+        /** Whether the session had a lease: a new one has none until it is set again. */
+        public boolean hadLease() {
+            return hadLease;
+        }
+    }
+
     private record Reply(String word, long[] numbers) {}
 
     /**
      * Connects to a TCP address or a Unix socket. The time-out is how long connecting, sending, each receiving and the
-     * waiting for a release may take, at least a millisecond; connecting to a Unix socket has none.
+     * waiting for a release may take, at least a millisecond; connecting to a Unix socket has none. Connecting anew is part of
+     * the sending and receiving that follow it.
      */
     public static Session connect(SocketAddress address, Duration timeout) throws IOException {
         if (timeoutMs(timeout) <= 0) {
@@ -119,9 +183,44 @@ public final class Session implements AutoCloseable {
         number = 0;
         stampNs = 0;
         state = State.NO_COMMIT;
+        isGiven = false;
         hasLease = false;
         try (selector; channel) {
             // Both are closed, where there are any.
+        }
+    }
+
+    private boolean isPending() {
+        return state == State.WAITING && isGiven;
+    }
+
+    /** Gives the connection up; the exception that says so. */
+    private IOException lost(IOException failed) throws IOException {
+        boolean isPending = isPending();
+        IOException lost = isPending || hasLease ? new Lost(failed, isPending ? number : 0, isPending ? stampNs : 0, hasLease) : failed;
+        drop();
+        return lost;
+    }
+
+    /**
+     * Gives up a connection that has ended, or on which something came that nobody asked for. Throws where that loses what the
+     * caller has to make good.
+     */
+    private void look() throws IOException {
+        checkOpen();
+        if (channel == null) {
+            return;
+        }
+        IOException ended = new EOFException("the service ended the session");
+        try {
+            if (channel.read(ByteBuffer.allocate(1)) == 0) {
+                return;
+            }
+        } catch (IOException failed) {
+            ended = failed;
+        }
+        if (lost(ended) instanceof Lost lost) {
+            throw lost;
         }
     }
 
@@ -147,7 +246,13 @@ public final class Session implements AutoCloseable {
         if (!LINE.matcher(line).matches()) {
             throw new IllegalArgumentException("not a line: " + line);
         }
-        checkOpen();
+        look();
+        return exchange(line);
+    }
+
+    /** Sends a line and gives its reply. Without a reply the connection is given up. */
+    private String exchange(String line) throws IOException {
+        giveUpNs = System.nanoTime() + timeout.toNanos();
         if (channel == null) {
             connect();
         }
@@ -158,7 +263,9 @@ public final class Session implements AutoCloseable {
                 throw new IOException("not a reply to " + line);
             }
             return reply;
-        } catch (IOException | RuntimeException failed) {
+        } catch (IOException failed) {
+            throw lost(failed);
+        } catch (RuntimeException failed) {
             drop();
             throw failed;
         }
@@ -166,6 +273,7 @@ public final class Session implements AutoCloseable {
 
     /** The time now. */
     public Interval now() throws IOException {
+        look();
         long[] numbers = answered("now", Map.of("now", 2)).numbers;
         if (numbers[0] > numbers[1]) {
             throw failed("now");
@@ -175,11 +283,13 @@ public final class Session implements AutoCloseable {
 
     /** Whether time {@code tNs} has surely passed. */
     public boolean after(long tNs) throws IOException {
+        look();
         return answered("after " + tNs, YES_OR_NO).word.equals("yes");
     }
 
     /** Whether time {@code tNs} has surely not arrived. */
     public boolean before(long tNs) throws IOException {
+        look();
         return answered("before " + tNs, YES_OR_NO).word.equals("yes");
     }
 
@@ -190,6 +300,7 @@ public final class Session implements AutoCloseable {
     public void lease(long loNs, long hiNs) throws IOException {
         checkOpen();
         wantsLease = true;
+        look();
         String line = "lease " + Long.toUnsignedString(loNs) + " " + Long.toUnsignedString(hiNs);
         Reply reply = answered(line, LEASED);
         if (reply.numbers[0] != loNs || reply.numbers[1] != hiNs) {
@@ -199,20 +310,14 @@ public final class Session implements AutoCloseable {
     }
 
     /**
-     * Begins a commit and gives its timestamp, no less than {@code floorNs}. One commit at a time: refuses with 1104 before
-     * the release of the last one. Refuses with 903 where the lease is over or was lost with its connection: set it again.
-     * After another refusal begin again, with the same floor: the service may have begun it.
+     * Begins a commit and gives its timestamp, no less than {@code floorNs}. One commit at a time: throws {@link CommitPending}
+     * before the release of the last one that was begun by this. One that {@link #commit} left pending is ended first, as that
+     * says. Refuses with 903 where the lease is over or was lost with its connection: set it again. After another refusal begin
+     * again, with the same floor: the service may have begun it.
      */
     public long begin(long floorNs) throws IOException {
-        checkOpen();
-        if (state == State.WAITING) {
-            throw new TrueTime.Refused(COMMIT_PENDING);
-        }
-        if (wantsLease && !hasLease) {
-            throw new TrueTime.Refused(LEASE_LOST);
-        }
-        state = State.NO_COMMIT;
-        sendCommit(number + 1, floorNs);
+        start(floorNs, System.nanoTime());
+        isGiven = true;
         return stampNs;
     }
 
@@ -223,10 +328,51 @@ public final class Session implements AutoCloseable {
      */
     public long awaitRelease() throws IOException {
         long began = System.nanoTime();
-        checkOpen();
+        look();
         if (state == State.NO_COMMIT) {
             throw new IllegalStateException("no commit was begun");
         }
+        release(began);
+        return stampNs;
+    }
+
+    /**
+     * Begins a commit, waits for its release, and gives its timestamp, with the exceptions of {@link #begin} and {@link
+     * #awaitRelease}. Where it fails while it waits, the commit stays pending, and nobody has its timestamp: {@link
+     * #awaitRelease} goes on with it, and the next {@link #commit} or {@link #begin} waits for its release first, and then begins
+     * another one.
+     */
+    public long commit(long floorNs) throws IOException {
+        long began = System.nanoTime();
+        start(floorNs, began);
+        release(began);
+        return stampNs;
+    }
+
+    /** Begins a commit, after the end of one whose timestamp nobody has: it may be too early for this one. */
+    private void start(long floorNs, long began) throws IOException {
+        look();
+        if (isPending()) {
+            throw new CommitPending(number, stampNs);
+        }
+        try {
+            release(began);
+        } catch (TrueTime.Refused refused) {
+            if (!NOT_PENDING.contains(refused.number())) {
+                throw refused;
+            }
+            drop();
+        }
+        if (wantsLease && !hasLease) {
+            throw new TrueTime.Refused(LEASE_LOST);
+        }
+        state = State.NO_COMMIT;
+        isGiven = false;
+        sendCommit(number + 1, floorNs);
+    }
+
+    /** Sends the line of the last commit until it is released. */
+    private void release(long began) throws IOException {
         while (state == State.WAITING) {
             sendCommit(number, 0);
             if (state == State.WAITING) {
@@ -236,13 +382,6 @@ public final class Session implements AutoCloseable {
                 pause();
             }
         }
-        return stampNs;
-    }
-
-    /** Begins a commit, waits for its release, and gives its timestamp, as {@link #begin} and {@link #awaitRelease}. */
-    public long commit(long floorNs) throws IOException {
-        begin(floorNs);
-        return awaitRelease();
     }
 
     /** Sends the line of a commit. The timestamp of one that has none so far has to be at least {@code floorNs}. */
@@ -261,7 +400,7 @@ public final class Session implements AutoCloseable {
 
     /** The reply as a word and its numbers; each word that is wanted has so many. */
     private Reply answered(String line, Map<String, Integer> wanted) throws IOException {
-        String[] words = ask(line).split(" ", -1);
+        String[] words = exchange(line).split(" ", -1);
         long[] numbers = new long[words.length - 1];
         for (int place = 0; place < numbers.length; place++) {
             numbers[place] = number(line, words[place + 1]);
@@ -286,8 +425,7 @@ public final class Session implements AutoCloseable {
     }
 
     private IOException failed(String line) throws IOException {
-        drop();
-        return new IOException("not a reply to " + line);
+        return lost(new IOException("not a reply to " + line));
     }
 
     private void send(String line) throws IOException {
@@ -318,7 +456,8 @@ public final class Session implements AutoCloseable {
 
     private void awaitChannel(int operation) throws IOException {
         channel.keyFor(selector).interestOps(operation);
-        int ready = selector.select(timeout.toMillis());
+        long leftMs = (giveUpNs - System.nanoTime() + 999_999) / 1_000_000;
+        int ready = selector.select(Math.max(leftMs, 1));
         selector.selectedKeys().clear();
         if (ready == 0) {
             throw Thread.currentThread().isInterrupted()

@@ -52,6 +52,7 @@ public final class TrueTime implements AutoCloseable {
     private static final long LOWEST_BITS = 0x0101_0101_0101_0101L;
     private static final VarHandle WORD = MethodHandles.byteBufferViewVarHandle(long[].class, ByteOrder.LITTLE_ENDIAN);
     private static final Map<Integer, String> MEANINGS = Map.ofEntries(
+        Map.entry(1, "the service is out of memory"),
         Map.entry(101, "the ends of the lease are out of order"),
         Map.entry(102, "the upper end of the lease is above the greatest time"),
         Map.entry(801, "the daemon has published nothing so far, or nothing is published any more"),
@@ -59,12 +60,21 @@ public final class TrueTime implements AutoCloseable {
         Map.entry(803, "the clock gave no reading"),
         Map.entry(901, "no stamp is left up to the greatest time"),
         Map.entry(902, "the floor is too far ahead of the latest"),
-        Map.entry(903, "the least stamp is above the upper end of the lease"),
+        Map.entry(903, "the least stamp is above the upper end of the lease, or the session has lost its lease: set it again"),
+        Map.entry(1001, "as many commits are pending as may"),
+        Map.entry(1002, "a commit with this id is pending or was released"),
+        Map.entry(1003, "another commit has this stamp"),
+        Map.entry(1101, "the service knows no such line"),
+        Map.entry(1102, "the line has more than 64 bytes"),
+        Map.entry(1103, "a later commit has begun in this session"),
+        Map.entry(1104, "the last commit is not known as released"),
         Map.entry(1701, "the file cannot be opened, mapped or read"),
         Map.entry(1702, "not such a file, or of another owner, writable by others, of another boot or another clock"),
         Map.entry(1703, "no daemon wrote what stands there"),
         Map.entry(1704, "another publication came during each of the tries"),
         Map.entry(1708, "the clock is past the last reading at which the publication may be used"),
+        Map.entry(1821, "the floor, or the lower end of the lease, is further ahead than the machine allows"),
+        Map.entry(1822, "the commit is pending no more: its connection broke, or the machine ends"),
         Map.entry(1823, "the machine knows that an assumption of the service is broken"),
         Map.entry(1824, "the reading is wider than the machine allows"));
 
@@ -78,12 +88,16 @@ public final class TrueTime implements AutoCloseable {
     }
 
     /** A refusal; {@link #number} says which. */
-    public static final class Refused extends RuntimeException {
+    public static class Refused extends RuntimeException {
         private static final long serialVersionUID = 1;
         private final int number;
 
         Refused(int number) {
-            super("refused " + number + ": " + MEANINGS.getOrDefault(number, "see docs/FORMATS.md"), null, false, false);
+            this(number, "");
+        }
+
+        Refused(int number, String more) {
+            super("refused " + number + ": " + MEANINGS.getOrDefault(number, "see docs/FORMATS.md") + more, null, false, false);
             this.number = number;
         }
 

@@ -119,6 +119,21 @@ public final class Probe {
         }).start();
     }
 
+    /** An error of a session, with what it carries. */
+    private static String said(Exception failed) {
+        if (failed instanceof Session.CommitPending pending) {
+            return "refused " + pending.number() + " " + pending.commit() + " " + pending.stampNs();
+        }
+        if (failed instanceof TrueTime.Refused refused) {
+            return "refused " + refused.number();
+        }
+        if (failed instanceof Session.Lost lost) {
+            String commit = lost.commit() == 0 ? "" : " " + lost.commit() + " " + lost.stampNs();
+            return said((IOException) lost.getCause()) + commit + (lost.hadLease() ? " lease" : "");
+        }
+        return failed instanceof SocketTimeoutException ? "timed out" : "failed";
+    }
+
     private static void trySessions(BufferedReader calls) throws IOException {
         Session session = null;
         for (String call = calls.readLine(); call != null; call = calls.readLine()) {
@@ -132,12 +147,8 @@ public final class Probe {
                 } else {
                     said = given(session, words[0], rest);
                 }
-            } catch (TrueTime.Refused refused) {
-                said = "refused " + refused.number();
-            } catch (SocketTimeoutException late) {
-                said = "timed out";
-            } catch (IOException failed) {
-                said = "failed";
+            } catch (TrueTime.Refused | IOException failed) {
+                said = said(failed);
             } catch (IllegalStateException | IllegalArgumentException invalid) {
                 said = "invalid";
             }
