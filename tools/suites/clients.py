@@ -1,8 +1,8 @@
 """Tests the readers and sessions of clients/: each is compiled without a warning, gives the answers that are wanted for the same
 vectors, the same files, mapped and not, a file that becomes shorter, and the same conversations with a stand-in for the service, and the C
 reader is put beside a writer that never pauses, also with the compiler's checks of addresses, undefined behaviour and threads. The cases
-of stampers are in clients_of_stampers.py, those of what is opened and closed in clients_of_openings.py, and how long each of them waits in
-clients_of_waits.py. Sessions are put beside a machine that is killed and started again, too. Go has tests of its own,
+of stampers are in clients_of_stampers.py, those of what is opened and closed in clients_of_openings.py, how long each of them waits in
+clients_of_waits.py, and programs that commit in a loop in clients_of_loops.py. Sessions are put beside a machine that is killed and started again, too. Go has tests of its own,
 which are run in each way in which it is built, with checks of races, and beside a machine, and Python has some for asyncio.
 
 The readers run beside writers for 10 seconds, or as many as --seconds says. A language whose compiler is not here is left out, with a line
@@ -180,7 +180,8 @@ SILENT, CLOSED, AGAIN, LATE, LATE_S = "(silent)", "(closed)", "(again)", "(late)
 ANEW = ("(anew)", "")
 
 # Sessions, worked out by hand: the time-out in milliseconds, and the calls of the client. Each has the lines that it sends, with the
-# reply that the stand-in service gives to each, and what the client says of it. A reply comes in pieces that `|` cuts and ends with
+# reply that the stand-in service gives to each, and what the client says of it, with the number and the timestamp of the commit that an
+# error carries. A reply comes in pieces that `|` cuts and ends with
 # `\n`, or with CLOSED, the end of the connection; SILENT never comes; LATE is a pause; one that begins with AGAIN comes as often as its
 # line does.
 SESSIONS = {
@@ -200,7 +201,7 @@ SESSIONS = {
     "commits": (20_000, [
         ("wait", [], "invalid"),
         ("begin 0", [("commit 1 0", "waiting 1 200\n")], "200"),
-        ("begin 0", [], "refused 1104"),
+        ("begin 0", [], "refused 1104 1 200"),
         ("after 200", [("after 200", "no\n")], "no"),
         ("wait", [("commit 1 0", "waiting 1 200\n"), ("commit 1 0", "waiting 1 200\n"), ("commit 1 0", "committed 1 200\n")], "200"),
         ("wait", [], "200"),
@@ -258,7 +259,7 @@ SESSIONS = {
         ("begin 0", [("commit 1 0", SILENT)], "timed out"),
         ("wait", [], "invalid"),
         ("begin 7", [ANEW, ("commit 1 7", "waiting 1 200\n")], "200"),
-        ("wait", [("commit 1 0", SILENT)], "timed out"),
+        ("wait", [("commit 1 0", SILENT)], "timed out 1 200"),
         ("wait", [], "invalid"),
         ("after 9", [ANEW, ("after 9", "no\n")], "no"),
     ]),
@@ -294,7 +295,7 @@ SESSIONS = {
     ]),
     "closed while a commit waits": (20_000, [
         ("begin 0", [("commit 1 0", "waiting 1 200\n")], "200"),
-        ("wait", [("commit 1 0", "waiting 1 200\n"), ("commit 1 0", CLOSED)], "failed"),
+        ("wait", [("commit 1 0", "waiting 1 200\n"), ("commit 1 0", CLOSED)], "failed 1 200"),
         ("wait", [], "invalid"),
         ("now", [ANEW, ("now", "now 5 15\n")], "5 15"),
         ("wait", [], "invalid"),
@@ -310,7 +311,7 @@ SESSIONS = {
     "a lease is lost": (20_000, [
         ("lease 300 400", [("lease 300 400", "leased 300 400\n")], "leased 300 400"),
         ("begin 0", [("commit 1 0", "waiting 1 300\n")], "300"),
-        ("wait", [("commit 1 0", CLOSED)], "failed"),
+        ("wait", [("commit 1 0", CLOSED)], "failed 1 300 lease"),
         ("begin 0", [], "refused 903"),
         ("commit 0", [], "refused 903"),
         ("now", [ANEW, ("now", "now 5 15\n")], "5 15"),
@@ -367,7 +368,7 @@ def conversations():
     for reply in WRONG_RELEASES:
         begun = ("begin 0", [("commit 1 0", "waiting 1 200\n")], "200")
         yield f"wait: {reply!r}", 20_000, [
-            begun, ("wait", [("commit 1 0", reply)], "failed"), ("wait", [], "invalid"), ("now", [ANEW, ("now", "now 7 9\n")], "7 9")]
+            begun, ("wait", [("commit 1 0", reply)], "failed 1 200"), ("wait", [], "invalid"), ("now", [ANEW, ("now", "now 7 9\n")], "7 9")]
 
 
 def connections(calls):
@@ -763,7 +764,7 @@ def try_restarts(trial, name, words, machine):
             stamp = int(say(f"begin {before + SECOND // 2}"))
             trial.check(name, before + SECOND // 2 <= stamp, f"{stamp} for a commit of {before}")
             machine.kill()
-            wants("wait", "failed")
+            wants("wait", f"failed 2 {stamp} lease" if lease else f"failed 1 {stamp}")
             wants("wait", "invalid")
             wants("now", "failed")
             wants("begin 0", "refused 903" if lease else "failed")

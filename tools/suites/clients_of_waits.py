@@ -317,7 +317,8 @@ def interrupts(trial):
                         lines = [(f"open tcp {releasing.server_address[1]} 30000", "open"), ("begin 0", "200"), ("interrupt", "interrupt"),
                                  ("wait", "failed"), ("interrupted", "yes")]
                         for line, wanted in lines:
-                            wants(trial, name, probe.say, line, wanted)
+                            said = probe.say(line).removesuffix(" 1 200")  # it fails by its connection where it sends a line
+                            trial.check(name, said == wanted, f"{line}: {said!r} in place of {wanted!r}")
 
 
 @contextlib.contextmanager
