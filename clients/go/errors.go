@@ -21,7 +21,7 @@ const (
 	FloorTooFar    Refusal = 902  // the floor is too far ahead
 	LeaseOver      Refusal = 903  // the least timestamp is above the upper end of the lease, or a session has lost its lease
 	TooManyCommits Refusal = 1001 // as many commits are pending as may
-	NumberUsed     Refusal = 1002 // a commit with this number is pending or was released
+	IDUsed         Refusal = 1002 // a commit with this id is pending or was released
 	StampUsed      Refusal = 1003 // another commit has this timestamp
 	NoLine         Refusal = 1101 // the service knows no such line
 	LineTooLong    Refusal = 1102 // the line has more than 64 bytes
@@ -49,7 +49,7 @@ var meanings = map[Refusal]string{
 	FloorTooFar:    "the floor is too far ahead",
 	LeaseOver:      "the least timestamp is above the upper end of the lease, or the session has lost its lease: set it again",
 	TooManyCommits: "as many commits are pending as may",
-	NumberUsed:     "a commit with this number is pending or was released",
+	IDUsed:         "a commit with this id is pending or was released",
 	StampUsed:      "another commit has this timestamp",
 	NoLine:         "the service knows no such line",
 	LineTooLong:    "the line has more than 64 bytes",
@@ -78,7 +78,7 @@ func (r Refusal) Error() string {
 // of the step that would have released it: then it is pending, and has a timestamp.
 func (r Refusal) neverBegins() bool {
 	switch r {
-	case UsedUp, FloorTooFar, LeaseOver, TooManyCommits, NumberUsed, StampUsed, CommitPending, FloorAboveCap:
+	case UsedUp, FloorTooFar, LeaseOver, TooManyCommits, IDUsed, StampUsed, CommitPending, FloorAboveCap:
 		return true
 	}
 	return false

@@ -185,14 +185,16 @@ def constants(trial):
     trial.note(f"{len(MEANT)} constants; {len(trial.result.wrong)} wrong")
 
 
-# What the clients say of a refusal, each in its own words: these have to be among them, and among those of no other one.
+# What the clients say of each refusal, in words of their own: these have to be among them, and among those of no other one.
 WORDS = {
-    101: "ends of the lease are out of order", 102: "end of the lease is above the greatest time", 801: "published nothing so far",
+    1: "out of memory", 101: "ends of the lease are out of order", 102: "end of the lease is above the greatest time", 801: "published nothing so far",
     802: "below that of the publication", 803: "the clock gave no reading", 901: "is left up to the greatest time",
-    902: "the floor is ", 903: "the lease", 1104: "the last commit is not known as released",
+    902: "the floor is ", 903: "the lease", 1001: "as many commits are pending", 1002: "is pending or was released",
+    1003: "another commit has this", 1101: "knows no such line", 1102: "more than 64 bytes", 1103: "a later commit has begun",
+    1104: "the last commit is not known as released",
     1701: "cannot be opened, mapped or read", 1702: "of another owner, writable by others", 1703: "no daemon wrote what stands there",
     1704: "during each of the tries", 1708: "past the last reading", 1821: "further ahead than the machine allows",
-    1823: "an assumption of the service is broken", 1824: "wider than the machine allows",
+    1822: "is pending no more", 1823: "an assumption of the service is broken", 1824: "wider than the machine allows",
 }
 # In the words of 903 a lease is over, lost, or not long enough.
 NOT_903 = re.compile("ends? of the lease (is above the greatest|are out of)|lower end of the lease, is further")
@@ -203,11 +205,10 @@ def words_of_refusals():
     def pairs(name, pattern, flags=re.MULTILINE):
         return re.findall(pattern, read_text(f"clients/{name}"), flags)
 
-    yield "C", [(int(number), text) for name in ("truetime.h", "truetime_stamper.h")
-                for number, text in pairs(f"c/{name}", r"^    TT_\w+ = (\d+),? +/\* (.*?) \*/")]
+    comments = [pair for name in ("truetime.h", "truetime_stamper.h") for pair in pairs(f"c/{name}", r"^    TT_\w+ = (\d+),? +/\* (.*?) \*/")]
+    yield "C", [(int(number), text) for number, text in comments + pairs("c/truetime_errors.h", r'case (\d+): return "(.*)";')]
     yield "Python", [(int(number), text) for number, text in pairs("python/truetime/refusals.py", r'^    (\d+): "(.*)",$')]
-    numbers = dict(pairs("rust/src/lib.rs", r"Refused::(\w+) => (\d+),"))
-    yield "Rust", [(int(numbers[name]), text) for name, text in pairs("rust/src/lib.rs", r'Refused::(\w+) => "(.*)",')]
+    yield "Rust", [(int(number), text) for number, text in pairs("rust/src/lib.rs", r'^        (\d+) => "(.*)",$')]
     yield "Java", [(int(number), text) for number, text in pairs("java/TrueTime.java", r'Map\.entry\((\d+), "(.*?)"\)')]
     numbers = dict(pairs("go/errors.go", r"^\t(\w+) +(?:Refusal )?= (\d+) +//"))
     yield "Go", [(int(numbers[name]), text) for name, text in pairs("go/errors.go", r'^\t(\w+): +"(.*)",$')]
@@ -215,9 +216,9 @@ def words_of_refusals():
 
 @suite.case()
 def refusals(trial):
-    """The words by which a refusal is told are its own."""
+    """The words by which a refusal is told are its own, and each that a reader, a stamper or a session can give has some."""
     for language, told in words_of_refusals():
-        trial.check(language, len(told) > 10 and len(dict(told)) == len(told), f"{sorted(told)}")
+        trial.equal(f"{language}: numbers", {number for number, _ in told}, set(WORDS))
         for number, text in told:
             found = {other for other, words in WORDS.items() if words in text and not (other == 903 and NOT_903.search(text))}
             trial.equal(f"{language}: {number}, {text!r}", found, {number})
