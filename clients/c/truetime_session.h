@@ -69,15 +69,20 @@ typedef struct tt_interval {
     uint64_t earliest_ns, latest_ns;
 } tt_interval;
 
-typedef enum tt_commit_state { TT_NO_COMMIT, TT_WAITING, TT_COMMITTED } tt_commit_state;
+/* What is known of the last commit: none was begun; its first line was refused, and it may have begun all the same; or the last
+ * word for it. */
+typedef enum tt_commit_state { TT_NO_COMMIT, TT_UNSURE, TT_WAITING, TT_COMMITTED } tt_commit_state;
+
+/* Who may wait for it: the caller, to which tt_session_commit gave no timestamp so far, or tt_session_begin has. */
+typedef enum tt_waiter { TT_NOBODY, TT_OF_COMMIT, TT_OF_BEGIN } tt_waiter;
 
 /* A session. Set it by tt_session_open_tcp or tt_session_open_unix. */
 typedef struct tt_session {
     int socket; /* below 0: not connected */
     int timeout_ms;
-    uint64_t number, stamp_ns;   /* the last commit that has a timestamp, counted from 1, and its timestamp */
-    tt_commit_state state;       /* whether there is a commit to wait for */
-    bool is_given;               /* whether tt_session_begin gave its timestamp */
+    uint64_t number, stamp_ns;   /* the last commit that may have begun, counted from 1, and its timestamp, or 0 */
+    tt_commit_state state;
+    tt_waiter waiter;
     bool wants_lease, has_lease; /* whether a lease was ever asked for, and whether this connection has one */
     struct sockaddr_un address;  /* where to connect to; large enough for one of TCP, too */
     socklen_t length;            /* of the address; 0: not open */
@@ -93,7 +98,8 @@ static inline void tt_session_drop(tt_session *session) {
     session->socket = -1;
     session->number = session->stamp_ns = 0;
     session->state = TT_NO_COMMIT;
-    session->is_given = session->has_lease = false;
+    session->waiter = TT_NOBODY;
+    session->has_lease = false;
 }
 
 /* Ends the session for good; a commit that is not released by then is never known as released. One that is not open stays
@@ -105,7 +111,7 @@ static inline void tt_session_close(tt_session *session) {
 
 /* Whether a commit is pending whose timestamp tt_session_begin gave. */
 static inline bool tt_session_is_pending(const tt_session *session) {
-    return session->state == TT_WAITING && session->is_given;
+    return session->state == TT_WAITING && session->waiter == TT_OF_BEGIN;
 }
 
 /* Drops a connection that failed. */
@@ -371,7 +377,8 @@ static inline int tt_session_send_commit(tt_session *session, uint64_t number, u
     if (failed != 0) return failed;
     bool is_committed = tt_is_reply(reply, "committed", 2, numbers);
     bool is_reply = is_committed || tt_is_reply(reply, "waiting", 2, numbers);
-    bool is_right = number == session->number ? numbers[1] == session->stamp_ns : numbers[1] >= floor_ns;
+    bool is_same = session->stamp_ns == 0 || numbers[1] == session->stamp_ns;
+    bool is_right = number == session->number ? is_same : numbers[1] >= floor_ns;
     if (!is_reply || numbers[0] != number || !is_right) return tt_session_failed(session, EPROTO);
     session->number = number;
     session->stamp_ns = numbers[1];
@@ -392,29 +399,59 @@ static inline int tt_session_release(tt_session *session, int64_t give_up_ms) {
     return 0;
 }
 
-/* Begins a commit, after the end of one whose timestamp nobody has: it may be too early for this one. */
+/* Waits for the release of a commit whose timestamp nobody has: it may be too early for the one that begins now. One of which the
+ * service does not know is forgotten, with the connection. */
+static inline int tt_session_end(tt_session *session, int64_t give_up_ms) {
+    int failed = tt_session_release(session, give_up_ms);
+    if (failed != TT_COMMIT_PASSED && failed != TT_COMMIT_PENDING && failed != TT_COMMIT_GONE) return failed;
+    tt_session_drop(session);
+    return 0;
+}
+
+/* Whether this answer to the first line of a commit says that it was not begun. Another refusal may also come of the step that
+ * would have released it. */
+static inline bool tt_never_begins(int failed) {
+    bool is_by_rule = (failed >= 901 && failed <= 903) || (failed >= 1001 && failed <= 1003);
+    return failed <= 0 || is_by_rule || failed == TT_COMMIT_PENDING || failed == 1821;
+}
+
+/* Sends the first line of the next commit. */
+static inline int tt_session_send_first(tt_session *session, uint64_t floor_ns) {
+    if (session->wants_lease && !session->has_lease) return TT_LEASE_LOST;
+    uint64_t number = session->number + 1;
+    session->state = TT_NO_COMMIT;
+    int failed = tt_session_send_commit(session, number, floor_ns);
+    if (tt_never_begins(failed)) return failed;
+    session->number = number;
+    session->stamp_ns = 0;
+    session->state = TT_UNSURE;
+    return failed;
+}
+
 static inline int tt_session_start(tt_session *session, uint64_t floor_ns, int64_t give_up_ms) {
     int failed = tt_session_look(session);
     if (failed != 0) return failed;
     if (tt_session_is_pending(session)) return TT_COMMIT_PENDING;
-    failed = tt_session_release(session, give_up_ms);
-    if (failed == TT_COMMIT_PASSED || failed == TT_COMMIT_PENDING || failed == TT_COMMIT_GONE)
-        tt_session_drop(session);
-    else if (failed != 0)
-        return failed;
-    if (session->wants_lease && !session->has_lease) return TT_LEASE_LOST;
-    session->state = TT_NO_COMMIT;
-    session->is_given = false;
-    return tt_session_send_commit(session, session->number + 1, floor_ns);
+    bool is_unsure = session->state == TT_UNSURE;
+    session->waiter = TT_NOBODY;
+    failed = tt_session_end(session, give_up_ms);
+    if (failed == 0) failed = tt_session_send_first(session, floor_ns);
+    if (failed == TT_COMMIT_PENDING && is_unsure) {
+        session->state = TT_WAITING; /* it began, though it was refused */
+        failed = tt_session_end(session, give_up_ms);
+        if (failed == 0) failed = tt_session_send_first(session, floor_ns);
+    }
+    if (failed == 0) session->waiter = TT_OF_COMMIT;
+    return failed;
 }
 
 /* Begins a commit and gives its timestamp, no less than `floor_ns`. One commit at a time: refuses with TT_COMMIT_PENDING before
  * the release of the last one that was begun by this. One that tt_session_commit left pending is ended first, as that says.
  * Refuses with 903 where the lease is over or was lost with its connection: set it again. After another refusal begin again, with
- * the same floor: the service may have begun it. */
+ * the same floor: one that began all the same is ended first, too. */
 static inline int tt_session_begin(tt_session *session, uint64_t floor_ns, uint64_t *stamp_ns) {
     int failed = tt_session_start(session, floor_ns, tt_session_clock_ms() + session->timeout_ms);
-    session->is_given = session->is_given || failed == 0;
+    if (failed == 0) session->waiter = TT_OF_BEGIN;
     *stamp_ns = failed == 0 ? session->stamp_ns : 0;
     return failed;
 }
@@ -425,7 +462,7 @@ static inline int tt_session_begin(tt_session *session, uint64_t floor_ns, uint6
 static inline int tt_session_wait(tt_session *session, uint64_t *stamp_ns) {
     int64_t give_up_ms = tt_session_clock_ms() + session->timeout_ms;
     int failed = tt_session_look(session);
-    if (failed == 0) failed = session->state == TT_NO_COMMIT ? -EINVAL : tt_session_release(session, give_up_ms);
+    if (failed == 0) failed = session->waiter == TT_NOBODY ? -EINVAL : tt_session_release(session, give_up_ms);
     *stamp_ns = failed == 0 ? session->stamp_ns : 0;
     return failed;
 }

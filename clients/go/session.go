@@ -276,6 +276,7 @@ func (s *Session) begin(ctx context.Context, floor uint64) error {
 	if s.last.isPending && s.last.isGiven {
 		return &PendingError{s.last.number, s.last.stamp}
 	}
+	s.last.isTold = false
 	if s.last.isPending && s.last.isStamped {
 		if err := s.end(ctx); err != nil {
 			return err

@@ -45,6 +45,11 @@ public final class Session implements AutoCloseable {
     private static final int COMMIT_PENDING = 1104;
     /** The refusals that say of the line of a pending commit that the service knows of no such one. */
     private static final Set<Integer> NOT_PENDING = Set.of(1103, COMMIT_PENDING, 1822);
+    /**
+     * The refusals that say of the first line of a commit that it was not begun. Another one may also come of the step that would
+     * have released it.
+     */
+    private static final Set<Integer> NOT_BEGUN = Set.of(901, 902, LEASE_LOST, 1001, 1002, 1003, COMMIT_PENDING, 1821);
     private static final long PAUSE_MS = 1;
     private static final Pattern LINE = Pattern.compile("[ -~]{0,64}");
     private static final Pattern NUMBER = Pattern.compile("0|[1-9][0-9]{0,18}");
@@ -52,7 +57,11 @@ public final class Session implements AutoCloseable {
     private static final Map<String, Integer> LEASED = Map.of("leased", 2);
     private static final Map<String, Integer> COMMITTED_OR_WAITING = Map.of("committed", 2, "waiting", 2);
 
-    private enum State { NO_COMMIT, WAITING, COMMITTED }
+    /** UNSURE: the first line was refused, and the commit may have begun all the same. */
+    private enum State { NO_COMMIT, UNSURE, WAITING, COMMITTED }
+
+    /** Who may wait for the last commit: the caller, to which commit gave no timestamp so far, or begin has. */
+    private enum Waiter { NOBODY, OF_COMMIT, OF_BEGIN }
 
     private final SocketAddress address;
     private final Duration timeout;
@@ -64,12 +73,11 @@ public final class Session implements AutoCloseable {
     /** The connection, and null where there is none. What follows belongs to it. */
     private SocketChannel channel;
     private Selector selector;
-    /** The last commit that has a timestamp, counted from 1, and its timestamp. */
+    /** The last commit that may have begun, counted from 1, and its timestamp, or 0. */
     private long number;
     private long stampNs;
     private State state = State.NO_COMMIT;
-    /** Whether begin gave its timestamp to the caller. */
-    private boolean isGiven;
+    private Waiter waiter = Waiter.NOBODY;
     private boolean hasLease;
 
     private Session(SocketAddress address, Duration timeout) {
@@ -183,7 +191,7 @@ public final class Session implements AutoCloseable {
         number = 0;
         stampNs = 0;
         state = State.NO_COMMIT;
-        isGiven = false;
+        waiter = Waiter.NOBODY;
         hasLease = false;
         try (selector; channel) {
             // Both are closed, where there are any.
@@ -191,7 +199,7 @@ public final class Session implements AutoCloseable {
     }
 
     private boolean isPending() {
-        return state == State.WAITING && isGiven;
+        return state == State.WAITING && waiter == Waiter.OF_BEGIN;
     }
 
     /** Gives the connection up; the exception that says so. */
@@ -313,11 +321,11 @@ public final class Session implements AutoCloseable {
      * Begins a commit and gives its timestamp, no less than {@code floorNs}. One commit at a time: throws {@link CommitPending}
      * before the release of the last one that was begun by this. One that {@link #commit} left pending is ended first, as that
      * says. Refuses with 903 where the lease is over or was lost with its connection: set it again. After another refusal begin
-     * again, with the same floor: the service may have begun it.
+     * again, with the same floor: one that began all the same is ended first, too.
      */
     public long begin(long floorNs) throws IOException {
         start(floorNs, System.nanoTime());
-        isGiven = true;
+        waiter = Waiter.OF_BEGIN;
         return stampNs;
     }
 
@@ -329,7 +337,7 @@ public final class Session implements AutoCloseable {
     public long awaitRelease() throws IOException {
         long began = System.nanoTime();
         look();
-        if (state == State.NO_COMMIT) {
+        if (waiter == Waiter.NOBODY) {
             throw new IllegalStateException("no commit was begun");
         }
         release(began);
@@ -349,12 +357,32 @@ public final class Session implements AutoCloseable {
         return stampNs;
     }
 
-    /** Begins a commit, after the end of one whose timestamp nobody has: it may be too early for this one. */
     private void start(long floorNs, long began) throws IOException {
         look();
         if (isPending()) {
             throw new CommitPending(number, stampNs);
         }
+        boolean isUnsure = state == State.UNSURE;
+        waiter = Waiter.NOBODY;
+        end(began);
+        try {
+            sendFirst(floorNs);
+        } catch (TrueTime.Refused refused) {
+            if (refused.number() != COMMIT_PENDING || !isUnsure) {
+                throw refused;
+            }
+            state = State.WAITING; // it began, though it was refused
+            end(began);
+            sendFirst(floorNs);
+        }
+        waiter = Waiter.OF_COMMIT;
+    }
+
+    /**
+     * Waits for the release of a commit whose timestamp nobody has: it may be too early for the one that begins now. One of which
+     * the service does not know is forgotten, with the connection.
+     */
+    private void end(long began) throws IOException {
         try {
             release(began);
         } catch (TrueTime.Refused refused) {
@@ -363,12 +391,25 @@ public final class Session implements AutoCloseable {
             }
             drop();
         }
+    }
+
+    /** Sends the first line of the next commit. */
+    private void sendFirst(long floorNs) throws IOException {
         if (wantsLease && !hasLease) {
             throw new TrueTime.Refused(LEASE_LOST);
         }
+        long next = number + 1;
         state = State.NO_COMMIT;
-        isGiven = false;
-        sendCommit(number + 1, floorNs);
+        try {
+            sendCommit(next, floorNs);
+        } catch (TrueTime.Refused refused) {
+            if (!NOT_BEGUN.contains(refused.number())) {
+                number = next;
+                stampNs = 0;
+                state = State.UNSURE;
+            }
+            throw refused;
+        }
     }
 
     /** Sends the line of the last commit until it is released. */
@@ -389,7 +430,7 @@ public final class Session implements AutoCloseable {
         String line = "commit " + commit + " " + floorNs;
         Reply reply = answered(line, COMMITTED_OR_WAITING);
         long stamp = reply.numbers[1];
-        boolean isRight = commit == number ? stamp == stampNs : stamp >= floorNs;
+        boolean isRight = commit == number ? stampNs == 0 || stamp == stampNs : stamp >= floorNs;
         if (reply.numbers[0] != commit || !isRight) {
             throw failed(line);
         }

@@ -21,7 +21,7 @@ class Loop:
     """A probe that commits again and again."""
 
     def __init__(self, trial, name, probe):
-        self.trial, self.name, self.probe, self.last = trial, name, probe, 0
+        self.trial, self.name, self.probe, self.last, self.stamps = trial, name, probe, 0, set()
 
     def wants(self, line, wanted):
         wants(self.trial, self.name, self.probe.say, line, wanted)
@@ -33,6 +33,7 @@ class Loop:
             return said
         self.trial.check(self.name, int(said) > max(self.last, floor - 1), f"timestamp {said} behind {self.last}, with floor {floor}")
         self.last = int(said)
+        self.stamps.add(self.last)
         return ""
 
     def goes_on(self, errors, seconds=10):
@@ -80,14 +81,15 @@ def note(trial, opened):
 
 # A stand-in for the service.
 
-ENDS = "(ends)"
+ENDS, BEGINS = "(ends)", "(begins)"
 
 
 class Scripted(Listening):
-    """A service whose sessions go by the rules, but for what a script says of the first lines of all of them: a reply, `(ends)`, or both."""
+    """A service whose sessions go by the rules, but for what a script says of the first lines of all of them: a reply, `(ends)`, or both. A
+    refusal with `(begins)` is of a commit that begins all the same."""
 
     def __init__(self, script=()):
-        self.script, self.stamp, self.open, self.wrong = list(script), 0, [], []
+        self.script, self.stamp, self.open, self.wrong, self.refused = list(script), 0, [], [], set()
         super().__init__(Ruled)
 
     def end_sessions(self):
@@ -98,24 +100,28 @@ class Scripted(Listening):
 
 
 class Ruled(Answering):
-    """A session of it. The server keeps lines that do not fit what is pending."""
+    """A session of it. The server keeps lines that do not fit what is pending, and the timestamps of commits whose first line was refused."""
 
     def handle(self):
-        last, stamp, is_pending = 0, 0, False
+        last, stamp, is_pending, is_known = 0, 0, False, True
         self.server.open.append(self.connection)
         for line in self.rfile:
             number, floor = map(int, line.split()[1:])
-            if (number > last and is_pending) or number < last:
+            is_other = number > last and is_pending
+            scripted = self.server.script.pop(0) if self.server.script and not is_other else ""
+            if (is_other and is_known) or number < last:
                 self.server.wrong.append(line.decode().strip())
-            scripted = self.server.script.pop(0) if self.server.script else ""
-            if number > last and "refused" not in scripted:
+            if is_other:
+                word = "refused 1104"
+            elif number > last and ("refused" not in scripted or BEGINS in scripted):
                 self.server.stamp = max(self.server.stamp + 1000, floor)
-                last, stamp, is_pending, word = number, self.server.stamp, True, "waiting"
+                last, stamp, is_pending, is_known = number, self.server.stamp, True, BEGINS not in scripted
+                word = f"waiting {number} {stamp}"
+                self.server.refused |= set() if is_known else {stamp}
             else:
-                word, is_pending = "committed", is_pending and "refused" in scripted
-            said = scripted.replace(ENDS, "").strip() or f"{word} {number} {stamp}"
+                word, is_pending = f"committed {number} {stamp}", is_pending and "refused" in scripted
             if scripted != ENDS:
-                self.wfile.write(f"{said}\n".encode())
+                self.wfile.write(f"{scripted.replace(ENDS, '').replace(BEGINS, '').strip() or word}\n".encode())
             if ENDS in scripted:
                 return
 
@@ -128,6 +134,8 @@ SCRIPTS = {
     "pending no more": (["", "refused 1824", "refused 1822"], ["refused 1824"]),
     "another commit is the last": (["", "refused 1824", "refused 1103"], ["refused 1824"]),
     "refused at once": (["refused 1824"], ["refused 1824"]),
+    "refused, and begun": ([f"refused 1824 {BEGINS}"], ["refused 1824"]),
+    "refused and begun, and refused": ([f"refused 1824 {BEGINS}", "refused 1824"], ["refused 1824"] * 2),
     "ended while it waits": (["", ENDS], ["failed"]),
     "ended at once": ([ENDS], ["failed"]),
     "ended behind a refusal, and then while it waits": (["", f"refused 801 {ENDS}", "", ENDS], ["refused 801", "failed"]),
@@ -144,6 +152,7 @@ def try_script(trial, name, words, what):
             time.sleep(PAUSE_S)
         loop.keeps_on()
         trial.equal(f"{loop.name}: lines that do not fit", server.wrong, [])
+        trial.equal(f"{loop.name}: timestamps of other commits", server.refused & loop.stamps, set())
 
 
 @suite.case()
@@ -164,6 +173,11 @@ def try_begun(loop, server):
     stamp = loop.probe.say("begin 0")
     server.end_sessions()
     loop.wants("commit 0", f"failed 2 {stamp}")
+    loop.wants("wait", "invalid")
+    # What one commit left pending is nothing to wait for once another one was wanted.
+    server.script = ["", "refused 1824", "refused 1823"]
+    loop.wants("commit 0", "refused 1824")
+    loop.wants("commit 0", "refused 1823")
     loop.wants("wait", "invalid")
     loop.keeps_on()
 

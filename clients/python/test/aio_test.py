@@ -142,12 +142,11 @@ class Cancellation(unittest.IsolatedAsyncioTestCase):
             self.assertEqual(await session.commit(9), 300)
 
     async def test_begin_is_refused(self):
-        """Nobody knows whether it has begun, so the connection is given up."""
-        async with StandIn([("commit 1 0", None)], [("commit 1 9", "committed 1 300\n")]) as (stand_in, session):
+        """It may have begun: the service says so of the next one."""
+        lines = [("commit 1 0", None), ("commit 2 9", "refused 1104\n"), ("commit 1 0", "committed 1 200\n"), ("commit 2 9", "committed 2 300\n")]
+        async with StandIn(lines) as (stand_in, session):
             await self.cancelled(stand_in, session.begin())
             stand_in.say("refused 803\n")
-            with self.assertRaises(ConnectionError):
-                await session.now()
             self.assertEqual(await session.commit(9), 300)
 
     async def test_lease(self):

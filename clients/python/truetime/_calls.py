@@ -14,8 +14,10 @@ LINE_BYTES = 64
 _PAUSE_S = 0.001
 #: The pause before connecting again to a Unix socket at which as many wait as may.
 CONNECT_PAUSE_S = 0.005
-#: The refusals that say of the line of a pending commit that the service knows of no such one.
+#: The refusals that say of the line of a pending commit that the service knows of no such one, and of the first line of a commit
+#: that it was not begun. Another one may also come of the step that would have released it.
 _NOT_PENDING = (1103, 1104, 1822)
+_NOT_BEGUN = (901, 902, 903, 1001, 1002, 1003, 1104, 1821)
 _LINE = re.compile("[ -~]{0,64}")
 _NUMBER = re.compile("0|[1-9][0-9]{0,18}")
 
@@ -46,7 +48,8 @@ class Calls:
 
     def forget(self) -> None:
         """Forgets what belongs to a connection."""
-        # The last commit that has a timestamp, counted from 1; whether there is one to wait for: "waiting", "committed", "".
+        # The last commit that may have begun, counted from 1; its timestamp, or 0; and what is known of it: "waiting", "committed",
+        # "unsure" where its first line was refused, "" where none was begun.
         self._number = 0
         self._stamp_ns = 0
         self._state = ""
@@ -110,16 +113,13 @@ class Calls:
         yield from self._release(give_up)
         return self._stamp_ns
 
-    def take_late(self, call: "Call[object]", line: str, reply: str) -> None:
+    def take_late(self, call: "Call[object]", reply: str) -> None:
         """Takes the reply that is owed to a call that was cancelled. Nobody has the timestamp that it may give."""
-        told, begins = self._told, line.startswith("commit ") and not self._state
+        told = self._told
         try:
             call.send(reply)
-        except (StopIteration, TimeoutError):
+        except (StopIteration, TimeoutError, Refused):
             pass
-        except Refused as refused:
-            if begins:
-                raise ConnectionError(f"a commit that was cancelled may have begun: {refused}") from None
         finally:
             call.close()
             self._told = told
@@ -128,21 +128,41 @@ class Calls:
         return time.monotonic() + self._timeout_s
 
     def _begin(self, floor_ns: int, give_up: float) -> "Call[None]":
-        """Begins a commit, after the end of one that is pending and whose timestamp nobody has: it may be too early for this one."""
         if self._is_kept:
             raise CommitPending(self._number, self._stamp_ns)
-        if self._state == "waiting":
-            try:
-                yield from self._release(give_up)
-            except Refused as refused:
-                if refused.number not in _NOT_PENDING:
-                    raise
-                yield None
+        self._told, is_unsure = 0, self._state == "unsure"
+        yield from self._end(give_up)
+        try:
+            yield from self._send_first(floor_ns)
+        except Refused as refused:
+            if refused.number != 1104 or not is_unsure:
+                raise
+            self._state = "waiting"  # it began, though it was refused
+            yield from self._end(give_up)
+            yield from self._send_first(floor_ns)
+        self._told, self._is_given = self._number, False
+
+    def _end(self, give_up: float) -> "Call[None]":
+        """Waits for the release of a commit whose timestamp nobody has: it may be too early for the one that begins now. One of which
+        the service does not know is forgotten, with the connection."""
+        try:
+            yield from self._release(give_up)
+        except Refused as refused:
+            if refused.number not in _NOT_PENDING:
+                raise
+            yield None
+
+    def _send_first(self, floor_ns: int) -> "Call[None]":
+        """Sends the first line of the next commit."""
         if self._wants_lease and not self._is_leased:
             raise Refused(903)
-        self._state = ""
-        yield from self._send_commit(self._number + 1, floor_ns)
-        self._told, self._is_given = self._number, False
+        number, self._state = self._number + 1, ""
+        try:
+            yield from self._send_commit(number, floor_ns)
+        except Refused as refused:
+            if refused.number not in _NOT_BEGUN:
+                self._number, self._stamp_ns, self._state = number, 0, "unsure"
+            raise
 
     def _release(self, give_up: float) -> "Call[None]":
         """Sends the line of the last commit until it is released."""
@@ -157,7 +177,7 @@ class Calls:
         """Sends the line of a commit. The timestamp of one that has none so far has to be at least ``floor_ns``."""
         line = f"commit {number} {floor_ns}"
         word, (echo, stamp_ns) = yield from self._answered(line, {"waiting": 2, "committed": 2})
-        is_right = stamp_ns == self._stamp_ns if number == self._number else stamp_ns >= floor_ns
+        is_right = self._stamp_ns in (0, stamp_ns) if number == self._number else stamp_ns >= floor_ns
         if echo != number or not is_right:
             raise not_a_reply(line, f"{word} {echo} {stamp_ns}")
         self._number, self._stamp_ns, self._state = number, stamp_ns, word

@@ -100,8 +100,8 @@ class Session:
         self._is_closed = False
         self._turn: Optional[asyncio.Lock] = None
         self._connection: Optional[_Connection] = None
-        # The reply that is still to come, until when, and the call and the line to which it does.
-        self._owed: "Optional[tuple[asyncio.Future[Union[str, ConnectionError]], float, Call[Any], str]]" = None
+        # The reply that is still to come, until when, and the call to which it does.
+        self._owed: "Optional[tuple[asyncio.Future[Union[str, ConnectionError]], float, Call[Any]]]" = None
 
     @classmethod
     async def connect(cls, address: Address, timeout_s: float = TIMEOUT_S) -> "Session":
@@ -164,8 +164,8 @@ class Session:
             self._check_open()
             try:
                 if self._owed:
-                    _, _, cancelled, line = self._owed
-                    self._calls.take_late(cancelled, line, await self._received())
+                    _, _, cancelled = self._owed
+                    self._calls.take_late(cancelled, await self._received())
                 self._look()
                 step = next(call)
                 while True:
@@ -194,13 +194,13 @@ class Session:
         give_up = time.monotonic() + self._timeout_s
         connection = self._connection or await self._connect()
         reply = connection.send(line)
-        self._owed = reply, give_up, call, line
+        self._owed = reply, give_up, call
         return await self._received()
 
     async def _received(self) -> str:
         """The reply that is owed. It stays owed where this is cancelled."""
         assert self._owed
-        reply, give_up, _, _ = self._owed
+        reply, give_up, _ = self._owed
         await asyncio.wait({reply}, timeout=max(give_up - time.monotonic(), 0))
         self._owed = None
         if not reply.done():

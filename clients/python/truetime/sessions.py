@@ -78,7 +78,8 @@ class Session:
 
         One commit at a time: raises :class:`CommitPending` before the release of the last one that was begun by this. One that a
         :meth:`commit` left pending is ended first, as :meth:`commit` says. Refuses with 903 where the lease is over or was lost
-        with its connection: set it again. After another refusal begin again, with the same floor: the service may have begun it.
+        with its connection: set it again. After another refusal begin again, with the same floor: one that began all the
+        same is ended first, too.
         """
         return self._made(self._calls.begin(floor_ns))
 

@@ -34,6 +34,9 @@ const LEASE_LOST: u16 = 903;
 const COMMIT_PENDING: u16 = 1104;
 /// The refusals that say of the line of a pending commit that the service knows of no such one.
 const NOT_PENDING: [u16; 3] = [1103, COMMIT_PENDING, 1822];
+/// The refusals that say of the first line of a commit that it was not begun. Another one may also come of the step that would
+/// have released it.
+const NOT_BEGUN: [u16; 8] = [901, 902, LEASE_LOST, 1001, 1002, 1003, COMMIT_PENDING, 1821];
 
 /// A commit of [`Session::begin`] that is not known as released.
 #[derive(Clone, Copy, Debug, PartialEq, Eq)]
@@ -220,12 +223,33 @@ enum Address {
     Unix(PathBuf),
 }
 
-/// The last commit that has a timestamp. Commits are counted from 1.
+/// The last commit that may have begun. Commits are counted from 1.
 #[derive(Clone, Copy, Debug)]
 struct Commit {
     number: u64,
+    /// 0 where it is not known.
     stamp_ns: u64,
-    is_released: bool,
+    state: State,
+}
+
+const NO_COMMIT: Commit = Commit { number: 0, stamp_ns: 0, state: State::Released };
+
+#[derive(Clone, Copy, Debug, PartialEq, Eq)]
+enum State {
+    /// Its first line was refused, and it may have begun all the same.
+    Unsure,
+    Waiting,
+    Released,
+}
+
+/// Who may wait for the last commit.
+#[derive(Clone, Copy, Debug, PartialEq, Eq)]
+enum Waiter {
+    Nobody,
+    /// The caller, which has no timestamp so far.
+    OfCommit,
+    /// The caller, to which `begin` gave its timestamp.
+    OfBegin,
 }
 
 /// A connection, and what belongs to it.
@@ -233,10 +257,7 @@ struct Commit {
 struct Connection {
     stream: Box<dyn Stream>,
     last: Commit,
-    /// Whether there is a commit to wait for, which is the last one.
-    is_begun: bool,
-    /// Whether `begin` gave its timestamp to the caller.
-    is_given: bool,
+    waiter: Waiter,
     has_lease: bool,
 }
 
@@ -316,18 +337,19 @@ impl Session {
     /// Begins a commit and gives its timestamp, no less than `floor_ns`. One commit at a time: fails with [`Error::Pending`]
     /// before the release of the last one that was begun by this. One that [`Session::commit`] left pending is ended first, as
     /// it says. Refuses with 903 where the lease is over or was lost with its connection: set it again. After another refusal
-    /// begin again, with the same floor: the service may have begun it.
+    /// begin again, with the same floor: one that began all the same is ended first, too.
     pub fn begin(&mut self, floor_ns: u64) -> Result<u64, Error> {
         let begun = self.start(floor_ns, Instant::now())?;
-        if let Some(connection) = &mut self.connection {
-            connection.is_given = true;
-        }
+        self.set_waiter(Waiter::OfBegin);
         Ok(begun.stamp_ns)
     }
 
     /// Waits until the timestamp of the commit has surely passed, and gives it. After a refusal the session may wait again.
     pub fn wait(&mut self) -> Result<u64, Error> {
         self.look()?;
+        if !self.connection.as_ref().is_some_and(|connection| connection.waiter != Waiter::Nobody) {
+            return Err(Error::NoCommit);
+        }
         self.release(Instant::now())
     }
 
@@ -340,37 +362,44 @@ impl Session {
         self.release(began)
     }
 
-    /// Begins a commit, after the end of one whose timestamp nobody has: it may be too early for this one.
     fn start(&mut self, floor_ns: u64, began: Instant) -> Result<Commit, Error> {
         self.look()?;
         if let Some(pending) = self.connection.as_ref().and_then(Connection::pending) {
             return Err(Error::Pending(pending));
         }
+        self.set_waiter(Waiter::Nobody);
+        let is_unsure = self.last().state == State::Unsure;
+        self.end(began)?;
+        let begun = match self.send_first(floor_ns) {
+            Err(Error::Refused(COMMIT_PENDING)) if is_unsure => {
+                if let Some(connection) = &mut self.connection {
+                    connection.last.state = State::Waiting; // it began, though it was refused
+                }
+                self.end(began)?;
+                self.send_first(floor_ns)?
+            }
+            sent => sent?,
+        };
+        self.set_waiter(Waiter::OfCommit);
+        Ok(begun)
+    }
+
+    /// Waits for the release of a commit whose timestamp nobody has: it may be too early for the one that begins now. One of
+    /// which the service does not know is forgotten, with the connection.
+    fn end(&mut self, began: Instant) -> Result<(), Error> {
         match self.release(began) {
-            Ok(_) | Err(Error::NoCommit) => {}
             Err(Error::Refused(number)) if NOT_PENDING.contains(&number) => self.connection = None,
-            Err(error) => return Err(error),
+            released => drop(released?),
         }
-        if self.wants_lease && !self.connection.as_ref().is_some_and(|connection| connection.has_lease) {
-            return Err(Error::Refused(LEASE_LOST));
-        }
-        let mut number = 1;
-        if let Some(connection) = &mut self.connection {
-            (connection.is_begun, connection.is_given) = (false, false);
-            number = connection.last.number + 1;
-        }
-        self.send_commit(number, floor_ns)
+        Ok(())
     }
 
     /// Sends the line of the last commit until it is released.
     fn release(&mut self, began: Instant) -> Result<u64, Error> {
-        let mut last = match &self.connection {
-            Some(connection) if connection.is_begun => connection.last,
-            _ => return Err(Error::NoCommit),
-        };
-        while !last.is_released {
+        let mut last = self.last();
+        while last.state == State::Waiting {
             last = self.send_commit(last.number, 0)?;
-            if !last.is_released {
+            if last.state == State::Waiting {
                 if began.elapsed() > self.timeout {
                     return Err(Error::NotReleased);
                 }
@@ -378,6 +407,31 @@ impl Session {
             }
         }
         Ok(last.stamp_ns)
+    }
+
+    fn last(&self) -> Commit {
+        self.connection.as_ref().map_or(NO_COMMIT, |connection| connection.last)
+    }
+
+    fn set_waiter(&mut self, waiter: Waiter) {
+        if let Some(connection) = &mut self.connection {
+            connection.waiter = waiter;
+        }
+    }
+
+    /// Sends the first line of the next commit.
+    fn send_first(&mut self, floor_ns: u64) -> Result<Commit, Error> {
+        if self.wants_lease && !self.connection.as_ref().is_some_and(|connection| connection.has_lease) {
+            return Err(Error::Refused(LEASE_LOST));
+        }
+        let number = self.last().number + 1;
+        let sent = self.send_commit(number, floor_ns);
+        if let (Err(Error::Refused(refused)), Some(connection)) = (&sent, &mut self.connection) {
+            if !NOT_BEGUN.contains(refused) {
+                connection.last = Commit { number, stamp_ns: 0, state: State::Unsure };
+            }
+        }
+        sent
     }
 
     /// Sends the line of a commit. The timestamp of one that has none so far has to be at least `floor_ns`.
@@ -390,12 +444,12 @@ impl Session {
             return self.fail();
         };
         let last = connection.last;
-        let is_right = if number == last.number { stamp_ns == last.stamp_ns } else { stamp_ns >= floor_ns };
+        let is_right = if number == last.number { [0, stamp_ns].contains(&last.stamp_ns) } else { stamp_ns >= floor_ns };
         if echo != number || !is_right {
             return self.fail();
         }
-        connection.last = Commit { number, stamp_ns, is_released: released.is_some() };
-        connection.is_begun = true;
+        let state = if released.is_some() { State::Released } else { State::Waiting };
+        connection.last = Commit { number, stamp_ns, state };
         Ok(connection.last)
     }
 
@@ -472,14 +526,13 @@ impl Connection {
                 Box::new(stream)
             }
         };
-        let last = Commit { number: 0, stamp_ns: 0, is_released: true };
-        Ok(Connection { stream, last, is_begun: false, is_given: false, has_lease: false })
+        Ok(Connection { stream, last: NO_COMMIT, waiter: Waiter::Nobody, has_lease: false })
     }
 
     /// The commit that the caller has to wait for.
     fn pending(&self) -> Option<Pending> {
-        let Commit { number, stamp_ns, is_released } = self.last;
-        (self.is_begun && self.is_given && !is_released).then_some(Pending { commit: number, stamp_ns })
+        let Commit { number, stamp_ns, state } = self.last;
+        (self.waiter == Waiter::OfBegin && state == State::Waiting).then_some(Pending { commit: number, stamp_ns })
     }
 
     /// Whether it is of no more use before a line: its end is there to be received, or what nobody asked for.
