@@ -198,9 +198,9 @@ static inline int tt_session_open(tt_session *session, const void *address, sock
     return failed;
 }
 
-/* Connects to an IPv4 address in digits, as "127.0.0.1". `timeout_ms` is how long connecting, a line with its reply, with
- * connecting anew, and the waiting for a release may take, above 0, however many signals come. Answers -EINVAL where an argument is
- * wrong. Where it does not answer 0, the session is not open. */
+/* Connects to an IPv4 address in digits, as "127.0.0.1". `timeout_ms` is how long connecting, a line with its reply (also where it
+ * connects anew), and the waiting for a release may take, above 0, however many signals come. Answers -EINVAL where an argument
+ * is wrong. Where it does not answer 0, the session is not open. */
 static inline int tt_session_open_tcp(tt_session *session, const char *host, uint16_t port, int timeout_ms) {
     struct sockaddr_in address;
     memset(&address, 0, sizeof address);
@@ -386,11 +386,18 @@ static inline int tt_session_send_commit(tt_session *session, uint64_t number, u
     return 0;
 }
 
-/* Sends the line of the last commit until it is released. */
+/* Whether this answer to the line of a pending commit says that the service knows of no such one. */
+static inline bool tt_is_unknown(int failed) {
+    return failed == TT_COMMIT_PASSED || failed == TT_COMMIT_PENDING || failed == TT_COMMIT_GONE;
+}
+
+/* Sends the line of the last commit until it is released. One of which the service does not know is forgotten, with the
+ * connection. */
 static inline int tt_session_release(tt_session *session, int64_t give_up_ms) {
     const struct timespec pause = {0, 1000000};
     while (session->state == TT_WAITING) {
         int failed = tt_session_send_commit(session, session->number, 0);
+        if (tt_is_unknown(failed)) tt_session_drop(session);
         if (failed != 0) return failed;
         if (session->state == TT_COMMITTED) break;
         if (tt_session_clock_ms() > give_up_ms) return -ETIMEDOUT;
@@ -399,13 +406,10 @@ static inline int tt_session_release(tt_session *session, int64_t give_up_ms) {
     return 0;
 }
 
-/* Waits for the release of a commit whose timestamp nobody has: it may be too early for the one that begins now. One of which the
- * service does not know is forgotten, with the connection. */
+/* Waits for the release of a commit whose timestamp nobody has: it may be too early for the one that begins now. */
 static inline int tt_session_end(tt_session *session, int64_t give_up_ms) {
     int failed = tt_session_release(session, give_up_ms);
-    if (failed != TT_COMMIT_PASSED && failed != TT_COMMIT_PENDING && failed != TT_COMMIT_GONE) return failed;
-    tt_session_drop(session);
-    return 0;
+    return tt_is_unknown(failed) ? 0 : failed;
 }
 
 /* Whether this answer to the first line of a commit says that it was not begun. Another refusal may also come of the step that
@@ -428,6 +432,7 @@ static inline int tt_session_send_first(tt_session *session, uint64_t floor_ns) 
     return failed;
 }
 
+/* Begins a commit for which the caller may wait. */
 static inline int tt_session_start(tt_session *session, uint64_t floor_ns, int64_t give_up_ms) {
     int failed = tt_session_look(session);
     if (failed != 0) return failed;

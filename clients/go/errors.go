@@ -84,6 +84,11 @@ func (r Refusal) neverBegins() bool {
 	return false
 }
 
+// isUnknown says whether this refusal of the line of a pending commit says that the service knows of no such one.
+func isUnknown(err error) bool {
+	return err == CommitPassed || err == CommitPending || err == CommitGone
+}
+
 var (
 	// ErrNoCommit is the error of Wait where no commit was begun that could be waited for, or its connection failed.
 	ErrNoCommit = errors.New("truetime: no commit was begun")

@@ -292,15 +292,12 @@ func (s *Session) begin(ctx context.Context, floor uint64) error {
 	return err
 }
 
-// end waits for the release of a commit whose timestamp nobody has. One of which the service does not know is forgotten, with
-// the connection.
+// end waits for the release of a commit whose timestamp nobody has.
 func (s *Session) end(ctx context.Context) error {
-	err := s.release(ctx)
-	if err == CommitPassed || err == CommitPending || err == CommitGone {
-		s.fail(err)
-		return nil
+	if err := s.release(ctx); !isUnknown(err) {
+		return err
 	}
-	return err
+	return nil
 }
 
 // sendBegin sends the first line of the next commit.
@@ -337,10 +334,14 @@ func (s *Session) wait(ctx context.Context) (uint64, error) {
 	return s.last.stamp, nil
 }
 
-// release sends the line of the last commit until it is known as released.
+// release sends the line of the last commit until it is known as released. One of which the service does not know is forgotten,
+// with the connection.
 func (s *Session) release(ctx context.Context) error {
 	for s.last.isPending {
 		if err := s.sendAgain(ctx); err != nil {
+			if isUnknown(err) {
+				s.fail(err)
+			}
 			return err
 		}
 		if !s.last.isPending {

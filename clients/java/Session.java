@@ -357,6 +357,7 @@ public final class Session implements AutoCloseable {
         return stampNs;
     }
 
+    /** Begins a commit for which the caller may wait. */
     private void start(long floorNs, long began) throws IOException {
         look();
         if (isPending()) {
@@ -378,10 +379,7 @@ public final class Session implements AutoCloseable {
         waiter = Waiter.OF_COMMIT;
     }
 
-    /**
-     * Waits for the release of a commit whose timestamp nobody has: it may be too early for the one that begins now. One of which
-     * the service does not know is forgotten, with the connection.
-     */
+    /** Waits for the release of a commit whose timestamp nobody has: it may be too early for the one that begins now. */
     private void end(long began) throws IOException {
         try {
             release(began);
@@ -389,7 +387,6 @@ public final class Session implements AutoCloseable {
             if (!NOT_PENDING.contains(refused.number())) {
                 throw refused;
             }
-            drop();
         }
     }
 
@@ -412,10 +409,20 @@ public final class Session implements AutoCloseable {
         }
     }
 
-    /** Sends the line of the last commit until it is released. */
+    /**
+     * Sends the line of the last commit until it is released. One of which the service does not know is forgotten, with the
+     * connection.
+     */
     private void release(long began) throws IOException {
         while (state == State.WAITING) {
-            sendCommit(number, 0);
+            try {
+                sendCommit(number, 0);
+            } catch (TrueTime.Refused refused) {
+                if (NOT_PENDING.contains(refused.number())) {
+                    drop();
+                }
+                throw refused;
+            }
             if (state == State.WAITING) {
                 if (System.nanoTime() - began > timeout.toNanos()) {
                     throw new SocketTimeoutException("the commit is not released in time");

@@ -132,6 +132,7 @@ SCRIPTS = {
     "refused while it waits, and ended": (["", f"refused 1824 {ENDS}"], ["refused 1824"]),
     "refused twice": (["", "refused 1824", "refused 1823"], ["refused 1824", "refused 1823"]),
     "pending no more": (["", "refused 1824", "refused 1822"], ["refused 1824"]),
+    "pending no more while it waits": (["", "refused 1822"], ["refused 1822"]),
     "another commit is the last": (["", "refused 1824", "refused 1103"], ["refused 1824"]),
     "refused at once": (["refused 1824"], ["refused 1824"]),
     "refused, and begun": ([f"refused 1824 {BEGINS}"], ["refused 1824"]),
@@ -174,6 +175,12 @@ def try_begun(loop, server):
     server.end_sessions()
     loop.wants("commit 0", f"failed 2 {stamp}")
     loop.wants("wait", "invalid")
+    # The service knows of it no more.
+    loop.probe.say("begin 0")
+    server.script = ["refused 1822"]
+    loop.wants("wait", "refused 1822")
+    loop.wants("wait", "invalid")
+    loop.keeps_on()
     # What one commit left pending is nothing to wait for once another one was wanted.
     server.script = ["", "refused 1824", "refused 1823"]
     loop.wants("commit 0", "refused 1824")

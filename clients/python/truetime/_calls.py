@@ -128,6 +128,7 @@ class Calls:
         return time.monotonic() + self._timeout_s
 
     def _begin(self, floor_ns: int, give_up: float) -> "Call[None]":
+        """Begins a commit for which a caller may wait."""
         if self._is_kept:
             raise CommitPending(self._number, self._stamp_ns)
         self._told, is_unsure = 0, self._state == "unsure"
@@ -143,14 +144,12 @@ class Calls:
         self._told, self._is_given = self._number, False
 
     def _end(self, give_up: float) -> "Call[None]":
-        """Waits for the release of a commit whose timestamp nobody has: it may be too early for the one that begins now. One of which
-        the service does not know is forgotten, with the connection."""
+        """Waits for the release of a commit whose timestamp nobody has: it may be too early for the one that begins now."""
         try:
             yield from self._release(give_up)
         except Refused as refused:
             if refused.number not in _NOT_PENDING:
                 raise
-            yield None
 
     def _send_first(self, floor_ns: int) -> "Call[None]":
         """Sends the first line of the next commit."""
@@ -165,9 +164,15 @@ class Calls:
             raise
 
     def _release(self, give_up: float) -> "Call[None]":
-        """Sends the line of the last commit until it is released."""
+        """Sends the line of the last commit until it is released. One of which the service does not know is forgotten, with the
+        connection."""
         while self._state == "waiting":
-            yield from self._send_commit(self._number, 0)
+            try:
+                yield from self._send_commit(self._number, 0)
+            except Refused as refused:
+                if refused.number in _NOT_PENDING:
+                    yield None
+                raise
             if self._state == "waiting":
                 if time.monotonic() > give_up:
                     raise TimeoutError("the commit is not released in time")

@@ -32,8 +32,6 @@ const PAUSE: Duration = Duration::from_millis(1);
 const LEASE_LOST: u16 = 903;
 /// The refusal of a commit before the last one is released.
 const COMMIT_PENDING: u16 = 1104;
-/// The refusals that say of the line of a pending commit that the service knows of no such one.
-const NOT_PENDING: [u16; 3] = [1103, COMMIT_PENDING, 1822];
 /// The refusals that say of the first line of a commit that it was not begun. Another one may also come of the step that would
 /// have released it.
 const NOT_BEGUN: [u16; 8] = [901, 902, LEASE_LOST, 1001, 1002, 1003, COMMIT_PENDING, 1821];
@@ -362,6 +360,7 @@ impl Session {
         self.release(began)
     }
 
+    /// Begins a commit for which the caller may wait.
     fn start(&mut self, floor_ns: u64, began: Instant) -> Result<Commit, Error> {
         self.look()?;
         if let Some(pending) = self.connection.as_ref().and_then(Connection::pending) {
@@ -384,21 +383,26 @@ impl Session {
         Ok(begun)
     }
 
-    /// Waits for the release of a commit whose timestamp nobody has: it may be too early for the one that begins now. One of
-    /// which the service does not know is forgotten, with the connection.
+    /// Waits for the release of a commit whose timestamp nobody has: it may be too early for the one that begins now.
     fn end(&mut self, began: Instant) -> Result<(), Error> {
         match self.release(began) {
-            Err(Error::Refused(number)) if NOT_PENDING.contains(&number) => self.connection = None,
-            released => drop(released?),
+            Err(error) if !is_unknown(&error) => Err(error),
+            _ => Ok(()),
         }
-        Ok(())
     }
 
-    /// Sends the line of the last commit until it is released.
+    /// Sends the line of the last commit until it is released. One of which the service does not know is forgotten, with the
+    /// connection.
     fn release(&mut self, began: Instant) -> Result<u64, Error> {
         let mut last = self.last();
         while last.state == State::Waiting {
-            last = self.send_commit(last.number, 0)?;
+            last = match self.send_commit(last.number, 0) {
+                Err(error) if is_unknown(&error) => {
+                    self.connection = None;
+                    return Err(error);
+                }
+                sent => sent?,
+            };
             if last.state == State::Waiting {
                 if began.elapsed() > self.timeout {
                     return Err(Error::NotReleased);
@@ -571,6 +575,11 @@ fn reach(path: &Path) -> io::Result<UnixStream> {
             result => return result,
         }
     }
+}
+
+/// Whether this refusal of the line of a pending commit says that the service knows of no such one.
+fn is_unknown(error: &Error) -> bool {
+    matches!(error, Error::Refused(1103 | COMMIT_PENDING | 1822))
 }
 
 fn receive(mut stream: Patient<'_>) -> io::Result<String> {
