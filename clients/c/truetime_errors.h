@@ -9,8 +9,8 @@
 extern "C" {
 #endif
 
-/* The words for an answer that is not 0: the number of a refusal, or the negative of an error number. Those of an error number that
- * no session has by itself are strerror's. */
+/* The words for an answer that is not 0: the number of a refusal, or the negative of an error number. Those of an error number
+ * that no session has by itself are strerror's. */
 static inline const char *tt_strerror(int answer) {
     switch (answer) {
         case 1: return "the service is out of memory";

@@ -198,9 +198,9 @@ static inline int tt_session_open(tt_session *session, const void *address, sock
     return failed;
 }
 
-/* Connects to an IPv4 address in digits, as "127.0.0.1". `timeout_ms` is how long connecting, a line with its reply (also where it
- * connects anew), and the waiting for a release may take, above 0, however many signals come. Answers -EINVAL where an argument
- * is wrong. Where it does not answer 0, the session is not open. */
+/* Connects to an IPv4 address in digits, as "127.0.0.1". `timeout_ms` is how long connecting, a line with its reply (also where
+ * it connects anew), and the waiting for a release may take, above 0, however many signals come. Answers -EINVAL where an
+ * argument is wrong. Where it does not answer 0, the session is not open. */
 static inline int tt_session_open_tcp(tt_session *session, const char *host, uint16_t port, int timeout_ms) {
     struct sockaddr_in address;
     memset(&address, 0, sizeof address);
@@ -221,8 +221,8 @@ static inline int tt_session_open_unix(tt_session *session, const char *path, in
     return tt_session_open(session, &address, sizeof address, timeout_ms);
 }
 
-/* Gives up a connection that has ended, or on which something came that nobody asked for. Fails where that loses what the caller
- * has to make good. */
+/* Gives up a connection that has ended, or on which something came that nobody asked for. Fails where that loses what the
+ * caller has to make good. */
 static inline int tt_session_look(tt_session *session) {
     char first;
     if (session->length == 0) return -ENOTCONN;
@@ -452,8 +452,8 @@ static inline int tt_session_start(tt_session *session, uint64_t floor_ns, int64
 
 /* Begins a commit and gives its timestamp, no less than `floor_ns`. One commit at a time: refuses with TT_COMMIT_PENDING before
  * the release of the last one that was begun by this. One that tt_session_commit left pending is ended first, as that says.
- * Refuses with 903 where the lease is over or was lost with its connection: set it again. After another refusal begin again, with
- * the same floor: one that began all the same is ended first, too. */
+ * Refuses with 903 where the lease is over or was lost with its connection: set it again. After another refusal begin again,
+ * with the same floor: one that began all the same is ended first, too. */
 static inline int tt_session_begin(tt_session *session, uint64_t floor_ns, uint64_t *stamp_ns) {
     int failed = tt_session_start(session, floor_ns, tt_session_clock_ms() + session->timeout_ms);
     if (failed == 0) session->waiter = TT_OF_BEGIN;
@@ -473,8 +473,8 @@ static inline int tt_session_wait(tt_session *session, uint64_t *stamp_ns) {
 }
 
 /* Begins a commit, waits for its release, and gives its timestamp, with the answers of tt_session_begin and tt_session_wait.
- * Where it fails while it waits, the commit stays pending, and nobody has its timestamp: tt_session_wait goes on with it, and the
- * next tt_session_commit or tt_session_begin waits for its release first, and then begins another one. */
+ * Where it fails while it waits, the commit stays pending, and nobody has its timestamp: tt_session_wait goes on with it, and
+ * the next tt_session_commit or tt_session_begin waits for its release first, and then begins another one. */
 static inline int tt_session_commit(tt_session *session, uint64_t floor_ns, uint64_t *stamp_ns) {
     int64_t give_up_ms = tt_session_clock_ms() + session->timeout_ms;
     int failed = tt_session_start(session, floor_ns, give_up_ms);

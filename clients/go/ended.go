@@ -7,8 +7,8 @@ import (
 	"syscall"
 )
 
-// hasEnded says whether the end of a connection is there to be received, or what nobody asked for, though nothing of it may have
-// been received yet.
+// hasEnded says whether the end of a connection is there to be received, or what nobody asked for. The goroutine that receives
+// may not have run since.
 func hasEnded(conn net.Conn) bool {
 	raw, err := conn.(syscall.Conn).SyscallConn()
 	if err != nil {

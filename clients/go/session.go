@@ -30,8 +30,8 @@ const (
 //
 //   - After Wait, call Wait again: the service says the same of the same commit. Begin and Commit fail with a PendingError
 //     before that.
-//   - After Begin or Commit, nobody has the timestamp, and no other commit gets it, since it may be too early for one that comes
-//     later: where that commit is pending, the next one has the service release it first. So it is after a refusal, too.
+//   - After Begin or Commit, nobody has the timestamp, and no other commit gets it, since it may be too early for one that
+//     comes later: where that commit is pending, the next one has the service release it first. So it is after a refusal, too.
 //   - After Lease, the lease is the old one or the new one.
 //
 // If no reply comes in time, or the connection fails otherwise, a call fails with a BrokenError. The next call connects anew,

@@ -114,7 +114,8 @@ func TestCommit(t *testing.T) {
 	}
 	wantStamp(t, 200, stamp, err)
 	var pending *PendingError
-	if _, _, err := session.Begin(always, 0); !errors.Is(err, CommitPending) || !errors.As(err, &pending) || *pending != (PendingError{1, 200}) {
+	_, _, err = session.Begin(always, 0)
+	if !errors.Is(err, CommitPending) || !errors.As(err, &pending) || *pending != (PendingError{1, 200}) {
 		t.Error(err)
 	}
 	stamp, err = session.Wait(always)

@@ -46,8 +46,8 @@ public final class Session implements AutoCloseable {
     /** The refusals that say of the line of a pending commit that the service knows of no such one. */
     private static final Set<Integer> NOT_PENDING = Set.of(1103, COMMIT_PENDING, 1822);
     /**
-     * The refusals that say of the first line of a commit that it was not begun. Another one may also come of the step that would
-     * have released it.
+     * The refusals that say of the first line of a commit that it was not begun. Another one may also come of the step that
+     * would have released it.
      */
     private static final Set<Integer> NOT_BEGUN = Set.of(901, 902, LEASE_LOST, 1001, 1002, 1003, COMMIT_PENDING, 1821);
     private static final long PAUSE_MS = 1;
@@ -120,7 +120,8 @@ public final class Session implements AutoCloseable {
 
         private Lost(IOException failed, long commit, long stampNs, boolean hadLease) {
             super(failed
-                + (commit == 0 ? "" : "; commit " + commit + ", whose timestamp is " + stampNs + ", was pending: begin it again, or give it up")
+                + (commit == 0 ? "" : "; commit " + commit + ", whose timestamp is " + stampNs
+                    + ", was pending: begin it again, or give it up")
                 + (hadLease ? "; the lease has to be set again" : ""), failed);
             this.commit = commit;
             this.stampNs = stampNs;
@@ -204,8 +205,12 @@ public final class Session implements AutoCloseable {
 
     /** Gives the connection up; the exception that says so. */
     private IOException lost(IOException failed) throws IOException {
-        boolean isPending = isPending();
-        IOException lost = isPending || hasLease ? new Lost(failed, isPending ? number : 0, isPending ? stampNs : 0, hasLease) : failed;
+        IOException lost = failed;
+        if (isPending()) {
+            lost = new Lost(failed, number, stampNs, hasLease);
+        } else if (hasLease) {
+            lost = new Lost(failed, 0, 0, true);
+        }
         drop();
         return lost;
     }
@@ -347,8 +352,8 @@ public final class Session implements AutoCloseable {
     /**
      * Begins a commit, waits for its release, and gives its timestamp, with the exceptions of {@link #begin} and {@link
      * #awaitRelease}. Where it fails while it waits, the commit stays pending, and nobody has its timestamp: {@link
-     * #awaitRelease} goes on with it, and the next {@link #commit} or {@link #begin} waits for its release first, and then begins
-     * another one.
+     * #awaitRelease} goes on with it, and the next {@link #commit} or {@link #begin} waits for its release first, and then
+     * begins another one.
      */
     public long commit(long floorNs) throws IOException {
         long began = System.nanoTime();

@@ -14,8 +14,8 @@ LINE_BYTES = 64
 _PAUSE_S = 0.001
 #: The pause before connecting again to a Unix socket at which as many wait as may.
 CONNECT_PAUSE_S = 0.005
-#: The refusals that say of the line of a pending commit that the service knows of no such one, and of the first line of a commit
-#: that it was not begun. Another one may also come of the step that would have released it.
+#: The refusals that say of the line of a pending commit that the service knows of no such one, and of the first line of a
+#: commit that it was not begun. Another one may also come of the step that would have released it.
 _NOT_PENDING = (1103, 1104, 1822)
 _NOT_BEGUN = (901, 902, 903, 1001, 1002, 1003, 1104, 1821)
 _LINE = re.compile("[ -~]{0,64}")
@@ -48,12 +48,13 @@ class Calls:
 
     def forget(self) -> None:
         """Forgets what belongs to a connection."""
-        # The last commit that may have begun, counted from 1; its timestamp, or 0; and what is known of it: "waiting", "committed",
-        # "unsure" where its first line was refused, "" where none was begun.
+        # The last commit that may have begun, counted from 1; its timestamp, or 0; and what is known of it: "waiting",
+        # "committed", "unsure" where its first line was refused, "" where none was begun.
         self._number = 0
         self._stamp_ns = 0
         self._state = ""
-        # The last commit for which a caller may wait: another one where a call was cancelled; and whether its timestamp was given.
+        # The last commit for which a caller may wait: another one where a call was cancelled; and whether begin gave its
+        # timestamp.
         self._told = 0
         self._is_given = False
         self._is_leased = False
@@ -202,8 +203,8 @@ class Calls:
 
 
 def has_ended(connection: int) -> bool:
-    """Whether a connection, by its descriptor, is of no more use at the beginning of a call: its end is there to be received, or what
-    nobody asked for."""
+    """Whether a connection, by its descriptor, is of no more use before a line: its end is there to be received, or what nobody
+    asked for."""
     looking = select.poll()
     looking.register(connection, select.POLLIN)
     return bool(looking.poll(0))

@@ -85,8 +85,8 @@ class Session:
     still to come: the next call waits for it, and drops it. The call may have been done:
 
     - After :meth:`wait`, call :meth:`wait` again. :meth:`begin` raises :class:`truetime.CommitPending` before that.
-    - After :meth:`begin` or :meth:`commit`, nobody has the timestamp, and no other commit gets it: the next one has the service release that
-      commit first.
+    - After :meth:`begin` or :meth:`commit`, nobody has the timestamp, and no other commit gets it: the next one has the service
+      release that commit first.
     - After :meth:`lease`, the lease is the old one or the new one.
     """
 

@@ -76,10 +76,10 @@ class Session:
     def begin(self, floor_ns: int = 0) -> int:
         """Begins a commit and gives its timestamp, no less than ``floor_ns``.
 
-        One commit at a time: raises :class:`CommitPending` before the release of the last one that was begun by this. One that a
-        :meth:`commit` left pending is ended first, as :meth:`commit` says. Refuses with 903 where the lease is over or was lost
-        with its connection: set it again. After another refusal begin again, with the same floor: one that began all the
-        same is ended first, too.
+        One commit at a time: raises :class:`truetime.CommitPending` before the release of the last one that was begun by this.
+        One that :meth:`commit` left pending is ended first, as that says. Refuses with 903 where the lease is over or was lost
+        with its connection: set it again. After another refusal begin again, with the same floor: one that began all the same
+        is ended first, too.
         """
         return self._made(self._calls.begin(floor_ns))
 
@@ -93,7 +93,7 @@ class Session:
         return self._made(self._calls.wait())
 
     def commit(self, floor_ns: int = 0) -> int:
-        """Begins a commit, waits for its release, and gives its timestamp. Refuses as :meth:`begin`, and raises as :meth:`wait`.
+        """Begins a commit, waits for its release, and gives its timestamp, with the errors of :meth:`begin` and :meth:`wait`.
 
         Where it fails while it waits, the commit stays pending, and nobody has its timestamp. :meth:`wait` goes on with it; the
         next :meth:`commit` or :meth:`begin` waits for its release first, and then begins another one.
