@@ -331,6 +331,23 @@ func TestTimeout(t *testing.T) {
 	}
 }
 
+// TestTimeoutOfAnOwedReply has a call wait for what is left of the time-out of the line before, which was cancelled.
+func TestTimeoutOfAnOwedReply(t *testing.T) {
+	session := dialStandIn(t, func(s *standIn) { s.hear("now") })
+	session.SetTimeout(time.Second)
+	ctx, cancel := context.WithTimeout(always, 800*time.Millisecond)
+	defer cancel()
+	if _, err := session.Now(ctx); err != context.DeadlineExceeded {
+		t.Fatal(err)
+	}
+	began := time.Now()
+	_, err := session.Now(always)
+	wantBroken(t, err, os.ErrDeadlineExceeded)
+	if took := time.Since(began); took > 600*time.Millisecond {
+		t.Fatalf("it waited for %v, and 200 ms were left", took)
+	}
+}
+
 // TestConnectsAnew has the connection fail while a reply is owed. Nothing of the first connection comes on the second one.
 func TestConnectsAnew(t *testing.T) {
 	listener, err := net.Listen("tcp", "127.0.0.1:0")
