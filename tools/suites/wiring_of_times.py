@@ -282,7 +282,7 @@ def waits_of_masters_of_other_hosts(trial):
     eventually(lambda: set(asked) <= set(read_text(status).splitlines()))
     trial.equal("master server_requests_total", [line for line in read_text(status).splitlines() if line.startswith(asked[0].split("{")[0] + "{")], asked)
     silent_ones = eventually(lambda: len(lines := started.said("server_silent")) == 2 and lines) or []
-    trial.equal("log server_silent", [line["server"] for line in silent_ones], ["0", "1"])
+    trial.equal("log server_silent", sorted(line["server"] for line in silent_ones), ["0", "1"])
 
 
 # What is compared with readings of the clock.
