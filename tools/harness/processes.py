@@ -175,6 +175,8 @@ class Master(Process):
 
 class Machine(Process):
     """A machine, with all files of its own in one folder. A setting that is None is left out. Masters are addresses, or tables."""
+    #: The path of its shared file, where it has one that is waited for.
+    shared: "str | None" = None
 
     def __init__(self, service, name, number, masters, settings):
         self.folder = os.path.join(service.room, name)
