@@ -40,8 +40,8 @@ type leased struct {
 }
 
 // openSessions connects to a machine, which has to give the time. A machine that is started anew does not know the stamps that
-// it gave before, so one life gives all stamps of a term: all sessions are opened before one of them is used, and where one
-// fails all are closed, since it would connect anew.
+// it gave before, so one life gives all stamps of a term: all sessions are opened before one of them is used, each has a lease,
+// since one without would connect anew by itself, and where one fails all are closed.
 func openSessions(ctx context.Context, address string, number int, timeout time.Duration) (clock, error) {
 	c := &sessionClock{idle: make(chan *leased, number), span: truetime.Lease{Lo: 0, Hi: truetime.MaxTime}}
 	for len(c.all) <= number {
@@ -55,7 +55,11 @@ func openSessions(ctx context.Context, address string, number int, timeout time.
 	}
 	c.asking = c.all[number].Session
 	for _, session := range c.all { // so the first one opened was open still when the last one was
-		if _, err := session.Now(ctx); err != nil {
+		err := session.Lease(ctx, c.span.Lo, c.span.Hi)
+		if err == nil {
+			_, err = session.Now(ctx)
+		}
+		if err != nil {
 			c.close()
 			return nil, err
 		}
